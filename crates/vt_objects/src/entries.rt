@@ -1,0 +1,84 @@
+//! The lists of a record, and their entries.
+
+ghost use Rattle.std.specs.Prelude.{◌≡◌, ◌≤◌, List, [], length, IfOk, vec_len, ◌↔◌, IsTrue};
+
+use crate::id::ObjectId;
+use std::alloc::{AllocError, Global};
+use std::marker::Model;
+
+/// An object that stands in another one, at a place relative to it, in pixels.
+#[derive(Clone, Copy, Debug, PartialEq, Eq)]
+pub struct Child {
+    pub id: ObjectId,
+    pub x: i16,
+    pub y: i16,
+}
+
+/// A macro that runs at an event.
+#[derive(Clone, Copy, Debug, PartialEq, Eq)]
+pub struct MacroEntry {
+    pub event: u8,
+    pub macro_id: u8,
+}
+
+/// A language that a working set speaks, by the two letters of its code.
+#[derive(Clone, Copy, Debug, PartialEq, Eq)]
+pub struct Language {
+    pub first: u8,
+    pub second: u8,
+}
+
+/// A list of at most 255 entries, as many as a record can count.
+#[derive(Drop)]
+pub struct Entries<T> {
+    items: Vec<T>,
+}
+
+impl<T> Model for Entries<T> {
+    ghost use Rattle.std.specs.Prelude.{List, ◌≤◌, length};
+
+    ghost Value = { List T };
+
+    ghost view = { λ e. e.items.items };
+
+    ghost invariant = { λ e. length e.items.items ≤ 255 };
+}
+
+impl<T> Entries<T> {
+    /// The entries of a vector, which has at most 255.
+    pub fn from_vec(items: Vec<T>) -> Entries<T>
+        requires { vec_len items ≤ 255 }
+        ensures { result ≡ items.items }
+    {
+        Entries { items }
+    }
+
+    pub fn as_slice(&self) -> &[T]
+        ensures value { result.now ≡ self.now }
+        ensures most { length result.now ≤ 255 }
+    {
+        &self.items
+    }
+
+    pub fn len(&self) -> u8
+        ensures { result ≡ length self.now }
+    {
+        self.items.len() as u8
+    }
+
+    pub fn is_empty(&self) -> bool
+        ensures { IsTrue result ↔ (self.now ≡ []) }
+    {
+        self.items.is_empty()
+    }
+}
+
+impl<T: Copy> Entries<T> {
+    /// The same entries in memory of their own.
+    pub fn copied(&self, alloc: Global) -> Result<Entries<T>, AllocError>
+        ensures { IfOk result (λ copy. copy ≡ self.now) }
+    {
+        let items = Vec::from_slice(alloc, &self.items)?;
+        Ok(Entries { items })
+    }
+}

@@ -1,0 +1,42 @@
+//! The IDs of objects.
+
+ghost use Rattle.std.specs.Prelude.{◌≡◌, ◌↔◌, IsTrue};
+
+use std::marker::Model;
+
+/// The ID of an object, 0 to 65534, or NULL, 65535, which is no object's.
+#[derive(Clone, Copy, Debug, PartialEq, Eq, PartialOrd, Ord, Hash)]
+pub struct ObjectId {
+    raw: u16,
+}
+
+impl Model for ObjectId {
+    ghost use Rattle.std.specs.Prelude.{ℕ};
+
+    ghost Value = { ℕ };
+
+    ghost view = { λ id. id.raw };
+
+    ghost inverse = { λ n. record { raw = n } };
+}
+
+impl ObjectId {
+    pub fn from_raw(raw: u16) -> ObjectId
+        ensures { result ≡ raw }
+    {
+        ObjectId { raw }
+    }
+
+    pub fn raw(self) -> u16
+        ensures { result ≡ self }
+    {
+        self.raw
+    }
+
+    /// Whether it is NULL, the ID of no object.
+    pub fn is_null(self) -> bool
+        ensures { IsTrue result ↔ (self ≡ 0xFFFF) }
+    {
+        self.raw == 0xFFFF
+    }
+}
