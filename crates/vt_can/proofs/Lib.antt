@@ -1,0 +1,5 @@
+pub mod Cutting
+pub mod Reading
+pub mod Writing
+pub mod Sums
+pub mod OneReading

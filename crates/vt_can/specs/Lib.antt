@@ -1,0 +1,4 @@
+pub mod Identifier
+pub mod Frame
+pub mod Line
+pub mod Parts
