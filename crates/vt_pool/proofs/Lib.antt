@@ -1,0 +1,11 @@
+pub mod Rows
+pub mod Numbers
+pub mod Tables
+pub mod Heads
+pub mod Taken
+pub mod Causes
+pub mod Returned
+pub mod InPlace
+pub mod Force
+pub mod Joins
+pub mod Progress

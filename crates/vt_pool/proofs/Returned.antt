@@ -1,0 +1,45 @@
+-- What a reader of a record returned, clause by clause.
+use Rattle.std.proofs.Common.{◌≡◌, ℕ, ◌<◌, List, ◌++◌, length, Result, Ok, Err, Some}
+use Rattle.std.specs.Prelude.{IfOk, IfErr}
+use Rattle.vt_objects.specs.declared.object.Object.{Object}
+use Rattle.vt_objects.specs.Records.{seen, kind_of, values_of, object_from, record_of, HasRecord}
+use Rattle.vt_pool.specs.declared.stop.Stop.{Stop}
+use Rattle.vt_pool.specs.declared.stop.Stop.TheVariants as stops
+use Rattle.vt_pool.specs.Heads.{Held, Reads, record_at}
+use Rattle.vt_pool.specs.Stops.{IsStop}
+use Rattle.vt_pool.proofs.Numbers.{IsBytes}
+use Rattle.vt_pool.proofs.Taken.{IsTaken, is_taken}
+use Rattle.vt_pool.proofs.Causes.{record_stops}
+
+module _ {X B : Type 0} (id : X → ℕ) (object : X → Object B) (rest : X → List ℕ) where
+  -- the parts of what was returned
+  abbrev pub view : X → Held
+  view x = record { id = id x; kind = kind_of (object x); values = values_of (object x); rest = rest x }
+
+  taken : (all : List ℕ) (x : X) → IsBytes all → record_at all ≡ Ok (view x) → object_from (kind_of (object x)) (values_of (object x)) ≡ Some (seen (object x))
+      → IsTaken all (id x) (seen (object x)) (rest x)
+  taken all x fits e back = is_taken all (id x) (object x) (rest x) fits e back
+
+  module _ (all : List ℕ) (fits : IsBytes all) where
+    pub has_record : (r : Result X Stop) → Reads view r (record_at all) → IfOk r (λ x. object_from (kind_of (object x)) (values_of (object x)) ≡ Some (seen (object x)))
+        → IfOk r (λ x. HasRecord (id x) (seen (object x)))
+    has_record (Ok x) e back = (taken all x fits e back).has
+    has_record (Err s) e back = tt
+
+    pub has_parts : (r : Result X Stop) → Reads view r (record_at all) → IfOk r (λ x. object_from (kind_of (object x)) (values_of (object x)) ≡ Some (seen (object x)))
+        → IfOk r (λ x. all ≡ record_of (id x) (seen (object x)) ++ rest x)
+    has_parts (Ok x) e back = (taken all x fits e back).parts
+    has_parts (Err s) e back = tt
+
+    pub is_shorter : (r : Result X Stop) → Reads view r (record_at all) → IfOk r (λ x. object_from (kind_of (object x)) (values_of (object x)) ≡ Some (seen (object x)))
+        → IfOk r (λ x. length (rest x) < length all)
+    is_shorter (Ok x) e back = (taken all x fits e back).shorter
+    is_shorter (Err s) e back = tt
+
+  pub is_stop : (all : List ℕ) (r : Result X Stop) → Reads view r (record_at all) → IfErr r (IsStop all)
+  is_stop all (Ok x) e = tt
+  is_stop all (Err stops.OutOfMemory) e = tt
+  is_stop all (Err stops.Truncated) e = record_stops all stops.Truncated e
+  is_stop all (Err stops.UnknownType) e = record_stops all stops.UnknownType e
+  is_stop all (Err stops.LeftOutType) e = record_stops all stops.LeftOutType e
+  is_stop all (Err stops.NullId) e = record_stops all stops.NullId e

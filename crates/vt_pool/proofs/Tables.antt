@@ -1,0 +1,110 @@
+-- The values of a table of fields that are read from the front of some bytes, and those bytes again.
+use Rattle.std.proofs.Common.{◌≡◌, ℕ, zero, suc, ◌<◌, List, [], ◌∷◌, ◌++◌, length, Some, refl, ap, subst, ◌∙◌, append_assoc}
+use Rattle.std.specs.List.{AllByRecursion}
+use Rattle.std.proofs.lemmas.List.Elements.{recursion_from_All, All-from_get_or}
+use Rattle.byteorder.specs.Endian.{little_bytes}
+use Rattle.vt_objects.specs.Layout.{Field, Number, Count, Rows, Bytes, Value, number, rows, bytes, Counts, counted, count_of, row_spelling, rows_spelling, spelling, RowFits, Fits}
+use Rattle.vt_pool.specs.Reading.{◌>>=◌, bytes_at, number_at, row_at, rows_at, values_at}
+use Rattle.vt_pool.proofs.Numbers.{IsBytes, bind_some, some_is, Takes, Takes-nothing, Takes-then, bytes_take, bytes_again, number_takes, number_again}
+
+-- ---- rows
+
+pub row_takes : (sizes all : List ℕ) (x : List ℕ × List ℕ) → IsBytes all → row_at sizes all ≡ Some x → Takes all (row_spelling sizes x.0) x.1 × RowFits sizes x.0
+unfolding row_at
+row_takes [] all x fits e =
+    subst (λ (y : List ℕ × List ℕ). Takes all (row_spelling [] y.0) y.1 × RowFits [] y.0) (some_is ([], all) x e) (Takes-nothing all fits, tt)
+row_takes (size ∷ sizes) all x fits e =
+    let a = bind_some (number_at size all) (λ n. row_at sizes n.1 >>= λ ns. Some (n.0 ∷ ns.0, ns.1)) x e in
+    let b = bind_some (row_at sizes a.0.1) (λ ns. Some (a.0.0 ∷ ns.0, ns.1)) x a.2 in
+    let first = number_takes size all a.0 fits a.1 in
+    let others = row_takes sizes a.0.1 b.0 first.0.rest_fits b.1 in
+    subst (λ (y : List ℕ × List ℕ). Takes all (row_spelling (size ∷ sizes) y.0) y.1 × RowFits (size ∷ sizes) y.0) (some_is (a.0.0 ∷ b.0.0, b.0.1) x b.2)
+    (Takes-then all (little_bytes size a.0.0) a.0.1 (row_spelling sizes b.0.0) b.0.1 first.0 others.0, (first.1, others.1))
+
+pub row_again : (sizes ns rest : List ℕ) → RowFits sizes ns → row_at sizes (row_spelling sizes ns ++ rest) ≡ Some (ns, rest)
+unfolding row_at
+row_again [] [] rest fits = refl
+row_again [] (n ∷ ns) rest fits = absurd fits
+row_again (size ∷ sizes) [] rest fits = absurd fits
+row_again (size ∷ sizes) (n ∷ ns) rest fits =
+    ap (row_at (size ∷ sizes)) (append_assoc (little_bytes size n) (row_spelling sizes ns) rest)
+    ∙ rw (number_again size n (row_spelling sizes ns ++ rest) fits.0, row_again sizes ns rest fits.1) refl
+
+pub rows_take : (sizes : List ℕ) (count : ℕ) (all : List ℕ) (x : List (List ℕ) × List ℕ) → IsBytes all → rows_at sizes count all ≡ Some x
+    → Takes all (rows_spelling sizes x.0) x.1 × (length x.0 ≡ count) × AllByRecursion (RowFits sizes) x.0
+unfolding rows_at
+rows_take sizes zero all x fits e =
+    subst (λ (y : List (List ℕ) × List ℕ). Takes all (rows_spelling sizes y.0) y.1 × (length y.0 ≡ 0) × AllByRecursion (RowFits sizes) y.0) (some_is ([], all) x e) (Takes-nothing all fits, refl, tt)
+rows_take sizes (suc count) all x fits e =
+    let a = bind_some (row_at sizes all) (λ first. rows_at sizes count first.1 >>= λ others. Some (first.0 ∷ others.0, others.1)) x e in
+    let b = bind_some (rows_at sizes count a.0.1) (λ others. Some (a.0.0 ∷ others.0, others.1)) x a.2 in
+    let first = row_takes sizes all a.0 fits a.1 in
+    let others = rows_take sizes count a.0.1 b.0 first.0.rest_fits b.1 in
+    subst (λ (y : List (List ℕ) × List ℕ). Takes all (rows_spelling sizes y.0) y.1 × (length y.0 ≡ suc count) × AllByRecursion (RowFits sizes) y.0) (some_is (a.0.0 ∷ b.0.0, b.0.1) x b.2)
+    (Takes-then all (row_spelling sizes a.0.0) a.0.1 (rows_spelling sizes b.0.0) b.0.1 first.0 others.0, ap suc others.1, (first.1, others.2))
+
+pub rows_again : (sizes : List ℕ) (rs : List (List ℕ)) (rest : List ℕ) → AllByRecursion (RowFits sizes) rs → rows_at sizes (length rs) (rows_spelling sizes rs ++ rest) ≡ Some (rs, rest)
+unfolding rows_at
+rows_again sizes [] rest fits = refl
+rows_again sizes (r ∷ rs) rest fits =
+    ap (rows_at sizes (suc (length rs))) (append_assoc (row_spelling sizes r) (rows_spelling sizes rs) rest)
+    ∙ rw (row_again sizes r (rows_spelling sizes rs ++ rest) fits.0, rows_again sizes rs rest fits.1) refl
+
+-- ---- tables
+
+bytes_fit : (bs : List ℕ) → IsBytes bs → AllByRecursion (λ b. b < 256) bs
+bytes_fit bs fits = recursion_from_All (λ b. b < 256) bs (All-from_get_or (λ b. b < 256) bs 0 (λ i lt. fits i))
+
+-- what a table takes: the spelling of values that fit it
+abbrev TakesValues : List Field → Counts → List ℕ → List Value × List ℕ → Type 0
+TakesValues fs counts all x = Takes all (spelling fs x.0) x.1 × Fits fs counts x.0
+
+pub values_take : (fs : List Field) (counts : Counts) (all : List ℕ) (x : List Value × List ℕ) → IsBytes all → values_at fs counts all ≡ Some x → TakesValues fs counts all x
+values_take [] counts all x fits e =
+    subst (TakesValues [] counts all) (some_is ([], all) x e) (Takes-nothing all fits, tt)
+values_take (Number size ∷ fs) counts all x fits e =
+    let a = bind_some (number_at size all) (λ n. values_at fs counts n.1 >>= λ vs. Some (number n.0 ∷ vs.0, vs.1)) x e in
+    let b = bind_some (values_at fs counts a.0.1) (λ vs. Some (number a.0.0 ∷ vs.0, vs.1)) x a.2 in
+    let first = number_takes size all a.0 fits a.1 in
+    let others = values_take fs counts a.0.1 b.0 first.0.rest_fits b.1 in
+    subst (TakesValues (Number size ∷ fs) counts all) (some_is (number a.0.0 ∷ b.0.0, b.0.1) x b.2)
+    (Takes-then all (little_bytes size a.0.0) a.0.1 (spelling fs b.0.0) b.0.1 first.0 others.0, (first.1, others.1))
+values_take (Count size of ∷ fs) counts all x fits e =
+    let a = bind_some (number_at size all) (λ n. values_at fs (counted of n.0 counts) n.1 >>= λ vs. Some (number n.0 ∷ vs.0, vs.1)) x e in
+    let b = bind_some (values_at fs (counted of a.0.0 counts) a.0.1) (λ vs. Some (number a.0.0 ∷ vs.0, vs.1)) x a.2 in
+    let first = number_takes size all a.0 fits a.1 in
+    let others = values_take fs (counted of a.0.0 counts) a.0.1 b.0 first.0.rest_fits b.1 in
+    subst (TakesValues (Count size of ∷ fs) counts all) (some_is (number a.0.0 ∷ b.0.0, b.0.1) x b.2)
+    (Takes-then all (little_bytes size a.0.0) a.0.1 (spelling fs b.0.0) b.0.1 first.0 others.0, (first.1, others.1))
+values_take (Rows of sizes ∷ fs) counts all x fits e =
+    let a = bind_some (rows_at sizes (count_of of counts) all) (λ rs. values_at fs counts rs.1 >>= λ vs. Some (rows rs.0 ∷ vs.0, vs.1)) x e in
+    let b = bind_some (values_at fs counts a.0.1) (λ vs. Some (rows a.0.0 ∷ vs.0, vs.1)) x a.2 in
+    let first = rows_take sizes (count_of of counts) all a.0 fits a.1 in
+    let others = values_take fs counts a.0.1 b.0 first.0.rest_fits b.1 in
+    subst (TakesValues (Rows of sizes ∷ fs) counts all) (some_is (rows a.0.0 ∷ b.0.0, b.0.1) x b.2)
+    (Takes-then all (rows_spelling sizes a.0.0) a.0.1 (spelling fs b.0.0) b.0.1 first.0 others.0, (first.1, first.2, others.1))
+values_take (Bytes of ∷ fs) counts all x fits e =
+    let a = bind_some (bytes_at (count_of of counts) all) (λ bs. values_at fs counts bs.1 >>= λ vs. Some (bytes bs.0 ∷ vs.0, vs.1)) x e in
+    let b = bind_some (values_at fs counts a.0.1) (λ vs. Some (bytes a.0.0 ∷ vs.0, vs.1)) x a.2 in
+    let first = bytes_take (count_of of counts) all a.0 fits a.1 in
+    let others = values_take fs counts a.0.1 b.0 first.0.rest_fits b.1 in
+    subst (TakesValues (Bytes of ∷ fs) counts all) (some_is (bytes a.0.0 ∷ b.0.0, b.0.1) x b.2)
+    (Takes-then all a.0.0 a.0.1 (spelling fs b.0.0) b.0.1 first.0 others.0, (first.1, bytes_fit a.0.0 first.2, others.1))
+
+pub values_again : (fs : List Field) (counts : Counts) (vs : List Value) (rest : List ℕ) → Fits fs counts vs → values_at fs counts (spelling fs vs ++ rest) ≡ Some (vs, rest)
+values_again [] counts [] rest fits = refl
+values_again (Number size ∷ fs) counts (number n ∷ vs) rest fits =
+    ap (values_at (Number size ∷ fs) counts) (append_assoc (little_bytes size n) (spelling fs vs) rest)
+    ∙ rw (number_again size n (spelling fs vs ++ rest) fits.0, values_again fs counts vs rest fits.1) refl
+values_again (Count size of ∷ fs) counts (number n ∷ vs) rest fits =
+    ap (values_at (Count size of ∷ fs) counts) (append_assoc (little_bytes size n) (spelling fs vs) rest)
+    ∙ rw (number_again size n (spelling fs vs ++ rest) fits.0, values_again fs (counted of n counts) vs rest fits.1) refl
+values_again (Rows of sizes ∷ fs) counts (rows rs ∷ vs) rest fits =
+    let read : rows_at sizes (count_of of counts) (rows_spelling sizes rs ++ (spelling fs vs ++ rest)) ≡ Some (rs, spelling fs vs ++ rest) =
+    subst (λ (n : ℕ). rows_at sizes n (rows_spelling sizes rs ++ (spelling fs vs ++ rest)) ≡ Some (rs, spelling fs vs ++ rest)) fits.0 (rows_again sizes rs (spelling fs vs ++ rest) fits.1) in
+    ap (values_at (Rows of sizes ∷ fs) counts) (append_assoc (rows_spelling sizes rs) (spelling fs vs) rest)
+    ∙ rw (read, values_again fs counts vs rest fits.2) refl
+values_again (Bytes of ∷ fs) counts (bytes bs ∷ vs) rest fits =
+    ap (values_at (Bytes of ∷ fs) counts) (append_assoc bs (spelling fs vs) rest)
+    ∙ rw (bytes_again bs (spelling fs vs ++ rest) (count_of of counts) fits.0, values_again fs counts vs rest fits.2) refl
+values_again fs counts vs rest fits = absurd fits

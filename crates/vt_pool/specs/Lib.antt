@@ -1,0 +1,6 @@
+pub mod Pools
+pub mod Reading
+pub mod Heads
+pub mod Writing
+pub mod Stops
+pub mod Places

@@ -1,0 +1,64 @@
+-- How a table of fields is read from the front of some bytes: what it gives and the bytes after it, or
+-- `None` where the bytes end first.
+use Rattle.std.specs.Prelude.{◌≡◌, ℕ, zero, suc, List, [], ◌∷◌, length, take, drop, nat_lt, if◌then◌else◌, Option, Some, None, Result, Ok, Err}
+use Rattle.byteorder.specs.Endian.{little_number}
+use Rattle.vt_objects.specs.Layout.{Field, Number, Count, Rows, Bytes, Value, number, rows, bytes, Counts, counted, count_of}
+use Rattle.vt_pool.specs.declared.stop.Stop.{Stop}
+use Rattle.vt_pool.specs.declared.stop.Stop.TheVariants as stops
+
+infixl 10 ◌>>=◌
+abbrev pub ◌>>=◌ : {A B : Type 0} → Option A → (A → Option B) → Option B
+(Some x) >>= f = f x
+None >>= f = None
+
+-- what a stop says: the bytes end first, or memory ran out, and nothing else
+abbrev pub Fails : {Y : Type 0} → Stop → Option Y → Type 0
+Fails stops.Truncated read = read ≡ None
+Fails stops.OutOfMemory read = Unit {0}
+Fails _ read = ⊥
+
+-- What a function returned, seen by view, is what reading gives, unless memory ran out.
+abbrev pub Gives : {X Y : Type 0} → (X → Y) → Result X Stop → Option Y → Type 0
+Gives view (Ok x) read = read ≡ Some (view x)
+Gives view (Err stop) read = Fails stop read
+
+unfoldable pub bytes_at : ℕ → List ℕ → Option (List ℕ × List ℕ)
+bytes_at count all = if nat_lt (length all) count then None else Some (take count all, drop count all)
+
+unfoldable pub number_at : ℕ → List ℕ → Option (ℕ × List ℕ)
+number_at size all = do
+  front ← bytes_at size all
+  Some (little_number size front.0, front.1)
+
+unfoldable pub row_at : List ℕ → List ℕ → Option (List ℕ × List ℕ)
+row_at [] all = Some ([], all)
+row_at (size ∷ sizes) all = do
+  n ← number_at size all
+  ns ← row_at sizes n.1
+  Some (n.0 ∷ ns.0, ns.1)
+
+unfoldable pub rows_at : List ℕ → ℕ → List ℕ → Option (List (List ℕ) × List ℕ)
+rows_at sizes zero all = Some ([], all)
+rows_at sizes (suc count) all = do
+  first ← row_at sizes all
+  others ← rows_at sizes count first.1
+  Some (first.0 ∷ others.0, others.1)
+
+abbrev pub values_at : List Field → Counts → List ℕ → Option (List Value × List ℕ)
+values_at [] counts all = Some ([], all)
+values_at (Number size ∷ fs) counts all = do
+  n ← number_at size all
+  vs ← values_at fs counts n.1
+  Some (number n.0 ∷ vs.0, vs.1)
+values_at (Count size of ∷ fs) counts all = do
+  n ← number_at size all
+  vs ← values_at fs (counted of n.0 counts) n.1
+  Some (number n.0 ∷ vs.0, vs.1)
+values_at (Rows of sizes ∷ fs) counts all = do
+  rs ← rows_at sizes (count_of of counts) all
+  vs ← values_at fs counts rs.1
+  Some (rows rs.0 ∷ vs.0, vs.1)
+values_at (Bytes of ∷ fs) counts all = do
+  bs ← bytes_at (count_of of counts) all
+  vs ← values_at fs counts bs.1
+  Some (bytes bs.0 ∷ vs.0, vs.1)

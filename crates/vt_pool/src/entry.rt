@@ -1,0 +1,122 @@
+//! The entries of the lists of a record.
+
+ghost use Rattle.std.specs.Prelude.{◌≡◌, ◌++◌, ℕ, List, length, map, IfOk, OnOk};
+ghost use Rattle.vt_objects.specs.Layout.{row_spelling, rows_spelling};
+ghost use Rattle.vt_objects.specs.Records.{child_sizes, child_numbers, child_from, macro_sizes, macro_numbers, macro_from, language_sizes, language_numbers, language_from};
+ghost use Rattle.vt_pool.specs.Reading.{Gives, row_at, rows_at};
+
+use crate::reader::Reader;
+use crate::stop::Stop;
+use crate::write::{put_i16, put_u8, put_u16};
+use std::alloc::{AllocError, Global};
+use vt_objects::{Child, Entries, Language, MacroEntry, ObjectId};
+
+/// An entry of a list: a row of numbers of fixed sizes.
+pub trait Entry: Drop {
+    ghost sizes: { List ℕ };
+
+    ghost numbers: { Self → List ℕ };
+
+    ghost from_numbers: { List ℕ → Self };
+
+    fn read(reader: &mut Reader<'_>) -> Result<Self, Stop>
+    where
+        Self: Sized,
+        ensures read { Gives (λ x. (numbers x, reader.new)) result (row_at sizes reader.old) }
+        ensures back { IfOk result (λ x. from_numbers (numbers x) ≡ x) };
+
+    fn write(&self, out: &mut Vec<u8>) -> Result<(), AllocError>
+        ensures { OnOk result (out.new.items ≡ out.old.items ++ row_spelling sizes (numbers self.now)) };
+}
+
+impl Entry for Child {
+    ghost sizes = { child_sizes };
+
+    ghost numbers = { child_numbers };
+
+    ghost from_numbers = { child_from };
+
+    #[tactic(auto, unfolding(crate::specs::Reading::row_at))]
+    fn read(reader: &mut Reader<'_>) -> Result<Child, Stop> {
+        let id = ObjectId::from_raw(reader.u16()?);
+        let x = reader.i16()?;
+        let y = reader.i16()?;
+        Ok(Child { id, x, y })
+    }
+
+    fn write(&self, out: &mut Vec<u8>) -> Result<(), AllocError> {
+        put_u16(out, self.id.raw())?;
+        put_i16(out, self.x)?;
+        put_i16(out, self.y)?;
+        Ok(())
+    }
+}
+
+impl Entry for MacroEntry {
+    ghost sizes = { macro_sizes };
+
+    ghost numbers = { macro_numbers };
+
+    ghost from_numbers = { macro_from };
+
+    #[tactic(auto, unfolding(crate::specs::Reading::row_at))]
+    fn read(reader: &mut Reader<'_>) -> Result<MacroEntry, Stop> {
+        let event = reader.u8()?;
+        let macro_id = reader.u8()?;
+        Ok(MacroEntry { event, macro_id })
+    }
+
+    fn write(&self, out: &mut Vec<u8>) -> Result<(), AllocError> {
+        put_u8(out, self.event)?;
+        put_u8(out, self.macro_id)?;
+        Ok(())
+    }
+}
+
+impl Entry for Language {
+    ghost sizes = { language_sizes };
+
+    ghost numbers = { language_numbers };
+
+    ghost from_numbers = { language_from };
+
+    #[tactic(auto, unfolding(crate::specs::Reading::row_at))]
+    fn read(reader: &mut Reader<'_>) -> Result<Language, Stop> {
+        let first = reader.u8()?;
+        let second = reader.u8()?;
+        Ok(Language { first, second })
+    }
+
+    fn write(&self, out: &mut Vec<u8>) -> Result<(), AllocError> {
+        put_u8(out, self.first)?;
+        put_u8(out, self.second)?;
+        Ok(())
+    }
+}
+
+/// Reads as many entries as were counted.
+pub fn entries<T: Entry>(
+    alloc: Global,
+    reader: &mut Reader<'_>,
+    count: u8,
+) -> Result<Entries<T>, Stop>
+    ensures read { Gives (λ x. (map T.numbers x, reader.new)) result (rows_at T.sizes count reader.old) }
+    ensures len { IfOk result (λ x. length x ≡ count) }
+    ensures back { IfOk result (λ x. map T.from_numbers (map T.numbers x) ≡ x) }
+{
+    let mut items = Vec::new(alloc);
+    for _ in 0..count {
+        items.push(T::read(reader)?)?;
+    }
+    Ok(Entries::from_vec(items))
+}
+
+/// Writes entries one after the other.
+pub fn put_entries<T: Entry>(out: &mut Vec<u8>, entries: &Entries<T>) -> Result<(), AllocError>
+    ensures { OnOk result (out.new.items ≡ out.old.items ++ rows_spelling T.sizes (map T.numbers entries.now)) }
+{
+    for entry in entries.as_slice() {
+        entry.write(out)?;
+    }
+    Ok(())
+}

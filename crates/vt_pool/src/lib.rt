@@ -1,0 +1,21 @@
+//! Object pools: the records that an implement uploads (ISO 11783-6), read and written.
+//!
+//! docs/PROFILE.md, "Pools and faults", has the rules, and "Records" the layout of each kind.
+#![tactic(auto)]
+
+mod entry;
+mod fault;
+mod pool;
+mod reader;
+mod record;
+mod records;
+mod stop;
+mod write;
+
+pub use fault::PoolFault;
+pub use pool::{Pool, read_pool};
+pub use record::records_are_whole;
+pub use write::write_object;
+
+#[cfg(test)]
+mod tests;

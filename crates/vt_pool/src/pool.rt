@@ -1,0 +1,127 @@
+//! Pools.
+
+ghost use Rattle.std.specs.Prelude.{◌≡◌, ◌<◌, [], ◌++◌, length, map, slice_set, List, ℕ, IfOk, IfErr, OnOk};
+ghost use Rattle.std.specs.Option.{option_map};
+ghost use Rattle.std.specs.FinMap as finite;
+ghost use Rattle.vt_objects.specs.Records.{seen};
+ghost use Rattle.vt_objects.specs.Stores.{shown};
+ghost use Rattle.vt_pool.specs.Pools.{Entry, AreRecords, joined, contents, IsInForce, IsFault, IsWantOfMemory};
+ghost use Rattle.vt_pool.specs.declared.stop.Stop.TheVariants as stops;
+ghost use Rattle.vt_pool.specs.Places.{with_entry};
+
+use crate::fault::PoolFault;
+use crate::record::read_record;
+use crate::stop::Stop;
+use indexmap::IndexSet;
+use std::alloc::Global;
+use std::marker::Model;
+use vt_objects::{Object, ObjectId};
+
+/// The objects of a pool, each ID once, in the order in which their IDs first stood. Their texts are
+/// slices of the pool's bytes.
+#[derive(Drop)]
+pub struct Pool<'a> {
+    objects: Vec<(ObjectId, Object<&'a [u8]>)>,
+    places: IndexSet<ObjectId>,
+}
+
+impl<'a> Model for Pool<'a> {
+    ghost use Rattle.std.specs.Prelude.{◌≡◌, List, map};
+    ghost use Rattle.vt_objects.specs.Stores.{shown};
+    ghost use Rattle.vt_pool.specs.Pools.{Entry, ids};
+
+    ghost Value = { List Entry };
+
+    ghost view = { λ p. map shown p.objects.items };
+
+    ghost invariant = { λ p. p.places.keys ≡ ids (map shown p.objects.items) };
+}
+
+impl<'a> Pool<'a> {
+    fn new(alloc: Global) -> Pool<'a>
+        ensures { result ≡ [] }
+    {
+        Pool {
+            objects: Vec::new(alloc),
+            places: IndexSet::new(alloc),
+        }
+    }
+
+    /// The objects in the pool's order, each ID once.
+    pub fn objects(&self) -> &[(ObjectId, Object<&'a [u8]>)]
+        ensures { map shown result.now ≡ self.now }
+    {
+        &self.objects
+    }
+
+    /// The object of an ID, if the pool has one.
+    pub fn get(&self, id: ObjectId) -> Option<&Object<&'a [u8]>>
+        ensures { option_map (λ o. seen o.now) result ≡ finite.get (contents self.now) id }
+    {
+        match self.places.get_index_of(&id) {
+            None => None,
+            Some(place) => Some(&self.objects[place].1),
+        }
+    }
+
+    /// Puts an object in the place of the one of its ID, or at the end.
+    fn put(&mut self, id: ObjectId, object: Object<&'a [u8]>) -> Result<(), Stop>
+        ensures ok { OnOk result (self.new ≡ with_entry self.old id (seen object.entry)) }
+        ensures err { IfErr result (λ stop. stop ≡ stops.OutOfMemory) }
+    {
+        self.objects.reserve(1)?;
+        let (place, is_new) = self.places.insert_full(id)?;
+        if is_new {
+            self.objects.push((id, object))?;
+        } else {
+            replace(&mut self.objects, place, (id, object));
+        }
+        Ok(())
+    }
+}
+
+/// Puts an entry in the place of another.
+fn replace<'a>(
+    entries: &mut Vec<(ObjectId, Object<&'a [u8]>)>,
+    place: usize,
+    entry: (ObjectId, Object<&'a [u8]>),
+)
+    requires { place < length entries.old.items }
+    ensures { entries.new.items ≡ slice_set entries.old.items place entry.entry }
+{
+    entries[place] = entry;
+}
+
+/// Reads a pool: records up to the end of the bytes. A later record of an ID replaces the earlier one in
+/// its place. An error names the first faulty record.
+pub fn read_pool<'a>(alloc: Global, bytes: &'a [u8]) -> Result<Pool<'a>, PoolFault>
+    // What is read are whole records, joined, and the pool is what they leave in force.
+    ensures pool { IfOk result (λ pool. (records : List Entry) × AreRecords records × (bytes.now ≡ joined records) × IsInForce records pool) }
+    // Whole records are read, unless memory runs out.
+    ensures only { (records : List Entry) → AreRecords records → bytes.now ≡ joined records → IfErr result IsWantOfMemory }
+    // A fault names the first faulty record and its first cause.
+    ensures fault { IfErr result (IsFault bytes.now) }
+{
+    read_records(alloc, bytes)
+}
+
+fn read_records<'a>(alloc: Global, bytes: &'a [u8]) -> Result<Pool<'a>, PoolFault>
+    ensures pool { IfOk result (λ pool. (records : List Entry) × AreRecords records × (bytes.now ≡ joined records) × IsInForce records pool) }
+    ensures fault { IfErr result (IsFault bytes.now) }
+{
+    let mut pool = Pool::new(alloc);
+    let mut rest = bytes;
+    while !rest.is_empty() {
+        let at = bytes.len() - rest.len();
+        match read_record(alloc, rest) {
+            Err(stop) => return Err(stop.at(at)),
+            Ok(record) => {
+                if let Err(stop) = pool.put(record.id, record.object) {
+                    return Err(stop.at(at));
+                }
+                rest = record.rest;
+            }
+        }
+    }
+    Ok(pool)
+}

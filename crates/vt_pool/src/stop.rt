@@ -1,0 +1,49 @@
+//! Why a record cannot be read.
+
+ghost use Rattle.std.specs.Prelude.{◌≡◌};
+ghost use Rattle.vt_pool.specs.declared.stop.Stop.TheVariants.{OutOfMemory};
+ghost use Rattle.vt_pool.specs.Stops.{fault_at};
+
+use crate::fault::PoolFault;
+use std::alloc::{AllocError, AllocFailed};
+
+/// A fault of the record that is being read.
+#[derive(Clone, Copy, Debug, PartialEq, Eq)]
+pub enum Stop {
+    Truncated,
+    UnknownType,
+    LeftOutType,
+    OutOfMemory,
+    NullId,
+}
+
+impl Stop {
+    /// The fault of the pool whose record at this place it is.
+    pub fn at(self, at: usize) -> PoolFault
+        ensures { result ≡ fault_at self at }
+    {
+        match self {
+            Stop::Truncated => PoolFault::Truncated { at },
+            Stop::UnknownType => PoolFault::UnknownType { at },
+            Stop::LeftOutType => PoolFault::LeftOutType { at },
+            Stop::OutOfMemory => PoolFault::OutOfMemory { at },
+            Stop::NullId => PoolFault::NullId { at },
+        }
+    }
+}
+
+impl From<AllocError> for Stop {
+    ghost from_gives = { λ _ stop. stop ≡ OutOfMemory };
+
+    fn from(_error: AllocError) -> Stop {
+        Stop::OutOfMemory
+    }
+}
+
+impl<T: Drop> From<AllocFailed<T>> for Stop {
+    ghost from_gives = { λ _ stop. stop ≡ OutOfMemory };
+
+    fn from(_error: AllocFailed<T>) -> Stop {
+        Stop::OutOfMemory
+    }
+}

@@ -1,0 +1,61 @@
+//! Writing records.
+
+ghost use Rattle.std.specs.Prelude.{◌≡◌, ◌<◌, ◌++◌, [], ◌∷◌, OnOk, OnErr};
+ghost use Rattle.std.specs.Int.{w16, cast_unsigned};
+ghost use Rattle.byteorder.specs.Endian.{little_bytes};
+ghost use Rattle.vt_objects.specs.Records.{record_of};
+
+use crate::records::write_fields;
+use byteorder::{ByteOrder, LittleEndian};
+use std::alloc::{AllocError, Global};
+use std::convert::AsSlice;
+use vt_objects::{Object, ObjectId};
+
+pub fn put_u8(out: &mut Vec<u8>, n: u8) -> Result<(), AllocError>
+    ensures { OnOk result (out.new.items ≡ out.old.items ++ little_bytes 1 n) }
+{
+    out.push(n)?;
+    Ok(())
+}
+
+pub fn put_u16(out: &mut Vec<u8>, n: u16) -> Result<(), AllocError>
+    ensures { OnOk result (out.new.items ≡ out.old.items ++ little_bytes 2 n) }
+{
+    let mut bytes = [0; 2];
+    LittleEndian::write_u16(&mut bytes, n);
+    out.extend_from_slice(&bytes)?;
+    Ok(())
+}
+
+pub fn put_i16(out: &mut Vec<u8>, n: i16) -> Result<(), AllocError>
+    ensures { OnOk result (out.new.items ≡ out.old.items ++ little_bytes 2 (cast_unsigned w16 n)) }
+{
+    put_u16(out, n.cast_unsigned())
+}
+
+pub fn put_u32(out: &mut Vec<u8>, n: u32) -> Result<(), AllocError>
+    ensures { OnOk result (out.new.items ≡ out.old.items ++ little_bytes 4 n) }
+{
+    let mut bytes = [0; 4];
+    LittleEndian::write_u32(&mut bytes, n);
+    out.extend_from_slice(&bytes)?;
+    Ok(())
+}
+
+/// Appends the record of an object under an ID, which is not NULL. After an error the vector is as it was.
+pub fn write_object<B: AsSlice<u8>>(
+    alloc: Global,
+    id: ObjectId,
+    object: &Object<B>,
+    out: &mut Vec<u8>,
+) -> Result<(), AllocError>
+    requires { id < 0xFFFF }
+    ensures ok { OnOk result (out.new.items ≡ out.old.items ++ record_of id object.now) }
+    ensures err { OnErr result (out.new.items ≡ out.old.items) }
+{
+    let mut record = Vec::new(alloc);
+    put_u16(&mut record, id.raw())?;
+    put_u8(&mut record, object.kind().number())?;
+    write_fields(&mut record, object)?;
+    out.extend_from_slice(&record)
+}
