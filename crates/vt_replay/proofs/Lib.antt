@@ -1,0 +1,5 @@
+pub mod Effects
+pub mod Appending
+pub mod Taking
+pub mod Midway
+pub mod LongLines

@@ -1,0 +1,11 @@
+use Rattle.std.proofs.Common.{List, ℕ, subst}
+use Rattle.std.specs.Prelude.{OnOk}
+use Rattle.vt_replay.specs.Progress.{stand, Stand, Takes}
+use Rattle.vt_replay.proofs.Midway.{last_line}
+use Rattle.vt_replay.proofs.replay.end_log.Goals as goal
+
+pub returns-clause-takes : goal.returns-clause-takes
+returns-clause-takes g c =
+    let from : Stand = stand c.args.terminal.now c.args.counts.now (g.W.Write.contents c.args.writer.now) in
+    let to : Stand = stand c.end_line.new.terminal c.end_line.new.counts (g.W.Write.contents c.end_line.new.writer) in
+    subst (λ (ls : List (List ℕ)). OnOk c.end_line.result (Takes from ls to)) (last_line c.args.pending.now.items c.requires.whole c.if-is_empty.ensures) c.end_line.ensures.takes

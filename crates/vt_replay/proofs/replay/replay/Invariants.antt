@@ -1,0 +1,13 @@
+use Rattle.std.proofs.Common.{◌≡◌, length}
+use Rattle.vt_replay.specs.Progress.{stand}
+use Rattle.vt_replay.specs.Texts.{no_counts}
+use Rattle.vt_replay.proofs.Midway.{IsUnderWay}
+use Rattle.vt_replay.proofs.replay.replay.Given as goal
+
+abbrev pub invariant-loop : goal.invariant-loop
+invariant-loop g l = record {
+  way : IsUnderWay (stand l.initial.terminal no_counts (g.W.Write.contents l.initial.writer))
+      (g.R.Read.remaining l.initial.reader) (g.R.Read.remaining l.reader)
+      (stand l.terminal l.counts (g.W.Write.contents l.writer)) l.pending.items l.counter;
+  chunk : length l.chunk.items ≡ 65536;
+}

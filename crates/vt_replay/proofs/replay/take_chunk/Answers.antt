@@ -1,0 +1,36 @@
+use Rattle.std.proofs.Common.{◌<◌, ◌++◌, ◌∷◌, [], length, sym}
+use Rattle.std.proofs.lemmas.List.{append-nil}
+use Rattle.std.proofs.lemmas.Result.{err_from_is_err_and, IfErr-at_err}
+use Rattle.vt_replay.specs.Progress.{stand, Stand}
+use Rattle.vt_replay.proofs.Midway.{midway_few, midway_line}
+use Rattle.vt_replay.proofs.LongLines.{midway_long}
+use Rattle.vt_replay.proofs.replay.take_chunk.Goals as goal
+
+pub end_line-requires : goal.end_line-requires
+end_line-requires g c =
+    let from : Stand = stand c.args.terminal.now c.args.counts.now (g.W.Write.contents c.args.writer.now) in
+    let now : Stand = stand c.loop-line.terminal c.loop-line.counts (g.W.Write.contents c.loop-line.writer) in
+    record { few = midway_few from now c.args.pending.now.items c.args.chunk.now c.loop-line.pending.items c.loop-line.rest.now c.loop-line.invariant c.requires.few c.requires.short }
+
+pub loop-line-preserved : goal.loop-line-preserved
+loop-line-preserved g c =
+    let from : Stand = stand c.args.terminal.now c.args.counts.now (g.W.Write.contents c.args.writer.now) in
+    let now : Stand = stand c.loop-line.terminal c.loop-line.counts (g.W.Write.contents c.loop-line.writer) in
+    let to : Stand = stand c.end_line.new.terminal c.end_line.new.counts (g.W.Write.contents c.end_line.new.writer) in
+    midway_line from now to c.args.pending.now.items c.args.chunk.now c.loop-line.pending.items c.loop-line.rest.now c.in-Some.line.now c.in-Some.after.now c.end_line.new.pending.items
+    c.loop-line.invariant c.in-Some.ensures.0 c.in-Some.ensures.1 c.in_ok-end_line.ensures.takes c.in_ok-end_line.ensures.empty
+
+pub returns-in_err-end_line-clause-too_long : goal.returns-in_err-end_line-clause-too_long
+returns-in_err-end_line-clause-too_long g c =
+    let from : Stand = stand c.args.terminal.now c.args.counts.now (g.W.Write.contents c.args.writer.now) in
+    let now : Stand = stand c.loop-line.terminal c.loop-line.counts (g.W.Write.contents c.loop-line.writer) in
+    let p = err_from_is_err_and c.from_residual.result c.from_residual.ensures.1 in
+    λ e. midway_long from now c.args.pending.now.items c.args.chunk.now c.loop-line.pending.items c.loop-line.rest.now c.in-Some.line.now (10 ∷ c.in-Some.after.now) c.loop-line.invariant
+    c.in-Some.ensures.1 c.in-Some.ensures.0 (c.in_err-end_line.ensures.too_long (let same = p.1 in let is = p.2 in cc))
+
+pub returns-clause-too_long : goal.returns-clause-too_long
+returns-clause-too_long g c =
+    let from : Stand = stand c.args.terminal.now c.args.counts.now (g.W.Write.contents c.args.writer.now) in
+    let now : Stand = stand c.loop-line.terminal c.loop-line.counts (g.W.Write.contents c.loop-line.writer) in
+    λ e. midway_long from now c.args.pending.now.items c.args.chunk.now c.loop-line.pending.items c.loop-line.rest.now c.loop-line.rest.now [] c.loop-line.invariant
+    (sym (append-nil c.loop-line.rest.now)) c.in_default.ensures (IfErr-at_err (λ _. 4096 < length (c.loop-line.pending.items ++ c.loop-line.rest.now)) e c.keep.ensures.too_long)

@@ -1,0 +1,47 @@
+-- How far a replay has come.
+use Rattle.std.specs.Prelude.{◌≡◌, ◌≤◌, ◌==◌, ℕ, not, List, ◌++◌, length, Option}
+use Rattle.std.specs.List.{AllZip, AllByRecursion, AllPass}
+use Rattle.std.specs.Io.KnownBytes.{Appends}
+use Rattle.vt_can.specs.Line.{Reads}
+use Rattle.vt_replay.specs.declared.counts.Counts.{Counts}
+use Rattle.vt_replay.specs.declared.terminal.Terminal.{Terminal}
+use Rattle.vt_replay.specs.Terminals.{State}
+use Rattle.vt_replay.specs.States.{state_of}
+use Rattle.vt_replay.specs.Lines.{lines_of}
+use Rattle.vt_replay.specs.Texts.{Reading, after_lines, lines_text, with_lines}
+
+-- no count is above this number
+pub record AtMost (most : ℕ) (c : Counts) : Type 0 where
+  pub lines : c.lines ≤ most
+  pub frames : c.frames ≤ most
+  pub comments : c.comments ≤ most
+  pub faults : c.faults ≤ most
+
+-- where a replay stands: the terminal, the counts, and what the writer holds
+pub record Stand : Type 0 where
+  pub state : State
+  pub counts : Counts
+  pub held : Option (List ℕ)
+
+abbrev pub stand : Terminal → Counts → Option (List ℕ) → Stand
+stand terminal counts held = record { state = state_of terminal; counts = counts; held = held }
+
+-- the lines are taken one after the other
+pub record Takes (from : Stand) (lines : List (List ℕ)) (to : Stand) : Type 0 where
+  pub readings : List Reading
+  pub read : AllZip Reads lines readings
+  pub short : AllByRecursion (λ line. length line ≤ 4096) lines
+  pub state : to.state ≡ after_lines from.state readings
+  pub counts : to.counts ≡ with_lines from.counts readings
+  pub text : Appends from.held to.held (lines_text from.state from.counts.lines readings)
+
+abbrev pub HasNoNewline : List ℕ → Type 0
+HasNoNewline text = AllPass (λ byte. not (byte == 10)) text
+
+-- Some bytes are taken after those that were pending: their whole lines, no more than there are bytes, and
+-- the rest is pending.
+pub record TakesBytes (from : Stand) (before bytes : List ℕ) (to : Stand) (pending : List ℕ) : Type 0 where
+  pub lines : List (List ℕ)
+  pub takes : Takes from lines to
+  pub few : length lines ≤ length bytes
+  pub split : (rest : List ℕ) → lines_of (before ++ bytes ++ rest) ≡ lines ++ lines_of (pending ++ rest)

@@ -1,0 +1,26 @@
+-- A whole replay.
+use Rattle.std.specs.Prelude.{◌≡◌, ◌≤◌, ◌<◌, ℕ, List, ◌∷◌, ◌++◌, length}
+use Rattle.std.specs.List.{AllZip, AllByRecursion}
+use Rattle.vt_can.specs.Line.{Reads}
+use Rattle.vt_replay.specs.declared.counts.Counts.{Counts}
+use Rattle.vt_replay.specs.Terminals.{State}
+use Rattle.vt_replay.specs.Lines.{lines_of}
+use Rattle.vt_replay.specs.Texts.{Reading, after_lines, lines_text, with_lines, no_counts, counts_text}
+
+-- The text and the counts of a replay of these bytes by a terminal, and the terminal after it. A line is at most
+-- 4,096 bytes long.
+pub record IsReplay (start : State) (input : List ℕ) (text : List ℕ) (counts : Counts) (now : State) : Type 0 where
+  pub readings : List Reading
+  pub read : AllZip Reads (lines_of input) readings
+  pub short : AllByRecursion (λ line. length line ≤ 4096) (lines_of input)
+  pub text_is : text ≡ lines_text start 0 readings ++ counts_text counts
+  pub counts_are : counts ≡ with_lines no_counts readings
+  pub now_is : now ≡ after_lines start readings
+
+-- some line is longer than 4,096 bytes
+pub record HasLongLine (input : List ℕ) : Type 0 where
+  pub before : List (List ℕ)
+  pub line : List ℕ
+  pub after : List (List ℕ)
+  pub lines : lines_of input ≡ before ++ line ∷ after
+  pub long : 4096 < length line

@@ -1,0 +1,73 @@
+-- What a replay prints and counts (docs/PROFILE.md, "Output of a replay").
+use Rattle.std.specs.Prelude.{ℕ, ◌+◌, List, [], ◌∷◌, ◌++◌, codes, Result, Ok, Err}
+use Rattle.std.specs.List.{flat_map}
+use Rattle.std.specs.Fmt.{decimal}
+use Rattle.vt_can.specs.declared.frame.Frame.{Frame}
+use Rattle.vt_can.specs.declared.line.Line.{Line}
+use Rattle.vt_can.specs.declared.line.Line.TheVariants as lines
+use Rattle.vt_can.specs.declared.line.LineFault.{LineFault}
+use Rattle.vt_can.specs.declared.line.LineFault.TheVariants.{Shape}
+use Rattle.vt_can.specs.Frame.{frame_text}
+use Rattle.vt_replay.specs.declared.counts.Counts.{Counts}
+use Rattle.vt_replay.specs.Terminals.{State, step}
+
+-- how a line was read
+abbrev pub Reading : Type 0
+Reading = Result Line LineFault
+
+abbrev pub newline : List ℕ
+newline = 10 ∷ []
+
+-- the terminal after a line: only a frame is an input
+abbrev pub after_line : State → Reading → State
+after_line s (Ok (lines.Frame time frame)) = (step s frame).after
+after_line s (Ok lines.Comment) = s
+after_line s (Err fault) = s
+
+abbrev pub fault_name : LineFault → List ℕ
+fault_name Shape = codes "Shape"
+
+abbrev pub reply_text : Frame → List ℕ
+reply_text frame = frame_text frame ++ newline
+
+-- that line n is faulty
+abbrev pub fault_text : ℕ → LineFault → List ℕ
+fault_text n fault = codes "line " ++ decimal n ++ codes " " ++ fault_name fault ++ newline
+
+-- what line n prints
+abbrev pub line_text : State → ℕ → Reading → List ℕ
+line_text s n (Ok (lines.Frame time frame)) = flat_map reply_text (step s frame).replies
+line_text s n (Ok lines.Comment) = []
+line_text s n (Err fault) = fault_text n fault
+
+abbrev pub no_counts : Counts
+no_counts = record { lines = 0; frames = 0; operator = 0; skipped = 0; comments = 0; faults = 0 }
+
+-- each line is one of the five
+abbrev pub with_line : Counts → Reading → Counts
+with_line c (Ok (lines.Frame time frame)) = record c { lines = c.lines + 1; frames = c.frames + 1 }
+with_line c (Ok lines.Comment) = record c { lines = c.lines + 1; comments = c.comments + 1 }
+with_line c (Err fault) = record c { lines = c.lines + 1; faults = c.faults + 1 }
+
+-- ---- many lines, the first of them after n others
+
+abbrev pub after_lines : State → List Reading → State
+after_lines s [] = s
+after_lines s (r ∷ rs) = after_lines (after_line s r) rs
+
+abbrev pub lines_text : State → ℕ → List Reading → List ℕ
+lines_text s n [] = []
+lines_text s n (r ∷ rs) = line_text s (n + 1) r ++ lines_text (after_line s r) (n + 1) rs
+
+abbrev pub with_lines : Counts → List Reading → Counts
+with_lines c [] = c
+with_lines c (r ∷ rs) = with_lines (with_line c r) rs
+
+abbrev pub count_text : List ℕ → ℕ → List ℕ
+count_text label n = label ++ decimal n
+
+-- the last line
+abbrev pub counts_text : Counts → List ℕ
+counts_text c =
+    count_text (codes "lines ") c.lines ++ count_text (codes " frames ") c.frames ++ count_text (codes " operator ") c.operator
+    ++ count_text (codes " skipped ") c.skipped ++ count_text (codes " comments ") c.comments ++ count_text (codes " faults ") c.faults ++ newline

@@ -1,0 +1,32 @@
+//! Why a replay ended before its end.
+
+ghost use Rattle.std.specs.Prelude.{◌≡◌};
+ghost use Rattle.vt_replay.specs.declared.fault.ReplayFault.TheVariants.{Memory};
+
+use std::alloc::AllocError;
+use thiserror::Error;
+
+/// Why a replay ended before its end. What was written before is the front of its text.
+#[derive(Clone, Copy, Debug, PartialEq, Eq, Error)]
+pub enum ReplayFault {
+    /// The reader failed, or 1,000,000,000 reads have not ended it.
+    #[error("fault 1 Read")]
+    Read,
+    /// The writer failed.
+    #[error("fault 2 Write")]
+    Write,
+    /// A growth was refused.
+    #[error("fault 3 Memory")]
+    Memory,
+    /// A line is longer than 4,096 bytes.
+    #[error("fault 4 TooLong")]
+    TooLong,
+}
+
+impl From<AllocError> for ReplayFault {
+    ghost from_gives = { λ _ fault. fault ≡ Memory };
+
+    fn from(_error: AllocError) -> ReplayFault {
+        ReplayFault::Memory
+    }
+}

@@ -1,0 +1,109 @@
+//! One line of a log.
+
+ghost use Rattle.std.specs.Prelude.{◌≡◌, ◌^◌, ◌+◌, ◌++◌, [], ◌∷◌, ◌≤◌, ◌<◌, length, OnOk, OnErr, IfErr, IsErrOf};
+ghost use Rattle.std.specs.Io.KnownBytes.{Appends};
+ghost use Rattle.vt_replay.specs.States.{state_of};
+ghost use Rattle.vt_replay.specs.Texts.{after_line, with_line, line_text};
+ghost use Rattle.vt_replay.specs.Progress.{AtMost, Takes, stand};
+
+use crate::counts::Counts;
+use crate::fault::ReplayFault;
+use crate::output::{put_fault, put_reply};
+use crate::terminal::Terminal;
+use arrayvec::ArrayVec;
+use std::io::Write;
+use vt_can::{Line, LineFault, parse_line};
+
+/// The longest line, without its newline.
+const LONGEST: usize = 4096;
+
+/// What has come of a line whose end has not.
+pub type Pending = ArrayVec<u8, 4096>;
+
+/// Keeps a part of a line whose end has not come.
+pub fn keep(part: &[u8], pending: &mut Pending) -> Result<(), ReplayFault>
+    ensures kept { OnOk result (pending.new.items ≡ pending.old.items ++ part.now) }
+    ensures short { OnOk result (length pending.new.items ≤ 4096) }
+    ensures too_long { OnErr result (4096 < length (pending.old.items ++ part.now)) }
+{
+    pending
+        .try_extend_from_slice(part)
+        .map_err(|_| ReplayFault::TooLong)
+}
+
+/// Takes the line that ends with a part. Nothing is pending then.
+pub fn end_line<W: Write>(
+    part: &[u8],
+    pending: &mut Pending,
+    terminal: &mut Terminal,
+    counts: &mut Counts,
+    writer: &mut W,
+) -> Result<(), ReplayFault>
+    requires few { AtMost (2 ^ 62) counts.old }
+    ensures takes { OnOk result (Takes (stand terminal.old counts.old (W.contents writer.old))
+        ((pending.old.items ++ part.now) ∷ [])
+        (stand terminal.new counts.new (W.contents writer.new))) }
+    ensures empty { OnOk result (pending.new.items ≡ []) }
+    ensures too_long { IsErrOf result ReplayFault.TooLong → 4096 < length (pending.old.items ++ part.now) }
+{
+    if !pending.is_empty() {
+        keep(part, pending)?;
+        take_line(pending.as_slice(), terminal, counts, writer)?;
+        pending.clear();
+        return Ok(());
+    }
+    if part.len() > LONGEST {
+        return Err(ReplayFault::TooLong);
+    }
+    take_line(part, terminal, counts, writer)
+}
+
+fn take_line<W: Write>(
+    line: &[u8],
+    terminal: &mut Terminal,
+    counts: &mut Counts,
+    writer: &mut W,
+) -> Result<(), ReplayFault>
+    requires few { AtMost (2 ^ 62) counts.old }
+    requires short { length line.now ≤ 4096 }
+    ensures takes { OnOk result (Takes (stand terminal.old counts.old (W.contents writer.old))
+        (line.now ∷ [])
+        (stand terminal.new counts.new (W.contents writer.new))) }
+    ensures fault { IfErr result (λ fault. fault ≡ ReplayFault.Write) }
+{
+    let reading = parse_line(line);
+    take_reading(reading, terminal, counts, writer)
+}
+
+/// What a line does: a frame is heard and its reply written, a fault is written, a comment is nothing.
+fn take_reading<W: Write>(
+    reading: Result<Line, LineFault>,
+    terminal: &mut Terminal,
+    counts: &mut Counts,
+    writer: &mut W,
+) -> Result<(), ReplayFault>
+    requires few { AtMost (2 ^ 62) counts.old }
+    ensures state { state_of terminal.new ≡ after_line (state_of terminal.old) reading }
+    ensures counts { counts.new ≡ with_line counts.old reading }
+    ensures text { OnOk result (Appends (W.contents writer.old) (W.contents writer.new) (line_text (state_of terminal.old) (counts.old.lines + 1) reading)) }
+    ensures fault { IfErr result (λ fault. fault ≡ ReplayFault.Write) }
+{
+    counts.lines += 1;
+    match reading {
+        Ok(Line::Frame { frame, .. }) => {
+            counts.frames += 1;
+            match terminal.hear(&frame) {
+                Some(reply) => put_reply(&reply, writer),
+                None => Ok(()),
+            }
+        }
+        Ok(Line::Comment) => {
+            counts.comments += 1;
+            Ok(())
+        }
+        Err(fault) => {
+            counts.faults += 1;
+            put_fault(counts.lines, fault, writer)
+        }
+    }
+}

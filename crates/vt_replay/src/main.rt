@@ -1,0 +1,51 @@
+//! Replays a CAN log to a virtual terminal and prints what the terminal answers.
+//!
+//! docs/PROFILE.md, "The program", has the words, the statuses and the output.
+#![tactic(auto)]
+
+mod counts;
+mod fault;
+mod hiding;
+mod line;
+mod options;
+mod output;
+mod program;
+mod replay;
+mod terminal;
+
+use program::{Open, Status, run};
+use std::fs::{self, File};
+use std::io::{self, BufWriter};
+use std::process::ExitCode;
+
+/// The files of the system.
+#[derive(Drop)]
+struct Files<'a> {
+    rt: &'a HostRuntime,
+}
+
+impl Open for Files<'_> {
+    type Reader = File;
+
+    fn open(&mut self, path: &str) -> io::Result<File> {
+        fs::open(self.rt, path)
+    }
+}
+
+fn main(rt: HostRuntime) -> io::Result<ExitCode> {
+    let alloc = rt.alloc();
+    let words: Vec<String> = std::env::args(&rt)?.collect(alloc)?;
+    let mut out = BufWriter::new(alloc, io::writer(&rt))?;
+    let mut errors = rt.stderr();
+    let status = run(
+        alloc,
+        words.as_slice(),
+        &mut Files { rt: &rt },
+        &mut out,
+        &mut errors,
+    )?;
+    Ok(ExitCode::from(status.code()))
+}
+
+#[cfg(test)]
+mod tests;

@@ -1,0 +1,66 @@
+//! What a replay writes.
+
+ghost use Rattle.std.specs.Prelude.{◌≡◌, ◌++◌, codes, OnOk, IfErr};
+ghost use Rattle.std.specs.Fmt.{decimal};
+ghost use Rattle.std.specs.Io.KnownBytes.{Appends};
+ghost use Rattle.vt_replay.specs.Texts.{reply_text, fault_text, fault_name, counts_text};
+
+use crate::counts::Counts;
+use crate::fault::ReplayFault;
+use std::io::Write;
+use vt_can::{Frame, LineFault, write_frame};
+
+/// Writes a frame on a line of its own.
+pub fn put_reply<W: Write>(reply: &Frame, writer: &mut W) -> Result<(), ReplayFault>
+    ensures text { OnOk result (Appends (W.contents writer.old) (W.contents writer.new) (reply_text reply.now)) }
+    ensures fault { IfErr result (λ fault. fault ≡ ReplayFault.Write) }
+{
+    put(&write_frame(reply), writer)?;
+    put(b"\n", writer)
+}
+
+/// Writes that line `number` is faulty.
+pub fn put_fault<W: Write>(number: u64, fault: LineFault, writer: &mut W) -> Result<(), ReplayFault>
+    ensures text { OnOk result (Appends (W.contents writer.old) (W.contents writer.new) (fault_text number fault)) }
+    ensures fault { IfErr result (λ fault. fault ≡ ReplayFault.Write) }
+{
+    let name = fault_name(fault);
+    writeln!(writer, "line {number} {name}").map_err(|_| ReplayFault::Write)
+}
+
+/// Writes the counts.
+pub fn put_counts<W: Write>(counts: &Counts, writer: &mut W) -> Result<(), ReplayFault>
+    ensures text { OnOk result (Appends (W.contents writer.old) (W.contents writer.new) (counts_text counts.now)) }
+    ensures fault { IfErr result (λ fault. fault ≡ ReplayFault.Write) }
+{
+    put_count("lines ", counts.lines, writer)?;
+    put_count(" frames ", counts.frames, writer)?;
+    put_count(" operator ", counts.operator, writer)?;
+    put_count(" skipped ", counts.skipped, writer)?;
+    put_count(" comments ", counts.comments, writer)?;
+    put_count(" faults ", counts.faults, writer)?;
+    put(b"\n", writer)
+}
+
+fn put_count<W: Write>(label: &str, count: u64, writer: &mut W) -> Result<(), ReplayFault>
+    ensures text { OnOk result (Appends (W.contents writer.old) (W.contents writer.new) (label.now ++ decimal count)) }
+    ensures fault { IfErr result (λ fault. fault ≡ ReplayFault.Write) }
+{
+    write!(writer, "{label}{count}").map_err(|_| ReplayFault::Write)
+}
+
+fn put<W: Write>(bytes: &[u8], writer: &mut W) -> Result<(), ReplayFault>
+    ensures text { OnOk result (Appends (W.contents writer.old) (W.contents writer.new) bytes.now) }
+    ensures fault { IfErr result (λ fault. fault ≡ ReplayFault.Write) }
+{
+    writer.write_all(bytes).map_err(|_| ReplayFault::Write)
+}
+
+/// The name of a fault.
+fn fault_name(fault: LineFault) -> &'static str
+    ensures { result.now ≡ fault_name fault }
+{
+    match fault {
+        LineFault::Shape => "Shape",
+    }
+}

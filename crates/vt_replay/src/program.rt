@@ -1,0 +1,173 @@
+//! The program, over words, files and writers.
+
+ghost use Rattle.std.specs.Prelude.{◌≡◌, ◌≢◌, ◌≤◌, None};
+ghost use Rattle.vt_replay.specs.States.{state_of};
+ghost use Rattle.vt_replay.specs.Words.{AreApart};
+
+use crate::fault::ReplayFault;
+use crate::options::{Options, Preload, Refusal};
+use crate::replay::replay;
+use crate::terminal::Terminal;
+use std::alloc::{AllocError, Global};
+use std::convert::AsStr;
+use std::fmt;
+use std::io::{self, Read, Write};
+use vt_pool::{PoolFault, read_pool};
+
+/// What opens files by their paths.
+pub trait Open {
+    type Reader: Read + Drop;
+
+    fn open(&mut self, path: &str) -> io::Result<Self::Reader>;
+}
+
+/// How the program ends.
+#[derive(Clone, Copy, Debug, PartialEq, Eq)]
+pub enum Status {
+    /// The log was replayed, or help was printed.
+    Done,
+    /// A file, the pool or the replay has a fault.
+    Fault,
+    /// The words are not understood.
+    Usage,
+}
+
+impl Status {
+    /// The exit status.
+    pub fn code(self) -> u8 {
+        match self {
+            Status::Done => 0,
+            Status::Fault => 1,
+            Status::Usage => 2,
+        }
+    }
+}
+
+/// Why a log was not replayed to its end.
+#[derive(Drop)]
+enum Fault<'a> {
+    File { path: &'a str, cause: io::Error },
+    Pool(PoolFault),
+    Memory,
+    Replay(ReplayFault),
+}
+
+impl fmt::Display for Fault<'_> {
+    fn fmt<W: fmt::Write>(&self, f: &mut fmt::Formatter<W>) -> fmt::Result {
+        match self {
+            Fault::File { path, cause } => write!(f, "{path}: {cause}"),
+            Fault::Pool(fault) => write!(f, "{fault}"),
+            Fault::Memory => write!(f, "out of memory"),
+            Fault::Replay(fault) => write!(f, "{fault}"),
+        }
+    }
+}
+
+impl From<AllocError> for Fault<'_> {
+    fn from(_error: AllocError) -> Self {
+        Fault::Memory
+    }
+}
+
+/// Runs the program on its words, of which the first is its name. The fault of a pool is printed to `out`;
+/// every other fault is named on `errors`.
+pub fn run<S: AsStr, F: Open, W: Write, E: Write>(
+    alloc: Global,
+    words: &[S],
+    files: &mut F,
+    out: &mut W,
+    errors: &mut E,
+) -> io::Result<Status> {
+    let options = match Options::parse(alloc, words) {
+        Ok(options) => options,
+        Err(refusal) => return refuse(&refusal, out, errors),
+    };
+    match replay_log(alloc, &options, files, out) {
+        Ok(()) => Ok(Status::Done),
+        Err(Fault::Pool(fault)) => {
+            writeln!(out, "{fault}")?;
+            out.flush()?;
+            Ok(Status::Fault)
+        }
+        Err(fault) => {
+            writeln!(errors, "vt_replay: {fault}")?;
+            Ok(Status::Fault)
+        }
+    }
+}
+
+fn refuse<W: Write, E: Write>(
+    refusal: &Refusal,
+    out: &mut W,
+    errors: &mut E,
+) -> io::Result<Status> {
+    if refusal.is_mistake() {
+        write!(errors, "{refusal}")?;
+        return Ok(Status::Usage);
+    }
+    write!(out, "{refusal}")?;
+    out.flush()?;
+    Ok(Status::Done)
+}
+
+fn replay_log<'a, F: Open, W: Write>(
+    alloc: Global,
+    options: &Options<'a>,
+    files: &mut F,
+    out: &mut W,
+) -> Result<(), Fault<'a>>
+    requires { AreApart options.now }
+{
+    let mut terminal = Terminal::new(options.own);
+    if let Some(preload) = &options.preload {
+        load(alloc, preload, files, &mut terminal)?;
+    }
+    let path = options.log;
+    let mut log = match files.open(path) {
+        Ok(log) => log,
+        Err(cause) => return Err(Fault::File { path, cause }),
+    };
+    match replay(alloc, &mut log, out, &mut terminal) {
+        Ok(_counts) => {}
+        Err(fault) => return Err(Fault::Replay(fault)),
+    }
+    match out.flush() {
+        Ok(()) => Ok(()),
+        Err(_) => Err(Fault::Replay(ReplayFault::Write)),
+    }
+}
+
+/// Reads the pool of a working set and adds the set to the terminal.
+fn load<'a, F: Open>(
+    alloc: Global,
+    preload: &Preload<'a>,
+    files: &mut F,
+    terminal: &mut Terminal,
+) -> Result<(), Fault<'a>>
+    requires none { (state_of terminal.old).set ≡ None }
+    requires claimed { preload.now.owner ≤ 253 }
+    requires other { preload.now.owner ≢ (state_of terminal.old).own }
+{
+    let bytes = read_file(alloc, preload.pool, files)?;
+    match read_pool(alloc, &bytes) {
+        Ok(pool) => Ok(terminal.preload(alloc, preload.owner, &pool)?),
+        Err(PoolFault::OutOfMemory { .. }) => Err(Fault::Memory),
+        Err(fault) => Err(Fault::Pool(fault)),
+    }
+}
+
+fn read_file<'a, F: Open>(
+    alloc: Global,
+    path: &'a str,
+    files: &mut F,
+) -> Result<Vec<u8>, Fault<'a>> {
+    let mut bytes = Vec::new(alloc);
+    let read = match files.open(path) {
+        Ok(mut file) => file.read_to_end(&mut bytes),
+        Err(cause) => Err(cause),
+    };
+    match read {
+        Ok(_) => Ok(bytes),
+        Err(cause) => Err(Fault::File { path, cause }),
+    }
+}

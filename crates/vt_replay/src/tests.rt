@@ -1,0 +1,288 @@
+use crate::counts::Counts;
+use crate::fault::ReplayFault;
+use crate::program::{Open, Status, run};
+use crate::replay::replay;
+use crate::terminal::Terminal;
+use std::io::{self, Error, ErrorKind, Read, Write};
+use std::process::Abort;
+use std::test::Fail;
+
+/// Working Set 0, Data Mask 1000 and Container 100.
+const POOL: &[u8] = b"\x00\x00\x00\x00\x01\xE8\x03\x00\x00\x00\
+    \xE8\x03\x01\x00\xFF\xFF\x01\x00\x64\x00\x0A\x00\x05\x00\
+    \x64\x00\x03\x32\x00\x14\x00\x00\x00\x00";
+
+const HIDE: &[u8] = b"(1.000000) can0 14E72680#A0640000FFFFFFFF\n";
+
+const HIDE_TEXT: &str = "14E68026#A064000000FFFFFF\n\
+    lines 1 frames 1 operator 0 skipped 0 comments 0 faults 0\n";
+
+/// The files of the tests.
+#[derive(Drop)]
+struct Shelf<'a> {
+    log: &'a [u8],
+    pool: &'a [u8],
+}
+
+impl<'a> Open for Shelf<'a> {
+    type Reader = &'a [u8];
+
+    fn open(&mut self, path: &str) -> io::Result<&'a [u8]> {
+        match path {
+            "log" => Ok(self.log),
+            "pool" => Ok(self.pool),
+            _ => Err(Error::from(ErrorKind::NotFound)),
+        }
+    }
+}
+
+/// Runs the program, and checks its status, its text, and whether it names a fault.
+fn expect_run(
+    rt: &(impl Abort + AllocGlobal),
+    words: &[&str],
+    files: (&[u8], &[u8]),
+    wanted: (Status, &str, bool),
+) -> Result<(), Fail> {
+    let mut out = Vec::new(rt.alloc());
+    let mut errors = Vec::new(rt.alloc());
+    let mut shelf = Shelf {
+        log: files.0,
+        pool: files.1,
+    };
+    let status = run(rt.alloc(), words, &mut shelf, &mut out, &mut errors)?;
+    assert_eq!(rt; status, wanted.0, "{words:?}");
+    assert_eq!(rt; out.as_slice(), wanted.1.as_bytes(), "{words:?}");
+    assert_eq!(rt; !errors.is_empty(), wanted.2, "{words:?}");
+    Ok(())
+}
+
+#[test]
+fn commands_are_answered(rt: HostRuntime) -> Result<(), Fail> {
+    let words = ["vt_replay", "log", "--pool", "pool", "--owner", "80"].as_slice();
+    expect_run(&rt, words, (HIDE, POOL), (Status::Done, HIDE_TEXT, false))?;
+    let cases = [
+        ("14E72680#A0650000FFFFFFFF", "14E68026#A065000002FFFFFF\n"),
+        ("14E72680#A0640001FFFFFFFF", "14E68026#A064000100FFFFFF\n"),
+        ("14E72680#A0640002FFFFFFFF", "14E68026#A064000204FFFFFF\n"),
+        ("14E72680#A0E80300FFFFFFFF", "14E68026#A0E8030002FFFFFF\n"),
+        ("18E72680#A0640000FFFFFFFF", "14E68026#A064000000FFFFFF\n"),
+        ("14E72681#A0640000FFFFFFFF", ""),
+        ("14E72780#A0640000FFFFFFFF", ""),
+        ("14E6FF80#A0640000FFFFFFFF", ""),
+        ("15E72680#A0640000FFFFFFFF", ""),
+        ("14E72680#A0640000FFFFFF", ""),
+        ("14E72680#A1640000FFFFFFFF", ""),
+    ];
+    for (frame, reply) in cases {
+        let log = format!(in rt.alloc(); "(1.000000) can0 {frame}\n")?;
+        let text = format!(in rt.alloc();
+            "{reply}lines 1 frames 1 operator 0 skipped 0 comments 0 faults 0\n"
+        )?;
+        let wanted = (Status::Done, text.as_str(), false);
+        expect_run(&rt, words, (log.as_bytes(), POOL), wanted)?;
+    }
+    Ok(())
+}
+
+#[test]
+fn other_addresses(rt: HostRuntime) -> Result<(), Fail> {
+    let words = [
+        "vt_replay",
+        "log",
+        "--pool=pool",
+        "--owner",
+        "0a",
+        "--own",
+        "FD",
+    ]
+    .as_slice();
+    let text = "14E60AFD#A064000000FFFFFF\n\
+        lines 1 frames 1 operator 0 skipped 0 comments 0 faults 0\n";
+    let log = b"(1.000000) can0 14E7FD0A#A0640000FFFFFFFF";
+    expect_run(&rt, words, (log, POOL), (Status::Done, text, false))
+}
+
+#[test]
+fn words_that_are_refused(rt: HostRuntime) -> Result<(), Fail> {
+    let cases: [&[&str]; 12] = [
+        &["vt_replay"],
+        &["vt_replay", "log", "pool"],
+        &["vt_replay", "log", "--speed", "2"],
+        &["vt_replay", "log", "--owner", "80"],
+        &["vt_replay", "log", "--pool", "pool"],
+        &["vt_replay", "log", "--own", "2G"],
+        &["vt_replay", "log", "--own", "1"],
+        &["vt_replay", "log", "--own", "FE"],
+        &["vt_replay", "log", "--own", "26", "--own", "26"],
+        &["vt_replay", "log", "--pool", "pool", "--owner", "FF"],
+        &["vt_replay", "log", "--pool", "pool", "--owner", "26"],
+        &[
+            "vt_replay",
+            "none",
+            "--pool",
+            "none",
+            "--owner",
+            "44",
+            "--own",
+            "44",
+        ],
+    ];
+    for words in cases {
+        expect_run(&rt, words, (HIDE, POOL), (Status::Usage, "", true))?;
+    }
+    Ok(())
+}
+
+#[test]
+fn files_with_faults(rt: HostRuntime) -> Result<(), Fail> {
+    let with_pool = ["vt_replay", "log", "--pool", "pool", "--owner", "80"].as_slice();
+    let cut = (Status::Fault, "fault 1 Truncated at 10\n", false);
+    expect_run(&rt, with_pool, (HIDE, &POOL[..23]), cut)?;
+    let pool_first = ["vt_replay", "none", "--pool", "pool", "--owner", "80"].as_slice();
+    let left_out = (Status::Fault, "fault 3 LeftOutType at 0\n", false);
+    expect_run(&rt, pool_first, (HIDE, b"\x01\x00\x1D"), left_out)?;
+    let no_file = (Status::Fault, "", true);
+    expect_run(&rt, pool_first, (HIDE, POOL), no_file)?;
+    let no_pool = ["vt_replay", "log", "--pool", "none", "--owner", "80"].as_slice();
+    expect_run(&rt, no_pool, (HIDE, POOL), no_file)
+}
+
+#[test]
+fn help_is_no_fault(rt: HostRuntime) -> Result<(), Fail> {
+    for word in ["--help", "--version"] {
+        let mut out = Vec::new(rt.alloc());
+        let mut errors = Vec::new(rt.alloc());
+        let mut shelf = Shelf {
+            log: b"",
+            pool: b"",
+        };
+        let words = ["vt_replay", word];
+        let status = run(rt.alloc(), &words, &mut shelf, &mut out, &mut errors)?;
+        assert_eq!(&rt; status, Status::Done);
+        assert!(&rt; !out.is_empty());
+        assert!(&rt; errors.is_empty());
+    }
+    Ok(())
+}
+
+#[test]
+fn lines_are_counted(rt: HostRuntime) -> Result<(), Fail> {
+    let words = ["vt_replay", "log"].as_slice();
+    let none = "lines 0 frames 0 operator 0 skipped 0 comments 0 faults 0\n";
+    expect_run(&rt, words, (b"", POOL), (Status::Done, none, false))?;
+    let log = b"# a log\n\n(1.000000) can0 14E7\r\n(1.000000) can0 123#\n\
+        (2.000000) can0 14E72680#\r\nx";
+    let text = "line 3 Shape\nline 4 Shape\nline 6 Shape\n\
+        lines 6 frames 1 operator 0 skipped 0 comments 2 faults 3\n";
+    expect_run(&rt, words, (log, POOL), (Status::Done, text, false))
+}
+
+#[test]
+fn the_longest_line(rt: HostRuntime) -> Result<(), Fail> {
+    let words = ["vt_replay", "log"].as_slice();
+    let mut log = Vec::new(rt.alloc());
+    for _ in 0..4095 {
+        log.push(b'#')?;
+    }
+    log.extend_from_slice(b"\r\n#")?;
+    let text = "lines 2 frames 0 operator 0 skipped 0 comments 2 faults 0\n";
+    expect_run(&rt, words, (&log, POOL), (Status::Done, text, false))?;
+    log.insert(0, b'#')?;
+    expect_run(&rt, words, (&log, POOL), (Status::Fault, "", true))
+}
+
+/// A reader that gives a few bytes at a time, and then fails or is at its end.
+#[derive(Drop)]
+struct Pieces<'a> {
+    rest: &'a [u8],
+    most: usize,
+    fails: bool,
+}
+
+impl Read for Pieces<'_> {
+    fn read(&mut self, buf: &mut [u8]) -> io::Result<usize> {
+        if self.rest.is_empty() && self.fails {
+            return Err(Error::from(ErrorKind::Other));
+        }
+        let count = self.most.min(self.rest.len()).min(buf.len());
+        let (front, rest) = self.rest.split_at(count);
+        self.rest = rest;
+        buf[..count].copy_from_slice(front);
+        Ok(count)
+    }
+}
+
+/// A writer that fails after some bytes.
+#[derive(Drop)]
+struct Narrow {
+    room: usize,
+}
+
+impl Write for Narrow {
+    fn write(&mut self, buf: &[u8]) -> io::Result<usize> {
+        if self.room == 0 {
+            return Err(Error::from(ErrorKind::Other));
+        }
+        let count = self.room.min(buf.len());
+        self.room -= count;
+        Ok(count)
+    }
+
+    fn flush(&mut self) -> io::Result<()> {
+        Ok(())
+    }
+}
+
+#[test]
+fn pieces_make_no_difference(rt: HostRuntime) -> Result<(), Fail> {
+    let log = b"(1.000000) can0 14E7\n# one\n\n(1.000000) can0 18EEFF80#\n(1.0";
+    for most in 1..=log.len() {
+        let mut reader = Pieces {
+            rest: log,
+            most,
+            fails: false,
+        };
+        let mut out = Vec::new(rt.alloc());
+        let mut terminal = Terminal::new(0x26);
+        let counts = replay(rt.alloc(), &mut reader, &mut out, &mut terminal)
+            .ok()
+            .ok_or("it ends")?;
+        let wanted = Counts {
+            lines: 5,
+            frames: 1,
+            operator: 0,
+            skipped: 0,
+            comments: 2,
+            faults: 2,
+        };
+        assert_eq!(&rt; counts, wanted);
+        let text = b"line 1 Shape\nline 5 Shape\n\
+            lines 5 frames 1 operator 0 skipped 0 comments 2 faults 2\n";
+        assert_eq!(&rt; out.as_slice(), text.as_slice());
+    }
+    Ok(())
+}
+
+#[test]
+fn readers_and_writers_that_fail(rt: HostRuntime) -> Result<(), Fail> {
+    let log = b"(1.000000) can0 14E7\n";
+    let mut reader = Pieces {
+        rest: log,
+        most: 4,
+        fails: true,
+    };
+    let mut terminal = Terminal::new(0x26);
+    let mut out = Vec::new(rt.alloc());
+    let end = replay(rt.alloc(), &mut reader, &mut out, &mut terminal);
+    assert!(&rt; matches!(end, Err(ReplayFault::Read)));
+    assert_eq!(&rt; out.as_slice(), b"line 1 Shape\n".as_slice());
+    let whole = b"line 1 Shape\nlines 1 frames 0 operator 0 skipped 0 comments 0 faults 1\n".len();
+    for room in 0..whole {
+        let mut reader: &[u8] = log;
+        let mut writer = Narrow { room };
+        let mut terminal = Terminal::new(0x26);
+        let end = replay(rt.alloc(), &mut reader, &mut writer, &mut terminal);
+        assert!(&rt; matches!(end, Err(ReplayFault::Write)), "{room}");
+    }
+    Ok(())
+}
