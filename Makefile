@@ -1,0 +1,16 @@
+# The program's words. Paths are those of the folder in which make runs.
+ARGS ?= examples/hide.log --pool examples/pool.iop --owner 80
+
+.PHONY: run test build
+
+# Runs the program by the toolchain's quick build, which proves nothing.
+run:
+	@bash scripts/run.sh $(ARGS)
+
+# Proves every crate and its tests from nothing, tries the must-fail edits, and runs the tests and the program.
+test:
+	rt ci
+
+# Proves the program and leaves it at crates/vt_replay/out/vt_replay.
+build:
+	cd crates/vt_replay && rt run -- --version
