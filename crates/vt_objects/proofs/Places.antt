@@ -1,13 +1,13 @@
 -- Where an ID stands first in a list of objects, and what a write there leaves.
-use Rattle.std.proofs.Common.{◌≡◌, ℕ, zero, suc, ◌+◌, ◌<◌, Bool, true, false, cond, eqb, List, [], ◌∷◌, length, get_or, set, map, Option, Some, None, refl, sym, ap, subst, ◌∙◌, arith}
+use Rattle.std.proofs.Common.{◌≡◌, ℕ, suc, ◌+◌, ◌<◌, Bool, true, false, cond, eqb, List, [], ◌∷◌, length, get_or, set, map, Option, Some, None, refl, sym, ap, subst, ◌∙◌, arith}
 use Rattle.std.proofs.lemmas.Bool.{eqb-true, false≢true}
 use Rattle.std.specs.List.{position_from}
-use Rattle.std.specs.Ordering.{nat_cmp, eq_by_cmp}
+use Rattle.std.specs.Ordering.{nat_cmp}
 use Rattle.std.specs.Cmp.{unsigned_tied, nat_cmp_total}
 use Rattle.std.specs.FinMap as finite
 use Rattle.vt_objects.specs.declared.object.Object.{Object}
 use Rattle.vt_objects.specs.Records.{Seen, seen}
-use Rattle.vt_objects.specs.Stores.{Contents, shown, contents_of, replaced, with_object}
+use Rattle.vt_objects.specs.Stores.{shown, contents_of, replaced, with_object}
 
 -- what a list has under an ID
 abbrev pub object_at : {B : Type 0} → List (ℕ × Object B) → ℕ → Option Seen
@@ -52,7 +52,7 @@ first_later q e es k not_here rest = record {
   within = let w = rest.within in omega arith;
   found = λ d. ap (λ b. cond b (Some (seen e.1)) (object_at es q)) not_here ∙ rest.found d;
   written = λ d w r. ap (cond (eqb r e.0) (Some (seen e.1))) (rest.written d w r)
-    ∙ swapped (eqb r e.0) (eqb r q) (Some (seen e.1)) (Some (seen w)) (object_at es r) (λ a b.
+      ∙ swapped (eqb r e.0) (eqb r q) (Some (seen e.1)) (Some (seen w)) (object_at es r) (λ a b.
       let one : r ≡ e.0 = eqb-true r e.0 a in
       let other : r ≡ q = eqb-true r q b in
       absurd (false≢true (sym not_here ∙ ap (λ (k : ℕ). eqb k e.0) (sym other) ∙ a)));
@@ -101,11 +101,11 @@ pub contents_of-set : {B : Type 0} (q p : ℕ) (es : List (ℕ × Object B)) (d 
 contents_of-set q p es d w e =
     let first = first_at q p es e in
     let inserted : contents_of (set es p ((get_or es p d).0, w)) ≡ finite.insert (contents_of es) q (seen w) =
-      finite.same_map nat_cmp_total finite.nat_cmp-IsAntisymmetric _ _ (λ r.
-        get-contents_of (set es p ((get_or es p d).0, w)) r ∙ first.written d w r
-        ∙ sym (finite.get-insert nat_cmp_total (contents_of es) q (seen w) r
-          ∙ ap (λ b. cond b (Some (seen w)) (finite.get (contents_of es) r)) (unsigned_tied r q)
-          ∙ ap (cond (eqb r q) (Some (seen w))) (get-contents_of es r))) in
+    finite.same_map nat_cmp_total finite.nat_cmp-IsAntisymmetric _ _ (λ r.
+    get-contents_of (set es p ((get_or es p d).0, w)) r ∙ first.written d w r
+    ∙ sym (finite.get-insert nat_cmp_total (contents_of es) q (seen w) r
+    ∙ ap (λ b. cond b (Some (seen w)) (finite.get (contents_of es) r)) (unsigned_tied r q)
+    ∙ ap (cond (eqb r q) (Some (seen w))) (get-contents_of es r))) in
     inserted ∙ sym (ap (λ (o : Option Seen). replaced o (contents_of es) q (seen w)) (get_some q p es d e))
 
 -- a search over the same list, and what it found

@@ -124,20 +124,31 @@ language_from _ = record { first = 0; second = 0 }
 
 abbrev pub working_set_from : List Value → Option WorkingSet
 working_set_from (number colour ∷ number selectable ∷ number mask ∷ _ ∷ _ ∷ _ ∷ rows cs ∷ rows ms ∷ rows ls ∷ []) = Some (record {
-  colour = colour; selectable = selectable; active_mask = mask;
-  children = map child_from cs; macros = map macro_from ms; languages = map language_from ls;
+  colour = colour;
+  selectable = selectable;
+  active_mask = mask;
+  children = map child_from cs;
+  macros = map macro_from ms;
+  languages = map language_from ls;
 })
 working_set_from _ = None
 
 abbrev pub data_mask_from : List Value → Option DataMask
 data_mask_from (number colour ∷ number keys ∷ _ ∷ _ ∷ rows cs ∷ rows ms ∷ []) = Some (record {
-  colour = colour; soft_key_mask = keys; children = map child_from cs; macros = map macro_from ms;
+  colour = colour;
+  soft_key_mask = keys;
+  children = map child_from cs;
+  macros = map macro_from ms;
 })
 data_mask_from _ = None
 
 abbrev pub container_from : List Value → Option Container
 container_from (number width ∷ number height ∷ number hidden ∷ _ ∷ _ ∷ rows cs ∷ rows ms ∷ []) = Some (record {
-  width = width; height = height; hidden = hidden; children = map child_from cs; macros = map macro_from ms;
+  width = width;
+  height = height;
+  hidden = hidden;
+  children = map child_from cs;
+  macros = map macro_from ms;
 })
 container_from _ = None
 

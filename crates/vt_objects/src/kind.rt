@@ -1,7 +1,7 @@
 //! The kinds of objects.
 
-ghost use Rattle.std.specs.Prelude.{◌≡◌};
-ghost use Rattle.vt_objects.specs.Kinds.{kind_number, kind_at};
+ghost use Rattle.std.specs.Prelude.{◌≡◌, Some};
+ghost use Rattle.vt_objects.specs.Kinds.{kind_number, kind_at, kind_name};
 
 use std::fmt;
 
@@ -45,6 +45,8 @@ impl Kind {
 }
 
 impl fmt::Display for Kind {
+    ghost output = { λ kind. Some (kind_name kind) };
+
     fn fmt<W: fmt::Write>(&self, f: &mut fmt::Formatter<W>) -> fmt::Result {
         let name = match self {
             Kind::WorkingSet => "Working Set",

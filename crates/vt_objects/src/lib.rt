@@ -29,3 +29,6 @@ pub use variables::{NumberVariable, StringVariable};
 
 /// A growth that was refused.
 pub use std::alloc::AllocError as OutOfMemory;
+
+#[cfg(test)]
+mod tests;

@@ -17,6 +17,7 @@ returns-in-None c =
 pub returns-in-Some : goal.returns-in-Some
 returns-in-Some c =
     let es = c.args.self.now.entries.items in
-    let at = placed c.args.id c.in-Some.place es c.deref.result.now c.place_of.result c.place_of.ensures c.deref.ensures.value c.in-Some.is in
-    ((refl, λ w. wrote c.args.id c.in-Some.place es c.index_mut.result.now w at c.index_mut.ensures.value, refl),
-      record { writes_back = tt; value = got c.args.id c.in-Some.place es c.index_mut.result.now at c.index_mut.ensures.value })
+    let at = placed c.args.id c.in-Some.place es c.deref.result.now c.place_of.result c.place_of.ensures c.deref.ensures.value c.in-Some.is in (
+      (refl, λ w. wrote c.args.id c.in-Some.place es c.index_mut.result.now w at c.index_mut.ensures.value, refl),
+      record { writes_back = tt; value = got c.args.id c.in-Some.place es c.index_mut.result.now at c.index_mut.ensures.value },
+    )
