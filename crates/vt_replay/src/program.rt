@@ -2,7 +2,7 @@
 
 ghost use Rattle.std.specs.Prelude.{◌≡◌, ◌≢◌, ◌≤◌, None};
 ghost use Rattle.vt_replay.specs.States.{state_of};
-ghost use Rattle.vt_replay.specs.Words.{AreApart};
+ghost use Rattle.vt_replay.specs.Words.{AreApart, status_code};
 
 use crate::fault::ReplayFault;
 use crate::options::{Options, Preload, Refusal};
@@ -34,7 +34,9 @@ pub enum Status {
 
 impl Status {
     /// The exit status.
-    pub fn code(self) -> u8 {
+    pub fn code(self) -> u8
+        ensures { result ≡ status_code self }
+    {
         match self {
             Status::Done => 0,
             Status::Fault => 1,
