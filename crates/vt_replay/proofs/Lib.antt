@@ -3,3 +3,4 @@ pub mod Appending
 pub mod Taking
 pub mod Midway
 pub mod LongLines
+pub mod Begun

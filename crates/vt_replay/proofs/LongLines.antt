@@ -59,7 +59,7 @@ midway_long a b before chunk pending rest part tail mid cut lacks long r =
     ap (λ (t : List ℕ). before ++ t ++ r) (mid.parts ∙ ap (λ (t : List ℕ). mid.front ++ t) cut) ∙ simp append_assoc in
     subst HasLongLine (sym joined) all
 
-begun : (a b : Option (List ℕ)) (bytes : List ℕ) (P : List ℕ → Type 0) → Consumes a b bytes → ((rest : List ℕ) → P (bytes ++ rest)) → IfSome a P
+pub begun : (a b : Option (List ℕ)) (bytes : List ℕ) (P : List ℕ → Type 0) → Consumes a b bytes → ((rest : List ℕ) → P (bytes ++ rest)) → IfSome a P
 begun None b bytes P consumed all = tt
 begun (Some xs) None bytes P consumed all = absurd consumed
 begun (Some xs) (Some ys) bytes P consumed all = subst P (sym consumed) (all ys)

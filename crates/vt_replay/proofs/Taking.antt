@@ -16,7 +16,7 @@ use Rattle.vt_replay.specs.Progress.{AtMost, Stand, Takes, HasNoNewline, TakesBy
 
 -- ---- readings, one list after another
 
-AllZip-append : {A B : Type 0} (R : A → B → Type 0) (xs : List A) (bs : List B) (cs : List A) (ds : List B) → AllZip R xs bs → AllZip R cs ds → AllZip R (xs ++ cs) (bs ++ ds)
+pub AllZip-append : {A B : Type 0} (R : A → B → Type 0) (xs : List A) (bs : List B) (cs : List A) (ds : List B) → AllZip R xs bs → AllZip R cs ds → AllZip R (xs ++ cs) (bs ++ ds)
 AllZip-append R [] [] cs ds p q = q
 AllZip-append R [] (b ∷ bs) cs ds p q = absurd p
 AllZip-append R (a ∷ xs) [] cs ds p q = absurd p
@@ -26,7 +26,7 @@ All-joined : {A : Type 0} (P : A → Type 0) (xs bs : List A) → AllByRecursion
 All-joined P [] bs p q = q
 All-joined P (a ∷ xs) bs p q = (p.0, All-joined P xs bs p.1 q)
 
-after_lines-append : (s : State) (rs qs : List Reading) → after_lines s (rs ++ qs) ≡ after_lines (after_lines s rs) qs
+pub after_lines-append : (s : State) (rs qs : List Reading) → after_lines s (rs ++ qs) ≡ after_lines (after_lines s rs) qs
 after_lines-append s [] qs = refl
 after_lines-append s (r ∷ rs) qs = after_lines-append (after_line s r) rs qs
 

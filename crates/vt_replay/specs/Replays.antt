@@ -17,6 +17,15 @@ pub record IsReplay (start : State) (input : List ℕ) (text : List ℕ) (counts
   pub counts_are : counts ≡ with_lines no_counts readings
   pub now_is : now ≡ after_lines start readings
 
+-- The terminal has taken the first of these lines: none, some or all.
+pub record TakesSome (from : State) (lines : List (List ℕ)) (to : State) : Type 0 where
+  pub front : List (List ℕ)
+  pub back : List (List ℕ)
+  pub readings : List Reading
+  pub whole : lines ≡ front ++ back
+  pub read : AllZip Reads front readings
+  pub state : to ≡ after_lines from readings
+
 -- some line is longer than 4,096 bytes
 pub record HasLongLine (input : List ℕ) : Type 0 where
   pub before : List (List ℕ)

@@ -5,6 +5,7 @@ ghost use Rattle.std.specs.Io.KnownBytes.{Appends};
 ghost use Rattle.vt_replay.specs.States.{state_of};
 ghost use Rattle.vt_replay.specs.Texts.{after_line, with_line, line_text};
 ghost use Rattle.vt_replay.specs.Progress.{AtMost, Takes, stand};
+ghost use Rattle.vt_replay.specs.Replays.{TakesSome};
 
 use crate::counts::Counts;
 use crate::fault::ReplayFault;
@@ -44,6 +45,7 @@ pub fn end_line<W: Write>(
         ((pending.old.items ++ part.now) ∷ [])
         (stand terminal.new counts.new (W.contents writer.new))) }
     ensures empty { OnOk result (pending.new.items ≡ []) }
+    ensures stopped { OnErr result (TakesSome (state_of terminal.old) ((pending.old.items ++ part.now) ∷ []) (state_of terminal.new)) }
     ensures too_long { IsErrOf result ReplayFault.TooLong → 4096 < length (pending.old.items ++ part.now) }
 {
     if !pending.is_empty() {
@@ -69,6 +71,7 @@ fn take_line<W: Write>(
     ensures takes { OnOk result (Takes (stand terminal.old counts.old (W.contents writer.old))
         (line.now ∷ [])
         (stand terminal.new counts.new (W.contents writer.new))) }
+    ensures stopped { TakesSome (state_of terminal.old) (line.now ∷ []) (state_of terminal.new) }
     ensures fault { IfErr result (λ fault. fault ≡ ReplayFault.Write) }
 {
     let reading = parse_line(line);

@@ -1,10 +1,10 @@
 //! Replaying a log: bytes in, text out.
 
-ghost use Rattle.std.specs.Prelude.{◌≡◌, ◌≤◌, ◌<◌, ◌^◌, ◌++◌, ◌∷◌, length, IfOk, IfSome, OnOk, IsErrOf, MatchOption, List, ℕ};
+ghost use Rattle.std.specs.Prelude.{◌≡◌, ◌≤◌, ◌<◌, ◌^◌, ◌++◌, ◌∷◌, length, IfOk, IfSome, OnOk, OnErr, IsErrOf, MatchOption, List, ℕ};
 ghost use Rattle.std.specs.Io.KnownBytes.{Appends, IsAtEnd};
 ghost use Rattle.vt_replay.specs.States.{state_of};
 ghost use Rattle.vt_replay.specs.Lines.{lines_of};
-ghost use Rattle.vt_replay.specs.Replays.{IsReplay, HasLongLine};
+ghost use Rattle.vt_replay.specs.Replays.{IsReplay, TakesSome, HasLongLine};
 ghost use Rattle.vt_replay.specs.Progress.{AtMost, Takes, TakesBytes, HasNoNewline, stand};
 
 use crate::counts::Counts;
@@ -35,6 +35,8 @@ pub fn replay<R: Read, W: Write>(
         × Appends (W.contents writer.old) (W.contents writer.new) text
         × IsReplay (state_of terminal.old) input text counts (state_of terminal.new))) }
     ensures end { OnOk result (IsAtEnd (R.remaining reader.new)) }
+    // After an error the terminal has taken the first of the lines.
+    ensures stopped { OnErr result (IfSome (R.remaining reader.old) (λ input. TakesSome (state_of terminal.old) (lines_of input) (state_of terminal.new))) }
     ensures too_long { IsErrOf result ReplayFault.TooLong → IfSome (R.remaining reader.old) HasLongLine }
 {
     let mut counts = Counts::new();
@@ -75,6 +77,7 @@ fn take_chunk<W: Write>(
         pending.old.items chunk.now
         (stand terminal.new counts.new (W.contents writer.new)) pending.new.items) }
     ensures whole { OnOk result (HasNoNewline pending.new.items) }
+    ensures stopped { OnErr result ((rest : List ℕ) → TakesSome (state_of terminal.old) (lines_of (pending.old.items ++ chunk.now ++ rest)) (state_of terminal.new)) }
     ensures too_long { IsErrOf result ReplayFault.TooLong → (rest : List ℕ) → HasLongLine (pending.old.items ++ chunk.now ++ rest) }
 {
     let mut rest = chunk;
@@ -105,6 +108,7 @@ fn end_log<W: Write>(
     ensures takes { OnOk result (Takes (stand terminal.old counts.old (W.contents writer.old))
         (lines_of pending.old.items)
         (stand terminal.new counts.new (W.contents writer.new))) }
+    ensures stopped { OnErr result (TakesSome (state_of terminal.old) (lines_of pending.old.items) (state_of terminal.new)) }
     ensures too_long { IsErrOf result ReplayFault.TooLong → 4096 < length pending.old.items }
 {
     if pending.is_empty() {

@@ -1,6 +1,8 @@
 use Rattle.std.proofs.lemmas.Result.{on_ok_weaker}
 use Rattle.vt_replay.specs.Progress.{stand, Stand}
+use Rattle.vt_replay.specs.States.{state_of}
 use Rattle.vt_replay.proofs.Taking.{takes_one}
+use Rattle.vt_replay.proofs.Begun.{some_one}
 use Rattle.vt_replay.proofs.line.take_line.Goals as goal
 
 pub returns-clause-takes : goal.returns-clause-takes
@@ -8,3 +10,7 @@ returns-clause-takes g c =
     let from : Stand = stand c.args.terminal.now c.args.counts.now (g.W.Write.contents c.args.writer.now) in
     let to : Stand = stand c.take_reading.new.terminal c.take_reading.new.counts (g.W.Write.contents c.take_reading.new.writer) in
     on_ok_weaker c.take_reading.result (takes_one from to c.args.line.now c.parse_line-reading.result c.parse_line-reading.ensures c.requires.short c.take_reading.ensures.state c.take_reading.ensures.counts) c.take_reading.ensures.text
+
+pub returns-clause-stopped : goal.returns-clause-stopped
+returns-clause-stopped g c =
+    some_one (state_of c.args.terminal.now) (state_of c.take_reading.new.terminal) c.args.line.now c.parse_line-reading.result c.parse_line-reading.ensures c.take_reading.ensures.state

@@ -2,10 +2,12 @@ use Rattle.std.proofs.Common.{◌≡◌, ◌≤◌, ◌<◌, ℕ, length, length
 use Rattle.std.proofs.lemmas.Result.{err_from_is_err_and}
 use Rattle.std.specs.Io.KnownBytes.{Consumes}
 use Rattle.vt_replay.specs.States.{state_of}
+use Rattle.vt_replay.specs.Lines.{lines_of}
 use Rattle.vt_replay.specs.Texts.{no_counts}
 use Rattle.vt_replay.specs.Progress.{stand, Stand}
 use Rattle.vt_replay.proofs.Midway.{way_start, way_more, way_end, read_front}
 use Rattle.vt_replay.proofs.LongLines.{way_long, end_long}
+use Rattle.vt_replay.proofs.Begun.{on_any_err, some_given, some_all, way_some, way_last}
 use Rattle.vt_replay.proofs.replay.replay.Goals as goal
 
 pub loop-init : goal.loop-init
@@ -60,3 +62,43 @@ returns-in_err-take_chunk-clause-too_long g c =
     let p = err_from_is_err_and c.from_residual-in_err-take_chunk.result c.from_residual-in_err-take_chunk.ensures.1 in
     λ e. way_long start now (g.R.Read.remaining c.args.reader.now) (g.R.Read.remaining c.loop.reader) (g.R.Read.remaining c.read.new.self) c.loop.pending.items (take c.in-Ok.count c.deref.result.now) c.loop.counter
     c.loop.invariant.way consumed (c.in_err-take_chunk.ensures.too_long (let same = p.1 in let is = p.2 in cc))
+
+pub returns-in_err-chunk-clause-stopped : goal.returns-in_err-chunk-clause-stopped
+returns-in_err-chunk-clause-stopped g c =
+    on_any_err c.from_residual.result (some_given (g.R.Read.remaining c.args.reader.now) (state_of c.args.terminal.now))
+
+pub returns-in_err-end_log-clause-stopped : goal.returns-in_err-end_log-clause-stopped
+returns-in_err-end_log-clause-stopped g c =
+    let start : Stand = stand c.args.terminal.now no_counts (g.W.Write.contents c.args.writer.now) in
+    let now : Stand = stand c.loop.terminal c.loop.counts (g.W.Write.contents c.loop.writer) in
+    let to = state_of c.end_log.new.terminal in
+    let items = c.loop.chunk in
+    let room : 0 < length c.read.new.buf = omega (arith, c.read.auto.buf, c.deref_mut.ensures.len, items.ok.0, c.loop.invariant.chunk) in
+    on_any_err c.from_residual-in_err-end_log.result
+    (way_last start now to (g.R.Read.remaining c.args.reader.now) (g.R.Read.remaining c.loop.reader) (g.R.Read.remaining c.read.new.self) c.loop.pending.items (take c.in-Ok.count c.read.new.buf)
+    c.loop.counter c.loop.invariant.way c.in-Ok.ensures.bytes.0 (ap (λ (n : ℕ). take n c.read.new.buf) c.if-count-eq0.true) (c.in-Ok.ensures.bytes.1 c.if-count-eq0.true room) c.in_err-end_log.ensures.stopped)
+
+pub returns-in_err-put_counts-clause-stopped : goal.returns-in_err-put_counts-clause-stopped
+returns-in_err-put_counts-clause-stopped g c =
+    let start : Stand = stand c.args.terminal.now no_counts (g.W.Write.contents c.args.writer.now) in
+    let now : Stand = stand c.loop.terminal c.loop.counts (g.W.Write.contents c.loop.writer) in
+    let done : Stand = stand c.end_log.new.terminal c.end_log.new.counts (g.W.Write.contents c.end_log.new.writer) in
+    let items = c.loop.chunk in
+    let room : 0 < length c.read.new.buf = omega (arith, c.read.auto.buf, c.deref_mut.ensures.len, items.ok.0, c.loop.invariant.chunk) in
+    on_any_err c.from_residual-in_err-put_counts.result
+    (way_last start now done.state (g.R.Read.remaining c.args.reader.now) (g.R.Read.remaining c.loop.reader) (g.R.Read.remaining c.read.new.self) c.loop.pending.items (take c.in-Ok.count c.read.new.buf)
+    c.loop.counter c.loop.invariant.way c.in-Ok.ensures.bytes.0 (ap (λ (n : ℕ). take n c.read.new.buf) c.if-count-eq0.true) (c.in-Ok.ensures.bytes.1 c.if-count-eq0.true room)
+    (some_all now done (lines_of c.loop.pending.items) c.in_ok-end_log.ensures.takes))
+
+pub returns-in_err-take_chunk-clause-stopped : goal.returns-in_err-take_chunk-clause-stopped
+returns-in_err-take_chunk-clause-stopped g c =
+    let start : Stand = stand c.args.terminal.now no_counts (g.W.Write.contents c.args.writer.now) in
+    let now : Stand = stand c.loop.terminal c.loop.counts (g.W.Write.contents c.loop.writer) in
+    let to = state_of c.take_chunk.new.terminal in
+    let items = c.loop.chunk in
+    let full : length c.read.new.buf ≡ items.len = omega (arith, c.read.auto.buf, c.deref_mut.ensures.len) in
+    let front = read_front c.in-Ok.count items.len c.read.new.buf items.items c.deref.result.now c.deref.ensures.value full in
+    let consumed = subst (Consumes (g.R.Read.remaining c.loop.reader) (g.R.Read.remaining c.read.new.self)) front c.in-Ok.ensures.bytes.0 in
+    on_any_err c.from_residual-in_err-take_chunk.result
+    (way_some start now to (g.R.Read.remaining c.args.reader.now) (g.R.Read.remaining c.loop.reader) (g.R.Read.remaining c.read.new.self) c.loop.pending.items (take c.in-Ok.count c.deref.result.now)
+    c.loop.counter c.loop.invariant.way consumed c.in_err-take_chunk.ensures.stopped)

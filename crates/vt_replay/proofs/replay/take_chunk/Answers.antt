@@ -3,7 +3,9 @@ use Rattle.std.proofs.lemmas.List.{append-nil}
 use Rattle.std.proofs.lemmas.Result.{err_from_is_err_and, IfErr-at_err}
 use Rattle.vt_replay.specs.Progress.{stand, Stand}
 use Rattle.vt_replay.proofs.Midway.{midway_few, midway_line}
+use Rattle.vt_replay.specs.States.{state_of}
 use Rattle.vt_replay.proofs.LongLines.{midway_long}
+use Rattle.vt_replay.proofs.Begun.{on_any_err, midway_some, midway_stop}
 use Rattle.vt_replay.proofs.replay.take_chunk.Goals as goal
 
 pub end_line-requires : goal.end_line-requires
@@ -34,3 +36,18 @@ returns-clause-too_long g c =
     let now : Stand = stand c.loop-line.terminal c.loop-line.counts (g.W.Write.contents c.loop-line.writer) in
     λ e. midway_long from now c.args.pending.now.items c.args.chunk.now c.loop-line.pending.items c.loop-line.rest.now c.loop-line.rest.now [] c.loop-line.invariant
     (sym (append-nil c.loop-line.rest.now)) c.in_default.ensures (IfErr-at_err (λ _. 4096 < length (c.loop-line.pending.items ++ c.loop-line.rest.now)) e c.keep.ensures.too_long)
+
+pub returns-in_err-end_line-clause-stopped : goal.returns-in_err-end_line-clause-stopped
+returns-in_err-end_line-clause-stopped g c =
+    let from : Stand = stand c.args.terminal.now c.args.counts.now (g.W.Write.contents c.args.writer.now) in
+    let now : Stand = stand c.loop-line.terminal c.loop-line.counts (g.W.Write.contents c.loop-line.writer) in
+    let to = state_of c.end_line.new.terminal in
+    on_any_err c.from_residual.result
+    (midway_some from now to c.args.pending.now.items c.args.chunk.now c.loop-line.pending.items c.loop-line.rest.now c.in-Some.line.now c.in-Some.after.now c.loop-line.invariant
+    c.in-Some.ensures.0 c.in-Some.ensures.1 c.in_err-end_line.ensures.stopped)
+
+pub returns-clause-stopped : goal.returns-clause-stopped
+returns-clause-stopped g c =
+    let from : Stand = stand c.args.terminal.now c.args.counts.now (g.W.Write.contents c.args.writer.now) in
+    let now : Stand = stand c.loop-line.terminal c.loop-line.counts (g.W.Write.contents c.loop-line.writer) in
+    on_any_err c.keep.result (midway_stop from now c.args.pending.now.items c.args.chunk.now c.loop-line.pending.items c.loop-line.rest.now c.loop-line.invariant)
