@@ -53,6 +53,7 @@ impl<T> Entries<T> {
         Entries { items }
     }
 
+    /// The entries in the record's order.
     pub fn as_slice(&self) -> &[T]
         ensures value { result.now ≡ self.now }
         ensures most { length result.now ≤ 255 }
@@ -60,12 +61,14 @@ impl<T> Entries<T> {
         &self.items
     }
 
+    /// How many entries there are.
     pub fn len(&self) -> u8
         ensures { result ≡ length self.now }
     {
         self.items.len() as u8
     }
 
+    /// Whether there is no entry.
     pub fn is_empty(&self) -> bool
         ensures { IsTrue result ↔ (self.now ≡ []) }
     {

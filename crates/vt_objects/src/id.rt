@@ -21,12 +21,14 @@ impl Model for ObjectId {
 }
 
 impl ObjectId {
+    /// The ID of this number. 65535 gives NULL.
     pub fn from_raw(raw: u16) -> ObjectId
         ensures { result ≡ raw }
     {
         ObjectId { raw }
     }
 
+    /// The number, 65535 for NULL.
     pub fn raw(self) -> u16
         ensures { result ≡ self }
     {

@@ -9,11 +9,17 @@ use std::alloc::{AllocError, Global};
 /// A Working Set, type 0: the implement itself, and the one object that each pool has once.
 #[derive(Drop)]
 pub struct WorkingSet {
+    /// The number of the background's colour.
     pub colour: u8,
+    /// Whether the working set may be selected. It is kept, and not applied.
     pub selectable: u8,
+    /// The mask that it shows, or NULL.
     pub active_mask: ObjectId,
+    /// The objects that stand in it.
     pub children: Entries<Child>,
+    /// The macros of its events.
     pub macros: Entries<MacroEntry>,
+    /// The languages that the working set speaks.
     pub languages: Entries<Language>,
 }
 
@@ -36,9 +42,13 @@ impl WorkingSet {
 /// A Data Mask, type 1: a screen of the implement.
 #[derive(Drop)]
 pub struct DataMask {
+    /// The number of the background's colour.
     pub colour: u8,
+    /// The mask of its soft keys, or NULL.
     pub soft_key_mask: ObjectId,
+    /// The objects that stand on it.
     pub children: Entries<Child>,
+    /// The macros of its events.
     pub macros: Entries<MacroEntry>,
 }
 
@@ -59,10 +69,15 @@ impl DataMask {
 /// A Container, type 3: objects that are moved, shown and hidden together. Any `hidden` but 0 hides it.
 #[derive(Drop)]
 pub struct Container {
+    /// The width in pixels.
     pub width: u16,
+    /// The height in pixels.
     pub height: u16,
+    /// 0 where it is shown, and any other value where it is hidden.
     pub hidden: u8,
+    /// The objects that stand in it.
     pub children: Entries<Child>,
+    /// The macros of its events.
     pub macros: Entries<MacroEntry>,
 }
 

@@ -20,6 +20,7 @@ pub enum Object<B: AsSlice<u8>> {
 }
 
 impl<B: AsSlice<u8>> Object<B> {
+    /// The kind of the object.
     pub fn kind(&self) -> Kind
         ensures { result ≡ kind_of self.now }
     {

@@ -32,6 +32,7 @@ impl<B: AsSlice<u8>> LongText<B> {
         LongText { bytes }
     }
 
+    /// The bytes of the text.
     pub fn as_slice(&self) -> &[u8]
         ensures value { result.now ≡ self.now }
         ensures most { length result.now ≤ 65535 }

@@ -105,6 +105,7 @@ pub fn read_pool<'a>(alloc: Global, bytes: &'a [u8]) -> Result<Pool<'a>, PoolFau
     read_records(alloc, bytes)
 }
 
+// The loop. That it reads all whole records is proved in `read_pool`, from the faults it gives.
 fn read_records<'a>(alloc: Global, bytes: &'a [u8]) -> Result<Pool<'a>, PoolFault>
     ensures pool { IfOk result (λ pool. (records : List Entry) × AreRecords records × (bytes.now ≡ joined records) × IsInForce records pool) }
     ensures fault { IfErr result (IsFault bytes.now) }

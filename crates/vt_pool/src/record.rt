@@ -31,6 +31,7 @@ pub fn read_record<'a>(alloc: Global, bytes: &'a [u8]) -> Result<Record<'a>, Sto
     parse_record(alloc, bytes)
 }
 
+// What `read_record` promises is proved from the one equation that this one keeps.
 #[tactic(auto, unfolding(crate::specs::Heads::record_at))]
 fn parse_record<'a>(alloc: Global, bytes: &'a [u8]) -> Result<Record<'a>, Stop>
     ensures exact { Reads (λ r. record { id = r.id; kind = kind_of r.object; values = values_of r.object; rest = r.rest.now }) result (record_at bytes.now) }

@@ -15,7 +15,7 @@ mod terminal;
 
 use program::{Open, Status, run};
 use std::fs::{self, File};
-use std::io::{self, BufWriter};
+use std::io::{self, BufWriter, ErrorKind, Write};
 use std::process::ExitCode;
 
 /// The files of the system.
@@ -34,9 +34,16 @@ impl Open for Files<'_> {
 
 fn main(rt: HostRuntime) -> io::Result<ExitCode> {
     let alloc = rt.alloc();
-    let words: Vec<String> = std::env::args(&rt)?.collect(alloc)?;
-    let mut out = BufWriter::new(alloc, io::writer(&rt))?;
     let mut errors = rt.stderr();
+    let words: Vec<String> = match std::env::args(&rt) {
+        Ok(words) => words.collect(alloc)?,
+        Err(error) if error.kind() == ErrorKind::InvalidData => {
+            let _ = writeln!(errors, "error: a word is not UTF-8");
+            return Ok(ExitCode::from(Status::Usage.code()));
+        }
+        Err(error) => return Err(error),
+    };
+    let mut out = BufWriter::new(alloc, io::writer(&rt))?;
     let status = run(
         alloc,
         words.as_slice(),

@@ -2,8 +2,10 @@
 
 ghost use Rattle.std.specs.Prelude.{◌≡◌, ◌≢◌, ◌≤◌, ◌∷◌, [], ℕ, Ok, IfOk, IfSome, MatchOption};
 ghost use Rattle.hex.specs.Hex.{decode_of};
+ghost use Rattle.vt_replay.specs.declared.options.Refusal.TheVariants.{Memory};
 ghost use Rattle.vt_replay.specs.Words.{AreApart};
 
+use clap::error::ErrorKind;
 use clap::{Arg, ArgAction, ArgMatches, Command, Error};
 use hex::FromHex;
 use std::alloc::{AllocError, Global};
@@ -33,7 +35,7 @@ pub struct Preload<'a> {
     pub owner: u8,
 }
 
-/// Why the words are not understood, or that help is asked for.
+/// Why the words give no options, or that help is asked for.
 #[derive(Drop)]
 pub enum Refusal {
     /// What `clap` says of the words.
@@ -42,16 +44,8 @@ pub enum Refusal {
     Address(&'static str),
     /// The owner's address is the terminal's own.
     OwnerIsOwn,
-}
-
-impl Refusal {
-    /// Whether it is a mistake in the words, and not a call for help.
-    pub fn is_mistake(&self) -> bool {
-        match self {
-            Refusal::Words(error) => error.use_stderr(),
-            Refusal::Address(_) | Refusal::OwnerIsOwn => true,
-        }
-    }
+    /// A growth was refused.
+    Memory,
 }
 
 impl fmt::Display for Refusal {
@@ -65,19 +59,25 @@ impl fmt::Display for Refusal {
                 )
             }
             Refusal::OwnerIsOwn => writeln!(f, "error: the owner is the terminal itself"),
+            Refusal::Memory => writeln!(f, "vt_replay: out of memory"),
         }
     }
 }
 
 impl From<Error> for Refusal {
     fn from(error: Error) -> Refusal {
-        Refusal::Words(error)
+        match error.kind() {
+            ErrorKind::OutOfMemory => Refusal::Memory,
+            _ => Refusal::Words(error),
+        }
     }
 }
 
 impl From<AllocError> for Refusal {
-    fn from(error: AllocError) -> Refusal {
-        Refusal::Words(Error::from(error))
+    ghost from_gives = { λ _ refusal. refusal ≡ Memory };
+
+    fn from(_error: AllocError) -> Refusal {
+        Refusal::Memory
     }
 }
 

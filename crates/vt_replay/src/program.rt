@@ -1,6 +1,7 @@
 //! The program, over words, files and writers.
 
 ghost use Rattle.std.specs.Prelude.{◌≡◌, ◌≢◌, ◌≤◌, None};
+ghost use Rattle.vt_replay.specs.declared.program.Fault.TheVariants.{Memory};
 ghost use Rattle.vt_replay.specs.States.{state_of};
 ghost use Rattle.vt_replay.specs.Words.{AreApart, status_code};
 
@@ -66,13 +67,15 @@ impl fmt::Display for Fault<'_> {
 }
 
 impl From<AllocError> for Fault<'_> {
+    ghost from_gives = { λ _ fault. fault ≡ Memory };
+
     fn from(_error: AllocError) -> Self {
         Fault::Memory
     }
 }
 
 /// Runs the program on its words, of which the first is its name. The fault of a pool is printed to `out`;
-/// every other fault is named on `errors`.
+/// every other fault is named on `errors`, and the status is the same where that cannot be written.
 pub fn run<S: AsStr, F: Open, W: Write, E: Write>(
     alloc: Global,
     words: &[S],
@@ -92,7 +95,7 @@ pub fn run<S: AsStr, F: Open, W: Write, E: Write>(
             Ok(Status::Fault)
         }
         Err(fault) => {
-            writeln!(errors, "vt_replay: {fault}")?;
+            let _ = writeln!(errors, "vt_replay: {fault}");
             Ok(Status::Fault)
         }
     }
@@ -103,13 +106,17 @@ fn refuse<W: Write, E: Write>(
     out: &mut W,
     errors: &mut E,
 ) -> io::Result<Status> {
-    if refusal.is_mistake() {
-        write!(errors, "{refusal}")?;
-        return Ok(Status::Usage);
-    }
-    write!(out, "{refusal}")?;
-    out.flush()?;
-    Ok(Status::Done)
+    let status = match refusal {
+        Refusal::Words(error) if !error.use_stderr() => {
+            write!(out, "{refusal}")?;
+            out.flush()?;
+            return Ok(Status::Done);
+        }
+        Refusal::Memory => Status::Fault,
+        _ => Status::Usage,
+    };
+    let _ = write!(errors, "{refusal}");
+    Ok(status)
 }
 
 fn replay_log<'a, F: Open, W: Write>(
@@ -120,7 +127,7 @@ fn replay_log<'a, F: Open, W: Write>(
 ) -> Result<(), Fault<'a>>
     requires { AreApart options.now }
 {
-    let mut terminal = Terminal::new(options.own);
+    let mut terminal = Terminal::new(alloc, options.own);
     if let Some(preload) = &options.preload {
         load(alloc, preload, files, &mut terminal)?;
     }
@@ -152,7 +159,7 @@ fn load<'a, F: Open>(
 {
     let bytes = read_file(alloc, preload.pool, files)?;
     match read_pool(alloc, &bytes) {
-        Ok(pool) => Ok(terminal.preload(alloc, preload.owner, &pool)?),
+        Ok(pool) => Ok(terminal.preload(preload.owner, &pool)?),
         Err(PoolFault::OutOfMemory { .. }) => Err(Fault::Memory),
         Err(fault) => Err(Fault::Pool(fault)),
     }

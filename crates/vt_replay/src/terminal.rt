@@ -28,6 +28,7 @@ const PRIORITY: u8 = 5;
 /// A terminal at its own address, with the working set that was preloaded, if any.
 #[derive(Drop)]
 pub struct Terminal {
+    alloc: Global,
     own: u8,
     set: Option<WorkingSet>,
 }
@@ -41,16 +42,20 @@ pub struct WorkingSet {
 
 impl Terminal {
     /// A terminal with no working set. Its address is at most 253.
-    pub fn new(own: u8) -> Terminal
+    pub fn new(alloc: Global, own: u8) -> Terminal
         requires { own ≤ 253 }
         ensures { state_of result ≡ record { own = own; set = None } }
     {
-        Terminal { own, set: None }
+        Terminal {
+            alloc,
+            own,
+            set: None,
+        }
     }
 
     /// Adds the working set of an address, with the objects of a pool. There is none yet, and the address is
     /// at most 253 and not the terminal's own. After an error the terminal is as it was.
-    pub fn preload(&mut self, alloc: Global, address: u8, pool: &Pool<'_>) -> Result<(), AllocError>
+    pub fn preload(&mut self, address: u8, pool: &Pool<'_>) -> Result<(), AllocError>
         requires none { (state_of self.old).set ≡ None }
         requires claimed { address ≤ 253 }
         requires other { address ≢ (state_of self.old).own }
@@ -58,8 +63,8 @@ impl Terminal {
             ≡ record (state_of self.old) { set = Some (record { address = address; contents = contents pool.now }) }) }
         ensures err { OnErr result (state_of self.new ≡ state_of self.old) }
     {
-        let objects = copies(alloc, pool.objects())?;
-        let objects = ListStore::from_objects(alloc, &objects)?;
+        let objects = copies(self.alloc, pool.objects())?;
+        let objects = ListStore::from_objects(self.alloc, &objects)?;
         self.set = Some(WorkingSet { address, objects });
         Ok(())
     }

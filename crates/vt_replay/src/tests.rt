@@ -191,6 +191,20 @@ fn the_longest_line(rt: HostRuntime) -> Result<(), Fail> {
     expect_run(&rt, words, (&log, POOL), (Status::Fault, "", true))
 }
 
+#[test]
+fn a_long_line_after_a_command(rt: HostRuntime) -> Result<(), Fail> {
+    let words = ["vt_replay", "log", "--pool", "pool", "--owner", "80"].as_slice();
+    let mut log = Vec::new(rt.alloc());
+    log.extend_from_slice(HIDE)?;
+    for _ in 0..4097 {
+        log.push(b'#')?;
+    }
+    log.push(b'\n')?;
+    log.extend_from_slice(HIDE)?;
+    let reply = "14E68026#A064000000FFFFFF\n";
+    expect_run(&rt, words, (&log, POOL), (Status::Fault, reply, true))
+}
+
 /// A reader that gives a few bytes at a time, and then fails or is at its end.
 #[derive(Drop)]
 struct Pieces<'a> {
@@ -212,9 +226,10 @@ impl Read for Pieces<'_> {
     }
 }
 
-/// A writer that fails after some bytes.
+/// A writer that keeps some bytes, and then fails.
 #[derive(Drop)]
 struct Narrow {
+    taken: Vec<u8>,
     room: usize,
 }
 
@@ -224,6 +239,7 @@ impl Write for Narrow {
             return Err(Error::from(ErrorKind::Other));
         }
         let count = self.room.min(buf.len());
+        self.taken.extend_from_slice(&buf[..count])?;
         self.room -= count;
         Ok(count)
     }
@@ -243,7 +259,7 @@ fn pieces_make_no_difference(rt: HostRuntime) -> Result<(), Fail> {
             fails: false,
         };
         let mut out = Vec::new(rt.alloc());
-        let mut terminal = Terminal::new(0x26);
+        let mut terminal = Terminal::new(rt.alloc(), 0x26);
         let counts = replay(rt.alloc(), &mut reader, &mut out, &mut terminal)
             .ok()
             .ok_or("it ends")?;
@@ -271,18 +287,42 @@ fn readers_and_writers_that_fail(rt: HostRuntime) -> Result<(), Fail> {
         most: 4,
         fails: true,
     };
-    let mut terminal = Terminal::new(0x26);
+    let mut terminal = Terminal::new(rt.alloc(), 0x26);
     let mut out = Vec::new(rt.alloc());
     let end = replay(rt.alloc(), &mut reader, &mut out, &mut terminal);
     assert!(&rt; matches!(end, Err(ReplayFault::Read)));
     assert_eq!(&rt; out.as_slice(), b"line 1 Shape\n".as_slice());
-    let whole = b"line 1 Shape\nlines 1 frames 0 operator 0 skipped 0 comments 0 faults 1\n".len();
-    for room in 0..whole {
+    let whole = b"line 1 Shape\nlines 1 frames 0 operator 0 skipped 0 comments 0 faults 1\n";
+    for room in 0..whole.len() {
         let mut reader: &[u8] = log;
-        let mut writer = Narrow { room };
-        let mut terminal = Terminal::new(0x26);
+        let taken = Vec::new(rt.alloc());
+        let mut writer = Narrow { taken, room };
+        let mut terminal = Terminal::new(rt.alloc(), 0x26);
         let end = replay(rt.alloc(), &mut reader, &mut writer, &mut terminal);
         assert!(&rt; matches!(end, Err(ReplayFault::Write)), "{room}");
+        assert_eq!(&rt; writer.taken.as_slice(), &whole[..room], "{room}");
+    }
+    Ok(())
+}
+
+#[test]
+fn messages_that_cannot_be_written(rt: HostRuntime) -> Result<(), Fail> {
+    let cases: [(&[&str], Status); 2] = [
+        (&["vt_replay"], Status::Usage),
+        (&["vt_replay", "none"], Status::Fault),
+    ];
+    for (words, wanted) in cases {
+        let mut out = Vec::new(rt.alloc());
+        let taken = Vec::new(rt.alloc());
+        let mut errors = Narrow { taken, room: 3 };
+        let mut shelf = Shelf {
+            log: b"",
+            pool: b"",
+        };
+        let status = run(rt.alloc(), words, &mut shelf, &mut out, &mut errors)?;
+        assert_eq!(&rt; status, wanted);
+        assert_eq!(&rt; errors.taken.len(), 3);
+        assert!(&rt; out.is_empty());
     }
     Ok(())
 }
