@@ -69,7 +69,7 @@ way_start s held given counts pending none empty =
       consumed = Consumes-nil given;
       taken = bytes_none start [];
       whole = λ k d lt. absurd (omega arith);
-      few = record { lines = omega arith; frames = omega arith; comments = omega arith; faults = omega arith };
+      few = record { lines = omega arith; frames = omega arith; operator = omega arith; skipped = omega arith; comments = omega arith; faults = omega arith };
     } in
     subst (λ (c : Counts). IsUnderWay start given given (record { state = s; counts = c; held = held }) pending 0) (sym none)
     (subst (λ (p : List ℕ). IsUnderWay start given given start p 0) (sym empty) begun)

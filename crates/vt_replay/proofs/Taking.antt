@@ -7,7 +7,7 @@ use Rattle.std.specs.List.{AllZip, AllByRecursion, onto_first}
 use Rattle.std.specs.Io.KnownBytes.{Appends}
 use Rattle.std.proofs.KnownBytes.{Appends-trans, Appends-nil}
 use Rattle.vt_can.specs.Line.{Reads}
-use Rattle.vt_can.specs.declared.line.Line.TheVariants as lines
+use Rattle.vt_can.specs.Readings.{FrameAt, Does, IsSkipped, Comments}
 use Rattle.vt_replay.specs.declared.counts.Counts.{Counts}
 use Rattle.vt_replay.specs.Terminals.{State}
 use Rattle.vt_replay.specs.Lines.{lines_of}
@@ -35,8 +35,10 @@ with_lines-append c [] qs = refl
 with_lines-append c (r ∷ rs) qs = with_lines-append (with_line c r) rs qs
 
 with_line-lines : (c : Counts) (r : Reading) → (with_line c r).lines ≡ c.lines + 1
-with_line-lines c (Ok (lines.Frame time frame)) = refl
-with_line-lines c (Ok lines.Comment) = refl
+with_line-lines c (Ok (FrameAt time frame)) = refl
+with_line-lines c (Ok (Does deed)) = refl
+with_line-lines c (Ok (IsSkipped why)) = refl
+with_line-lines c (Ok Comments) = refl
 with_line-lines c (Err fault) = refl
 
 with_lines-lines : (c : Counts) (rs : List Reading) → (with_lines c rs).lines ≡ c.lines + length rs
@@ -159,9 +161,11 @@ bytes_more a b c before xs pending ys left p q = record {
 -- ---- how high the counts are
 
 AtMost-line : (n : ℕ) (c : Counts) (r : Reading) → AtMost n c → AtMost (n + 1) (with_line c r)
-AtMost-line n c (Ok (lines.Frame time frame)) most = record { lines = omega (arith, most.lines); frames = omega (arith, most.frames); comments = omega (arith, most.comments); faults = omega (arith, most.faults) }
-AtMost-line n c (Ok lines.Comment) most = record { lines = omega (arith, most.lines); frames = omega (arith, most.frames); comments = omega (arith, most.comments); faults = omega (arith, most.faults) }
-AtMost-line n c (Err fault) most = record { lines = omega (arith, most.lines); frames = omega (arith, most.frames); comments = omega (arith, most.comments); faults = omega (arith, most.faults) }
+AtMost-line n c (Ok (FrameAt time frame)) most = record { lines = omega (arith, most.lines); frames = omega (arith, most.frames); operator = omega (arith, most.operator); skipped = omega (arith, most.skipped); comments = omega (arith, most.comments); faults = omega (arith, most.faults) }
+AtMost-line n c (Ok (Does deed)) most = record { lines = omega (arith, most.lines); frames = omega (arith, most.frames); operator = omega (arith, most.operator); skipped = omega (arith, most.skipped); comments = omega (arith, most.comments); faults = omega (arith, most.faults) }
+AtMost-line n c (Ok (IsSkipped why)) most = record { lines = omega (arith, most.lines); frames = omega (arith, most.frames); operator = omega (arith, most.operator); skipped = omega (arith, most.skipped); comments = omega (arith, most.comments); faults = omega (arith, most.faults) }
+AtMost-line n c (Ok Comments) most = record { lines = omega (arith, most.lines); frames = omega (arith, most.frames); operator = omega (arith, most.operator); skipped = omega (arith, most.skipped); comments = omega (arith, most.comments); faults = omega (arith, most.faults) }
+AtMost-line n c (Err fault) most = record { lines = omega (arith, most.lines); frames = omega (arith, most.frames); operator = omega (arith, most.operator); skipped = omega (arith, most.skipped); comments = omega (arith, most.comments); faults = omega (arith, most.faults) }
 
 AtMost-lines : (n : ℕ) (c : Counts) (rs : List Reading) → AtMost n c → AtMost (n + length rs) (with_lines c rs)
 AtMost-lines n c [] most = subst (λ (k : ℕ). AtMost k c) (sym (add-zero n)) most
@@ -170,7 +174,7 @@ AtMost-lines n c (r ∷ rs) most =
     subst (λ (k : ℕ). AtMost k (with_lines c (r ∷ rs))) place (AtMost-lines (n + 1) (with_line c r) rs (AtMost-line n c r most))
 
 pub AtMost-more : (m n : ℕ) (c : Counts) → m ≤ n → AtMost m c → AtMost n c
-AtMost-more m n c le most = record { lines = omega (arith, most.lines); frames = omega (arith, most.frames); comments = omega (arith, most.comments); faults = omega (arith, most.faults) }
+AtMost-more m n c le most = record { lines = omega (arith, most.lines); frames = omega (arith, most.frames); operator = omega (arith, most.operator); skipped = omega (arith, most.skipped); comments = omega (arith, most.comments); faults = omega (arith, most.faults) }
 
 length-zip : {A B : Type 0} (R : A → B → Type 0) (xs : List A) (bs : List B) → AllZip R xs bs → length xs ≡ length bs
 length-zip R [] [] p = refl

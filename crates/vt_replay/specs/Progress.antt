@@ -14,6 +14,8 @@ use Rattle.vt_replay.specs.Texts.{Reading, after_lines, lines_text, with_lines}
 pub record AtMost (most : ℕ) (c : Counts) : Type 0 where
   pub lines : c.lines ≤ most
   pub frames : c.frames ≤ most
+  pub operator : c.operator ≤ most
+  pub skipped : c.skipped ≤ most
   pub comments : c.comments ≤ most
   pub faults : c.faults ≤ most
 

@@ -3,29 +3,34 @@ use Rattle.std.specs.Prelude.{ℕ, ◌+◌, List, [], ◌∷◌, ◌++◌, codes
 use Rattle.std.specs.List.{flat_map}
 use Rattle.std.specs.Fmt.{decimal}
 use Rattle.vt_can.specs.declared.frame.Frame.{Frame}
-use Rattle.vt_can.specs.declared.line.Line.{Line}
-use Rattle.vt_can.specs.declared.line.Line.TheVariants as lines
 use Rattle.vt_can.specs.declared.line.LineFault.{LineFault}
-use Rattle.vt_can.specs.declared.line.LineFault.TheVariants.{Shape}
+use Rattle.vt_can.specs.declared.line.LineFault.TheVariants.{Time, Shape, Hex, Length, Operator}
 use Rattle.vt_can.specs.Frame.{frame_text}
+use Rattle.vt_can.specs.Readings.{Said, FrameAt, Does, IsSkipped, Comments}
 use Rattle.vt_replay.specs.declared.counts.Counts.{Counts}
 use Rattle.vt_replay.specs.Terminals.{State, step}
 
 -- how a line was read
 abbrev pub Reading : Type 0
-Reading = Result Line LineFault
+Reading = Result Said LineFault
 
 abbrev pub newline : List ℕ
 newline = 10 ∷ []
 
--- the terminal after a line: only a frame is an input
+-- the terminal after a line: only a frame is an input yet
 abbrev pub after_line : State → Reading → State
-after_line s (Ok (lines.Frame time frame)) = (step s frame).after
-after_line s (Ok lines.Comment) = s
+after_line s (Ok (FrameAt time frame)) = (step s frame).after
+after_line s (Ok (Does deed)) = s
+after_line s (Ok (IsSkipped why)) = s
+after_line s (Ok Comments) = s
 after_line s (Err fault) = s
 
 abbrev pub fault_name : LineFault → List ℕ
+fault_name Time = codes "Time"
 fault_name Shape = codes "Shape"
+fault_name Hex = codes "Hex"
+fault_name Length = codes "Length"
+fault_name Operator = codes "Operator"
 
 abbrev pub reply_text : Frame → List ℕ
 reply_text frame = frame_text frame ++ newline
@@ -36,8 +41,10 @@ fault_text n fault = codes "line " ++ decimal n ++ codes " " ++ fault_name fault
 
 -- what line n prints
 abbrev pub line_text : State → ℕ → Reading → List ℕ
-line_text s n (Ok (lines.Frame time frame)) = flat_map reply_text (step s frame).replies
-line_text s n (Ok lines.Comment) = []
+line_text s n (Ok (FrameAt time frame)) = flat_map reply_text (step s frame).replies
+line_text s n (Ok (Does deed)) = []
+line_text s n (Ok (IsSkipped why)) = []
+line_text s n (Ok Comments) = []
 line_text s n (Err fault) = fault_text n fault
 
 abbrev pub no_counts : Counts
@@ -45,8 +52,10 @@ no_counts = record { lines = 0; frames = 0; operator = 0; skipped = 0; comments 
 
 -- each line is one of the five
 abbrev pub with_line : Counts → Reading → Counts
-with_line c (Ok (lines.Frame time frame)) = record c { lines = c.lines + 1; frames = c.frames + 1 }
-with_line c (Ok lines.Comment) = record c { lines = c.lines + 1; comments = c.comments + 1 }
+with_line c (Ok (FrameAt time frame)) = record c { lines = c.lines + 1; frames = c.frames + 1 }
+with_line c (Ok (Does deed)) = record c { lines = c.lines + 1; operator = c.operator + 1 }
+with_line c (Ok (IsSkipped why)) = record c { lines = c.lines + 1; skipped = c.skipped + 1 }
+with_line c (Ok Comments) = record c { lines = c.lines + 1; comments = c.comments + 1 }
 with_line c (Err fault) = record c { lines = c.lines + 1; faults = c.faults + 1 }
 
 -- ---- many lines, the first of them after n others

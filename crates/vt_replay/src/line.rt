@@ -2,6 +2,7 @@
 
 ghost use Rattle.std.specs.Prelude.{◌≡◌, ◌^◌, ◌+◌, ◌++◌, [], ◌∷◌, ◌≤◌, ◌<◌, length, OnOk, OnErr, IfErr, IsErrOf};
 ghost use Rattle.std.specs.Io.KnownBytes.{Appends};
+ghost use Rattle.vt_can.specs.Readings.{reading_of};
 ghost use Rattle.vt_replay.specs.States.{state_of};
 ghost use Rattle.vt_replay.specs.Texts.{after_line, with_line, line_text};
 ghost use Rattle.vt_replay.specs.Progress.{AtMost, Takes, stand};
@@ -78,17 +79,17 @@ fn take_line<W: Write>(
     take_reading(reading, terminal, counts, writer)
 }
 
-/// What a line does: a frame is heard and its reply written, a fault is written, a comment is nothing.
+/// What a line does: a frame is heard and its reply written, a fault is written, and other lines are counted.
 fn take_reading<W: Write>(
-    reading: Result<Line, LineFault>,
+    reading: Result<Line<'_>, LineFault>,
     terminal: &mut Terminal,
     counts: &mut Counts,
     writer: &mut W,
 ) -> Result<(), ReplayFault>
     requires few { AtMost (2 ^ 62) counts.old }
-    ensures state { state_of terminal.new ≡ after_line (state_of terminal.old) reading }
-    ensures counts { counts.new ≡ with_line counts.old reading }
-    ensures text { OnOk result (Appends (W.contents writer.old) (W.contents writer.new) (line_text (state_of terminal.old) (counts.old.lines + 1) reading)) }
+    ensures state { state_of terminal.new ≡ after_line (state_of terminal.old) (reading_of reading) }
+    ensures counts { counts.new ≡ with_line counts.old (reading_of reading) }
+    ensures text { OnOk result (Appends (W.contents writer.old) (W.contents writer.new) (line_text (state_of terminal.old) (counts.old.lines + 1) (reading_of reading))) }
     ensures fault { IfErr result (λ fault. fault ≡ ReplayFault.Write) }
 {
     counts.lines += 1;
@@ -99,6 +100,14 @@ fn take_reading<W: Write>(
                 Some(reply) => put_reply(&reply, writer),
                 None => Ok(()),
             }
+        }
+        Ok(Line::Operator(_)) => {
+            counts.operator += 1;
+            Ok(())
+        }
+        Ok(Line::Skipped(_)) => {
+            counts.skipped += 1;
+            Ok(())
         }
         Ok(Line::Comment) => {
             counts.comments += 1;

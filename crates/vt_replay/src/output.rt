@@ -61,6 +61,10 @@ fn fault_name(fault: LineFault) -> &'static str
     ensures { result.now ≡ fault_name fault }
 {
     match fault {
+        LineFault::Time => "Time",
         LineFault::Shape => "Shape",
+        LineFault::Hex => "Hex",
+        LineFault::Length => "Length",
+        LineFault::Operator => "Operator",
     }
 }

@@ -172,8 +172,29 @@ fn lines_are_counted(rt: HostRuntime) -> Result<(), Fail> {
     expect_run(&rt, words, (b"", POOL), (Status::Done, none, false))?;
     let log = b"# a log\n\n(1.000000) can0 14E7\r\n(1.000000) can0 123#\n\
         (2.000000) can0 14E72680#\r\nx";
-    let text = "line 3 Shape\nline 4 Shape\nline 6 Shape\n\
-        lines 6 frames 1 operator 0 skipped 0 comments 2 faults 3\n";
+    let text = "line 3 Shape\nline 6 Time\n\
+        lines 6 frames 1 operator 0 skipped 1 comments 2 faults 2\n";
+    expect_run(&rt, words, (log, POOL), (Status::Done, text, false))
+}
+
+#[test]
+fn every_sort_of_line(rt: HostRuntime) -> Result<(), Fail> {
+    let words = ["vt_replay", "log"].as_slice();
+    let log = b"(1.000000) can0 14E72680#A0640\n\
+        (1.000000) can0 123#00\n\
+        (1.000000) can0 14E72680##0A0\n\
+        (1.000000000) can0 14E72680#FFFFFFFFFFFFFFFF T\n\
+        (1.000000) can0 14E7";
+    let text = "line 1 Hex\nline 5 Shape\n\
+        lines 5 frames 1 operator 0 skipped 2 comments 0 faults 2\n";
+    expect_run(&rt, words, (log, POOL), (Status::Done, text, false))?;
+    let log = b"! press 100\n! text 7 \xFF  x\r\n! press  100\n! set 80\n\
+        (1.00000) can0 14E72680#\n\
+        (1.000000) can0 14E72680#000102030405060708\n\
+        (1.000000) can0 20000080#0102030405060708\n\
+        (1.000000) can0 14E72680#R8\n#! press 1\n";
+    let text = "line 3 Operator\nline 5 Time\nline 6 Length\n\
+        lines 9 frames 0 operator 3 skipped 2 comments 1 faults 3\n";
     expect_run(&rt, words, (log, POOL), (Status::Done, text, false))
 }
 
@@ -272,7 +293,7 @@ fn pieces_make_no_difference(rt: HostRuntime) -> Result<(), Fail> {
             faults: 2,
         };
         assert_eq!(&rt; counts, wanted);
-        let text = b"line 1 Shape\nline 5 Shape\n\
+        let text = b"line 1 Shape\nline 5 Time\n\
             lines 5 frames 1 operator 0 skipped 0 comments 2 faults 2\n";
         assert_eq!(&rt; out.as_slice(), text.as_slice());
     }

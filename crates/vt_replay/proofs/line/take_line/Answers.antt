@@ -1,4 +1,5 @@
 use Rattle.std.proofs.lemmas.Result.{on_ok_weaker}
+use Rattle.vt_can.specs.Readings.{reading_of}
 use Rattle.vt_replay.specs.Progress.{stand, Stand}
 use Rattle.vt_replay.specs.States.{state_of}
 use Rattle.vt_replay.proofs.Taking.{takes_one}
@@ -9,8 +10,8 @@ pub returns-clause-takes : goal.returns-clause-takes
 returns-clause-takes g c =
     let from : Stand = stand c.args.terminal.now c.args.counts.now (g.W.Write.contents c.args.writer.now) in
     let to : Stand = stand c.take_reading.new.terminal c.take_reading.new.counts (g.W.Write.contents c.take_reading.new.writer) in
-    on_ok_weaker c.take_reading.result (takes_one from to c.args.line.now c.parse_line-reading.result c.parse_line-reading.ensures c.requires.short c.take_reading.ensures.state c.take_reading.ensures.counts) c.take_reading.ensures.text
+    on_ok_weaker c.take_reading.result (takes_one from to c.args.line.now (reading_of c.parse_line-reading.result) c.parse_line-reading.ensures c.requires.short c.take_reading.ensures.state c.take_reading.ensures.counts) c.take_reading.ensures.text
 
 pub returns-clause-stopped : goal.returns-clause-stopped
 returns-clause-stopped g c =
-    some_one (state_of c.args.terminal.now) (state_of c.take_reading.new.terminal) c.args.line.now c.parse_line-reading.result c.parse_line-reading.ensures c.take_reading.ensures.state
+    some_one (state_of c.args.terminal.now) (state_of c.take_reading.new.terminal) c.args.line.now (reading_of c.parse_line-reading.result) c.parse_line-reading.ensures c.take_reading.ensures.state
