@@ -1,7 +1,7 @@
 # The program's words. Paths are those of the folder in which make runs.
 ARGS ?= examples/hide.log --pool examples/pool.iop --owner 80
 
-.PHONY: run test build
+.PHONY: run test build bench
 
 # Runs the program by the toolchain's quick build, which proves nothing.
 run:
@@ -14,3 +14,7 @@ test:
 # Proves the program and leaves it at crates/vt_replay/out/vt_replay.
 build:
 	cd crates/vt_replay && rt run -- --version
+
+# Times the proved program on a million lines, read alone, and read and answered.
+bench: build
+	@bash scripts/bench.sh

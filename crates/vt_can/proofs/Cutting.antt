@@ -1,17 +1,18 @@
--- A text has one cut at a byte, and a frame line one way to cut it up.
-use Rattle.std.proofs.Common.{◌≡◌, ◌≢◌, ℕ, Bool, true, eqb, List, [], ◌∷◌, ◌++◌, get_or, refl, sym, ap, ◌∙◌, append_assoc}
+-- A text has one cut at a byte.
+use Rattle.std.proofs.Common.{◌≡◌, ◌≢◌, ℕ, Bool, true, eqb, ◌⊎◌, inl, inr, List, [], ◌∷◌, ◌++◌, get_or, refl, sym, ap, ◌∙◌}
 use Rattle.std.specs.Prelude.{not}
 use Rattle.std.specs.List.{AllPass}
-use Rattle.std.proofs.lemmas.Bool.{eq-eqb, eqb-true, false≢true, false_from_ne_true, not_from_false, not_from_true}
-use Rattle.std.proofs.lemmas.List.Elements.{All-head, All-tail}
-use Rattle.vt_can.specs.Line.{FrameText, spelling}
-use Rattle.vt_can.specs.Parts.{Lacks, IsCut, IsCutUp}
+use Rattle.std.proofs.lemmas.Bool.{eq-eqb, eqb-true, false≢true, false_from_ne_true, ne_eqb, not_from_false, not_from_true}
+use Rattle.std.proofs.lemmas.List.{append-nil}
+use Rattle.std.proofs.lemmas.List.Elements.{All-append, All-cons, All-head, All-nil, All-tail}
+use Rattle.vt_can.specs.Line.{IsSuffix}
+use Rattle.vt_can.specs.Parts.{Lacks, IsCut, IsThirdWord}
 
-Lacks-head : (c x : ℕ) (xs : List ℕ) → Lacks c (x ∷ xs) → x ≢ c
+pub Lacks-head : (c x : ℕ) (xs : List ℕ) → Lacks c (x ∷ xs) → x ≢ c
 Lacks-head c x xs lacks e =
     false≢true (sym (not_from_true (eqb x c) (eq-eqb x c e)) ∙ All-head (λ y. not (eqb y c) ≡ true) x xs lacks)
 
-Lacks-tail : (c x : ℕ) (xs : List ℕ) → Lacks c (x ∷ xs) → Lacks c xs
+pub Lacks-tail : (c x : ℕ) (xs : List ℕ) → Lacks c (x ∷ xs) → Lacks c xs
 Lacks-tail c x xs lacks = All-tail (λ y. not (eqb y c) ≡ true) x xs lacks
 
 -- what passes a test that the byte fails is another byte
@@ -26,7 +27,7 @@ Lacks-not c [] back lacks = Lacks-head c c back lacks refl
 Lacks-not c (x ∷ front) back lacks = Lacks-not c front back (Lacks-tail c x (front ++ c ∷ back) lacks)
 
 -- two cuts of one text are the same
-one_cut : (c : ℕ) (a b x y : List ℕ) → Lacks c a → Lacks c b → a ++ c ∷ x ≡ b ++ c ∷ y → (a ≡ b) × (x ≡ y)
+pub one_cut : (c : ℕ) (a b x y : List ℕ) → Lacks c a → Lacks c b → a ++ c ∷ x ≡ b ++ c ∷ y → (a ≡ b) × (x ≡ y)
 one_cut c [] [] x y la lb e = (refl, cc)
 one_cut c [] (d ∷ b) x y la lb e =
     let same : d ≡ c = cc in
@@ -44,78 +45,51 @@ one_cut c (d ∷ a) (f ∷ b) x y la lb e =
 pub cut_missing : (c : ℕ) (text front back : List ℕ) → Lacks c text → text ≡ front ++ c ∷ back → ⊥
 cut_missing c text front back lacks e = Lacks-not c front back (rw e at lacks)
 
-cut_same : {c : ℕ} {text front back a x : List ℕ} → IsCut c text front back → Lacks c a → text ≡ a ++ c ∷ x → (front ≡ a) × (back ≡ x)
-cut_same {c} {front = front} {back = back} {a = a} {x = x} cut lacks e =
-    one_cut c front a back x cut.front_lacks lacks (sym cut.whole ∙ e)
+pub Lacks-append : (c : ℕ) (a b : List ℕ) → Lacks c a → Lacks c b → Lacks c (a ++ b)
+Lacks-append c a b la lb = All-append (λ y. not (eqb y c) ≡ true) a b la lb
 
--- ---- what stands on a frame line after each of the bytes between its parts
+pub Lacks-left : (c : ℕ) (a b : List ℕ) → Lacks c (a ++ b) → Lacks c a
+Lacks-left c [] b l = All-nil (λ y. not (eqb y c) ≡ true)
+Lacks-left c (x ∷ a) b l =
+    All-cons (λ y. not (eqb y c) ≡ true) x a (All-head (λ y. not (eqb y c) ≡ true) x (a ++ b) l) (Lacks-left c a b (Lacks-tail c x (a ++ b) l))
 
-abbrev pub after_name : FrameText → List ℕ
-after_name t = t.identifier ++ 35 ∷ t.digits
+pub Lacks-right : (c : ℕ) (a b : List ℕ) → Lacks c (a ++ b) → Lacks c b
+Lacks-right c [] b l = l
+Lacks-right c (x ∷ a) b l = Lacks-right c a b (Lacks-tail c x (a ++ b) l)
 
-abbrev pub after_space : FrameText → List ℕ
-after_space t = t.interface ++ 32 ∷ after_name t
+pub Lacks-cons : (c x : ℕ) (a : List ℕ) → (x ≡ c → ⊥) → Lacks c a → Lacks c (x ∷ a)
+Lacks-cons c x a other l =
+    All-cons (λ y. not (eqb y c) ≡ true) x a (not_from_false (eqb x c) (ne_eqb x c other)) l
 
-abbrev pub after_point : FrameText → List ℕ
-after_point t = t.fraction ++ 41 ∷ 32 ∷ after_space t
+-- ---- a word, and what may end a frame line
 
-abbrev pub after_open : FrameText → List ℕ
-after_open t = t.seconds ++ 46 ∷ after_point t
+suffix_begins : (x : List ℕ) → IsSuffix x → (x ≡ []) ⊎ ((more : List ℕ) × (x ≡ 32 ∷ more))
+suffix_begins x (inl none) = inl none
+suffix_begins x (inr (inl r)) = inr (82 ∷ [], r)
+suffix_begins x (inr (inr t)) = inr (84 ∷ [], t)
 
-pub spelling_is : (t : FrameText) → spelling t ≡ 40 ∷ after_open t
-spelling_is t = simp append_assoc
+word_one : (a b x y : List ℕ) → Lacks 32 a → Lacks 32 b → (x ≡ []) ⊎ ((more : List ℕ) × (x ≡ 32 ∷ more)) → (y ≡ []) ⊎ ((more : List ℕ) × (y ≡ 32 ∷ more)) → a ++ x ≡ b ++ y → a ≡ b
+word_one a b x y la lb (inl ex) (inl ey) e =
+    sym (append-nil a) ∙ ap (λ (t : List ℕ). a ++ t) (sym ex) ∙ e ∙ ap (λ (t : List ℕ). b ++ t) ey ∙ append-nil b
+word_one a b x y la lb (inl ex) (inr m) e =
+    absurd (cut_missing 32 a b m.0 la (sym (append-nil a) ∙ ap (λ (t : List ℕ). a ++ t) (sym ex) ∙ e ∙ ap (λ (t : List ℕ). b ++ t) m.1))
+word_one a b x y la lb (inr m) (inl ey) e =
+    absurd (cut_missing 32 b a m.0 lb (sym (append-nil b) ∙ ap (λ (t : List ℕ). b ++ t) (sym ey) ∙ sym e ∙ ap (λ (t : List ℕ). a ++ t) m.1))
+word_one a b x y la lb (inr m) (inr n) e =
+    (one_cut 32 a b m.0 n.0 la lb (ap (λ (t : List ℕ). a ++ t) (sym m.1) ∙ e ∙ ap (λ (t : List ℕ). b ++ t) n.1)).0
 
--- where the content is spelled as a frame line, the rest is what stands there
-pub record Leaves (content rest : List ℕ) (there : FrameText → List ℕ) : Type 0 where
-  pub is : (t : FrameText) → IsCutUp t → content ≡ spelling t → rest ≡ there t
+pub third_word-one : {text a b : List ℕ} → IsThirdWord text a → IsThirdWord text b → a ≡ b
+third_word-one {a = a} {b = b} v w =
+    word_one a b v.suffix w.suffix v.no_space w.no_space (suffix_begins v.suffix v.suffix_is) (suffix_begins w.suffix w.suffix_is) (sym v.whole ∙ w.whole)
 
-pub leaves_open : (content rest : List ℕ) → content ≡ 40 ∷ rest → Leaves content rest after_open
-leaves_open content rest opens = record {
-  is = λ t parts e.
-      let joined : 40 ∷ rest ≡ 40 ∷ after_open t = sym opens ∙ e ∙ spelling_is t in
-      cc joined;
-}
+-- a text with no space is a word, and a text that is cut before anything but a suffix has none
+pub third_word-plain : (text : List ℕ) → Lacks 32 text → IsThirdWord text text
+third_word-plain text lacks = record { suffix = []; no_space = lacks; whole = sym (append-nil text); suffix_is = inl refl }
 
-pub leaves_point : {content text front back : List ℕ} → Leaves content text after_open → IsCut 46 text front back → Leaves content back after_point
-leaves_point so_far cut = record {
-  is = λ t parts e. (cut_same cut parts.seconds (so_far.is t parts e)).1;
-}
-
-pub leaves_close : {content text front back : List ℕ} → Leaves content text after_point → IsCut 41 text front back → Leaves content back (λ t. 32 ∷ after_space t)
-leaves_close so_far cut = record {
-  is = λ t parts e. (cut_same cut parts.fraction (so_far.is t parts e)).1;
-}
-
-pub leaves_space : {content text rest : List ℕ} → Leaves content text (λ t. 32 ∷ after_space t) → text ≡ 32 ∷ rest → Leaves content rest after_space
-leaves_space {rest = rest} so_far begins = record {
-  is = λ t parts e.
-      let joined : 32 ∷ rest ≡ 32 ∷ after_space t = sym begins ∙ so_far.is t parts e in
-      cc joined;
-}
-
-pub leaves_name : {content text front back : List ℕ} → Leaves content text after_space → IsCut 32 text front back → Leaves content back after_name
-leaves_name so_far cut = record {
-  is = λ t parts e. (cut_same cut parts.interface (so_far.is t parts e)).1;
-}
-
--- the parts that stand one after the other spell the line
-pub spelled : (content a b c d f : List ℕ) (t : FrameText) → content ≡ 40 ∷ a → a ≡ t.seconds ++ 46 ∷ b → b ≡ t.fraction ++ 41 ∷ c → c ≡ 32 ∷ d → d ≡ t.interface ++ 32 ∷ f → f ≡ t.identifier ++ 35 ∷ t.digits → content ≡ spelling t
-spelled content a b c d f t e0 e1 e2 e3 e4 e5 = let whole = spelling_is t in cc
-
--- ---- a line has one way to cut it up
-
-abbrev made : List ℕ → List ℕ → List ℕ → List ℕ → List ℕ → FrameText
-made s f i n d = record { seconds = s; fraction = f; interface = i; identifier = n; digits = d }
-
-same_parts : (s f i n d s' f' i' n' d' : List ℕ) → s ≡ s' → f ≡ f' → i ≡ i' → n ≡ n' → d ≡ d' → made s f i n d ≡ made s' f' i' n' d'
-same_parts s f i n d s' f' i' n' d' e0 e1 e2 e3 e4 = rw (e0, e1, e2, e3, e4) refl
-
-pub spelling-one : (t u : FrameText) → IsCutUp t → IsCutUp u → spelling t ≡ spelling u → t ≡ u
-spelling-one t u ct cu e =
-    let first : after_open t ≡ after_open u = let joined = sym (spelling_is t) ∙ e ∙ spelling_is u in cc in
-    let a = one_cut 46 t.seconds u.seconds (after_point t) (after_point u) ct.seconds cu.seconds first in
-    let b = one_cut 41 t.fraction u.fraction (32 ∷ after_space t) (32 ∷ after_space u) ct.fraction cu.fraction a.1 in
-    let third : after_space t ≡ after_space u = cc (b.1) in
-    let c = one_cut 32 t.interface u.interface (after_name t) (after_name u) ct.interface cu.interface third in
-    let d = one_cut 35 t.identifier u.identifier t.digits u.digits ct.identifier cu.identifier c.1 in
-    same_parts _ _ _ _ _ _ _ _ _ _ a.0 b.0 c.0 d.0 d.1
+pub third_word-none : (text front back : List ℕ) → IsCut 32 text front back → (back ≡ 82 ∷ [] → ⊥) → (back ≡ 84 ∷ [] → ⊥) → (word : List ℕ) → IsThirdWord text word → ⊥
+third_word-none text front back cut no_r no_t word w =
+    elim w.suffix_is [
+      | inl none ↦ cut_missing 32 word front back w.no_space (sym (append-nil word) ∙ ap (λ (t : List ℕ). word ++ t) (sym none) ∙ sym w.whole ∙ cut.whole)
+      | inr (inl r) ↦ no_r (one_cut 32 front word back (82 ∷ []) cut.front_lacks w.no_space (sym cut.whole ∙ w.whole ∙ ap (λ (t : List ℕ). word ++ t) r)).1
+      | inr (inr t) ↦ no_t (one_cut 32 front word back (84 ∷ []) cut.front_lacks w.no_space (sym cut.whole ∙ w.whole ∙ ap (λ (x : List ℕ). word ++ x) t)).1
+    ]

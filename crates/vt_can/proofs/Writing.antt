@@ -1,5 +1,8 @@
--- Digits in upper case are the lower case digits, each changed.
-use Rattle.std.proofs.Common.{◌≡◌, ℕ, ◌/◌, ◌%◌, List, [], ◌∷◌, map, slice_index, zero, suc, refl}
+-- Hex digits in upper case, and decimal digits.
+use Rattle.std.proofs.Common.{◌≡◌, ℕ, ◌+◌, ◌/◌, ◌%◌, ◌^◌, ◌<◌, ◌≤◌, List, [], ◌∷◌, length, map, slice_index, zero, suc, refl, ap, ◌∙◌, arith}
+use Rattle.std.specs.Fmt.{decimal}
+use Rattle.std.proofs.lemmas.Fmt.{decimal_digit, decimal_step, length-decimal-le}
+use Rattle.std.proofs.lemmas.List.{length_push}
 use Rattle.std.specs.Char.{to_ascii_uppercase}
 use Rattle.hex.specs.Hex.{encode_with, encode_lower, encode_upper, lower_digits}
 
@@ -19,3 +22,14 @@ map-encode_with f table (b ∷ bytes) e =
 
 pub uppercase-encode_lower : (bytes : List ℕ) → map to_ascii_uppercase (encode_lower bytes) ≡ encode_upper bytes
 uppercase-encode_lower bytes = map-encode_with to_ascii_uppercase lower_digits bytes refl
+
+-- ---- decimal digits
+
+pub length-decimal-step : (n : ℕ) → 10 ≤ n → n < 2 ^ 64 → length (decimal n) ≡ length (decimal (n / 10)) + 1
+length-decimal-step n ge fits = ap length (decimal_step n ge fits) ∙ length_push (decimal (n / 10)) (48 + n % 10)
+
+pub length-decimal-one : (n : ℕ) → n < 10 → length (decimal n) ≡ 1
+length-decimal-one n lt = ap length (decimal_digit n lt)
+
+pub seconds-short : (time : ℕ) → time < 10 ^ 18 → length (decimal (time / 10 ^ 6)) ≤ 12
+seconds-short time lt = length-decimal-le 12 (time / 10 ^ 6) (omega arith) (omega arith) (omega arith)

@@ -1,8 +1,8 @@
 -- The parts of a line, cut at the bytes that stand between them.
 use Rattle.std.specs.Prelude.{◌≡◌, ◌==◌, ℕ, not, List, ◌∷◌, ◌++◌}
 use Rattle.std.specs.List.{AllPass}
-use Rattle.vt_can.specs.declared.parts.FrameParts.{FrameParts}
-use Rattle.vt_can.specs.Line.{FrameText}
+use Rattle.vt_can.specs.Actions.{IsNumber}
+use Rattle.vt_can.specs.Line.{HasNoSpace, IsSuffix}
 
 -- the byte stands nowhere in the text
 abbrev pub Lacks : ℕ → List ℕ → Type 0
@@ -13,19 +13,15 @@ pub record IsCut (byte : ℕ) (text front back : List ℕ) : Type 0 where
   pub front_lacks : Lacks byte front
   pub whole : text ≡ front ++ byte ∷ back
 
--- no part has the byte that stands after it: `.`, `)`, a space and `#`
-pub record IsCutUp (t : FrameText) : Type 0 where
-  pub seconds : Lacks 46 t.seconds
-  pub fraction : Lacks 41 t.fraction
-  pub interface : Lacks 32 t.interface
-  pub identifier : Lacks 35 t.identifier
+-- a word with no space, and what may end a frame line
+pub record IsThirdWord (text word : List ℕ) : Type 0 where
+  pub suffix : List ℕ
+  pub no_space : HasNoSpace word
+  pub whole : text ≡ word ++ suffix
+  pub suffix_is : IsSuffix suffix
 
--- the parts as texts
-abbrev pub text_of : FrameParts → FrameText
-text_of p = record {
-  seconds = p.seconds.now;
-  fraction = p.fraction.now;
-  interface = p.interface.now;
-  identifier = p.identifier.now;
-  digits = p.digits.now;
-}
+-- an object's ID, and more behind the first space
+pub record IsIdAnd (text : List ℕ) (id : ℕ) (more : List ℕ) : Type 0 where
+  pub digits : List ℕ
+  pub cut : IsCut 32 text digits more
+  pub id_is : IsNumber digits id 65534

@@ -11,9 +11,7 @@ use arrayvec::ArrayVec;
 /// A frame: its identifier, and up to eight bytes of data.
 #[derive(Debug, Drop)]
 pub struct Frame {
-    /// The identifier.
     pub id: CanId,
-    /// The data, 0 to 8 bytes.
     pub bytes: ArrayVec<u8, 8>,
 }
 

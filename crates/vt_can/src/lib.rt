@@ -3,15 +3,21 @@
 //! No call takes memory. docs/PROFILE.md, "Identifiers" and "Log lines", has the rules.
 #![tactic(auto)]
 
+mod action;
 mod digits;
 mod frame;
 mod identifier;
 mod line;
 mod parts;
+mod shaped;
+mod write;
 
 pub use frame::{Frame, write_frame};
 pub use identifier::{CanId, parts_are_identifiers};
-pub use line::{Line, LineFault, parse_line, readings_are_one};
+pub use line::{
+    Action, Line, LineFault, Skipped, parse_line, readings_are_one, written_lines_are_read,
+};
+pub use write::write_line;
 
 #[cfg(test)]
 mod tests;

@@ -1,43 +1,100 @@
 //! The lines of a log.
 
-ghost use Rattle.std.specs.Prelude.{◌↔◌, ℕ, IsTrue, MatchOption};
-ghost use Rattle.vt_can.specs.Line.{IsContent, IsComment, IsFrameLine, Reads, ReadingsAreOne};
-ghost use Rattle.vt_can.specs.declared.frame.Frame.{Frame};
+ghost use Rattle.std.specs.Prelude.{◌↔◌, IsTrue};
+ghost use Rattle.vt_can.specs.Readings.{reading_of};
+ghost use Rattle.vt_can.specs.Line.{IsContent, IsComment, Reads, ReadingsAreOne};
+ghost use Rattle.vt_can.specs.Writing.{WrittenLinesAreRead};
 
-use crate::digits::{data_bytes, identifier, number};
+use crate::action::action;
 use crate::frame::Frame;
-use crate::parts::frame_parts;
+use crate::parts::{shape_of, time_of};
+use crate::shaped::shaped;
 use thiserror::Error;
 
 /// What a line of a log says.
 #[derive(Debug, Drop)]
-pub enum Line {
+pub enum Line<'a> {
     /// A frame at a time, in microseconds.
     Frame { time: u64, frame: Frame },
+    /// An action of the operator.
+    Operator(Action<'a>),
+    /// A frame that is not looked at.
+    Skipped(Skipped),
     /// Nothing: an empty line, or one that begins with `#`.
     Comment,
 }
 
-/// Why a line cannot be read.
+/// What the operator does, most of it to an object by its ID.
+#[derive(Clone, Copy, Debug, PartialEq, Eq)]
+pub enum Action<'a> {
+    /// Presses a key or button.
+    Press(u16),
+    /// Releases it.
+    Release(u16),
+    /// Selects an input.
+    Select(u16),
+    /// Enters a number into an input.
+    Number(u16, u32),
+    /// Enters a text into an input.
+    Text(u16, &'a [u8]),
+    /// Selects the set of an address.
+    Set(u8),
+}
+
+/// Why a frame is not looked at.
+#[derive(Clone, Copy, Debug, PartialEq, Eq)]
+pub enum Skipped {
+    /// It asks for data, and has none.
+    Remote,
+    /// It is one of CAN FD.
+    Fd,
+    /// Its identifier has 11 bits.
+    Short,
+    /// Its identifier is above 1FFFFFFF, as that of an error frame is.
+    Error,
+}
+
+/// Why a line cannot be read. A fault's number is its place here, from 1.
 #[derive(Clone, Copy, Debug, PartialEq, Eq, Error)]
 pub enum LineFault {
-    /// It is no comment, and not of the form `(seconds.fraction) interface ID#DATA`.
+    /// It does not begin with `(seconds.fraction)`.
+    #[error("Time")]
+    Time = 1,
+    /// It does not go on with ` interface ID#DATA`, and at most ` R` or ` T`.
     #[error("Shape")]
     Shape,
+    /// The ID or the data is not written in hex digits, two for each byte.
+    #[error("Hex")]
+    Hex,
+    /// There are more than eight bytes of data.
+    #[error("Length")]
+    Length,
+    /// It begins with `! `, and has the form of no action.
+    #[error("Operator")]
+    Operator,
 }
 
 /// Reads a line, given without its newline. One carriage return at its end is dropped.
-pub fn parse_line(line: &[u8]) -> Result<Line, LineFault>
-    ensures { Reads line.now result }
+pub fn parse_line(line: &[u8]) -> Result<Line<'_>, LineFault>
+    ensures { Reads line.now (reading_of result) }
 {
     let content = content_of(line);
     if is_comment(content) {
         return Ok(Line::Comment);
     }
-    let Some((time, frame)) = frame_line(content) else {
+    if let Some(rest) = content.strip_prefix(b"! ") {
+        let Some(deed) = action(rest) else {
+            return Err(LineFault::Operator);
+        };
+        return Ok(Line::Operator(deed));
+    }
+    let Some((time, rest)) = time_of(content) else {
+        return Err(LineFault::Time);
+    };
+    let Some((id, text)) = shape_of(rest) else {
         return Err(LineFault::Shape);
     };
-    Ok(Line::Frame { time, frame })
+    shaped(time, id, text)
 }
 
 // The line without the one carriage return that may end it.
@@ -57,25 +114,12 @@ fn is_comment(content: &[u8]) -> bool
     matches!(content, [] | [b'#', ..])
 }
 
-// The time of a frame line, in microseconds, and its frame.
-fn frame_line(content: &[u8]) -> Option<(u64, Frame)>
-    ensures { MatchOption result
-        ((time : ℕ) (frame : Frame) → IsFrameLine content.now time frame → ⊥)
-        (λ x. IsFrameLine content.now x.0 x.1) }
-{
-    let parts = frame_parts(content)?;
-    let seconds = number(parts.seconds, 1, 12)?;
-    let fraction = number(parts.fraction, 6, 6)?;
-    if !(1..=15).contains(&parts.interface.len()) {
-        return None;
-    }
-    let id = identifier(parts.identifier)?;
-    let bytes = data_bytes(parts.digits)?;
-    let time = seconds * 1_000_000 + fraction;
-    Some((time, Frame { id, bytes }))
-}
-
 /// The law that no line has two readings.
 pub fn readings_are_one()
     ensures { ReadingsAreOne }
+{}
+
+/// The law that a frame that is written as a line is read again, at its time.
+pub fn written_lines_are_read()
+    ensures { WrittenLinesAreRead }
 {}

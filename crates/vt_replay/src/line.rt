@@ -87,9 +87,9 @@ fn take_reading<W: Write>(
     writer: &mut W,
 ) -> Result<(), ReplayFault>
     requires few { AtMost (2 ^ 62) counts.old }
-    ensures state { state_of terminal.new ≡ after_line (state_of terminal.old) (reading_of reading) }
-    ensures counts { counts.new ≡ with_line counts.old (reading_of reading) }
-    ensures text { OnOk result (Appends (W.contents writer.old) (W.contents writer.new) (line_text (state_of terminal.old) (counts.old.lines + 1) (reading_of reading))) }
+    ensures state { state_of terminal.new ≡ after_line (state_of terminal.old) (reading_of reading.entry) }
+    ensures counts { counts.new ≡ with_line counts.old (reading_of reading.entry) }
+    ensures text { OnOk result (Appends (W.contents writer.old) (W.contents writer.new) (line_text (state_of terminal.old) (counts.old.lines + 1) (reading_of reading.entry))) }
     ensures fault { IfErr result (λ fault. fault ≡ ReplayFault.Write) }
 {
     counts.lines += 1;

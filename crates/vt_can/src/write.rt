@@ -1,0 +1,59 @@
+//! Frame lines as they are written.
+
+ghost use Rattle.std.specs.Prelude.{◌≡◌, ◌<◌, ◌≤◌, ◌+◌, ◌^◌, ◌++◌, length};
+ghost use Rattle.std.specs.Fmt.{decimal};
+ghost use Rattle.arrayvec.specs.ArrayVec.{array_vec_len};
+ghost use Rattle.vt_can.specs.Writing.{lowest_digits, line_text};
+
+use crate::frame::{Frame, write_frame};
+use arrayvec::ArrayVec;
+
+/// The line of a frame at a time in microseconds, `(S.FFFFFF) can0 ID#DATA`: 26 to 52 bytes.
+pub fn write_line(time: u64, frame: &Frame) -> ArrayVec<u8, 52>
+    requires { time < 10 ^ 18 }
+    ensures { result.items ≡ line_text time frame.now }
+{
+    let mut text = ArrayVec::new();
+    text.push(b'(');
+    push_decimal(&mut text, time / 1_000_000);
+    text.push(b'.');
+    push_lowest(&mut text, 6, time);
+    push_all(&mut text, b") can0 ");
+    push_all(&mut text, write_frame(frame).as_slice());
+    text
+}
+
+// Appends bytes, for which there is room.
+fn push_all(text: &mut ArrayVec<u8, 52>, bytes: &[u8])
+    requires { array_vec_len text.old + length bytes.now ≤ 52 }
+    ensures written { text.new.items ≡ text.old.items ++ bytes.now }
+    ensures counted { array_vec_len text.new ≡ array_vec_len text.old + length bytes.now }
+{
+    for byte in bytes {
+        text.push(*byte);
+    }
+}
+
+// Appends a number in decimal.
+fn push_decimal(text: &mut ArrayVec<u8, 52>, n: u64)
+    requires { array_vec_len text.old + length (decimal n) ≤ 52 }
+    ensures written { text.new.items ≡ text.old.items ++ decimal n }
+    ensures counted { array_vec_len text.new ≡ array_vec_len text.old + length (decimal n) }
+{
+    if n >= 10 {
+        push_decimal(text, n / 10);
+    }
+    text.push(b'0' + (n % 10) as u8);
+}
+
+// Appends the lowest so many decimal digits of a number.
+fn push_lowest(text: &mut ArrayVec<u8, 52>, count: usize, n: u64)
+    requires { array_vec_len text.old + count ≤ 52 }
+    ensures written { text.new.items ≡ text.old.items ++ lowest_digits count n }
+    ensures counted { array_vec_len text.new ≡ array_vec_len text.old + count }
+{
+    if count > 0 {
+        push_lowest(text, count - 1, n / 10);
+        text.push(b'0' + (n % 10) as u8);
+    }
+}
