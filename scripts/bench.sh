@@ -1,5 +1,6 @@
 #!/usr/bin/env bash
-# Times the proved program on a million lines: read and ignored, and read, answered and written.
+# Times the proved program, from its start to its end, on a million lines: first read and ignored
+# (vt_can::parse_line), then read, answered and written (vt_can::write_frame).
 set -eu
 top=$(cd "$(dirname "$0")/.." && pwd)
 program="$top/crates/vt_replay/out/vt_replay"
@@ -8,7 +9,7 @@ trap 'rm -rf "$work"' EXIT
 lines=1000000
 awk -v lines="$lines" 'BEGIN {
     for (i = 0; i < lines; i++)
-        printf "(%d.%06d) can0 14E72680#A0640%d00FFFFFFFF\n", i / 1000, i % 1000 * 1000, i % 2
+        printf "(%d.%06d) can0 14E72680#A06400%02dFFFFFFFF\n", i / 1000, i % 1000 * 1000, i % 2
 }' >"$work/log"
 
 time_run() {
@@ -20,5 +21,5 @@ time_run() {
     echo "$name: $((lines * 1000000000 / (end - begin))) lines per second"
 }
 
-time_run "parse_line"
-time_run "parse_line and write_frame" --pool "$top/examples/pool.iop" --owner 80
+time_run "read and ignored"
+time_run "read, answered and written" --pool "$top/examples/pool.iop" --owner 80

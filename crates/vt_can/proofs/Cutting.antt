@@ -82,10 +82,7 @@ pub third_word-one : {text a b : List ℕ} → IsThirdWord text a → IsThirdWor
 third_word-one {a = a} {b = b} v w =
     word_one a b v.suffix w.suffix v.no_space w.no_space (suffix_begins v.suffix v.suffix_is) (suffix_begins w.suffix w.suffix_is) (sym v.whole ∙ w.whole)
 
--- a text with no space is a word, and a text that is cut before anything but a suffix has none
-pub third_word-plain : (text : List ℕ) → Lacks 32 text → IsThirdWord text text
-third_word-plain text lacks = record { suffix = []; no_space = lacks; whole = sym (append-nil text); suffix_is = inl refl }
-
+-- a text that is cut before anything but a suffix has no such word
 pub third_word-none : (text front back : List ℕ) → IsCut 32 text front back → (back ≡ 82 ∷ [] → ⊥) → (back ≡ 84 ∷ [] → ⊥) → (word : List ℕ) → IsThirdWord text word → ⊥
 third_word-none text front back cut no_r no_t word w =
     elim w.suffix_is [

@@ -45,7 +45,7 @@ id-digits word rest x id e h =
 id-one : {word rest : List ℕ} {i j : ℕ} → HasId word rest i → HasId word rest j → i ≡ j
 id-one {word = word} {rest = rest} {i = i} p q = number-one (id-digits word rest q.digits i q.whole p) q.id_is
 
-pub id_and_spelled : (word digits more : List ℕ) → word ++ digits ++ codes " " ++ more ≡ word ++ (digits ++ 32 ∷ more)
+id_and_spelled : (word digits more : List ℕ) → word ++ digits ++ codes " " ++ more ≡ word ++ (digits ++ 32 ∷ more)
 id_and_spelled word digits more = simp append_assoc
 
 -- what follows the word, cut at the space
@@ -55,7 +55,7 @@ id_and-cut word rest x more id e h = record {
   whole = append_cancel_left word x (h.digits ++ 32 ∷ more) (sym e ∙ h.whole ∙ id_and_spelled word h.digits more);
 }
 
-pub cut-one : {c : ℕ} {text a x b y : List ℕ} → IsCut c text a x → IsCut c text b y → (a ≡ b) × (x ≡ y)
+cut-one : {c : ℕ} {text a x b y : List ℕ} → IsCut c text a x → IsCut c text b y → (a ≡ b) × (x ≡ y)
 cut-one {c = c} {a = a} {x = x} {b = b} {y = y} p q = one_cut c a b x y p.front_lacks q.front_lacks (sym p.whole ∙ q.whole)
 
 id_and-one : {word rest : List ℕ} {i j : ℕ} {x y : List ℕ} → HasIdAnd word rest i x → HasIdAnd word rest j y → (i ≡ j) × (x ≡ y)
@@ -88,18 +88,6 @@ deed-one rest d e p q = let a = mark-is rest d p in let b = mark-is rest e q in 
 
 -- ---- what a line does not say
 
-pub no_press : (rest x : List ℕ) → rest ≡ codes "press " ++ x → ((id : ℕ) → IsNumber x id 65534 → ⊥) → (d : Deed) → IsDeed rest d → ⊥
-no_press rest x e none (Press id) h = none id (id-digits (codes "press ") rest x id e h)
-no_press rest x e none d h = let a = mark-is rest d h in let b = ap told e in omega arith
-
-pub no_release : (rest x : List ℕ) → rest ≡ codes "release " ++ x → ((id : ℕ) → IsNumber x id 65534 → ⊥) → (d : Deed) → IsDeed rest d → ⊥
-no_release rest x e none (Release id) h = none id (id-digits (codes "release ") rest x id e h)
-no_release rest x e none d h = let a = mark-is rest d h in let b = ap told e in omega arith
-
-pub no_select : (rest x : List ℕ) → rest ≡ codes "select " ++ x → ((id : ℕ) → IsNumber x id 65534 → ⊥) → (d : Deed) → IsDeed rest d → ⊥
-no_select rest x e none (Select id) h = none id (id-digits (codes "select ") rest x id e h)
-no_select rest x e none d h = let a = mark-is rest d h in let b = ap told e in omega arith
-
 id_and-from : (word rest x more : List ℕ) (id : ℕ) → rest ≡ word ++ x → HasIdAnd word rest id more → IsIdAnd x id more
 id_and-from word rest x more id e h = record { digits = h.digits; cut = id_and-cut word rest x more id e h; id_is = h.id_is }
 
@@ -117,32 +105,11 @@ no_set rest x e none (Set a) h =
     none a (sym (ap decode_of same) ∙ h.2)
 no_set rest x e none d h = let a = mark-is rest d h in let b = ap told e in omega arith
 
--- no word stands there
-pub record NoWord (rest : List ℕ) : Type 0 where
-  pub press : (x : List ℕ) → rest ≡ codes "press " ++ x → ⊥
-  pub release : (x : List ℕ) → rest ≡ codes "release " ++ x → ⊥
-  pub select : (x : List ℕ) → rest ≡ codes "select " ++ x → ⊥
-  pub number : (x : List ℕ) → rest ≡ codes "number " ++ x → ⊥
-  pub text : (x : List ℕ) → rest ≡ codes "text " ++ x → ⊥
-  pub set : (x : List ℕ) → rest ≡ codes "set " ++ x → ⊥
-
-pub no_deed : (rest : List ℕ) → NoWord rest → (d : Deed) → IsDeed rest d → ⊥
-no_deed rest none (Press id) h = none.press h.digits h.whole
-no_deed rest none (Release id) h = none.release h.digits h.whole
-no_deed rest none (Select id) h = none.select h.digits h.whole
-no_deed rest none (Number id n) h = none.number (h.1.digits ++ 32 ∷ h.0) (h.1.whole ∙ id_and_spelled (codes "number ") h.1.digits h.0)
-no_deed rest none (Text id text) h = none.text (h.digits ++ 32 ∷ text) (h.whole ∙ id_and_spelled (codes "text ") h.digits text)
-no_deed rest none (Set a) h = none.set h.0 h.1
-
 -- ---- what a line says
 
 pub number-made : (rest x : List ℕ) → rest ≡ codes "number " ++ x → (id n : ℕ) (more : List ℕ) → IsIdAnd x id more → IsNumber more n 4294967295 → IsDeed rest (Number id n)
 number-made rest x e id n more i is =
     (more, record { digits = i.digits; whole = e ∙ ap (λ (y : List ℕ). codes "number " ++ y) i.cut.whole ∙ sym (id_and_spelled (codes "number ") i.digits more); id_is = i.id_is }, is)
-
-pub text-made : (rest x : List ℕ) → rest ≡ codes "text " ++ x → (id : ℕ) (more : List ℕ) → IsIdAnd x id more → IsDeed rest (Text id more)
-text-made rest x e id more i =
-    record { digits = i.digits; whole = e ∙ ap (λ (y : List ℕ). codes "text " ++ y) i.cut.whole ∙ sym (id_and_spelled (codes "text ") i.digits more); id_is = i.id_is }
 
 pub id_and-none : (text digits more : List ℕ) → IsCut 32 text digits more → ((id : ℕ) → IsNumber digits id 65534 → ⊥) → (id : ℕ) (rest : List ℕ) → IsIdAnd text id rest → ⊥
 id_and-none text digits more cut none id rest i =

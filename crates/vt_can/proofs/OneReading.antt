@@ -31,7 +31,7 @@ no_comment content x rest opens other (inr r) = other (first_same x 35 rest r.0 
 operator_no_comment : {content rest : List ℕ} → IsOperatorLine content rest → IsComment content → ⊥
 operator_no_comment {content} {rest} o = no_comment content 33 (32 ∷ rest) o (λ e. omega arith)
 
-pub time_no_comment : {content : List ℕ} {time : ℕ} {rest : List ℕ} → HasTime content time rest → IsComment content → ⊥
+time_no_comment : {content : List ℕ} {time : ℕ} {rest : List ℕ} → HasTime content time rest → IsComment content → ⊥
 time_no_comment {content} {rest = rest} h = no_comment content 40 (h.seconds ++ 46 ∷ (h.fraction ++ 41 ∷ rest)) (time-cut h).is (λ e. omega arith)
 
 time_no_operator : {content : List ℕ} {time : ℕ} {rest more : List ℕ} → HasTime content time rest → IsOperatorLine content more → ⊥

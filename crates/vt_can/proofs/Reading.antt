@@ -84,7 +84,7 @@ data-bad text bad time id = data_err text time id (decode_of text) refl bad
 pub data-odd : (text : List ℕ) → length text % 2 ≡ 1 → (time id : ℕ) → data_reading time id (decode_of text) ≡ Err Hex
 data-odd text odd time id = ap (λ (r : Result (List ℕ) FromHexError). data_reading time id r) (decode_of-odd text odd)
 
-pub data-at : (text bytes : List ℕ) → decode_of text ≡ Ok bytes → (time id : ℕ) → data_reading time id (decode_of text) ≡ data_reading time id (Ok bytes)
+data-at : (text bytes : List ℕ) → decode_of text ≡ Ok bytes → (time id : ℕ) → data_reading time id (decode_of text) ≡ data_reading time id (Ok bytes)
 data-at text bytes is time id = ap (λ (r : Result (List ℕ) FromHexError). data_reading time id r) is
 
 pub data-long : (text : List ℕ) → length text % 2 ≡ 0 → list_all is_hex_digit text ≡ true → 16 < length text → (time id : ℕ) → data_reading time id (decode_of text) ≡ Err Length

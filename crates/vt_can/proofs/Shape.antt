@@ -16,7 +16,7 @@ pub record TimeCut (content seconds fraction rest : List ℕ) : Type 0 where
   pub seconds_lack : Lacks 46 seconds
   pub fraction_lacks : Lacks 41 fraction
 
-pub time_spelled : (seconds fraction rest : List ℕ) → codes "(" ++ seconds ++ codes "." ++ fraction ++ codes ")" ++ rest ≡ 40 ∷ (seconds ++ 46 ∷ (fraction ++ 41 ∷ rest))
+time_spelled : (seconds fraction rest : List ℕ) → codes "(" ++ seconds ++ codes "." ++ fraction ++ codes ")" ++ rest ≡ 40 ∷ (seconds ++ 46 ∷ (fraction ++ 41 ∷ rest))
 time_spelled seconds fraction rest = simp append_assoc
 
 fraction_digits : (text : List ℕ) → IsFraction text → AllPass is_ascii_digit text

@@ -48,7 +48,7 @@ pub enum Skipped {
     Remote,
     /// It is one of CAN FD.
     Fd,
-    /// Its identifier has 11 bits.
+    /// Its identifier has three digits, as one of 11 bits has.
     Short,
     /// Its identifier is above 1FFFFFFF, as that of an error frame is.
     Error,

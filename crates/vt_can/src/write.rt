@@ -8,7 +8,7 @@ ghost use Rattle.vt_can.specs.Writing.{lowest_digits, line_text};
 use crate::frame::{Frame, write_frame};
 use arrayvec::ArrayVec;
 
-/// The line of a frame at a time in microseconds, `(S.FFFFFF) can0 ID#DATA`: 26 to 52 bytes.
+/// The line of a frame at a time in microseconds, `(S.FFFFFF) can0 ID#DATA`: 25 to 52 bytes.
 pub fn write_line(time: u64, frame: &Frame) -> ArrayVec<u8, 52>
     requires { time < 10 ^ 18 }
     ensures { result.items ≡ line_text time frame.now }

@@ -1,7 +1,8 @@
 use super::Wanted::*;
-use super::{Wanted, *};
+use super::{Wanted, says};
+use crate::{Action, LineFault};
 
-const ACTIONS: [(&[u8], Wanted); 53] = [
+const ACTIONS: [(&[u8], Wanted); 60] = [
     (b"! press 0", Does(Action::Press(0))),
     (b"! press 65534", Does(Action::Press(65534))),
     (b"! press 65535", Fault(LineFault::Operator)),
@@ -28,6 +29,13 @@ const ACTIONS: [(&[u8], Wanted); 53] = [
     (b"! press 1\r\r", Fault(LineFault::Operator)),
     (b"! Press 1", Fault(LineFault::Operator)),
     (b"! release 300", Does(Action::Release(300))),
+    (b"! release 0", Does(Action::Release(0))),
+    (b"! release 65534", Does(Action::Release(65534))),
+    (b"! select 0", Does(Action::Select(0))),
+    (b"! number 0 0", Does(Action::Number(0, 0))),
+    (b"! text 0 ", Does(Action::Text(0, b""))),
+    (b"! set 00", Does(Action::Set(0))),
+    (b"! set 254", Fault(LineFault::Operator)),
     (b"! release 65535", Fault(LineFault::Operator)),
     (b"! select 65534", Does(Action::Select(65534))),
     (b"! select 65535", Fault(LineFault::Operator)),
@@ -72,22 +80,6 @@ const ACTIONS: [(&[u8], Wanted); 53] = [
 #[test]
 fn actions(rt: HostRuntime) {
     for (line, wanted) in ACTIONS {
-        assert!(rt; says(line, wanted), "{line:?}");
-    }
-}
-
-const COMMENTS: [(&[u8], Wanted); 6] = [
-    (b"", Nothing),
-    (b"#x", Nothing),
-    (b"\r", Nothing),
-    (b"#\r", Nothing),
-    (b"#! press 1", Nothing),
-    (b"# (1.000000) can0 14E72680#00", Nothing),
-];
-
-#[test]
-fn comments(rt: HostRuntime) {
-    for (line, wanted) in COMMENTS {
         assert!(rt; says(line, wanted), "{line:?}");
     }
 }
