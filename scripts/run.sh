@@ -6,10 +6,17 @@ top=$(cd "$(dirname "$0")/.." && pwd)
 data=()
 words=()
 for word in "$@"; do
-    if [ -f "$word" ]; then
-        name="${#words[@]}-$(basename "$word")"
-        data+=(--data "$name=$(realpath "$word")")
-        words+=("$name")
+    option=""
+    path=$word
+    case $word in --*=*)
+        option="${word%%=*}="
+        path=${word#*=}
+        ;;
+    esac
+    if [ -f "$path" ]; then
+        name="${#words[@]}-$(basename "$path")"
+        data+=(--data "$name=$(realpath "$path")")
+        words+=("$option$name")
     else
         words+=("$word")
     fi
