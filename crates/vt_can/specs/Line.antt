@@ -107,6 +107,10 @@ pub data IsRead (content : List ℕ) : Result Said LineFault → Type 0 where
 abbrev pub Reads : List ℕ → Result Said LineFault → Type 0
 Reads line reading = (content : List ℕ) × IsContent line content × IsRead content reading
 
+-- a line that has a reading
+abbrev pub HasReading : List ℕ → Type 0
+HasReading line = (reading : Result Said LineFault) × Reads line reading
+
 -- No line has two readings.
 abbrev pub ReadingsAreOne : Type 0
 ReadingsAreOne = (line : List ℕ) (a b : Result Said LineFault) → Reads line a → Reads line b → a ≡ b

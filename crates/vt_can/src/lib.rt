@@ -15,7 +15,8 @@ mod write;
 pub use frame::{Frame, write_frame};
 pub use identifier::{CanId, parts_are_identifiers};
 pub use line::{
-    Action, Line, LineFault, Skipped, parse_line, readings_are_one, written_lines_are_read,
+    Action, Line, LineFault, Skipped, lines_have_readings, parse_line, readings_are_one,
+    written_lines_are_read,
 };
 pub use write::write_line;
 

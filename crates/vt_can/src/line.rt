@@ -2,7 +2,7 @@
 
 ghost use Rattle.std.specs.Prelude.{◌↔◌, IsTrue};
 ghost use Rattle.vt_can.specs.Readings.{reading_of};
-ghost use Rattle.vt_can.specs.Line.{IsContent, IsComment, Reads, ReadingsAreOne};
+ghost use Rattle.vt_can.specs.Line.{IsContent, IsComment, Reads, HasReading, ReadingsAreOne};
 ghost use Rattle.vt_can.specs.Writing.{WrittenLinesAreRead};
 
 use crate::action::action;
@@ -112,6 +112,13 @@ fn is_comment(content: &[u8]) -> bool
     ensures { IsTrue result ↔ IsComment content.now }
 {
     matches!(content, [] | [b'#', ..])
+}
+
+/// The law that every line has a reading: the one that `parse_line` answers.
+pub fn lines_have_readings(line: &[u8])
+    ensures { HasReading line.now }
+{
+    let _ = parse_line(line);
 }
 
 /// The law that no line has two readings.
