@@ -1,15 +1,15 @@
 -- The layout of a record as a table of fields, and how such a table spells its values
 -- (docs/PROFILE.md, "Records").
-use Rattle.std.specs.Prelude.{◌≡◌, ◌<◌, ℕ, ◌^◌, List, [], ◌∷◌, ◌++◌, length, map}
+use Rattle.std.specs.Prelude.{◌≡◌, ◌<◌, ◌≤◌, ℕ, ◌^◌, List, [], ◌∷◌, ◌++◌, length, map}
 use Rattle.std.specs.List.{flat_map, AllByRecursion}
 use Rattle.byteorder.specs.Endian.{little_bytes}
+use Rattle.vt_objects.specs.Scales.{IsScale}
 
--- what a count counts
+-- What a count counts: children or keys, macros, or what else a record lists: languages, items, points or bytes.
 pub data Counted : Type 0 where
-  Children : Counted
+  Objects : Counted
   Macros : Counted
-  Languages : Counted
-  Text : Counted
+  Others : Counted
 
 -- A field of a record. Numbers are little endian.
 pub data Field : Type 0 where
@@ -21,6 +21,10 @@ pub data Field : Type 0 where
   Rows : (of : Counted) → (sizes : List ℕ) → Field
   -- so many bytes as were counted
   Bytes : (of : Counted) → Field
+  -- the four bytes of a scale
+  ScaleBytes : Field
+  -- a number of decimals, one byte
+  DecimalPlaces : Field
 
 -- what stands in a field
 pub data Value : Type 0 where
@@ -79,6 +83,8 @@ field_spelling (Number size) (number n) = little_bytes size n
 field_spelling (Count size of) (number n) = little_bytes size n
 field_spelling (Rows of sizes) (rows rs) = rows_spelling sizes rs
 field_spelling (Bytes of) (bytes bs) = bs
+field_spelling ScaleBytes (number n) = little_bytes 4 n
+field_spelling DecimalPlaces (number n) = little_bytes 1 n
 field_spelling _ _ = []
 
 abbrev pub spelling : List Field → List Value → List ℕ
@@ -90,25 +96,22 @@ spelling (f ∷ fs) (v ∷ vs) = field_spelling f v ++ spelling fs vs
 
 -- the counts that were met so far
 pub record Counts : Type 0 where
-  pub children : ℕ
+  pub objects : ℕ
   pub macros : ℕ
-  pub languages : ℕ
-  pub text : ℕ
+  pub others : ℕ
 
 abbrev pub no_counts : Counts
-no_counts = record { children = 0; macros = 0; languages = 0; text = 0 }
+no_counts = record { objects = 0; macros = 0; others = 0 }
 
 abbrev pub counted : Counted → ℕ → Counts → Counts
-counted Children n counts = record counts { children = n }
+counted Objects n counts = record counts { objects = n }
 counted Macros n counts = record counts { macros = n }
-counted Languages n counts = record counts { languages = n }
-counted Text n counts = record counts { text = n }
+counted Others n counts = record counts { others = n }
 
 abbrev pub count_of : Counted → Counts → ℕ
-count_of Children counts = counts.children
+count_of Objects counts = counts.objects
 count_of Macros counts = counts.macros
-count_of Languages counts = counts.languages
-count_of Text counts = counts.text
+count_of Others counts = counts.others
 
 -- the numbers of a row fit their sizes
 abbrev pub RowFits : List ℕ → List ℕ → Type 0
@@ -117,11 +120,23 @@ RowFits [] (n ∷ ns) = ⊥
 RowFits (size ∷ sizes) [] = ⊥
 RowFits (size ∷ sizes) (n ∷ ns) = (n < 256 ^ size) × RowFits sizes ns
 
--- each value fits its field: numbers fit their sizes, and lists are as long as they were counted
-abbrev pub Fits : List Field → Counts → List Value → Type 0
-Fits [] counts [] = Unit {0}
-Fits (Number size ∷ fs) counts (number n ∷ vs) = (n < 256 ^ size) × Fits fs counts vs
-Fits (Count size of ∷ fs) counts (number n ∷ vs) = (n < 256 ^ size) × Fits fs (counted of n counts) vs
-Fits (Rows of sizes ∷ fs) counts (rows rs ∷ vs) = (length rs ≡ count_of of counts) × AllByRecursion (RowFits sizes) rs × Fits fs counts vs
-Fits (Bytes of ∷ fs) counts (bytes bs ∷ vs) = (length bs ≡ count_of of counts) × AllByRecursion (λ b. b < 256) bs × Fits fs counts vs
-Fits _ _ _ = ⊥
+-- each value has its field's shape: numbers fit their sizes, and lists are as long as they were counted
+abbrev pub Shaped : List Field → Counts → List Value → Type 0
+Shaped [] counts [] = Unit {0}
+Shaped (Number size ∷ fs) counts (number n ∷ vs) = (n < 256 ^ size) × Shaped fs counts vs
+Shaped (Count size of ∷ fs) counts (number n ∷ vs) = (n < 256 ^ size) × Shaped fs (counted of n counts) vs
+Shaped (Rows of sizes ∷ fs) counts (rows rs ∷ vs) = (length rs ≡ count_of of counts) × AllByRecursion (RowFits sizes) rs × Shaped fs counts vs
+Shaped (Bytes of ∷ fs) counts (bytes bs ∷ vs) = (length bs ≡ count_of of counts) × AllByRecursion (λ b. b < 256) bs × Shaped fs counts vs
+Shaped (ScaleBytes ∷ fs) counts (number n ∷ vs) = (n < 256 ^ 4) × Shaped fs counts vs
+Shaped (DecimalPlaces ∷ fs) counts (number n ∷ vs) = (n < 256 ^ 1) × Shaped fs counts vs
+Shaped _ _ _ = ⊥
+
+-- a value is one that its field may have: scales are among those that there are, and decimals at most 7
+abbrev pub IsProper : Field → Value → Type 0
+IsProper ScaleBytes (number n) = IsScale n
+IsProper DecimalPlaces (number n) = n ≤ 7
+IsProper _ _ = Unit {0}
+
+abbrev pub Proper : List Field → List Value → Type 0
+Proper (f ∷ fs) (v ∷ vs) = IsProper f v × Proper fs vs
+Proper _ _ = Unit {0}

@@ -1,6 +1,13 @@
+pub mod Scales
 pub mod Layout
 pub mod Kinds
+pub mod Tables
+pub mod FromValues
 pub mod Records
+pub mod References
+pub mod Listing
+pub mod Attributes
 pub mod Stores
 pub mod Commands
 pub mod Rows
+pub mod Decimals

@@ -1,164 +1,205 @@
--- The records of objects: one table of fields for each kind (ISO 11783-6; docs/PROFILE.md, "Records").
-use Rattle.std.specs.Prelude.{◌≡◌, ◌<◌, ℕ, List, [], ◌∷◌, ◌++◌, map, Option, Some, None}
-use Rattle.std.specs.Int.{w16, cast_unsigned, cast_signed}
+-- The record of an object under an ID (docs/PROFILE.md, "Records").
+use Rattle.std.specs.Prelude.{◌≡◌, ◌<◌, ℕ, List, ◌∷◌, ◌++◌, Option, Some, None}
 use Rattle.byteorder.specs.Endian.{little_bytes}
 use Rattle.vt_objects.specs.declared.kind.Kind.{Kind}
 use Rattle.vt_objects.specs.declared.kind.Kind.TheVariants as kinds
-use Rattle.vt_objects.specs.declared.entries.Child.{Child}
-use Rattle.vt_objects.specs.declared.entries.MacroEntry.{MacroEntry}
-use Rattle.vt_objects.specs.declared.entries.Language.{Language}
-use Rattle.vt_objects.specs.declared.masks.WorkingSet.{WorkingSet}
-use Rattle.vt_objects.specs.declared.masks.DataMask.{DataMask}
-use Rattle.vt_objects.specs.declared.masks.Container.{Container}
-use Rattle.vt_objects.specs.declared.variables.NumberVariable.{NumberVariable}
+use Rattle.vt_objects.specs.declared.input_fields.InputString.{InputString}
+use Rattle.vt_objects.specs.declared.output_fields.OutputString.{OutputString}
+use Rattle.vt_objects.specs.declared.pictures.Picture.{Picture}
 use Rattle.vt_objects.specs.declared.variables.StringVariable.{StringVariable}
+use Rattle.vt_objects.specs.declared.attribute_objects.InputAttributes.{InputAttributes}
+use Rattle.vt_objects.specs.declared.macros.Macro.{Macro}
 use Rattle.vt_objects.specs.declared.object.Object.{Object}
 use Rattle.vt_objects.specs.declared.object.Object.TheVariants as objects
-use Rattle.vt_objects.specs.Layout.{Field, Value, number, rows, bytes, Named, Table, fields, values, byte, word, long, count, rows_of, bytes_of, Children, Macros, Languages, Text, spelling, Fits, no_counts}
+use Rattle.vt_objects.specs.Layout.{Field, Value, fields, values, spelling, Shaped, Proper, no_counts}
 use Rattle.vt_objects.specs.Kinds.{kind_number}
+use Rattle.vt_objects.specs.Tables.{working_set, data_mask, alarm_mask, container, soft_key_mask, key, button, input_boolean, input_string, input_number, input_list, output_string, output_number, line, rectangle, ellipse, polygon, meter, linear_bar, arched_bar, picture, number_variable, string_variable, font, line_attributes, fill_attributes, input_attributes, object_pointer, macro_object}
+use Rattle.vt_objects.specs.FromValues.{working_set_from, data_mask_from, alarm_mask_from, container_from, soft_key_mask_from, key_from, button_from, input_boolean_from, input_string_from, input_number_from, input_list_from, output_string_from, output_number_from, line_from, rectangle_from, ellipse_from, polygon_from, meter_from, linear_bar_from, arched_bar_from, picture_from, number_variable_from, string_variable_from, font_from, line_attributes_from, fill_attributes_from, input_attributes_from, object_pointer_from, macro_object_from}
 
--- ---- the entries of lists
+-- ---- objects wherever their bytes lie
 
-abbrev pub child_sizes : List ℕ
-child_sizes = 2 ∷ 2 ∷ 2 ∷ []
+abbrev pub seen_input_string : {B : Type 0} → InputString B → InputString (List ℕ)
+seen_input_string o = record {
+  width = o.width;
+  height = o.height;
+  colour = o.colour;
+  font = o.font;
+  input_attributes = o.input_attributes;
+  options = o.options;
+  variable = o.variable;
+  justification = o.justification;
+  text = o.text;
+  enabled = o.enabled;
+  macros = o.macros;
+}
 
-abbrev pub child_numbers : Child → List ℕ
-child_numbers c = c.id ∷ cast_unsigned w16 c.x ∷ cast_unsigned w16 c.y ∷ []
+abbrev pub seen_output_string : {B : Type 0} → OutputString B → OutputString (List ℕ)
+seen_output_string o = record {
+  width = o.width;
+  height = o.height;
+  colour = o.colour;
+  font = o.font;
+  options = o.options;
+  variable = o.variable;
+  justification = o.justification;
+  text = o.text;
+  macros = o.macros;
+}
 
-abbrev pub macro_sizes : List ℕ
-macro_sizes = 1 ∷ 1 ∷ []
+abbrev pub seen_picture : {B : Type 0} → Picture B → Picture (List ℕ)
+seen_picture o = record {
+  width = o.width;
+  actual_width = o.actual_width;
+  actual_height = o.actual_height;
+  format = o.format;
+  options = o.options;
+  transparency = o.transparency;
+  bytes = o.bytes;
+  macros = o.macros;
+}
 
-abbrev pub macro_numbers : MacroEntry → List ℕ
-macro_numbers m = m.event ∷ m.macro_id ∷ []
+abbrev pub seen_string_variable : {B : Type 0} → StringVariable B → StringVariable (List ℕ)
+seen_string_variable o = record { text = o.text }
 
-abbrev pub language_sizes : List ℕ
-language_sizes = 1 ∷ 1 ∷ []
+abbrev pub seen_input_attributes : {B : Type 0} → InputAttributes B → InputAttributes (List ℕ)
+seen_input_attributes o = record { validation_type = o.validation_type; text = o.text; macros = o.macros }
 
-abbrev pub language_numbers : Language → List ℕ
-language_numbers l = l.first ∷ l.second ∷ []
+abbrev pub seen_macro_object : {B : Type 0} → Macro B → Macro (List ℕ)
+seen_macro_object o = record { bytes = o.bytes }
 
-abbrev pub children : {A : Type 0} → (A → List Child) → Named A
-children f = rows_of Children child_sizes child_numbers f
-
-abbrev pub macros : {A : Type 0} → (A → List MacroEntry) → Named A
-macros f = rows_of Macros macro_sizes macro_numbers f
-
-abbrev pub languages : {A : Type 0} → (A → List Language) → Named A
-languages f = rows_of Languages language_sizes language_numbers f
-
--- ---- one table a kind: what stands behind the ID and the type
-
-abbrev pub working_set : Table WorkingSet
-working_set =
-    byte (λ o. o.colour) ∷ byte (λ o. o.selectable) ∷ word (λ o. o.active_mask) ∷ count 1 Children (λ o. o.children)
-    ∷ count 1 Macros (λ o. o.macros) ∷ count 1 Languages (λ o. o.languages) ∷ children (λ o. o.children)
-    ∷ macros (λ o. o.macros) ∷ languages (λ o. o.languages) ∷ []
-
-abbrev pub data_mask : Table DataMask
-data_mask =
-    byte (λ o. o.colour) ∷ word (λ o. o.soft_key_mask) ∷ count 1 Children (λ o. o.children) ∷ count 1 Macros (λ o. o.macros)
-    ∷ children (λ o. o.children) ∷ macros (λ o. o.macros) ∷ []
-
-abbrev pub container : Table Container
-container =
-    word (λ o. o.width) ∷ word (λ o. o.height) ∷ byte (λ o. o.hidden) ∷ count 1 Children (λ o. o.children)
-    ∷ count 1 Macros (λ o. o.macros) ∷ children (λ o. o.children) ∷ macros (λ o. o.macros) ∷ []
-
-abbrev pub number_variable : Table NumberVariable
-number_variable = long (λ o. o.value) ∷ []
-
-abbrev pub string_variable : {B : Type 0} → Table (StringVariable B)
-string_variable = count 2 Text (λ o. o.text) ∷ bytes_of Text (λ o. o.text) ∷ []
-
--- ---- objects
-
--- An object as clauses compare it: wherever its texts lie, they are lists of bytes.
+-- An object as clauses compare it: its texts, picture and macro bytes are lists of bytes.
 abbrev pub Seen : Type 0
 Seen = Object (List ℕ)
 
 abbrev pub seen : {B : Type 0} → Object B → Seen
 seen (objects.WorkingSet o) = objects.WorkingSet o
 seen (objects.DataMask o) = objects.DataMask o
+seen (objects.AlarmMask o) = objects.AlarmMask o
 seen (objects.Container o) = objects.Container o
+seen (objects.SoftKeyMask o) = objects.SoftKeyMask o
+seen (objects.Key o) = objects.Key o
+seen (objects.Button o) = objects.Button o
+seen (objects.InputBoolean o) = objects.InputBoolean o
+seen (objects.InputString o) = objects.InputString (seen_input_string o)
+seen (objects.InputNumber o) = objects.InputNumber o
+seen (objects.InputList o) = objects.InputList o
+seen (objects.OutputString o) = objects.OutputString (seen_output_string o)
+seen (objects.OutputNumber o) = objects.OutputNumber o
+seen (objects.Line o) = objects.Line o
+seen (objects.Rectangle o) = objects.Rectangle o
+seen (objects.Ellipse o) = objects.Ellipse o
+seen (objects.Polygon o) = objects.Polygon o
+seen (objects.Meter o) = objects.Meter o
+seen (objects.LinearBar o) = objects.LinearBar o
+seen (objects.ArchedBar o) = objects.ArchedBar o
+seen (objects.Picture o) = objects.Picture (seen_picture o)
 seen (objects.NumberVariable o) = objects.NumberVariable o
-seen (objects.StringVariable o) = objects.StringVariable (record { text = o.text })
+seen (objects.StringVariable o) = objects.StringVariable (seen_string_variable o)
+seen (objects.Font o) = objects.Font o
+seen (objects.LineAttributes o) = objects.LineAttributes o
+seen (objects.FillAttributes o) = objects.FillAttributes o
+seen (objects.InputAttributes o) = objects.InputAttributes (seen_input_attributes o)
+seen (objects.ObjectPointer o) = objects.ObjectPointer o
+seen (objects.Macro o) = objects.Macro (seen_macro_object o)
 
 abbrev pub kind_of : {B : Type 0} → Object B → Kind
 kind_of (objects.WorkingSet o) = kinds.WorkingSet
 kind_of (objects.DataMask o) = kinds.DataMask
+kind_of (objects.AlarmMask o) = kinds.AlarmMask
 kind_of (objects.Container o) = kinds.Container
+kind_of (objects.SoftKeyMask o) = kinds.SoftKeyMask
+kind_of (objects.Key o) = kinds.Key
+kind_of (objects.Button o) = kinds.Button
+kind_of (objects.InputBoolean o) = kinds.InputBoolean
+kind_of (objects.InputString o) = kinds.InputString
+kind_of (objects.InputNumber o) = kinds.InputNumber
+kind_of (objects.InputList o) = kinds.InputList
+kind_of (objects.OutputString o) = kinds.OutputString
+kind_of (objects.OutputNumber o) = kinds.OutputNumber
+kind_of (objects.Line o) = kinds.Line
+kind_of (objects.Rectangle o) = kinds.Rectangle
+kind_of (objects.Ellipse o) = kinds.Ellipse
+kind_of (objects.Polygon o) = kinds.Polygon
+kind_of (objects.Meter o) = kinds.Meter
+kind_of (objects.LinearBar o) = kinds.LinearBar
+kind_of (objects.ArchedBar o) = kinds.ArchedBar
+kind_of (objects.Picture o) = kinds.Picture
 kind_of (objects.NumberVariable o) = kinds.NumberVariable
 kind_of (objects.StringVariable o) = kinds.StringVariable
+kind_of (objects.Font o) = kinds.Font
+kind_of (objects.LineAttributes o) = kinds.LineAttributes
+kind_of (objects.FillAttributes o) = kinds.FillAttributes
+kind_of (objects.InputAttributes o) = kinds.InputAttributes
+kind_of (objects.ObjectPointer o) = kinds.ObjectPointer
+kind_of (objects.Macro o) = kinds.Macro
+
+-- ---- the table of each kind
 
 abbrev pub fields_of : Kind → List Field
 fields_of kinds.WorkingSet = fields working_set
 fields_of kinds.DataMask = fields data_mask
+fields_of kinds.AlarmMask = fields alarm_mask
 fields_of kinds.Container = fields container
+fields_of kinds.SoftKeyMask = fields soft_key_mask
+fields_of kinds.Key = fields key
+fields_of kinds.Button = fields button
+fields_of kinds.InputBoolean = fields input_boolean
+fields_of kinds.InputString = fields (input_string {B = List ℕ})
+fields_of kinds.InputNumber = fields input_number
+fields_of kinds.InputList = fields input_list
+fields_of kinds.OutputString = fields (output_string {B = List ℕ})
+fields_of kinds.OutputNumber = fields output_number
+fields_of kinds.Line = fields line
+fields_of kinds.Rectangle = fields rectangle
+fields_of kinds.Ellipse = fields ellipse
+fields_of kinds.Polygon = fields polygon
+fields_of kinds.Meter = fields meter
+fields_of kinds.LinearBar = fields linear_bar
+fields_of kinds.ArchedBar = fields arched_bar
+fields_of kinds.Picture = fields (picture {B = List ℕ})
 fields_of kinds.NumberVariable = fields number_variable
 fields_of kinds.StringVariable = fields (string_variable {B = List ℕ})
+fields_of kinds.Font = fields font
+fields_of kinds.LineAttributes = fields line_attributes
+fields_of kinds.FillAttributes = fields fill_attributes
+fields_of kinds.InputAttributes = fields (input_attributes {B = List ℕ})
+fields_of kinds.ObjectPointer = fields object_pointer
+fields_of kinds.Macro = fields (macro_object {B = List ℕ})
 
 abbrev pub values_of : {B : Type 0} → Object B → List Value
 values_of (objects.WorkingSet o) = values working_set o
 values_of (objects.DataMask o) = values data_mask o
+values_of (objects.AlarmMask o) = values alarm_mask o
 values_of (objects.Container o) = values container o
+values_of (objects.SoftKeyMask o) = values soft_key_mask o
+values_of (objects.Key o) = values key o
+values_of (objects.Button o) = values button o
+values_of (objects.InputBoolean o) = values input_boolean o
+values_of (objects.InputString o) = values input_string o
+values_of (objects.InputNumber o) = values input_number o
+values_of (objects.InputList o) = values input_list o
+values_of (objects.OutputString o) = values output_string o
+values_of (objects.OutputNumber o) = values output_number o
+values_of (objects.Line o) = values line o
+values_of (objects.Rectangle o) = values rectangle o
+values_of (objects.Ellipse o) = values ellipse o
+values_of (objects.Polygon o) = values polygon o
+values_of (objects.Meter o) = values meter o
+values_of (objects.LinearBar o) = values linear_bar o
+values_of (objects.ArchedBar o) = values arched_bar o
+values_of (objects.Picture o) = values picture o
 values_of (objects.NumberVariable o) = values number_variable o
 values_of (objects.StringVariable o) = values string_variable o
+values_of (objects.Font o) = values font o
+values_of (objects.LineAttributes o) = values line_attributes o
+values_of (objects.FillAttributes o) = values fill_attributes o
+values_of (objects.InputAttributes o) = values input_attributes o
+values_of (objects.ObjectPointer o) = values object_pointer o
+values_of (objects.Macro o) = values macro_object o
 
 -- The record of an object under an ID.
 abbrev pub record_of : {B : Type 0} → ℕ → Object B → List ℕ
 record_of id o = little_bytes 2 id ++ kind_number (kind_of o) ∷ spelling (fields_of (kind_of o)) (values_of o)
-
--- ---- objects again from their values
-
-abbrev pub child_from : List ℕ → Child
-child_from (id ∷ x ∷ y ∷ []) = record { id = id; x = cast_signed w16 x; y = cast_signed w16 y }
-child_from _ = record { id = 0; x = cast_signed w16 0; y = cast_signed w16 0 }
-
-abbrev pub macro_from : List ℕ → MacroEntry
-macro_from (event ∷ macro_id ∷ []) = record { event = event; macro_id = macro_id }
-macro_from _ = record { event = 0; macro_id = 0 }
-
-abbrev pub language_from : List ℕ → Language
-language_from (first ∷ second ∷ []) = record { first = first; second = second }
-language_from _ = record { first = 0; second = 0 }
-
-abbrev pub working_set_from : List Value → Option WorkingSet
-working_set_from (number colour ∷ number selectable ∷ number mask ∷ _ ∷ _ ∷ _ ∷ rows cs ∷ rows ms ∷ rows ls ∷ []) = Some (record {
-  colour = colour;
-  selectable = selectable;
-  active_mask = mask;
-  children = map child_from cs;
-  macros = map macro_from ms;
-  languages = map language_from ls;
-})
-working_set_from _ = None
-
-abbrev pub data_mask_from : List Value → Option DataMask
-data_mask_from (number colour ∷ number keys ∷ _ ∷ _ ∷ rows cs ∷ rows ms ∷ []) = Some (record {
-  colour = colour;
-  soft_key_mask = keys;
-  children = map child_from cs;
-  macros = map macro_from ms;
-})
-data_mask_from _ = None
-
-abbrev pub container_from : List Value → Option Container
-container_from (number width ∷ number height ∷ number hidden ∷ _ ∷ _ ∷ rows cs ∷ rows ms ∷ []) = Some (record {
-  width = width;
-  height = height;
-  hidden = hidden;
-  children = map child_from cs;
-  macros = map macro_from ms;
-})
-container_from _ = None
-
-abbrev pub number_variable_from : List Value → Option NumberVariable
-number_variable_from (number n ∷ []) = Some (record { value = n })
-number_variable_from _ = None
-
-abbrev pub string_variable_from : List Value → Option (StringVariable (List ℕ))
-string_variable_from (_ ∷ bytes t ∷ []) = Some (record { text = t })
-string_variable_from _ = None
 
 abbrev pub made : {A : Type 0} → (A → Seen) → Option A → Option Seen
 made f None = None
@@ -168,13 +209,38 @@ made f (Some x) = Some (f x)
 abbrev pub object_from : Kind → List Value → Option Seen
 object_from kinds.WorkingSet vs = made objects.WorkingSet (working_set_from vs)
 object_from kinds.DataMask vs = made objects.DataMask (data_mask_from vs)
+object_from kinds.AlarmMask vs = made objects.AlarmMask (alarm_mask_from vs)
 object_from kinds.Container vs = made objects.Container (container_from vs)
+object_from kinds.SoftKeyMask vs = made objects.SoftKeyMask (soft_key_mask_from vs)
+object_from kinds.Key vs = made objects.Key (key_from vs)
+object_from kinds.Button vs = made objects.Button (button_from vs)
+object_from kinds.InputBoolean vs = made objects.InputBoolean (input_boolean_from vs)
+object_from kinds.InputString vs = made objects.InputString (input_string_from vs)
+object_from kinds.InputNumber vs = made objects.InputNumber (input_number_from vs)
+object_from kinds.InputList vs = made objects.InputList (input_list_from vs)
+object_from kinds.OutputString vs = made objects.OutputString (output_string_from vs)
+object_from kinds.OutputNumber vs = made objects.OutputNumber (output_number_from vs)
+object_from kinds.Line vs = made objects.Line (line_from vs)
+object_from kinds.Rectangle vs = made objects.Rectangle (rectangle_from vs)
+object_from kinds.Ellipse vs = made objects.Ellipse (ellipse_from vs)
+object_from kinds.Polygon vs = made objects.Polygon (polygon_from vs)
+object_from kinds.Meter vs = made objects.Meter (meter_from vs)
+object_from kinds.LinearBar vs = made objects.LinearBar (linear_bar_from vs)
+object_from kinds.ArchedBar vs = made objects.ArchedBar (arched_bar_from vs)
+object_from kinds.Picture vs = made objects.Picture (picture_from vs)
 object_from kinds.NumberVariable vs = made objects.NumberVariable (number_variable_from vs)
 object_from kinds.StringVariable vs = made objects.StringVariable (string_variable_from vs)
+object_from kinds.Font vs = made objects.Font (font_from vs)
+object_from kinds.LineAttributes vs = made objects.LineAttributes (line_attributes_from vs)
+object_from kinds.FillAttributes vs = made objects.FillAttributes (fill_attributes_from vs)
+object_from kinds.InputAttributes vs = made objects.InputAttributes (input_attributes_from vs)
+object_from kinds.ObjectPointer vs = made objects.ObjectPointer (object_pointer_from vs)
+object_from kinds.Macro vs = made objects.Macro (macro_object_from vs)
 
--- An object has a record under an ID: the ID is not NULL, its numbers fit their fields and its lists
--- their counts, and its signed numbers are those that their two bytes say.
+-- An object has a record under an ID: the ID is not NULL, its numbers fit their fields and its lists their
+-- counts, scales and decimals are those that there are, and its signed numbers are those that their bytes say.
 pub record HasRecord (id : ℕ) (o : Seen) : Type 0 where
   pub named : id < 0xFFFF
-  pub fits : Fits (fields_of (kind_of o)) no_counts (values_of o)
+  pub shaped : Shaped (fields_of (kind_of o)) no_counts (values_of o)
+  pub proper : Proper (fields_of (kind_of o)) (values_of o)
   pub signed : object_from (kind_of o) (values_of o) ≡ Some o

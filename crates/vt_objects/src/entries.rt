@@ -28,6 +28,13 @@ pub struct Language {
     pub second: u8,
 }
 
+/// A corner of a polygon, in pixels.
+#[derive(Clone, Copy, Debug, PartialEq, Eq)]
+pub struct Point {
+    pub x: u16,
+    pub y: u16,
+}
+
 /// A list of at most 255 entries, as many as a record can count.
 #[derive(Drop)]
 pub struct Entries<T> {

@@ -1,31 +1,69 @@
-//! The objects of an ISOBUS virtual terminal (ISO 11783-6): their kinds, their fields, the commands that
-//! change them, and the stores that hold them.
+//! The objects of an ISOBUS virtual terminal (ISO 11783-6): their kinds, their fields, what they name, the
+//! commands that change them, and the stores that hold them.
 //!
-//! docs/PROFILE.md has the tables: "Records" for the kinds and their fields, "Commands" for the bytes of
-//! the commands.
+//! docs/PROFILE.md has the tables: "Records" for the kinds and their fields, "References" for what they
+//! name, "Attributes" for what Change Attribute writes, "Commands" for the bytes of the commands.
 #![tactic(auto)]
 
+mod attribute_objects;
+mod attributes;
 mod command;
+mod decimal;
 mod entries;
+mod fields;
+mod graphs;
 mod id;
+mod input_fields;
+mod keys;
 mod kind;
+mod kinds;
 mod list_store;
+mod long_text;
+mod macro_bytes;
+mod macros;
 mod masks;
 mod object;
+mod output_fields;
+mod picture_bytes;
+mod pictures;
+mod place;
+mod references;
+mod scale;
+mod shapes;
+mod short_text;
+mod slot;
 mod store;
-mod text;
 mod variables;
 
+pub use attribute_objects::{FillAttributes, Font, InputAttributes, LineAttributes};
+pub use attributes::attribute;
 pub use command::Command;
-pub use entries::{Child, Entries, Language, MacroEntry};
+pub use decimal::Decimal;
+pub use entries::{Child, Entries, Language, MacroEntry, Point};
+pub use fields::{Attribute, Field, Values};
+pub use graphs::{ArchedBar, LinearBar, Meter};
 pub use id::ObjectId;
+pub use input_fields::{InputBoolean, InputList, InputNumber, InputString};
+pub use keys::{Button, Key, SoftKeyMask};
 pub use kind::Kind;
+pub use kinds::Kinds;
 pub use list_store::ListStore;
-pub use masks::{Container, DataMask, WorkingSet};
+pub use long_text::LongText;
+pub use macro_bytes::MacroBytes;
+pub use macros::Macro;
+pub use masks::{AlarmMask, Container, DataMask, WorkingSet};
 pub use object::Object;
+pub use output_fields::{OutputNumber, OutputString};
+pub use picture_bytes::PictureBytes;
+pub use pictures::Picture;
+pub use place::Place;
+pub use references::slots;
+pub use scale::{Decimals, Scale};
+pub use shapes::{Ellipse, Line, Polygon, Rectangle};
+pub use short_text::ShortText;
+pub use slot::{Slot, Slots};
 pub use store::Store;
-pub use text::LongText;
-pub use variables::{NumberVariable, StringVariable};
+pub use variables::{NumberVariable, ObjectPointer, StringVariable};
 
 /// A growth that was refused.
 pub use std::alloc::AllocError as OutOfMemory;

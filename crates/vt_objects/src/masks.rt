@@ -1,4 +1,4 @@
-//! The working set, masks and containers.
+//! The working set, masks and containers (ISO 11783-6).
 
 ghost use Rattle.std.specs.Prelude.{◌≡◌, IfOk};
 
@@ -60,6 +60,39 @@ impl DataMask {
         Ok(DataMask {
             colour: self.colour,
             soft_key_mask: self.soft_key_mask,
+            children: self.children.copied(alloc)?,
+            macros: self.macros.copied(alloc)?,
+        })
+    }
+}
+
+/// An Alarm Mask, type 2: a screen that is shown before all others.
+#[derive(Drop)]
+pub struct AlarmMask {
+    /// The number of the background's colour.
+    pub colour: u8,
+    /// The mask of its soft keys, or NULL.
+    pub soft_key_mask: ObjectId,
+    /// The lowest number is shown first. Commands write 0 to 2, and a record may hold more.
+    pub priority: u8,
+    /// The number of the acoustic signal.
+    pub acoustic: u8,
+    /// The objects that stand on it.
+    pub children: Entries<Child>,
+    /// The macros of its events.
+    pub macros: Entries<MacroEntry>,
+}
+
+impl AlarmMask {
+    /// The same object in memory of its own.
+    pub fn copied(&self, alloc: Global) -> Result<AlarmMask, AllocError>
+        ensures { IfOk result (λ copy. copy ≡ self.now) }
+    {
+        Ok(AlarmMask {
+            colour: self.colour,
+            soft_key_mask: self.soft_key_mask,
+            priority: self.priority,
+            acoustic: self.acoustic,
             children: self.children.copied(alloc)?,
             macros: self.macros.copied(alloc)?,
         })

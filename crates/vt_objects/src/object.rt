@@ -3,20 +3,52 @@
 ghost use Rattle.std.specs.Prelude.{◌≡◌, IfOk};
 ghost use Rattle.vt_objects.specs.Records.{kind_of, seen};
 
+use crate::attribute_objects::{FillAttributes, Font, InputAttributes, LineAttributes};
+use crate::graphs::{ArchedBar, LinearBar, Meter};
+use crate::input_fields::{InputBoolean, InputList, InputNumber, InputString};
+use crate::keys::{Button, Key, SoftKeyMask};
 use crate::kind::Kind;
-use crate::masks::{Container, DataMask, WorkingSet};
-use crate::variables::{NumberVariable, StringVariable};
+use crate::macros::Macro;
+use crate::masks::{AlarmMask, Container, DataMask, WorkingSet};
+use crate::output_fields::{OutputNumber, OutputString};
+use crate::pictures::Picture;
+use crate::shapes::{Ellipse, Line, Polygon, Rectangle};
+use crate::variables::{NumberVariable, ObjectPointer, StringVariable};
 use std::alloc::{AllocError, Global};
 use std::convert::AsSlice;
 
-/// An object. `B` holds its texts: `&[u8]` in a pool, `Vec<u8>` in a store.
+/// An object. `B` holds its texts, picture and macro bytes: `&[u8]` in a pool, `Vec<u8>` in a store.
 #[derive(Drop)]
 pub enum Object<B: AsSlice<u8>> {
     WorkingSet(WorkingSet),
     DataMask(DataMask),
+    AlarmMask(AlarmMask),
     Container(Container),
+    SoftKeyMask(SoftKeyMask),
+    Key(Key),
+    Button(Button),
+    InputBoolean(InputBoolean),
+    InputString(InputString<B>),
+    InputNumber(InputNumber),
+    InputList(InputList),
+    OutputString(OutputString<B>),
+    OutputNumber(OutputNumber),
+    Line(Line),
+    Rectangle(Rectangle),
+    Ellipse(Ellipse),
+    Polygon(Polygon),
+    Meter(Meter),
+    LinearBar(LinearBar),
+    ArchedBar(ArchedBar),
+    Picture(Picture<B>),
     NumberVariable(NumberVariable),
     StringVariable(StringVariable<B>),
+    Font(Font),
+    LineAttributes(LineAttributes),
+    FillAttributes(FillAttributes),
+    InputAttributes(InputAttributes<B>),
+    ObjectPointer(ObjectPointer),
+    Macro(Macro<B>),
 }
 
 impl<B: AsSlice<u8>> Object<B> {
@@ -27,9 +59,33 @@ impl<B: AsSlice<u8>> Object<B> {
         match self {
             Object::WorkingSet(_) => Kind::WorkingSet,
             Object::DataMask(_) => Kind::DataMask,
+            Object::AlarmMask(_) => Kind::AlarmMask,
             Object::Container(_) => Kind::Container,
+            Object::SoftKeyMask(_) => Kind::SoftKeyMask,
+            Object::Key(_) => Kind::Key,
+            Object::Button(_) => Kind::Button,
+            Object::InputBoolean(_) => Kind::InputBoolean,
+            Object::InputString(_) => Kind::InputString,
+            Object::InputNumber(_) => Kind::InputNumber,
+            Object::InputList(_) => Kind::InputList,
+            Object::OutputString(_) => Kind::OutputString,
+            Object::OutputNumber(_) => Kind::OutputNumber,
+            Object::Line(_) => Kind::Line,
+            Object::Rectangle(_) => Kind::Rectangle,
+            Object::Ellipse(_) => Kind::Ellipse,
+            Object::Polygon(_) => Kind::Polygon,
+            Object::Meter(_) => Kind::Meter,
+            Object::LinearBar(_) => Kind::LinearBar,
+            Object::ArchedBar(_) => Kind::ArchedBar,
+            Object::Picture(_) => Kind::Picture,
             Object::NumberVariable(_) => Kind::NumberVariable,
             Object::StringVariable(_) => Kind::StringVariable,
+            Object::Font(_) => Kind::Font,
+            Object::LineAttributes(_) => Kind::LineAttributes,
+            Object::FillAttributes(_) => Kind::FillAttributes,
+            Object::InputAttributes(_) => Kind::InputAttributes,
+            Object::ObjectPointer(_) => Kind::ObjectPointer,
+            Object::Macro(_) => Kind::Macro,
         }
     }
 
@@ -40,9 +96,33 @@ impl<B: AsSlice<u8>> Object<B> {
         match self {
             Object::WorkingSet(o) => Ok(Object::WorkingSet(o.copied(alloc)?)),
             Object::DataMask(o) => Ok(Object::DataMask(o.copied(alloc)?)),
+            Object::AlarmMask(o) => Ok(Object::AlarmMask(o.copied(alloc)?)),
             Object::Container(o) => Ok(Object::Container(o.copied(alloc)?)),
+            Object::SoftKeyMask(o) => Ok(Object::SoftKeyMask(o.copied(alloc)?)),
+            Object::Key(o) => Ok(Object::Key(o.copied(alloc)?)),
+            Object::Button(o) => Ok(Object::Button(o.copied(alloc)?)),
+            Object::InputBoolean(o) => Ok(Object::InputBoolean(o.copied(alloc)?)),
+            Object::InputString(o) => Ok(Object::InputString(o.copied(alloc)?)),
+            Object::InputNumber(o) => Ok(Object::InputNumber(o.copied(alloc)?)),
+            Object::InputList(o) => Ok(Object::InputList(o.copied(alloc)?)),
+            Object::OutputString(o) => Ok(Object::OutputString(o.copied(alloc)?)),
+            Object::OutputNumber(o) => Ok(Object::OutputNumber(o.copied(alloc)?)),
+            Object::Line(o) => Ok(Object::Line(o.copied(alloc)?)),
+            Object::Rectangle(o) => Ok(Object::Rectangle(o.copied(alloc)?)),
+            Object::Ellipse(o) => Ok(Object::Ellipse(o.copied(alloc)?)),
+            Object::Polygon(o) => Ok(Object::Polygon(o.copied(alloc)?)),
+            Object::Meter(o) => Ok(Object::Meter(o.copied(alloc)?)),
+            Object::LinearBar(o) => Ok(Object::LinearBar(o.copied(alloc)?)),
+            Object::ArchedBar(o) => Ok(Object::ArchedBar(o.copied(alloc)?)),
+            Object::Picture(o) => Ok(Object::Picture(o.copied(alloc)?)),
             Object::NumberVariable(o) => Ok(Object::NumberVariable(*o)),
             Object::StringVariable(o) => Ok(Object::StringVariable(o.copied(alloc)?)),
+            Object::Font(o) => Ok(Object::Font(o.copied(alloc)?)),
+            Object::LineAttributes(o) => Ok(Object::LineAttributes(o.copied(alloc)?)),
+            Object::FillAttributes(o) => Ok(Object::FillAttributes(o.copied(alloc)?)),
+            Object::InputAttributes(o) => Ok(Object::InputAttributes(o.copied(alloc)?)),
+            Object::ObjectPointer(o) => Ok(Object::ObjectPointer(*o)),
+            Object::Macro(o) => Ok(Object::Macro(o.copied(alloc)?)),
         }
     }
 }

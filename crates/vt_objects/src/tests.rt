@@ -1,3 +1,9 @@
+mod commands;
+mod copies;
+mod decimals;
+mod objects;
+mod references;
+
 use super::*;
 use std::alloc::Global;
 use std::convert::AsSlice;
@@ -14,23 +20,47 @@ fn ids(rt: HostRuntime) {
 }
 
 // Each kind, the type of its records, and its name.
-const KINDS: [(Kind, u8, &str); 5] = [
-    (Kind::WorkingSet, 0, "Working Set"),
-    (Kind::DataMask, 1, "Data Mask"),
-    (Kind::Container, 3, "Container"),
-    (Kind::NumberVariable, 21, "Number Variable"),
-    (Kind::StringVariable, 22, "String Variable"),
+const KINDS: [(Kind, u8, &[u8]); 29] = [
+    (Kind::WorkingSet, 0, b"Working Set"),
+    (Kind::DataMask, 1, b"Data Mask"),
+    (Kind::AlarmMask, 2, b"Alarm Mask"),
+    (Kind::Container, 3, b"Container"),
+    (Kind::SoftKeyMask, 4, b"Soft Key Mask"),
+    (Kind::Key, 5, b"Key"),
+    (Kind::Button, 6, b"Button"),
+    (Kind::InputBoolean, 7, b"Input Boolean"),
+    (Kind::InputString, 8, b"Input String"),
+    (Kind::InputNumber, 9, b"Input Number"),
+    (Kind::InputList, 10, b"Input List"),
+    (Kind::OutputString, 11, b"Output String"),
+    (Kind::OutputNumber, 12, b"Output Number"),
+    (Kind::Line, 13, b"Output Line"),
+    (Kind::Rectangle, 14, b"Output Rectangle"),
+    (Kind::Ellipse, 15, b"Output Ellipse"),
+    (Kind::Polygon, 16, b"Output Polygon"),
+    (Kind::Meter, 17, b"Output Meter"),
+    (Kind::LinearBar, 18, b"Output Linear Bar Graph"),
+    (Kind::ArchedBar, 19, b"Output Arched Bar Graph"),
+    (Kind::Picture, 20, b"Picture Graphic"),
+    (Kind::NumberVariable, 21, b"Number Variable"),
+    (Kind::StringVariable, 22, b"String Variable"),
+    (Kind::Font, 23, b"Font Attributes"),
+    (Kind::LineAttributes, 24, b"Line Attributes"),
+    (Kind::FillAttributes, 25, b"Fill Attributes"),
+    (Kind::InputAttributes, 26, b"Input Attributes"),
+    (Kind::ObjectPointer, 27, b"Object Pointer"),
+    (Kind::Macro, 28, b"Macro"),
 ];
 
 #[test]
 fn kinds(rt: HostRuntime) -> Result<(), Fail> {
     for (kind, number, name) in KINDS {
-        assert_eq!(rt; kind.number(), number, "{name}");
-        assert_eq!(rt; Kind::from_number(number), Some(kind), "{name}");
+        assert_eq!(rt; kind.number(), number, "{kind}");
+        assert_eq!(rt; Kind::from_number(number), Some(kind), "{kind}");
         let text = format!(in rt.alloc(); "{kind}")?;
-        assert_eq!(rt; text.as_str(), name);
+        assert_eq!(rt; text.as_bytes(), name, "{kind}");
     }
-    for number in [2, 255] {
+    for number in [29, 33, 34, 255] {
         assert_eq!(rt; Kind::from_number(number), None, "{number}");
     }
     Ok(())
@@ -52,6 +82,8 @@ const LANGUAGE: Language = Language {
     second: b'n',
 };
 
+const POINT: Point = Point { x: 3, y: 65_535 };
+
 #[test]
 fn entries(rt: HostRuntime) -> Result<(), Fail> {
     let alloc = rt.alloc();
@@ -69,6 +101,38 @@ fn entries(rt: HostRuntime) -> Result<(), Fail> {
 }
 
 #[test]
+fn scales(rt: HostRuntime) {
+    for (scale, bytes, places) in [
+        (Scale::One, [0x00, 0x00, 0x80, 0x3F], 0),
+        (Scale::Tenth, [0xCD, 0xCC, 0xCC, 0x3D], 1),
+        (Scale::Hundredth, [0x0A, 0xD7, 0x23, 0x3C], 2),
+        (Scale::Thousandth, [0x6F, 0x12, 0x83, 0x3A], 3),
+    ] {
+        assert_eq!(rt; Scale::from_bytes(bytes), Some(scale));
+        assert_eq!(rt; scale.to_bytes(), bytes);
+        assert_eq!(rt; scale.places(), places);
+    }
+    for bytes in [
+        [0, 0, 0, 0x3F],
+        [0, 0, 0x80, 0xBF],
+        [0x3F, 0x80, 0, 0],
+        [0; 4],
+    ] {
+        assert_eq!(rt; Scale::from_bytes(bytes), None, "{bytes:?}");
+    }
+}
+
+#[test]
+fn numbers_of_decimals(rt: HostRuntime) {
+    for count in 0..=7 {
+        let decimals = Decimals::new(count).map(|decimals| decimals.count());
+        assert_eq!(rt; decimals, Some(count));
+    }
+    assert!(rt; Decimals::new(8).is_none());
+    assert!(rt; Decimals::new(255).is_none());
+}
+
+#[test]
 fn texts(rt: HostRuntime) -> Result<(), Fail> {
     for bytes in [b"".as_slice(), b"8 km/h\xFF"] {
         let text = LongText::new(bytes);
@@ -78,131 +142,22 @@ fn texts(rt: HostRuntime) -> Result<(), Fail> {
     Ok(())
 }
 
-fn child(id: u16, x: i16, y: i16) -> Child {
-    let id = ObjectId::from_raw(id);
+fn object_id(raw: u16) -> ObjectId {
+    ObjectId::from_raw(raw)
+}
+
+fn child(raw: u16, x: i16, y: i16) -> Child {
+    let id = object_id(raw);
     Child { id, x, y }
 }
 
-fn children(alloc: Global) -> Result<Entries<Child>, OutOfMemory> {
+fn two_children(alloc: Global) -> Result<Entries<Child>, OutOfMemory> {
     let list = vec![in alloc; child(100, 10, 5), child(101, -1, i16::MIN)]?;
     Ok(Entries::from_vec(list))
 }
 
-fn macros(alloc: Global) -> Result<Entries<MacroEntry>, OutOfMemory> {
+fn two_macros(alloc: Global) -> Result<Entries<MacroEntry>, OutOfMemory> {
     Ok(Entries::from_vec(MACROS.to_vec(alloc)?))
-}
-
-/// Asserts that these are the children and the macros above.
-fn assert_lists(rt: &impl Abort, children: &Entries<Child>, macros: &Entries<MacroEntry>) {
-    let wanted = [child(100, 10, 5), child(101, -1, i16::MIN)];
-    assert_eq!(rt; children.as_slice(), wanted.as_slice());
-    assert_eq!(rt; macros.as_slice(), MACROS.as_slice());
-}
-
-#[test]
-fn working_sets(rt: HostRuntime) -> Result<(), Fail> {
-    let alloc = rt.alloc();
-    let object: Object<&[u8]> = Object::WorkingSet(WorkingSet {
-        colour: 7,
-        selectable: 1,
-        active_mask: ObjectId::from_raw(1000),
-        children: children(alloc)?,
-        macros: macros(alloc)?,
-        languages: Entries::from_vec(vec![in alloc; LANGUAGE]?),
-    });
-    assert_eq!(rt; object.kind(), Kind::WorkingSet);
-    let Object::WorkingSet(copy) = object.copied(alloc)? else {
-        panic!(rt; "another kind");
-    };
-    assert_eq!(rt; copy.colour, 7);
-    assert_eq!(rt; copy.selectable, 1);
-    assert_eq!(rt; copy.active_mask.raw(), 1000);
-    assert_lists(&rt, &copy.children, &copy.macros);
-    assert_eq!(rt; copy.languages.as_slice(), [LANGUAGE].as_slice());
-    Ok(())
-}
-
-#[test]
-fn data_masks(rt: HostRuntime) -> Result<(), Fail> {
-    let alloc = rt.alloc();
-    let object: Object<&[u8]> = Object::DataMask(DataMask {
-        colour: 7,
-        soft_key_mask: ObjectId::from_raw(65_535),
-        children: children(alloc)?,
-        macros: macros(alloc)?,
-    });
-    assert_eq!(rt; object.kind(), Kind::DataMask);
-    let Object::DataMask(copy) = object.copied(alloc)? else {
-        panic!(rt; "another kind");
-    };
-    assert_eq!(rt; copy.colour, 7);
-    assert!(rt; copy.soft_key_mask.is_null());
-    assert_lists(&rt, &copy.children, &copy.macros);
-    Ok(())
-}
-
-#[test]
-fn containers(rt: HostRuntime) -> Result<(), Fail> {
-    let alloc = rt.alloc();
-    let object: Object<&[u8]> = Object::Container(Container {
-        width: 50,
-        height: 20,
-        hidden: 2,
-        children: children(alloc)?,
-        macros: macros(alloc)?,
-    });
-    assert_eq!(rt; object.kind(), Kind::Container);
-    let Object::Container(copy) = object.copied(alloc)? else {
-        panic!(rt; "another kind");
-    };
-    assert_eq!(rt; copy.width, 50);
-    assert_eq!(rt; copy.height, 20);
-    assert_eq!(rt; copy.hidden, 2);
-    assert_lists(&rt, &copy.children, &copy.macros);
-    Ok(())
-}
-
-#[test]
-fn variables(rt: HostRuntime) -> Result<(), Fail> {
-    let object: Object<&[u8]> = number(u32::MAX);
-    assert_eq!(rt; object.kind(), Kind::NumberVariable);
-    let Object::NumberVariable(copy) = object.copied(rt.alloc())? else {
-        panic!(rt; "another kind");
-    };
-    assert_eq!(rt; copy.value, u32::MAX);
-    let text = LongText::new(b"8 km/h".as_slice());
-    let object = Object::StringVariable(StringVariable { text });
-    assert_eq!(rt; object.kind(), Kind::StringVariable);
-    let Object::StringVariable(copy) = object.copied(rt.alloc())? else {
-        panic!(rt; "another kind");
-    };
-    assert_eq!(rt; copy.text.as_slice(), b"8 km/h".as_slice());
-    Ok(())
-}
-
-// Messages that are commands, each with its ID and state.
-const COMMANDS: [(&[u8], u16, u8); 4] = [
-    (b"\xA0\x64\x00\x00\xFF\xFF\xFF\xFF", 100, 0),
-    (b"\xA0\x65\x00\x01\xFF\xFF\xFF\xFF", 101, 1),
-    (b"\xA0\xE8\x03\x02\x00\x00\x00\x00", 1000, 2),
-    (b"\xA0\x64\x00\x00\xFF\xFF\xFF\xFF\xFF", 100, 0),
-];
-
-#[test]
-fn commands(rt: HostRuntime) {
-    for (bytes, id, state) in COMMANDS {
-        let id = ObjectId::from_raw(id);
-        let wanted = Some(Command::HideShow { id, state });
-        assert_eq!(rt; Command::read(bytes), wanted, "{bytes:?}");
-    }
-    let others: [&[u8]; 3] = [
-        b"",
-        b"\xA0\x64\x00\x00\xFF\xFF\xFF",
-        b"\xA1\x64\x00\x00\xFF\xFF\xFF\xFF",
-    ];
-    for bytes in others {
-        assert_eq!(rt; Command::read(bytes), None, "{bytes:?}");
-    }
 }
 
 fn number<B: AsSlice<u8>>(value: u32) -> Object<B> {

@@ -4,13 +4,13 @@ use Rattle.std.proofs.lemmas.Bool.{eqb-true, le-ltb}
 use Rattle.byteorder.specs.Endian.{little_number}
 use Rattle.vt_objects.specs.declared.kind.Kind.{Kind}
 use Rattle.vt_objects.specs.declared.kind.Kind.TheVariants as kinds
-use Rattle.vt_objects.specs.Layout.{Value, no_counts}
+use Rattle.vt_objects.specs.Layout.{Value}
 use Rattle.vt_objects.specs.Kinds.{kind_number, kind_at, kind_among, kinds}
 use Rattle.vt_objects.specs.Records.{fields_of}
 use Rattle.vt_pool.specs.declared.stop.Stop.{Stop}
 use Rattle.vt_pool.specs.declared.stop.Stop.TheVariants as stops
-use Rattle.vt_pool.specs.Heads.{Held, ◌>>=◌, or_stop, other_type, record_at}
-use Rattle.vt_pool.specs.Reading.{bytes_at, number_at, values_at}
+use Rattle.vt_pool.specs.Heads.{Held, ◌>>=◌, or_stop, other_type, fields_at, record_at}
+use Rattle.vt_pool.specs.Reading.{bytes_at, number_at}
 
 -- ---- kinds
 
@@ -29,9 +29,33 @@ kind_at_is n k e = kind_among_is kinds n k e
 pub kind_at-kind_number : (k : Kind) → kind_at (kind_number k) ≡ Some k
 kind_at-kind_number kinds.WorkingSet = refl
 kind_at-kind_number kinds.DataMask = refl
+kind_at-kind_number kinds.AlarmMask = refl
 kind_at-kind_number kinds.Container = refl
+kind_at-kind_number kinds.SoftKeyMask = refl
+kind_at-kind_number kinds.Key = refl
+kind_at-kind_number kinds.Button = refl
+kind_at-kind_number kinds.InputBoolean = refl
+kind_at-kind_number kinds.InputString = refl
+kind_at-kind_number kinds.InputNumber = refl
+kind_at-kind_number kinds.InputList = refl
+kind_at-kind_number kinds.OutputString = refl
+kind_at-kind_number kinds.OutputNumber = refl
+kind_at-kind_number kinds.Line = refl
+kind_at-kind_number kinds.Rectangle = refl
+kind_at-kind_number kinds.Ellipse = refl
+kind_at-kind_number kinds.Polygon = refl
+kind_at-kind_number kinds.Meter = refl
+kind_at-kind_number kinds.LinearBar = refl
+kind_at-kind_number kinds.ArchedBar = refl
+kind_at-kind_number kinds.Picture = refl
 kind_at-kind_number kinds.NumberVariable = refl
 kind_at-kind_number kinds.StringVariable = refl
+kind_at-kind_number kinds.Font = refl
+kind_at-kind_number kinds.LineAttributes = refl
+kind_at-kind_number kinds.FillAttributes = refl
+kind_at-kind_number kinds.InputAttributes = refl
+kind_at-kind_number kinds.ObjectPointer = refl
+kind_at-kind_number kinds.Macro = refl
 
 -- ---- what is read behind the ID and the type
 
@@ -39,11 +63,11 @@ kind_at-kind_number kinds.StringVariable = refl
 abbrev pub held : ℕ → Kind → List Value × List ℕ → Held
 held id kind vs = record { id = id; kind = kind; values = vs.0; rest = vs.1 }
 
-abbrev pub of_values : ℕ → Kind → Option (List Value × List ℕ) → Result Held Stop
-of_values id kind vs = or_stop stops.Truncated vs >>= λ v. Ok (held id kind v)
+abbrev pub of_values : ℕ → Kind → Result (List Value × List ℕ) Stop → Result Held Stop
+of_values id kind vs = vs >>= λ v. Ok (held id kind v)
 
 abbrev pub of_kind : ℕ → ℕ → List ℕ → Option Kind → Result Held Stop
-of_kind id type rest kind = or_stop (other_type type) kind >>= λ k. of_values id k (values_at (fields_of k) no_counts rest)
+of_kind id type rest kind = or_stop (other_type type) kind >>= λ k. of_values id k (fields_at (fields_of k) rest)
 
 abbrev pub behind : ℕ → ℕ → List ℕ → Result Held Stop
 behind id type rest = cond (eqb id 0xFFFF) (Err stops.NullId) (of_kind id type rest (kind_at type))

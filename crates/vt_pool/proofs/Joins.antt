@@ -1,13 +1,14 @@
 -- Records, joined, and the fault of what follows them.
-use Rattle.std.proofs.Common.{◌≡◌, ℕ, ◌-◌, ◌<◌, List, [], ◌∷◌, ◌++◌, length, Result, Ok, Err, sym, ap, ◌∙◌, append_assoc, arith}
+use Rattle.std.proofs.Common.{◌≡◌, ℕ, ◌+◌, ◌-◌, ◌<◌, List, [], ◌∷◌, ◌++◌, length, Result, Ok, Err, refl, sym, ap, subst, ◌∙◌, append_assoc, arith}
 use Rattle.std.specs.Prelude.{IfErr}
 use Rattle.std.proofs.lemmas.List.{length-append, flat_map_more}
+use Rattle.vt_objects.specs.Layout.{ScaleBytes, DecimalPlaces}
 use Rattle.vt_objects.specs.Records.{Seen, record_of, HasRecord}
 use Rattle.vt_pool.specs.declared.stop.Stop.{Stop}
 use Rattle.vt_pool.specs.declared.stop.Stop.TheVariants as stops
 use Rattle.vt_pool.specs.declared.fault.PoolFault.{PoolFault}
 use Rattle.vt_pool.specs.declared.fault.PoolFault.TheVariants as faults
-use Rattle.vt_pool.specs.Pools.{Entry, joined, AreRecords, NoRecordBegins, IsFaultAt, IsFault, IsWantOfMemory}
+use Rattle.vt_pool.specs.Pools.{Entry, joined, AreRecords, NoRecordBegins, IsFaultAt, AtFirst, IsImproper, IsFault, IsWantOfMemory}
 use Rattle.vt_pool.specs.Stops.{IsStop, fault_at}
 use Rattle.vt_pool.proofs.Taken.{same_record}
 use Rattle.vt_pool.proofs.Causes.{truncated_none, null_none, other_none}
@@ -26,19 +27,27 @@ records_push (r ∷ records) id o are has = (are.0, records_push records id o ar
 
 -- ---- the fault of what follows
 
-fault_there : (bytes : List ℕ) (records : List Entry) (rest : List ℕ) (at : ℕ) (Faulty : List ℕ → Type 0) → AreRecords records → bytes ≡ joined records ++ rest → at ≡ length bytes - length rest
-    → 0 < length rest → Faulty rest → IsFaultAt bytes at Faulty
-fault_there bytes records rest at Faulty are parts place some is =
+fault_there : (bytes : List ℕ) (records : List Entry) (rest : List ℕ) (at offset : ℕ) (Faulty : List ℕ → ℕ → Type 0) → AreRecords records → bytes ≡ joined records ++ rest → at ≡ length bytes - length rest
+    → 0 < length rest → Faulty rest offset → IsFaultAt bytes (at + offset) Faulty
+fault_there bytes records rest at offset Faulty are parts place some is =
     let len = ap length parts ∙ length-append (joined records) rest in
-    record { records = records; whole = are; rest = rest; parts = parts; place = omega (arith, len); some = some; faulty = is }
+    record { records = records; whole = are; rest = rest; parts = parts; offset = offset; place = omega (arith, len); some = some; faulty = is }
+
+fault_first : (bytes : List ℕ) (records : List Entry) (rest : List ℕ) (at : ℕ) (Faulty : List ℕ → Type 0) → AreRecords records → bytes ≡ joined records ++ rest → at ≡ length bytes - length rest
+    → 0 < length rest → Faulty rest → IsFaultAt bytes at (AtFirst Faulty)
+fault_first bytes records rest at Faulty are parts place some is =
+    let same : at + 0 ≡ at = omega arith in
+    subst (λ (n : ℕ). IsFaultAt bytes n (AtFirst Faulty)) same (fault_there bytes records rest at 0 (AtFirst Faulty) are parts place some (refl, is))
 
 pub is_fault : (bytes : List ℕ) (records : List Entry) (rest : List ℕ) (at : ℕ) (stop : Stop) → AreRecords records → bytes ≡ joined records ++ rest → at ≡ length bytes - length rest → 0 < length rest
     → IsStop rest stop → IsFault bytes (fault_at stop at)
-is_fault bytes records rest at stops.Truncated are parts place some is = fault_there bytes records rest at _ are parts place some is
-is_fault bytes records rest at stops.NullId are parts place some is = fault_there bytes records rest at _ are parts place some is
-is_fault bytes records rest at stops.LeftOutType are parts place some is = fault_there bytes records rest at _ are parts place some is
-is_fault bytes records rest at stops.UnknownType are parts place some is = fault_there bytes records rest at _ are parts place some is
-is_fault bytes records rest at stops.OutOfMemory are parts place some is = fault_there bytes records rest at _ are parts place some tt
+is_fault bytes records rest at stops.Truncated are parts place some is = fault_first bytes records rest at _ are parts place some is
+is_fault bytes records rest at stops.NullId are parts place some is = fault_first bytes records rest at _ are parts place some is
+is_fault bytes records rest at stops.LeftOutType are parts place some is = fault_first bytes records rest at _ are parts place some is
+is_fault bytes records rest at stops.UnknownType are parts place some is = fault_first bytes records rest at _ are parts place some is
+is_fault bytes records rest at (stops.Scale offset) are parts place some is = fault_there bytes records rest at offset (IsImproper ScaleBytes) are parts place some is
+is_fault bytes records rest at (stops.Decimals offset) are parts place some is = fault_there bytes records rest at offset (IsImproper DecimalPlaces) are parts place some is
+is_fault bytes records rest at stops.OutOfMemory are parts place some is = fault_first bytes records rest at _ are parts place some tt
 
 -- ---- whole records leave nothing
 
@@ -51,18 +60,21 @@ joined_whole (f ∷ front) (r ∷ records) rest are whole none parts =
     let same = same_record f.0 r.0 f.1 r.1 (joined front ++ rest) (joined records) are.0 whole.0 (sym (append_assoc (record_of f.0 f.1) (joined front) rest) ∙ parts) in
     joined_whole front records rest are.1 whole.1 none same.same_rest
 
-not_whole : (bytes : List ℕ) (at : ℕ) (Faulty : List ℕ → Type 0) (records : List Entry) → ((rest : List ℕ) → Faulty rest → NoRecordBegins rest) → AreRecords records → bytes ≡ joined records → IsFaultAt bytes at Faulty → ⊥
+not_whole : (bytes : List ℕ) (at : ℕ) (Faulty : List ℕ → ℕ → Type 0) (records : List Entry) → ((rest : List ℕ) (offset : ℕ) → Faulty rest offset → NoRecordBegins rest) → AreRecords records → bytes ≡ joined records
+    → IsFaultAt bytes at Faulty → ⊥
 not_whole bytes at Faulty records none are parts fault =
-    let nothing : fault.rest ≡ [] = joined_whole fault.records records fault.rest fault.whole are (none fault.rest fault.faulty) (sym fault.parts ∙ parts) in
+    let nothing : fault.rest ≡ [] = joined_whole fault.records records fault.rest fault.whole are (none fault.rest fault.offset fault.faulty) (sym fault.parts ∙ parts) in
     let len = ap length nothing in
     let some = fault.some in
     absurd (omega arith)
 
 pub want_of_memory : (bytes : List ℕ) (fault : PoolFault) (records : List Entry) → AreRecords records → bytes ≡ joined records → IsFault bytes fault → IsWantOfMemory fault
-want_of_memory bytes (faults.Truncated at) records are parts is = not_whole bytes at _ records truncated_none are parts is
-want_of_memory bytes (faults.NullId at) records are parts is = not_whole bytes at _ records null_none are parts is
-want_of_memory bytes (faults.LeftOutType at) records are parts is = not_whole bytes at _ records (λ rest h. other_none rest h.0) are parts is
-want_of_memory bytes (faults.UnknownType at) records are parts is = not_whole bytes at _ records (λ rest h. other_none rest h.0) are parts is
+want_of_memory bytes (faults.Truncated at) records are parts is = not_whole bytes at _ records (λ rest _ h. truncated_none rest h.1) are parts is
+want_of_memory bytes (faults.NullId at) records are parts is = not_whole bytes at _ records (λ rest _ h. null_none rest h.1) are parts is
+want_of_memory bytes (faults.LeftOutType at) records are parts is = not_whole bytes at _ records (λ rest _ h. other_none rest h.1.0) are parts is
+want_of_memory bytes (faults.UnknownType at) records are parts is = not_whole bytes at _ records (λ rest _ h. other_none rest h.1.0) are parts is
+want_of_memory bytes (faults.Scale at) records are parts is = not_whole bytes at _ records (λ rest _ h. h.no_record) are parts is
+want_of_memory bytes (faults.Decimals at) records are parts is = not_whole bytes at _ records (λ rest _ h. h.no_record) are parts is
 want_of_memory bytes (faults.OutOfMemory at) records are parts is = tt
 
 pub only_want : {X : Type 0} (bytes : List ℕ) (r : Result X PoolFault) (records : List Entry) → AreRecords records → bytes ≡ joined records → IfErr r (IsFault bytes) → IfErr r IsWantOfMemory

@@ -1,6 +1,7 @@
 pub mod Rows
 pub mod Numbers
 pub mod Tables
+pub mod Misfits
 pub mod Heads
 pub mod Taken
 pub mod Causes
@@ -9,3 +10,4 @@ pub mod InPlace
 pub mod Force
 pub mod Joins
 pub mod Progress
+pub mod Writing

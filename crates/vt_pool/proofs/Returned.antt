@@ -36,10 +36,12 @@ module _ {X B : Type 0} (id : X → ℕ) (object : X → Object B) (rest : X →
     is_shorter (Ok x) e back = (taken all x fits e back).shorter
     is_shorter (Err s) e back = tt
 
-  pub is_stop : (all : List ℕ) (r : Result X Stop) → Reads view r (record_at all) → IfErr r (IsStop all)
-  is_stop all (Ok x) e = tt
-  is_stop all (Err stops.OutOfMemory) e = tt
-  is_stop all (Err stops.Truncated) e = record_stops all stops.Truncated e
-  is_stop all (Err stops.UnknownType) e = record_stops all stops.UnknownType e
-  is_stop all (Err stops.LeftOutType) e = record_stops all stops.LeftOutType e
-  is_stop all (Err stops.NullId) e = record_stops all stops.NullId e
+  pub is_stop : (all : List ℕ) (r : Result X Stop) → IsBytes all → Reads view r (record_at all) → IfErr r (IsStop all)
+  is_stop all (Ok x) fits e = tt
+  is_stop all (Err stops.OutOfMemory) fits e = tt
+  is_stop all (Err stops.Truncated) fits e = record_stops all stops.Truncated fits e
+  is_stop all (Err stops.UnknownType) fits e = record_stops all stops.UnknownType fits e
+  is_stop all (Err stops.LeftOutType) fits e = record_stops all stops.LeftOutType fits e
+  is_stop all (Err (stops.Scale at)) fits e = record_stops all (stops.Scale at) fits e
+  is_stop all (Err (stops.Decimals at)) fits e = record_stops all (stops.Decimals at) fits e
+  is_stop all (Err stops.NullId) fits e = record_stops all stops.NullId fits e

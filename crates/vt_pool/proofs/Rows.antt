@@ -32,6 +32,8 @@ ends sizes stops.Truncated front count i all total lt h so_far =
 ends sizes stops.OutOfMemory front count i all total lt h so_far = tt
 ends sizes stops.UnknownType front count i all total lt h so_far = h
 ends sizes stops.LeftOutType front count i all total lt h so_far = h
+ends sizes (stops.Scale at) front count i all total lt h so_far = h
+ends sizes (stops.Decimals at) front count i all total lt h so_far = h
 ends sizes stops.NullId front count i all total lt h so_far = h
 
 pub is_done : (sizes : List ℕ) (front : List (List ℕ)) (count i : ℕ) (all : List ℕ) (total : Option (List (List ℕ) × List ℕ)) → count ≤ i → with_front front (rows_at sizes (count - i) all) ≡ total → total ≡ Some (front, all)
@@ -40,3 +42,13 @@ is_done sizes front count i all total le so_far =
     let k : count - i ≡ 0 = omega arith in
     let one : with_front front (rows_at sizes (count - i) all) ≡ Some (front, all) = rw k (ap (λ (rows : List (List ℕ)). Some (rows, all)) (append-nil front)) in
     sym so_far ∙ one
+
+-- what fails makes all fail that begins with it
+pub fails_by : {A Y : Type 0} (stop : Stop) (r : Option A) (read : Option Y) → Fails stop r → (r ≡ None → read ≡ None) → Fails stop read
+fails_by stops.Truncated r read fails none = none fails
+fails_by stops.OutOfMemory r read fails none = tt
+fails_by stops.UnknownType r read fails none = fails
+fails_by stops.LeftOutType r read fails none = fails
+fails_by (stops.Scale at) r read fails none = fails
+fails_by (stops.Decimals at) r read fails none = fails
+fails_by stops.NullId r read fails none = fails

@@ -3,7 +3,7 @@ use Rattle.std.proofs.Common.{◌≡◌, ℕ, zero, suc, ◌<◌, List, [], ◌�
 use Rattle.std.specs.List.{AllByRecursion}
 use Rattle.std.proofs.lemmas.List.Elements.{recursion_from_All, All-from_get_or}
 use Rattle.byteorder.specs.Endian.{little_bytes}
-use Rattle.vt_objects.specs.Layout.{Field, Number, Count, Rows, Bytes, Value, number, rows, bytes, Counts, counted, count_of, row_spelling, rows_spelling, spelling, RowFits, Fits}
+use Rattle.vt_objects.specs.Layout.{Field, Number, Count, Rows, Bytes, ScaleBytes, DecimalPlaces, Value, number, rows, bytes, Counts, counted, count_of, row_spelling, rows_spelling, spelling, RowFits, Shaped}
 use Rattle.vt_pool.specs.Reading.{◌>>=◌, bytes_at, number_at, row_at, rows_at, values_at}
 use Rattle.vt_pool.proofs.Numbers.{IsBytes, bind_some, some_is, Takes, Takes-nothing, Takes-then, bytes_take, bytes_again, number_takes, number_again}
 
@@ -57,7 +57,7 @@ bytes_fit bs fits = recursion_from_All (λ b. b < 256) bs (All-from_get_or (λ b
 
 -- what a table takes: the spelling of values that fit it
 abbrev TakesValues : List Field → Counts → List ℕ → List Value × List ℕ → Type 0
-TakesValues fs counts all x = Takes all (spelling fs x.0) x.1 × Fits fs counts x.0
+TakesValues fs counts all x = Takes all (spelling fs x.0) x.1 × Shaped fs counts x.0
 
 pub values_take : (fs : List Field) (counts : Counts) (all : List ℕ) (x : List Value × List ℕ) → IsBytes all → values_at fs counts all ≡ Some x → TakesValues fs counts all x
 values_take [] counts all x fits e =
@@ -90,8 +90,22 @@ values_take (Bytes of ∷ fs) counts all x fits e =
     let others = values_take fs counts a.0.1 b.0 first.0.rest_fits b.1 in
     subst (TakesValues (Bytes of ∷ fs) counts all) (some_is (bytes a.0.0 ∷ b.0.0, b.0.1) x b.2)
     (Takes-then all a.0.0 a.0.1 (spelling fs b.0.0) b.0.1 first.0 others.0, (first.1, bytes_fit a.0.0 first.2, others.1))
+values_take (ScaleBytes ∷ fs) counts all x fits e =
+    let a = bind_some (number_at 4 all) (λ n. values_at fs counts n.1 >>= λ vs. Some (number n.0 ∷ vs.0, vs.1)) x e in
+    let b = bind_some (values_at fs counts a.0.1) (λ vs. Some (number a.0.0 ∷ vs.0, vs.1)) x a.2 in
+    let first = number_takes 4 all a.0 fits a.1 in
+    let others = values_take fs counts a.0.1 b.0 first.0.rest_fits b.1 in
+    subst (TakesValues (ScaleBytes ∷ fs) counts all) (some_is (number a.0.0 ∷ b.0.0, b.0.1) x b.2)
+    (Takes-then all (little_bytes 4 a.0.0) a.0.1 (spelling fs b.0.0) b.0.1 first.0 others.0, (first.1, others.1))
+values_take (DecimalPlaces ∷ fs) counts all x fits e =
+    let a = bind_some (number_at 1 all) (λ n. values_at fs counts n.1 >>= λ vs. Some (number n.0 ∷ vs.0, vs.1)) x e in
+    let b = bind_some (values_at fs counts a.0.1) (λ vs. Some (number a.0.0 ∷ vs.0, vs.1)) x a.2 in
+    let first = number_takes 1 all a.0 fits a.1 in
+    let others = values_take fs counts a.0.1 b.0 first.0.rest_fits b.1 in
+    subst (TakesValues (DecimalPlaces ∷ fs) counts all) (some_is (number a.0.0 ∷ b.0.0, b.0.1) x b.2)
+    (Takes-then all (little_bytes 1 a.0.0) a.0.1 (spelling fs b.0.0) b.0.1 first.0 others.0, (first.1, others.1))
 
-pub values_again : (fs : List Field) (counts : Counts) (vs : List Value) (rest : List ℕ) → Fits fs counts vs → values_at fs counts (spelling fs vs ++ rest) ≡ Some (vs, rest)
+pub values_again : (fs : List Field) (counts : Counts) (vs : List Value) (rest : List ℕ) → Shaped fs counts vs → values_at fs counts (spelling fs vs ++ rest) ≡ Some (vs, rest)
 values_again [] counts [] rest fits = refl
 values_again (Number size ∷ fs) counts (number n ∷ vs) rest fits =
     ap (values_at (Number size ∷ fs) counts) (append_assoc (little_bytes size n) (spelling fs vs) rest)
@@ -107,4 +121,10 @@ values_again (Rows of sizes ∷ fs) counts (rows rs ∷ vs) rest fits =
 values_again (Bytes of ∷ fs) counts (bytes bs ∷ vs) rest fits =
     ap (values_at (Bytes of ∷ fs) counts) (append_assoc bs (spelling fs vs) rest)
     ∙ rw (bytes_again bs (spelling fs vs ++ rest) (count_of of counts) fits.0, values_again fs counts vs rest fits.2) refl
+values_again (ScaleBytes ∷ fs) counts (number n ∷ vs) rest fits =
+    ap (values_at (ScaleBytes ∷ fs) counts) (append_assoc (little_bytes 4 n) (spelling fs vs) rest)
+    ∙ rw (number_again 4 n (spelling fs vs ++ rest) fits.0, values_again fs counts vs rest fits.1) refl
+values_again (DecimalPlaces ∷ fs) counts (number n ∷ vs) rest fits =
+    ap (values_at (DecimalPlaces ∷ fs) counts) (append_assoc (little_bytes 1 n) (spelling fs vs) rest)
+    ∙ rw (number_again 1 n (spelling fs vs ++ rest) fits.0, values_again fs counts vs rest fits.1) refl
 values_again fs counts vs rest fits = absurd fits

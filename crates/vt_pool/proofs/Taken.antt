@@ -7,16 +7,17 @@ use Rattle.byteorder.specs.Numbers.{little_from-lt, little_number-reads_back}
 use Rattle.vt_objects.specs.declared.kind.Kind.{Kind}
 use Rattle.vt_objects.specs.declared.object.Object.{Object}
 use Rattle.vt_objects.specs.declared.object.Object.TheVariants as objects
-use Rattle.vt_objects.specs.Layout.{Value, spelling, Fits, no_counts}
+use Rattle.vt_objects.specs.Layout.{Value, spelling, Shaped, Proper, no_counts}
 use Rattle.vt_objects.specs.Kinds.{kind_number, kind_at}
 use Rattle.vt_objects.specs.Records.{Seen, seen, fields_of, kind_of, values_of, object_from, record_of, HasRecord}
 use Rattle.vt_pool.specs.declared.stop.Stop.{Stop}
 use Rattle.vt_pool.specs.declared.stop.Stop.TheVariants as stops
-use Rattle.vt_pool.specs.Heads.{Held, record_at}
+use Rattle.vt_pool.specs.Heads.{Held, fields_at, record_at}
 use Rattle.vt_pool.specs.Reading.{values_at}
 use Rattle.vt_pool.specs.Pools.{RecordsAreWhole}
 use Rattle.vt_pool.proofs.Numbers.{IsBytes, IsBytes-rest, IsBytes-take, number_spelled}
 use Rattle.vt_pool.proofs.Tables.{values_take, values_again}
+use Rattle.vt_pool.proofs.Misfits.{proper, no_misfit, fitting_ok}
 use Rattle.vt_pool.proofs.Heads.{kind_at_is, kind_at-kind_number, held, of_values, of_kind, behind, record_at-short, record_at-long}
 
 -- ---- what is read
@@ -26,14 +27,14 @@ test_ok true r h e = absurd cc
 test_ok false r h e = (refl, e)
 
 of_kind_ok : (id type : ℕ) (rest : List ℕ) (k : Option Kind) (h : Held) → of_kind id type rest k ≡ Ok h
-    → (kind : Kind) × (k ≡ Some kind) × (of_values id kind (values_at (fields_of kind) no_counts rest) ≡ Ok h)
+    → (kind : Kind) × (k ≡ Some kind) × (of_values id kind (fields_at (fields_of kind) rest) ≡ Ok h)
 of_kind_ok id type rest None h e = absurd cc
 of_kind_ok id type rest (Some kind) h e = (kind, refl, e)
 
-of_values_ok : (id : ℕ) (kind : Kind) (vs : Option (List Value × List ℕ)) (h : Held) → of_values id kind vs ≡ Ok h
-    → (x : List Value × List ℕ) × (vs ≡ Some x) × (held id kind x ≡ h)
-of_values_ok id kind None h e = absurd cc
-of_values_ok id kind (Some x) h e = (x, refl, (let same : held id kind x ≡ h = cc in same))
+of_values_ok : (id : ℕ) (kind : Kind) (vs : Result (List Value × List ℕ) Stop) (h : Held) → of_values id kind vs ≡ Ok h
+    → (x : List Value × List ℕ) × (vs ≡ Ok x) × (held id kind x ≡ h)
+of_values_ok id kind (Err stop) h e = absurd cc
+of_values_ok id kind (Ok x) h e = (x, refl, (let same : held id kind x ≡ h = cc in same))
 
 -- the bytes of a record
 abbrev pub spelled : ℕ → Kind → List Value → List ℕ
@@ -43,7 +44,8 @@ spelled id kind vs = little_bytes 2 id ++ kind_number kind ∷ spelling (fields_
 pub record IsRead (all : List ℕ) (h : Held) : Type 0 where
   pub parts : all ≡ spelled h.id h.kind h.values ++ h.rest
   pub named : h.id < 0xFFFF
-  pub fits : Fits (fields_of h.kind) no_counts h.values
+  pub shaped : Shaped (fields_of h.kind) no_counts h.values
+  pub proper : Proper (fields_of h.kind) h.values
 
 long_is_read : (a b c : ℕ) (rest : List ℕ) (h : Held) → IsBytes (a ∷ b ∷ c ∷ rest) → behind (little_number 2 (a ∷ b ∷ [])) c rest ≡ Ok h → IsRead (a ∷ b ∷ c ∷ rest) h
 long_is_read a b c rest h fits e =
@@ -53,8 +55,9 @@ long_is_read a b c rest h fits e =
     let rest_fits : IsBytes rest = IsBytes-rest c rest (IsBytes-rest b (c ∷ rest) (IsBytes-rest a (b ∷ c ∷ rest) fits)) in
     let t = test_ok (eqb id 0xFFFF) (of_kind id c rest (kind_at c)) h e in
     let k = of_kind_ok id c rest (kind_at c) h t.1 in
-    let v = of_values_ok id k.0 (values_at (fields_of k.0) no_counts rest) h k.2 in
-    let took = values_take (fields_of k.0) no_counts rest v.0 rest_fits v.1 in
+    let v = of_values_ok id k.0 (fields_at (fields_of k.0) rest) h k.2 in
+    let read = fitting_ok (fields_of k.0) (values_at (fields_of k.0) no_counts rest) v.0 v.1 in
+    let took = values_take (fields_of k.0) no_counts rest v.0 rest_fits read.0 in
     let type : c ≡ kind_number k.0 = kind_at_is c k.0 k.1 in
     let text = spelling (fields_of k.0) v.0.0 in
     let behind_it : c ∷ rest ≡ kind_number k.0 ∷ (text ++ v.0.1) = ap (λ (n : ℕ). n ∷ rest) type ∙ ap (λ (r : List ℕ). kind_number k.0 ∷ r) took.0.parts in
@@ -62,7 +65,7 @@ long_is_read a b c rest h fits e =
     ap (λ (r : List ℕ). front ++ r) behind_it ∙ ap (λ (f : List ℕ). f ++ (kind_number k.0 ∷ (text ++ v.0.1))) (sym (number_spelled front front_fits)) in
     let below : id < 256 ^ 2 = little_from-lt 0 2 front front_fits in
     let other : id ≢ 0xFFFF = eqb-false id 0xFFFF t.0 in
-    subst (IsRead (a ∷ b ∷ c ∷ rest)) v.2 (record { parts = parts; named = omega arith; fits = took.1 })
+    subst (IsRead (a ∷ b ∷ c ∷ rest)) v.2 (record { parts = parts; named = omega arith; shaped = took.1; proper = proper 3 (fields_of k.0) v.0.0 read.1 })
 
 pub is_read : (all : List ℕ) (h : Held) → IsBytes all → record_at all ≡ Ok h → IsRead all h
 is_read [] h fits e = let no = sym (record_at-short [] (omega arith)) ∙ e in absurd cc
@@ -84,7 +87,7 @@ record_again id o rest has =
     let back : little_number 2 bytes ≡ id = little_number-reads_back 2 id [] (omega arith) in
     let other : eqb id 0xFFFF ≡ false = ne_eqb id 0xFFFF (omega arith) in
     record_at-long (get_or bytes 0 0) (get_or bytes 1 0) (kind_number k) (spelling (fields_of k) (values_of o) ++ rest)
-    ∙ rw (back, other, kind_at-kind_number k, values_again (fields_of k) no_counts (values_of o) rest has.fits) refl
+    ∙ rw (back, other, kind_at-kind_number k, values_again (fields_of k) no_counts (values_of o) rest has.shaped, no_misfit 3 (fields_of k) (values_of o) has.proper) refl
 
 -- what two records say that begin the same bytes
 pub record AreSame (a b : ℕ) (o p : Seen) (rest tail : List ℕ) : Type 0 where
@@ -111,19 +114,68 @@ are_whole a b o p rest has other parts =
 
 -- ---- an object wherever its texts lie
 
-has_record : {B : Type 0} (id : ℕ) (o : Object B) → id < 0xFFFF → Fits (fields_of (kind_of o)) no_counts (values_of o) → object_from (kind_of o) (values_of o) ≡ Some (seen o) → HasRecord id (seen o)
-has_record id (objects.WorkingSet o) named fits signed = record { named = named; fits = fits; signed = signed }
-has_record id (objects.DataMask o) named fits signed = record { named = named; fits = fits; signed = signed }
-has_record id (objects.Container o) named fits signed = record { named = named; fits = fits; signed = signed }
-has_record id (objects.NumberVariable o) named fits signed = record { named = named; fits = fits; signed = signed }
-has_record id (objects.StringVariable o) named fits signed = record { named = named; fits = fits; signed = signed }
+has_record : {B : Type 0} (id : ℕ) (o : Object B) → id < 0xFFFF → Shaped (fields_of (kind_of o)) no_counts (values_of o) → Proper (fields_of (kind_of o)) (values_of o)
+    → object_from (kind_of o) (values_of o) ≡ Some (seen o) → HasRecord id (seen o)
+has_record id (objects.WorkingSet o) named shaped proper signed = record { named = named; shaped = shaped; proper = proper; signed = signed }
+has_record id (objects.DataMask o) named shaped proper signed = record { named = named; shaped = shaped; proper = proper; signed = signed }
+has_record id (objects.AlarmMask o) named shaped proper signed = record { named = named; shaped = shaped; proper = proper; signed = signed }
+has_record id (objects.Container o) named shaped proper signed = record { named = named; shaped = shaped; proper = proper; signed = signed }
+has_record id (objects.SoftKeyMask o) named shaped proper signed = record { named = named; shaped = shaped; proper = proper; signed = signed }
+has_record id (objects.Key o) named shaped proper signed = record { named = named; shaped = shaped; proper = proper; signed = signed }
+has_record id (objects.Button o) named shaped proper signed = record { named = named; shaped = shaped; proper = proper; signed = signed }
+has_record id (objects.InputBoolean o) named shaped proper signed = record { named = named; shaped = shaped; proper = proper; signed = signed }
+has_record id (objects.InputString o) named shaped proper signed = record { named = named; shaped = shaped; proper = proper; signed = signed }
+has_record id (objects.InputNumber o) named shaped proper signed = record { named = named; shaped = shaped; proper = proper; signed = signed }
+has_record id (objects.InputList o) named shaped proper signed = record { named = named; shaped = shaped; proper = proper; signed = signed }
+has_record id (objects.OutputString o) named shaped proper signed = record { named = named; shaped = shaped; proper = proper; signed = signed }
+has_record id (objects.OutputNumber o) named shaped proper signed = record { named = named; shaped = shaped; proper = proper; signed = signed }
+has_record id (objects.Line o) named shaped proper signed = record { named = named; shaped = shaped; proper = proper; signed = signed }
+has_record id (objects.Rectangle o) named shaped proper signed = record { named = named; shaped = shaped; proper = proper; signed = signed }
+has_record id (objects.Ellipse o) named shaped proper signed = record { named = named; shaped = shaped; proper = proper; signed = signed }
+has_record id (objects.Polygon o) named shaped proper signed = record { named = named; shaped = shaped; proper = proper; signed = signed }
+has_record id (objects.Meter o) named shaped proper signed = record { named = named; shaped = shaped; proper = proper; signed = signed }
+has_record id (objects.LinearBar o) named shaped proper signed = record { named = named; shaped = shaped; proper = proper; signed = signed }
+has_record id (objects.ArchedBar o) named shaped proper signed = record { named = named; shaped = shaped; proper = proper; signed = signed }
+has_record id (objects.Picture o) named shaped proper signed = record { named = named; shaped = shaped; proper = proper; signed = signed }
+has_record id (objects.NumberVariable o) named shaped proper signed = record { named = named; shaped = shaped; proper = proper; signed = signed }
+has_record id (objects.StringVariable o) named shaped proper signed = record { named = named; shaped = shaped; proper = proper; signed = signed }
+has_record id (objects.Font o) named shaped proper signed = record { named = named; shaped = shaped; proper = proper; signed = signed }
+has_record id (objects.LineAttributes o) named shaped proper signed = record { named = named; shaped = shaped; proper = proper; signed = signed }
+has_record id (objects.FillAttributes o) named shaped proper signed = record { named = named; shaped = shaped; proper = proper; signed = signed }
+has_record id (objects.InputAttributes o) named shaped proper signed = record { named = named; shaped = shaped; proper = proper; signed = signed }
+has_record id (objects.ObjectPointer o) named shaped proper signed = record { named = named; shaped = shaped; proper = proper; signed = signed }
+has_record id (objects.Macro o) named shaped proper signed = record { named = named; shaped = shaped; proper = proper; signed = signed }
 
 record_of-seen : {B : Type 0} (id : ℕ) (o : Object B) → record_of id o ≡ record_of id (seen o)
 record_of-seen id (objects.WorkingSet o) = refl
 record_of-seen id (objects.DataMask o) = refl
+record_of-seen id (objects.AlarmMask o) = refl
 record_of-seen id (objects.Container o) = refl
+record_of-seen id (objects.SoftKeyMask o) = refl
+record_of-seen id (objects.Key o) = refl
+record_of-seen id (objects.Button o) = refl
+record_of-seen id (objects.InputBoolean o) = refl
+record_of-seen id (objects.InputString o) = refl
+record_of-seen id (objects.InputNumber o) = refl
+record_of-seen id (objects.InputList o) = refl
+record_of-seen id (objects.OutputString o) = refl
+record_of-seen id (objects.OutputNumber o) = refl
+record_of-seen id (objects.Line o) = refl
+record_of-seen id (objects.Rectangle o) = refl
+record_of-seen id (objects.Ellipse o) = refl
+record_of-seen id (objects.Polygon o) = refl
+record_of-seen id (objects.Meter o) = refl
+record_of-seen id (objects.LinearBar o) = refl
+record_of-seen id (objects.ArchedBar o) = refl
+record_of-seen id (objects.Picture o) = refl
 record_of-seen id (objects.NumberVariable o) = refl
 record_of-seen id (objects.StringVariable o) = refl
+record_of-seen id (objects.Font o) = refl
+record_of-seen id (objects.LineAttributes o) = refl
+record_of-seen id (objects.FillAttributes o) = refl
+record_of-seen id (objects.InputAttributes o) = refl
+record_of-seen id (objects.ObjectPointer o) = refl
+record_of-seen id (objects.Macro o) = refl
 
 -- what a reader took: a record, and what follows it
 pub record IsTaken (all : List ℕ) (id : ℕ) (o : Seen) (rest : List ℕ) : Type 0 where
@@ -136,7 +188,7 @@ pub is_taken : {B : Type 0} (all : List ℕ) (id : ℕ) (o : Object B) (rest : L
 is_taken all id o rest fits e signed =
     let read = is_read all (held id (kind_of o) (values_of o, rest)) fits e in
     record {
-      has = has_record id o read.named read.fits signed;
+      has = has_record id o read.named read.shaped read.proper signed;
       parts = read.parts ∙ ap (λ (r : List ℕ). r ++ rest) (record_of-seen id o);
       shorter = let len = ap length read.parts ∙ length-append (record_of id o) rest in omega (arith, len);
     }

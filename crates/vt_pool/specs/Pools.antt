@@ -1,13 +1,15 @@
 -- A pool: records, joined, and the objects that they leave in force (docs/PROFILE.md, "Pools and faults").
-use Rattle.std.specs.Prelude.{◌≡◌, ◌≢◌, ◌<◌, ◌≤◌, ◌==◌, not, ℕ, ◌⊎◌, List, [], ◌∷◌, ◌++◌, length, map, filter, reverse, None, slice_index}
+use Rattle.std.specs.Prelude.{◌≡◌, ◌≢◌, ◌<◌, ◌≤◌, ◌==◌, not, ℕ, ◌+◌, ◌⊎◌, List, [], ◌∷◌, ◌++◌, length, map, filter, reverse, drop, Some, None, slice_index}
 use Rattle.std.specs.List.{flat_map, AllByRecursion}
 use Rattle.byteorder.specs.Endian.{little_number}
-use Rattle.vt_objects.specs.Records.{Seen, record_of, HasRecord}
+use Rattle.vt_objects.specs.declared.kind.Kind.{Kind}
+use Rattle.vt_objects.specs.Layout.{Field, ScaleBytes, DecimalPlaces, Value, field_spelling, spelling, Shaped, IsProper, no_counts}
+use Rattle.vt_objects.specs.Records.{Seen, fields_of, record_of, HasRecord}
 use Rattle.vt_objects.specs.Kinds.{kind_at}
 use Rattle.std.specs.FinMap as finite
 use Rattle.vt_objects.specs.Stores.{Contents}
 use Rattle.vt_pool.specs.declared.fault.PoolFault.{PoolFault}
-use Rattle.vt_pool.specs.declared.fault.PoolFault.TheVariants.{Truncated, UnknownType, LeftOutType, OutOfMemory, NullId}
+use Rattle.vt_pool.specs.declared.fault.PoolFault.TheVariants.{Truncated, UnknownType, LeftOutType, Scale, Decimals, OutOfMemory, NullId}
 
 -- an object under its ID
 abbrev pub Entry : Type 0
@@ -65,35 +67,70 @@ pub record HasOtherType (rest : List ℕ) : Type 0 where
   pub named : id_at rest ≢ 0xFFFF
   pub no_kind : kind_at (type_at rest) ≡ None
 
--- the bytes end before the record of a known type does
+-- a kind has these values, in their shape, behind an ID and the kind's type
+pub record HasValues (rest : List ℕ) (kind : Kind) (values : List Value) : Type 0 where
+  pub known : kind_at (type_at rest) ≡ Some kind
+  pub shaped : Shaped (fields_of kind) no_counts values
+  pub tail : List ℕ
+  pub parts : drop 3 rest ≡ spelling (fields_of kind) values ++ tail
+
+-- the bytes end before the fields of a known type do
 pub record IsCut (rest : List ℕ) : Type 0 where
   pub head : 3 ≤ length rest
   pub named : id_at rest ≢ 0xFFFF
   pub known : kind_at (type_at rest) ≢ None
-  pub no_record : NoRecordBegins rest
+  pub cut : (kind : Kind) (values : List Value) → HasValues rest kind values → ⊥
 
 -- the bytes end before the ID and the type do, or before the rest of the record does
 abbrev pub IsTruncated : List ℕ → Type 0
 IsTruncated rest = (length rest < 3) ⊎ IsCut rest
 
--- whole records stand before this place, and the bytes that follow begin with a faulty one
-pub record IsFaultAt (bytes : List ℕ) (at : ℕ) (IsFaulty : List ℕ → Type 0) : Type 0 where
+-- the first value that is not proper stands in a field of this sort, so many bytes from the first
+abbrev pub IsFirstImproper : Field → ℕ → List Field → List Value → Type 0
+IsFirstImproper sort at (f ∷ fs) (v ∷ vs) =
+    ((f ≡ sort) × (at ≡ 0) × (IsProper f v → ⊥))
+    ⊎ (IsProper f v × ((later : ℕ) × (at ≡ length (field_spelling f v) + later) × IsFirstImproper sort later fs vs))
+IsFirstImproper sort at _ _ = ⊥
+
+-- The fields are all there, and the first that is not proper is of this sort, so many bytes from the record's
+-- first. No record begins there.
+pub record IsImproper (sort : Field) (rest : List ℕ) (at : ℕ) : Type 0 where
+  pub head : 3 ≤ length rest
+  pub named : id_at rest ≢ 0xFFFF
+  pub kind : Kind
+  pub values : List Value
+  pub read : HasValues rest kind values
+  pub later : ℕ
+  pub place : at ≡ 3 + later
+  pub first : IsFirstImproper sort later (fields_of kind) values
+  pub no_record : NoRecordBegins rest
+
+-- Whole records stand before a faulty one, with which the bytes that follow begin, and the fault is so many bytes
+-- from its first.
+pub record IsFaultAt (bytes : List ℕ) (at : ℕ) (IsFaulty : List ℕ → ℕ → Type 0) : Type 0 where
   pub records : List Entry
   pub whole : AreRecords records
   pub rest : List ℕ
   pub parts : bytes ≡ joined records ++ rest
-  pub place : at ≡ length (joined records)
+  pub offset : ℕ
+  pub place : at ≡ length (joined records) + offset
   pub some : 0 < length rest
-  pub faulty : IsFaulty rest
+  pub faulty : IsFaulty rest offset
+
+-- a fault that is named at the record's first byte
+abbrev pub AtFirst : (List ℕ → Type 0) → List ℕ → ℕ → Type 0
+AtFirst IsFaulty rest offset = (offset ≡ 0) × IsFaulty rest
 
 -- What a fault says of a pool's bytes: its cause is the first that holds of the first faulty record. Memory
 -- may run out at any record.
 abbrev pub IsFault : List ℕ → PoolFault → Type 0
-IsFault bytes (Truncated at) = IsFaultAt bytes at IsTruncated
-IsFault bytes (NullId at) = IsFaultAt bytes at HasNullId
-IsFault bytes (LeftOutType at) = IsFaultAt bytes at (λ rest. HasOtherType rest × IsLeftOut (type_at rest))
-IsFault bytes (UnknownType at) = IsFaultAt bytes at (λ rest. HasOtherType rest × (IsLeftOut (type_at rest) → ⊥))
-IsFault bytes (OutOfMemory at) = IsFaultAt bytes at (λ rest. Unit {0})
+IsFault bytes (Truncated at) = IsFaultAt bytes at (AtFirst IsTruncated)
+IsFault bytes (NullId at) = IsFaultAt bytes at (AtFirst HasNullId)
+IsFault bytes (LeftOutType at) = IsFaultAt bytes at (AtFirst (λ rest. HasOtherType rest × IsLeftOut (type_at rest)))
+IsFault bytes (UnknownType at) = IsFaultAt bytes at (AtFirst (λ rest. HasOtherType rest × (IsLeftOut (type_at rest) → ⊥)))
+IsFault bytes (Scale at) = IsFaultAt bytes at (IsImproper ScaleBytes)
+IsFault bytes (Decimals at) = IsFaultAt bytes at (IsImproper DecimalPlaces)
+IsFault bytes (OutOfMemory at) = IsFaultAt bytes at (AtFirst (λ rest. Unit {0}))
 
 -- the one fault that may come where every record is whole
 abbrev pub IsWantOfMemory : PoolFault → Type 0

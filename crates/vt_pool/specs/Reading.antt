@@ -2,7 +2,7 @@
 -- `None` where the bytes end first.
 use Rattle.std.specs.Prelude.{◌≡◌, ℕ, zero, suc, List, [], ◌∷◌, length, take, drop, nat_lt, if◌then◌else◌, Option, Some, None, Result, Ok, Err}
 use Rattle.byteorder.specs.Endian.{little_number}
-use Rattle.vt_objects.specs.Layout.{Field, Number, Count, Rows, Bytes, Value, number, rows, bytes, Counts, counted, count_of}
+use Rattle.vt_objects.specs.Layout.{Field, Number, Count, Rows, Bytes, ScaleBytes, DecimalPlaces, Value, number, rows, bytes, Counts, counted, count_of}
 use Rattle.vt_pool.specs.declared.stop.Stop.{Stop}
 use Rattle.vt_pool.specs.declared.stop.Stop.TheVariants as stops
 
@@ -62,3 +62,11 @@ values_at (Bytes of ∷ fs) counts all = do
   bs ← bytes_at (count_of of counts) all
   vs ← values_at fs counts bs.1
   Some (bytes bs.0 ∷ vs.0, vs.1)
+values_at (ScaleBytes ∷ fs) counts all = do
+  n ← number_at 4 all
+  vs ← values_at fs counts n.1
+  Some (number n.0 ∷ vs.0, vs.1)
+values_at (DecimalPlaces ∷ fs) counts all = do
+  n ← number_at 1 all
+  vs ← values_at fs counts n.1
+  Some (number n.0 ∷ vs.0, vs.1)

@@ -2,14 +2,15 @@
 
 ghost use Rattle.std.specs.Prelude.{◌≡◌, ◌++◌, ℕ, List, length, map, IfOk, OnOk};
 ghost use Rattle.vt_objects.specs.Layout.{row_spelling, rows_spelling};
-ghost use Rattle.vt_objects.specs.Records.{child_sizes, child_numbers, child_from, macro_sizes, macro_numbers, macro_from, language_sizes, language_numbers, language_from};
+ghost use Rattle.vt_objects.specs.Tables.{child_sizes, child_numbers, macro_sizes, macro_numbers, language_sizes, language_numbers, id_sizes, id_numbers, point_sizes, point_numbers};
+ghost use Rattle.vt_objects.specs.FromValues.{child_from, macro_from, language_from, id_from, point_from};
 ghost use Rattle.vt_pool.specs.Reading.{Gives, row_at, rows_at};
 
 use crate::reader::Reader;
 use crate::stop::Stop;
-use crate::write::{put_i16, put_u8, put_u16};
+use crate::write::{put_i16, put_id, put_u8, put_u16};
 use std::alloc::{AllocError, Global};
-use vt_objects::{Child, Entries, Language, MacroEntry, ObjectId};
+use vt_objects::{Child, Entries, Language, MacroEntry, ObjectId, Point};
 
 /// An entry of a list: a row of numbers of fixed sizes.
 pub trait Entry: Drop {
@@ -38,14 +39,14 @@ impl Entry for Child {
 
     #[tactic(auto, unfolding(crate::specs::Reading::row_at))]
     fn read(reader: &mut Reader<'_>) -> Result<Child, Stop> {
-        let id = ObjectId::from_raw(reader.u16()?);
+        let id = reader.id()?;
         let x = reader.i16()?;
         let y = reader.i16()?;
         Ok(Child { id, x, y })
     }
 
     fn write(&self, out: &mut Vec<u8>) -> Result<(), AllocError> {
-        put_u16(out, self.id.raw())?;
+        put_id(out, self.id)?;
         put_i16(out, self.x)?;
         put_i16(out, self.y)?;
         Ok(())
@@ -90,6 +91,45 @@ impl Entry for Language {
     fn write(&self, out: &mut Vec<u8>) -> Result<(), AllocError> {
         put_u8(out, self.first)?;
         put_u8(out, self.second)?;
+        Ok(())
+    }
+}
+
+impl Entry for ObjectId {
+    ghost sizes = { id_sizes };
+
+    ghost numbers = { id_numbers };
+
+    ghost from_numbers = { id_from };
+
+    #[tactic(auto, unfolding(crate::specs::Reading::row_at))]
+    fn read(reader: &mut Reader<'_>) -> Result<ObjectId, Stop> {
+        reader.id()
+    }
+
+    fn write(&self, out: &mut Vec<u8>) -> Result<(), AllocError> {
+        put_id(out, *self)?;
+        Ok(())
+    }
+}
+
+impl Entry for Point {
+    ghost sizes = { point_sizes };
+
+    ghost numbers = { point_numbers };
+
+    ghost from_numbers = { point_from };
+
+    #[tactic(auto, unfolding(crate::specs::Reading::row_at))]
+    fn read(reader: &mut Reader<'_>) -> Result<Point, Stop> {
+        let x = reader.u16()?;
+        let y = reader.u16()?;
+        Ok(Point { x, y })
+    }
+
+    fn write(&self, out: &mut Vec<u8>) -> Result<(), AllocError> {
+        put_u16(out, self.x)?;
+        put_u16(out, self.y)?;
         Ok(())
     }
 }

@@ -2,7 +2,8 @@
 
 use thiserror::Error;
 
-/// The first fault of a pool. `at` is the first byte of the record that has it.
+/// The first fault of a pool. `at` is the first byte of the record that has it, or
+/// of the field where a field is at fault.
 #[derive(Clone, Copy, Debug, PartialEq, Eq, Error)]
 pub enum PoolFault {
     /// The bytes end inside a record.
@@ -14,6 +15,12 @@ pub enum PoolFault {
     /// A record is of an auxiliary function or input, types 29 to 33.
     #[error("fault 3 LeftOutType at {at}")]
     LeftOutType { at: usize },
+    /// A scale is none of the four; `at` is its first byte.
+    #[error("fault 4 Scale at {at}")]
+    Scale { at: usize },
+    /// Decimals are more than 7; `at` is their byte.
+    #[error("fault 5 Decimals at {at}")]
+    Decimals { at: usize },
     /// The memory for a record was refused.
     #[error("fault 6 OutOfMemory at {at}")]
     OutOfMemory { at: usize },

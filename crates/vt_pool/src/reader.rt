@@ -1,12 +1,14 @@
 //! Reading numbers and bytes from the front of a slice.
 
 ghost use Rattle.std.specs.Prelude.{◌≡◌, ◌+◌, length, IfOk};
-ghost use Rattle.std.specs.Int.{w16, cast_signed, cast_unsigned};
+ghost use Rattle.std.specs.Int.{w16, w32, cast_signed, cast_unsigned};
+ghost use Rattle.byteorder.specs.Endian.{little_number};
 ghost use Rattle.vt_pool.specs.Reading.{Gives, number_at, bytes_at};
 
 use crate::stop::Stop;
 use byteorder::{ByteOrder, LittleEndian};
 use std::marker::Model;
+use vt_objects::{LongText, MacroBytes, ObjectId, PictureBytes, ShortText};
 
 /// The bytes that are still to be read. After a fault they are as they were.
 #[derive(Drop)]
@@ -60,11 +62,33 @@ impl<'a> Reader<'a> {
         Ok(LittleEndian::read_u32(front))
     }
 
+    pub fn id(&mut self) -> Result<ObjectId, Stop>
+        ensures { Gives (λ x. (x, self.new)) result (number_at 2 self.old) }
+    {
+        Ok(ObjectId::from_raw(self.u16()?))
+    }
+
     pub fn i16(&mut self) -> Result<i16, Stop>
         ensures read { Gives (λ x. (cast_unsigned w16 x, self.new)) result (number_at 2 self.old) }
         ensures back { IfOk result (λ x. cast_signed w16 (cast_unsigned w16 x) ≡ x) }
     {
         Ok(self.u16()?.cast_signed())
+    }
+
+    pub fn i32(&mut self) -> Result<i32, Stop>
+        ensures read { Gives (λ x. (cast_unsigned w32 x, self.new)) result (number_at 4 self.old) }
+        ensures back { IfOk result (λ x. cast_signed w32 (cast_unsigned w32 x) ≡ x) }
+    {
+        Ok(self.u32()?.cast_signed())
+    }
+
+    /// Four bytes, as the number that they are.
+    #[tactic(auto, unfolding(crate::specs::Reading::number_at))]
+    pub fn four_bytes(&mut self) -> Result<[u8; 4], Stop>
+        ensures { Gives (λ x. (little_number 4 x, self.new)) result (number_at 4 self.old) }
+    {
+        let front = self.bytes(4)?;
+        Ok([front[0], front[1], front[2], front[3]])
     }
 
     #[tactic(auto, unfolding(crate::specs::Reading::bytes_at))]
@@ -79,5 +103,37 @@ impl<'a> Reader<'a> {
         let (front, rest) = rest.split_at(count);
         self.rest = rest;
         Ok(front)
+    }
+
+    /// A text of so many bytes.
+    pub fn short_text(&mut self, count: u8) -> Result<ShortText<&'a [u8]>, Stop>
+        ensures read { Gives (λ x. (x, self.new)) result (bytes_at count self.old) }
+        ensures len { IfOk result (λ x. length x ≡ count) }
+    {
+        Ok(ShortText::new(self.bytes(usize::from(count))?))
+    }
+
+    /// A text of so many bytes.
+    pub fn long_text(&mut self, count: u16) -> Result<LongText<&'a [u8]>, Stop>
+        ensures read { Gives (λ x. (x, self.new)) result (bytes_at count self.old) }
+        ensures len { IfOk result (λ x. length x ≡ count) }
+    {
+        Ok(LongText::new(self.bytes(usize::from(count))?))
+    }
+
+    /// So many bytes of a macro.
+    pub fn macro_bytes(&mut self, count: u16) -> Result<MacroBytes<&'a [u8]>, Stop>
+        ensures read { Gives (λ x. (x, self.new)) result (bytes_at count self.old) }
+        ensures len { IfOk result (λ x. length x ≡ count) }
+    {
+        Ok(MacroBytes::new(self.bytes(usize::from(count))?))
+    }
+
+    /// So many bytes of a picture.
+    pub fn picture_bytes(&mut self, count: u32) -> Result<PictureBytes<&'a [u8]>, Stop>
+        ensures read { Gives (λ x. (x, self.new)) result (bytes_at count self.old) }
+        ensures len { IfOk result (λ x. length x ≡ count) }
+    {
+        Ok(PictureBytes::new(self.bytes(count as usize)?))
     }
 }

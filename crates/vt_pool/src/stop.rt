@@ -1,6 +1,6 @@
 //! Why a record cannot be read.
 
-ghost use Rattle.std.specs.Prelude.{◌≡◌};
+ghost use Rattle.std.specs.Prelude.{◌≡◌, ◌<◌, ◌^◌};
 ghost use Rattle.vt_pool.specs.declared.stop.Stop.TheVariants.{OutOfMemory};
 ghost use Rattle.vt_pool.specs.Stops.{fault_at};
 
@@ -13,6 +13,10 @@ pub enum Stop {
     Truncated,
     UnknownType,
     LeftOutType,
+    /// A scale so many bytes from the record's first is none of the four.
+    Scale { at: u8 },
+    /// Decimals so many bytes from the record's first are more than 7.
+    Decimals { at: u8 },
     OutOfMemory,
     NullId,
 }
@@ -20,12 +24,19 @@ pub enum Stop {
 impl Stop {
     /// The fault of the pool whose record at this place it is.
     pub fn at(self, at: usize) -> PoolFault
+        requires { at < 2 ^ 63 }
         ensures { result ≡ fault_at self at }
     {
         match self {
             Stop::Truncated => PoolFault::Truncated { at },
             Stop::UnknownType => PoolFault::UnknownType { at },
             Stop::LeftOutType => PoolFault::LeftOutType { at },
+            Stop::Scale { at: offset } => PoolFault::Scale {
+                at: at + usize::from(offset),
+            },
+            Stop::Decimals { at: offset } => PoolFault::Decimals {
+                at: at + usize::from(offset),
+            },
             Stop::OutOfMemory => PoolFault::OutOfMemory { at },
             Stop::NullId => PoolFault::NullId { at },
         }

@@ -1,15 +1,16 @@
 //! Writing records.
 
 ghost use Rattle.std.specs.Prelude.{◌≡◌, ◌<◌, ◌++◌, [], ◌∷◌, OnOk, OnErr};
-ghost use Rattle.std.specs.Int.{w16, cast_unsigned};
+ghost use Rattle.std.specs.Int.{w16, w32, cast_unsigned};
 ghost use Rattle.byteorder.specs.Endian.{little_bytes};
 ghost use Rattle.vt_objects.specs.Records.{record_of};
+ghost use Rattle.vt_objects.specs.Scales.{scale_number};
 
 use crate::records::write_fields;
 use byteorder::{ByteOrder, LittleEndian};
 use std::alloc::{AllocError, Global};
 use std::convert::AsSlice;
-use vt_objects::{Object, ObjectId};
+use vt_objects::{Object, ObjectId, Scale};
 
 pub fn put_u8(out: &mut Vec<u8>, n: u8) -> Result<(), AllocError>
     ensures { OnOk result (out.new.items ≡ out.old.items ++ little_bytes 1 n) }
@@ -27,6 +28,12 @@ pub fn put_u16(out: &mut Vec<u8>, n: u16) -> Result<(), AllocError>
     Ok(())
 }
 
+pub fn put_id(out: &mut Vec<u8>, id: ObjectId) -> Result<(), AllocError>
+    ensures { OnOk result (out.new.items ≡ out.old.items ++ little_bytes 2 id) }
+{
+    put_u16(out, id.raw())
+}
+
 pub fn put_i16(out: &mut Vec<u8>, n: i16) -> Result<(), AllocError>
     ensures { OnOk result (out.new.items ≡ out.old.items ++ little_bytes 2 (cast_unsigned w16 n)) }
 {
@@ -42,6 +49,21 @@ pub fn put_u32(out: &mut Vec<u8>, n: u32) -> Result<(), AllocError>
     Ok(())
 }
 
+pub fn put_i32(out: &mut Vec<u8>, n: i32) -> Result<(), AllocError>
+    ensures { OnOk result (out.new.items ≡ out.old.items ++ little_bytes 4 (cast_unsigned w32 n)) }
+{
+    put_u32(out, n.cast_unsigned())
+}
+
+/// Appends the bytes of a scale.
+pub fn put_scale(out: &mut Vec<u8>, scale: Scale) -> Result<(), AllocError>
+    ensures { OnOk result (out.new.items ≡ out.old.items ++ little_bytes 4 (scale_number scale)) }
+{
+    out.extend_from_slice(&scale.to_bytes())?;
+    Ok(())
+}
+
+#[tactic(auto, using(crate::proofs::Writing::written_is))]
 /// Appends the record of an object under an ID, which is not NULL. After an error the vector is as it was.
 pub fn write_object<B: AsSlice<u8>>(
     alloc: Global,
@@ -54,7 +76,7 @@ pub fn write_object<B: AsSlice<u8>>(
     ensures err { OnErr result (out.new.items ≡ out.old.items) }
 {
     let mut record = Vec::new(alloc);
-    put_u16(&mut record, id.raw())?;
+    put_id(&mut record, id)?;
     put_u8(&mut record, object.kind().number())?;
     write_fields(&mut record, object)?;
     out.extend_from_slice(&record)

@@ -4,3 +4,5 @@ pub mod Taking
 pub mod Midway
 pub mod LongLines
 pub mod Begun
+pub mod Chains
+pub mod Loading

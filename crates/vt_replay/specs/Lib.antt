@@ -6,3 +6,4 @@ pub mod Texts
 pub mod Replays
 pub mod Progress
 pub mod Words
+pub mod Runs

@@ -1,9 +1,11 @@
 -- How far a replay has come.
-use Rattle.std.specs.Prelude.{◌≡◌, ◌≤◌, ◌==◌, ℕ, not, List, ◌++◌, length, Option}
+use Rattle.std.specs.Prelude.{◌≡◌, ◌⊎◌, ◌≤◌, ◌==◌, ℕ, not, List, ◌++◌, length, Option}
 use Rattle.std.specs.List.{AllZip, AllByRecursion, AllPass}
 use Rattle.std.specs.Io.KnownBytes.{Appends}
 use Rattle.vt_can.specs.Line.{Reads}
 use Rattle.vt_replay.specs.declared.counts.Counts.{Counts}
+use Rattle.vt_replay.specs.declared.fault.ReplayFault.{ReplayFault}
+use Rattle.vt_replay.specs.declared.fault.ReplayFault.TheVariants.{TooLong, Write}
 use Rattle.vt_replay.specs.declared.terminal.Terminal.{Terminal}
 use Rattle.vt_replay.specs.Terminals.{State}
 use Rattle.vt_replay.specs.States.{state_of}
@@ -36,6 +38,10 @@ pub record Takes (from : Stand) (lines : List (List ℕ)) (to : Stand) : Type 0 
   pub state : to.state ≡ after_lines from.state readings
   pub counts : to.counts ≡ with_lines from.counts readings
   pub text : Appends from.held to.held (lines_text from.state from.counts.lines readings)
+
+-- why a line is not taken
+abbrev pub IsLineFault : ReplayFault → Type 0
+IsLineFault fault = (fault ≡ TooLong) ⊎ (fault ≡ Write)
 
 abbrev pub HasNoNewline : List ℕ → Type 0
 HasNoNewline text = AllPass (λ byte. not (byte == 10)) text

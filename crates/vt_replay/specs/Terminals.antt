@@ -40,17 +40,25 @@ pub record SetStep : Type 0 where
 abbrev pub ignored : SetState → SetStep
 ignored set = record { set = set; replies = [] }
 
-abbrev pub commanded : ℕ → SetState → Option Command → SetStep
-commanded own set None = ignored set
-commanded own set (Some (HideShow id state)) = let effect = hide_effect set.contents id state in record {
+-- the object and the state of a Hide/Show command
+abbrev pub hide_show_in : Option Command → Option (ℕ × ℕ)
+hide_show_in (Some (HideShow id state)) = Some (id, state)
+hide_show_in _ = None
+
+abbrev pub hidden_or_shown : ℕ → SetState → ℕ → ℕ → SetStep
+hidden_or_shown own set id state = let effect = hide_effect set.contents id state in record {
   set = record set { contents = after_effect set.contents effect };
   replies = reply_to own set.address (reply_bytes id state (error_of effect)) ∷ [];
 }
 
--- A command of the set is answered, and all else is ignored.
+abbrev pub commanded : ℕ → SetState → Option (ℕ × ℕ) → SetStep
+commanded own set None = ignored set
+commanded own set (Some asked) = hidden_or_shown own set asked.0 asked.1
+
+-- Hide/Show from the set is answered, and all else is ignored.
 abbrev pub set_step : ℕ → SetState → Frame → SetStep
 set_step own set frame =
-    if is_heard own set.address (parts_of frame.id) then commanded own set (command_at frame.bytes.items) else ignored set
+    if is_heard own set.address (parts_of frame.id) then commanded own set (hide_show_in (command_at frame.bytes.items)) else ignored set
 
 -- ---- what the terminal does
 

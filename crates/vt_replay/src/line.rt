@@ -5,7 +5,7 @@ ghost use Rattle.std.specs.Io.KnownBytes.{Appends};
 ghost use Rattle.vt_can.specs.Readings.{reading_of};
 ghost use Rattle.vt_replay.specs.States.{state_of};
 ghost use Rattle.vt_replay.specs.Texts.{after_line, with_line, line_text};
-ghost use Rattle.vt_replay.specs.Progress.{AtMost, Takes, stand};
+ghost use Rattle.vt_replay.specs.Progress.{AtMost, IsLineFault, Takes, stand};
 ghost use Rattle.vt_replay.specs.Replays.{TakesSome};
 
 use crate::counts::Counts;
@@ -27,6 +27,7 @@ pub fn keep(part: &[u8], pending: &mut Pending) -> Result<(), ReplayFault>
     ensures kept { OnOk result (pending.new.items ≡ pending.old.items ++ part.now) }
     ensures short { OnOk result (length pending.new.items ≤ 4096) }
     ensures too_long { OnErr result (4096 < length (pending.old.items ++ part.now)) }
+    ensures fault { IfErr result (λ fault. fault ≡ ReplayFault.TooLong) }
 {
     pending
         .try_extend_from_slice(part)
@@ -48,6 +49,7 @@ pub fn end_line<W: Write>(
     ensures empty { OnOk result (pending.new.items ≡ []) }
     ensures stopped { OnErr result (TakesSome (state_of terminal.old) ((pending.old.items ++ part.now) ∷ []) (state_of terminal.new)) }
     ensures too_long { IsErrOf result ReplayFault.TooLong → 4096 < length (pending.old.items ++ part.now) }
+    ensures fault { IfErr result IsLineFault }
 {
     if !pending.is_empty() {
         keep(part, pending)?;

@@ -1,9 +1,11 @@
 //! The words of the command line.
 
-ghost use Rattle.std.specs.Prelude.{◌≡◌, ◌≢◌, ◌≤◌, ◌∷◌, [], ℕ, Ok, IfOk, IfSome, MatchOption};
-ghost use Rattle.hex.specs.Hex.{decode_of};
+ghost use Rattle.std.specs.Prelude.{◌≡◌, ◌≤◌, ℕ, IfOk, IfErr, MatchOption, MatchResult, codes, false, is_some, map, true};
+ghost use Rattle.clap.specs.Words.{IsParsedFrom, IsPlainArg, app_of, first_value, found_of, rule_of};
+ghost use Rattle.clap.specs.Built.{TakesValue};
+ghost use Rattle.clap.specs.declared.parser.matches.ArgMatches.{ArgMatches};
 ghost use Rattle.vt_replay.specs.declared.options.Refusal.TheVariants.{Memory};
-ghost use Rattle.vt_replay.specs.Words.{AreApart};
+ghost use Rattle.vt_replay.specs.Words.{AreApart, GivesAddress, GivesNoAddress, Gives, IsAddress, IsMistake, IsRefusalFor, IsRefusalOf, WordsGive, app, file_word, given_in, refusal_text, valued_option};
 
 use clap::error::ErrorKind;
 use clap::{Arg, ArgAction, ArgMatches, Command, Error};
@@ -44,11 +46,15 @@ pub enum Refusal {
     Address(&'static str),
     /// The owner's address is the terminal's own.
     OwnerIsOwn,
+    /// A pool is given without its owner, or an owner without a pool.
+    Alone,
     /// A growth was refused.
     Memory,
 }
 
 impl fmt::Display for Refusal {
+    ghost output = { refusal_text };
+
     fn fmt<W: fmt::Write>(&self, f: &mut fmt::Formatter<W>) -> fmt::Result {
         match self {
             Refusal::Words(error) => write!(f, "{error}"),
@@ -59,12 +65,20 @@ impl fmt::Display for Refusal {
                 )
             }
             Refusal::OwnerIsOwn => writeln!(f, "error: the owner is the terminal itself"),
+            Refusal::Alone => {
+                writeln!(
+                    f,
+                    "error: --pool and --owner are given together or not at all"
+                )
+            }
             Refusal::Memory => writeln!(f, "vt_replay: out of memory"),
         }
     }
 }
 
 impl From<Error> for Refusal {
+    ghost from_gives = { IsRefusalFor };
+
     fn from(error: Error) -> Refusal {
         match error.kind() {
             ErrorKind::OutOfMemory => Refusal::Memory,
@@ -84,47 +98,35 @@ impl From<AllocError> for Refusal {
 impl<'a> Options<'a> {
     /// Reads the words, of which the first is the program's name.
     pub fn parse<S: AsStr>(alloc: Global, words: &'a [S]) -> Result<Options<'a>, Refusal>
-        ensures { IfOk result AreApart }
+        ensures given { IfOk result (WordsGive (map S.text words.now)) }
+        ensures refused { IfErr result (IsRefusalOf (map S.text words.now)) }
     {
         let matches = command(alloc)?.try_get_matches_from(words)?;
-        let own = address_given(&matches, "own")?.unwrap_or(OWN_ADDRESS);
-        let owner = address_given(&matches, "owner")?;
-        let preload = match (matches.get_str("pool"), owner) {
-            (Some(pool), Some(owner)) => {
-                if owner == own {
-                    return Err(Refusal::OwnerIsOwn);
-                }
-                Some(Preload { pool, owner })
-            }
-            _ => None,
-        };
-        let log = matches.get_str("FILE").unwrap_or("");
-        Ok(Options { log, own, preload })
+        options_of(&matches)
     }
 }
 
 /// The words that the program takes.
-fn command<'a>(alloc: Global) -> Result<Command<'a>, AllocError> {
-    let log = Arg::new(alloc, "FILE")
-        .help("The log to replay, as candump writes it")
-        .required(true);
-    let own = Arg::new(alloc, "own")
-        .long("own")
-        .value_name("AA")
-        .help("The terminal's own address, two hex digits up to FD [default: 26]")
-        .action(ArgAction::Set);
-    let pool = Arg::new(alloc, "pool")
-        .long("pool")
-        .value_name("PATH")
-        .help("The object pool of a working set that is there from the start")
-        .action(ArgAction::Set)
-        .requires_arg("owner")?;
-    let owner = Arg::new(alloc, "owner")
-        .long("owner")
-        .value_name("AA")
-        .help("The address of that working set")
-        .action(ArgAction::Set)
-        .requires_arg("pool")?;
+fn command<'a>(alloc: Global) -> Result<Command<'a>, AllocError>
+    ensures app { IfOk result (λ command. app_of command ≡ app) }
+    // What it parses has a value of FILE.
+    ensures file { IfOk result (λ command. (matches : ArgMatches) → IsParsedFrom command matches
+        → is_some (first_value (found_of matches) (codes "FILE")) ≡ true) }
+{
+    let log = file_word(alloc);
+    let own = valued_option(
+        alloc,
+        "own",
+        "AA",
+        "The terminal's own address, two hex digits up to FD [default: 26]",
+    );
+    let pool = valued_option(
+        alloc,
+        "pool",
+        "PATH",
+        "The object pool of a working set that is there from the start",
+    );
+    let owner = valued_option(alloc, "owner", "AA", "The address of that working set");
     Command::new(alloc, "vt_replay")
         .version("0.1.0")
         .about("Replays a CAN log to a virtual terminal and prints what it answers")
@@ -134,9 +136,54 @@ fn command<'a>(alloc: Global) -> Result<Command<'a>, AllocError> {
         .arg(owner)
 }
 
+fn file_word<'a>(alloc: Global) -> Arg<'a>
+    ensures rule { rule_of result ≡ file_word }
+    ensures plain { IsPlainArg result }
+    ensures local { result.global ≡ false }
+    ensures value { TakesValue result }
+{
+    Arg::new(alloc, "FILE")
+        .help("The log to replay, as candump writes it")
+        .action(ArgAction::Set)
+        .required(true)
+}
+
+fn valued_option<'a>(alloc: Global, name: &'a str, value: &'a str, help: &'a str) -> Arg<'a>
+    ensures rule { rule_of result ≡ valued_option name.now }
+    ensures plain { IsPlainArg result }
+    ensures local { result.global ≡ false }
+{
+    Arg::new(alloc, name)
+        .long(name)
+        .value_name(value)
+        .help(help)
+        .action(ArgAction::Set)
+}
+
+/// The options that parsed words give. They have a FILE.
+fn options_of<'a>(matches: &ArgMatches<'a>) -> Result<Options<'a>, Refusal>
+    requires { is_some (first_value (found_of matches.now) (codes "FILE")) ≡ true }
+    ensures gives { IfOk result (Gives (given_in (first_value (found_of matches.now)))) }
+    ensures apart { IfOk result AreApart }
+    ensures refused { IfErr result (IsMistake (given_in (first_value (found_of matches.now)))) }
+{
+    let own = address_given(matches, "own")?.unwrap_or(OWN_ADDRESS);
+    let owner = address_given(matches, "owner")?;
+    let preload = match (matches.get_str("pool"), owner) {
+        (Some(_), Some(owner)) if owner == own => return Err(Refusal::OwnerIsOwn),
+        (Some(pool), Some(owner)) => Some(Preload { pool, owner }),
+        (None, None) => None,
+        _ => return Err(Refusal::Alone),
+    };
+    let log = matches.get_str("FILE").unwrap_or("");
+    Ok(Options { log, own, preload })
+}
+
 /// The address that an option gives, if it is there.
 fn address_given(matches: &ArgMatches<'_>, option: &'static str) -> Result<Option<u8>, Refusal>
-    ensures { IfOk result (λ given. IfSome given (λ a. a ≤ 253)) }
+    ensures given { IfOk result (GivesAddress (first_value (found_of matches.now) option.now)) }
+    ensures refusal { IfErr result (λ refusal. refusal ≡ Refusal.Address option.entry) }
+    ensures refused { IfErr result (λ _. GivesNoAddress (first_value (found_of matches.now) option.now)) }
 {
     let Some(text) = matches.get_str(option) else {
         return Ok(None);
@@ -149,9 +196,7 @@ fn address_given(matches: &ArgMatches<'_>, option: &'static str) -> Result<Optio
 
 /// The address that two hex digits write, up to FD.
 pub fn address(text: &str) -> Option<u8>
-    ensures { MatchOption result
-        ((n : ℕ) → decode_of text.now ≡ Ok (n ∷ []) → n ≤ 253 → ⊥)
-        (λ n. (decode_of text.now ≡ Ok (n ∷ [])) × (n ≤ 253)) }
+    ensures { MatchOption result ((n : ℕ) → IsAddress text.now n → ⊥) (IsAddress text.now) }
 {
     let [address] = <[u8; 1]>::from_hex(text).ok()?;
     if address <= 0xFD { Some(address) } else { None }

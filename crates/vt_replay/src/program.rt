@@ -1,9 +1,12 @@
 //! The program, over words, files and writers.
 
-ghost use Rattle.std.specs.Prelude.{◌≡◌, ◌≢◌, ◌≤◌, None};
+ghost use Rattle.std.specs.Prelude.{◌≡◌, ◌≢◌, ◌≤◌, ℕ, List, Option, Some, None, IfOk, IfErr, IfSome, OnOk, OnErr, map};
+ghost use Rattle.std.specs.Io.KnownBytes.{Keeps};
 ghost use Rattle.vt_replay.specs.declared.program.Fault.TheVariants.{Memory};
+ghost use Rattle.vt_replay.specs.Terminals.{SetState};
 ghost use Rattle.vt_replay.specs.States.{state_of};
 ghost use Rattle.vt_replay.specs.Words.{AreApart, status_code};
+ghost use Rattle.vt_replay.specs.Runs.{AreTaken, Ends, EndsBy, HasReplayed, IsFaultOf, IsFileFault, IsLoadFault, IsSetOf, fault_line};
 
 use crate::fault::ReplayFault;
 use crate::options::{Options, Preload, Refusal};
@@ -19,7 +22,12 @@ use vt_pool::{PoolFault, read_pool};
 pub trait Open {
     type Reader: Read + Drop;
 
-    fn open(&mut self, path: &str) -> io::Result<Self::Reader>;
+    // The bytes of the file under a path, where they are known.
+    ghost file: { Self → List ℕ → Option (List ℕ) } = { λ _ _. None };
+
+    fn open(&mut self, path: &str) -> io::Result<Self::Reader>
+        ensures bytes { IfOk result (λ reader. IfSome (file self.old path.now) (λ bytes. Self.Reader.remaining reader ≡ Some bytes)) }
+        ensures stay { file self.new ≡ file self.old };
 }
 
 /// How the program ends.
@@ -56,6 +64,8 @@ enum Fault<'a> {
 }
 
 impl fmt::Display for Fault<'_> {
+    ghost output = { fault_line };
+
     fn fmt<W: fmt::Write>(&self, f: &mut fmt::Formatter<W>) -> fmt::Result {
         match self {
             Fault::File { path, cause } => write!(f, "{path}: {cause}"),
@@ -82,7 +92,11 @@ pub fn run<S: AsStr, F: Open, W: Write, E: Write>(
     files: &mut F,
     out: &mut W,
     errors: &mut E,
-) -> io::Result<Status> {
+) -> io::Result<Status>
+    ensures ends { IfOk result (Ends (map S.text words.now) (F.file files.old) (W.contents out.old) (W.contents out.new)) }
+    // It fails only where it prints help, or the fault of a pool.
+    ensures fails { OnErr result (AreTaken (map S.text words.now)) }
+{
     let options = match Options::parse(alloc, words) {
         Ok(options) => options,
         Err(refusal) => return refuse(&refusal, out, errors),
@@ -101,11 +115,12 @@ pub fn run<S: AsStr, F: Open, W: Write, E: Write>(
     }
 }
 
-fn refuse<W: Write, E: Write>(
-    refusal: &Refusal,
-    out: &mut W,
-    errors: &mut E,
-) -> io::Result<Status> {
+fn refuse<W: Write, E: Write>(refusal: &Refusal, out: &mut W, errors: &mut E) -> io::Result<Status>
+    ensures status { IfOk result (EndsBy refusal.now) }
+    ensures out { IfOk result (λ status. status ≢ Status.Done → Keeps (W.contents out.old) (W.contents out.new)) }
+    // It fails only where help is printed.
+    ensures fails { OnErr result (EndsBy refusal.now Status.Done) }
+{
     let status = match refusal {
         Refusal::Words(error) if !error.use_stderr() => {
             write!(out, "{refusal}")?;
@@ -126,6 +141,8 @@ fn replay_log<'a, F: Open, W: Write>(
     out: &mut W,
 ) -> Result<(), Fault<'a>>
     requires { AreApart options.now }
+    ensures replayed { OnOk result (HasReplayed (F.file files.old) options.now (W.contents out.old) (W.contents out.new)) }
+    ensures fault { IfErr result (IsFaultOf (F.file files.old) options.now) }
 {
     let mut terminal = Terminal::new(alloc, options.own);
     if let Some(preload) = &options.preload {
@@ -156,6 +173,10 @@ fn load<'a, F: Open>(
     requires none { (state_of terminal.old).set ≡ None }
     requires claimed { preload.now.owner ≤ 253 }
     requires other { preload.now.owner ≢ (state_of terminal.old).own }
+    ensures set { OnOk result ((set : SetState) × IsSetOf preload.now.owner (F.file files.old preload.now.pool.now) set
+        × (state_of terminal.new ≡ record (state_of terminal.old) { set = Some set })) }
+    ensures fault { IfErr result (IsLoadFault (F.file files.old) preload.now) }
+    ensures stay { F.file files.new ≡ F.file files.old }
 {
     let bytes = read_file(alloc, preload.pool, files)?;
     match read_pool(alloc, &bytes) {
@@ -165,11 +186,11 @@ fn load<'a, F: Open>(
     }
 }
 
-fn read_file<'a, F: Open>(
-    alloc: Global,
-    path: &'a str,
-    files: &mut F,
-) -> Result<Vec<u8>, Fault<'a>> {
+fn read_file<'a, F: Open>(alloc: Global, path: &'a str, files: &mut F) -> Result<Vec<u8>, Fault<'a>>
+    ensures bytes { IfOk result (λ read. IfSome (F.file files.old path.now) (λ bytes. read.items ≡ bytes)) }
+    ensures fault { IfErr result (IsFileFault path.entry) }
+    ensures stay { F.file files.new ≡ F.file files.old }
+{
     let mut bytes = Vec::new(alloc);
     let read = match files.open(path) {
         Ok(mut file) => file.read_to_end(&mut bytes),

@@ -1,11 +1,11 @@
 //! Replaying a log: bytes in, text out.
 
-ghost use Rattle.std.specs.Prelude.{◌≡◌, ◌≤◌, ◌<◌, ◌^◌, ◌++◌, ◌∷◌, length, IfOk, IfSome, OnOk, OnErr, IsErrOf, MatchOption, List, ℕ};
+ghost use Rattle.std.specs.Prelude.{◌≡◌, ◌≤◌, ◌<◌, ◌^◌, ◌++◌, ◌∷◌, length, IfErr, IfOk, IfSome, OnOk, OnErr, IsErrOf, MatchOption, List, ℕ};
 ghost use Rattle.std.specs.Io.KnownBytes.{Appends, IsAtEnd};
 ghost use Rattle.vt_replay.specs.States.{state_of};
 ghost use Rattle.vt_replay.specs.Lines.{lines_of};
 ghost use Rattle.vt_replay.specs.Replays.{IsReplay, TakesSome, HasLongLine};
-ghost use Rattle.vt_replay.specs.Progress.{AtMost, Takes, TakesBytes, HasNoNewline, stand};
+ghost use Rattle.vt_replay.specs.Progress.{AtMost, IsLineFault, Takes, TakesBytes, HasNoNewline, stand};
 
 use crate::counts::Counts;
 use crate::fault::ReplayFault;
@@ -79,6 +79,7 @@ fn take_chunk<W: Write>(
     ensures whole { OnOk result (HasNoNewline pending.new.items) }
     ensures stopped { OnErr result ((rest : List ℕ) → TakesSome (state_of terminal.old) (lines_of (pending.old.items ++ chunk.now ++ rest)) (state_of terminal.new)) }
     ensures too_long { IsErrOf result ReplayFault.TooLong → (rest : List ℕ) → HasLongLine (pending.old.items ++ chunk.now ++ rest) }
+    ensures fault { IfErr result IsLineFault }
 {
     let mut rest = chunk;
     while let Some((line, after)) = cut_line(rest) {
@@ -110,6 +111,7 @@ fn end_log<W: Write>(
         (stand terminal.new counts.new (W.contents writer.new))) }
     ensures stopped { OnErr result (TakesSome (state_of terminal.old) (lines_of pending.old.items) (state_of terminal.new)) }
     ensures too_long { IsErrOf result ReplayFault.TooLong → 4096 < length pending.old.items }
+    ensures fault { IfErr result IsLineFault }
 {
     if pending.is_empty() {
         return Ok(());

@@ -1,11 +1,12 @@
 //! The terminal: one working set, whose Hide/Show commands it answers.
 
-ghost use Rattle.std.specs.Prelude.{◌≡◌, ◌≢◌, ◌≤◌, None, Some, IfOk, OnOk, OnErr, map};
+ghost use Rattle.std.specs.Prelude.{◌≡◌, ◌≢◌, ◌≤◌, [], ◌∷◌, None, Some, IfOk, OnOk, OnErr, map};
 ghost use Rattle.std.specs.Option.{option_to_list};
 ghost use Rattle.vt_objects.specs.Stores.{shown};
 ghost use Rattle.vt_pool.specs.Pools.{contents};
 ghost use Rattle.vt_replay.specs.Hiding.{reply_bytes};
-ghost use Rattle.vt_replay.specs.Terminals.{set_step, step};
+ghost use Rattle.vt_objects.specs.Commands.{command_at};
+ghost use Rattle.vt_replay.specs.Terminals.{hidden_or_shown, hide_show_in, set_step, step};
 ghost use Rattle.vt_replay.specs.States.{state_of, set_of};
 
 use crate::hiding::hide_show;
@@ -91,18 +92,33 @@ impl WorkingSet {
         if id.pgn() != ECU_TO_VT || id.destination() != Some(own) || id.source() != self.address {
             return None;
         }
-        match Command::read(&frame.bytes)? {
-            Command::HideShow { id, state } => {
-                let error = match hide_show(&mut self.objects, id, state) {
-                    Ok(()) => 0,
-                    Err(refusal) => refusal.error_byte(),
-                };
-                Some(Frame {
-                    id: CanId::new(PRIORITY, VT_TO_ECU, self.address, own),
-                    bytes: hide_show_reply(id, state, error),
-                })
-            }
+        let (id, state) = hide_show_asked(&frame.bytes)?;
+        Some(self.answer(own, id, state))
+    }
+
+    /// Hides or shows an object, and says how that went.
+    fn answer(&mut self, own: u8, id: ObjectId, state: u8) -> Frame
+        ensures after { set_of self.new ≡ (hidden_or_shown own (set_of self.old) id state).set }
+        ensures reply { result ∷ [] ≡ (hidden_or_shown own (set_of self.old) id state).replies }
+    {
+        let error = match hide_show(&mut self.objects, id, state) {
+            Ok(()) => 0,
+            Err(refusal) => refusal.error_byte(),
+        };
+        Frame {
+            id: CanId::new(PRIORITY, VT_TO_ECU, self.address, own),
+            bytes: hide_show_reply(id, state, error),
         }
+    }
+}
+
+/// The object and the state of a Hide/Show command, if the bytes are one.
+fn hide_show_asked(bytes: &[u8]) -> Option<(ObjectId, u8)>
+    ensures { result ≡ hide_show_in (command_at bytes.now) }
+{
+    match Command::read(bytes)? {
+        Command::HideShow { id, state } => Some((id, state)),
+        _ => None,
     }
 }
 

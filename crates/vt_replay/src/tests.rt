@@ -1,3 +1,6 @@
+ghost use Rattle.std.specs.Prelude.{Some, None, codes, if◌then◌else◌};
+ghost use Rattle.std.specs.Str.{bytes_eq};
+
 use crate::counts::Counts;
 use crate::fault::ReplayFault;
 use crate::program::{Open, Status, run};
@@ -26,6 +29,9 @@ struct Shelf<'a> {
 
 impl<'a> Open for Shelf<'a> {
     type Reader = &'a [u8];
+
+    ghost file = { λ shelf path. if bytes_eq path (codes "log") then Some shelf.log.now
+        else (if bytes_eq path (codes "pool") then Some shelf.pool.now else None) };
 
     fn open(&mut self, path: &str) -> io::Result<&'a [u8]> {
         match path {

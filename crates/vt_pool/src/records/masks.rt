@@ -2,16 +2,17 @@
 
 ghost use Rattle.std.specs.Prelude.{◌≡◌, IfOk, OnOk, Some};
 ghost use Rattle.vt_objects.specs.Layout.{fields, values, no_counts};
-ghost use Rattle.vt_objects.specs.Records.{working_set, working_set_from, data_mask, data_mask_from, container, container_from};
+ghost use Rattle.vt_objects.specs.Tables.{working_set, data_mask, alarm_mask, container};
+ghost use Rattle.vt_objects.specs.FromValues.{working_set_from, data_mask_from, alarm_mask_from, container_from};
 ghost use Rattle.vt_pool.specs.Reading.{Gives, values_at};
 ghost use Rattle.vt_pool.specs.Writing.{written};
 
 use crate::entry::{entries, put_entries};
 use crate::reader::Reader;
 use crate::stop::Stop;
-use crate::write::{put_u8, put_u16};
+use crate::write::{put_id, put_u8, put_u16};
 use std::alloc::{AllocError, Global};
-use vt_objects::{Container, DataMask, ObjectId, WorkingSet};
+use vt_objects::{AlarmMask, Container, DataMask, WorkingSet};
 
 pub fn read_working_set(alloc: Global, reader: &mut Reader<'_>) -> Result<WorkingSet, Stop>
     ensures read { Gives (λ x. (values working_set x, reader.new)) result (values_at (fields working_set) no_counts reader.old) }
@@ -19,7 +20,7 @@ pub fn read_working_set(alloc: Global, reader: &mut Reader<'_>) -> Result<Workin
 {
     let colour = reader.u8()?;
     let selectable = reader.u8()?;
-    let active_mask = ObjectId::from_raw(reader.u16()?);
+    let active_mask = reader.id()?;
     let child_count = reader.u8()?;
     let macro_count = reader.u8()?;
     let language_count = reader.u8()?;
@@ -41,7 +42,7 @@ pub fn write_working_set(out: &mut Vec<u8>, o: &WorkingSet) -> Result<(), AllocE
 {
     put_u8(out, o.colour)?;
     put_u8(out, o.selectable)?;
-    put_u16(out, o.active_mask.raw())?;
+    put_id(out, o.active_mask)?;
     put_u8(out, o.children.len())?;
     put_u8(out, o.macros.len())?;
     put_u8(out, o.languages.len())?;
@@ -56,7 +57,7 @@ pub fn read_data_mask(alloc: Global, reader: &mut Reader<'_>) -> Result<DataMask
     ensures back { IfOk result (λ x. data_mask_from (values data_mask x) ≡ Some x) }
 {
     let colour = reader.u8()?;
-    let soft_key_mask = ObjectId::from_raw(reader.u16()?);
+    let soft_key_mask = reader.id()?;
     let child_count = reader.u8()?;
     let macro_count = reader.u8()?;
     let children = entries(alloc, reader, child_count)?;
@@ -73,7 +74,43 @@ pub fn write_data_mask(out: &mut Vec<u8>, o: &DataMask) -> Result<(), AllocError
     ensures { OnOk result (out.new.items ≡ written out.old.items (fields data_mask) (values data_mask o.now)) }
 {
     put_u8(out, o.colour)?;
-    put_u16(out, o.soft_key_mask.raw())?;
+    put_id(out, o.soft_key_mask)?;
+    put_u8(out, o.children.len())?;
+    put_u8(out, o.macros.len())?;
+    put_entries(out, &o.children)?;
+    put_entries(out, &o.macros)?;
+    Ok(())
+}
+
+pub fn read_alarm_mask(alloc: Global, reader: &mut Reader<'_>) -> Result<AlarmMask, Stop>
+    ensures read { Gives (λ x. (values alarm_mask x, reader.new)) result (values_at (fields alarm_mask) no_counts reader.old) }
+    ensures back { IfOk result (λ x. alarm_mask_from (values alarm_mask x) ≡ Some x) }
+{
+    let colour = reader.u8()?;
+    let soft_key_mask = reader.id()?;
+    let priority = reader.u8()?;
+    let acoustic = reader.u8()?;
+    let child_count = reader.u8()?;
+    let macro_count = reader.u8()?;
+    let children = entries(alloc, reader, child_count)?;
+    let macros = entries(alloc, reader, macro_count)?;
+    Ok(AlarmMask {
+        colour,
+        soft_key_mask,
+        priority,
+        acoustic,
+        children,
+        macros,
+    })
+}
+
+pub fn write_alarm_mask(out: &mut Vec<u8>, o: &AlarmMask) -> Result<(), AllocError>
+    ensures { OnOk result (out.new.items ≡ written out.old.items (fields alarm_mask) (values alarm_mask o.now)) }
+{
+    put_u8(out, o.colour)?;
+    put_id(out, o.soft_key_mask)?;
+    put_u8(out, o.priority)?;
+    put_u8(out, o.acoustic)?;
     put_u8(out, o.children.len())?;
     put_u8(out, o.macros.len())?;
     put_entries(out, &o.children)?;

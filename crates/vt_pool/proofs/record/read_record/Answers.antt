@@ -15,4 +15,4 @@ returns-clause-shorter c =
     is_shorter (λ r. r.id) (λ r. r.object) (λ r. r.rest.now) c.args.bytes.now (λ i. omega (arith, c.type_inv.bytes i)) c.parse_record.result c.parse_record.ensures.exact c.parse_record.ensures.back
 
 pub returns-clause-fault : goal.returns-clause-fault
-returns-clause-fault c = is_stop (λ r. r.id) (λ r. r.object) (λ r. r.rest.now) c.args.bytes.now c.parse_record.result c.parse_record.ensures.exact
+returns-clause-fault c = is_stop (λ r. r.id) (λ r. r.object) (λ r. r.rest.now) c.args.bytes.now c.parse_record.result (λ i. omega (arith, c.type_inv.bytes i)) c.parse_record.ensures.exact

@@ -1,0 +1,29 @@
+-- The shown number of an input or output number (docs/PROFILE.md, "Shown numbers").
+use Rattle.std.specs.Prelude.{◌≡◌, ◌≤◌, ℕ, ℤ, pos, ◌-◌, ◌*◌, ◌/◌, ◌%◌, ◌^◌, ◌-ℤ◌, ◌*ℤ◌, nat_abs, int_lt, List, [], ◌++◌, length, replicate, codes, ◌==◌, if◌then◌else◌}
+use Rattle.std.specs.Fmt.{decimal}
+
+-- The whole number r is n times 10 to the decimals, divided by 10 to the scale's places, and rounded: it is as near as
+-- half of a unit, and of two that are as near it is the one farther from zero.
+pub record IsRounded (n : ℤ) (places decimals : ℕ) (r : ℤ) : Type 0 where
+  pub near : 2 * nat_abs (r *ℤ pos (10 ^ places) -ℤ n *ℤ pos (10 ^ decimals)) ≤ 10 ^ places
+  pub away : 2 * nat_abs (r *ℤ pos (10 ^ places) -ℤ n *ℤ pos (10 ^ decimals)) ≡ 10 ^ places
+      → nat_abs (n *ℤ pos (10 ^ decimals)) ≤ nat_abs (r *ℤ pos (10 ^ places))
+
+-- a number in decimal, filled with zeros to so many digits
+abbrev pub filled : ℕ → ℕ → List ℕ
+filled digits n = replicate (digits - length (decimal n)) 48 ++ decimal n
+
+-- what stands behind the point, with the point
+abbrev pub fraction_text : ℕ → ℕ → List ℕ
+fraction_text decimals n = if decimals == 0 then [] else codes "." ++ filled decimals (n % 10 ^ decimals)
+
+-- a whole number as a number with so many decimals
+abbrev pub decimal_text : ℕ → ℤ → List ℕ
+decimal_text decimals r =
+    (if int_lt r (pos 0) then codes "-" else []) ++ decimal (nat_abs r / 10 ^ decimals) ++ fraction_text decimals (nat_abs r)
+
+-- the text of a value with an offset, as it is shown
+pub record IsShown (n : ℤ) (places decimals : ℕ) (text : List ℕ) : Type 0 where
+  pub rounded : ℤ
+  pub is : IsRounded n places decimals rounded
+  pub digits : text ≡ decimal_text decimals rounded

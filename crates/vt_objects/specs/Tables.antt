@@ -1,0 +1,269 @@
+-- The record of each kind behind its ID and type, as one table of fields (ISO 11783-6; docs/PROFILE.md,
+-- "Records" and the section of each kind).
+use Rattle.std.specs.Prelude.{ℕ, ℤ, List, [], ◌∷◌}
+use Rattle.std.specs.Int.{w16, w32, cast_unsigned}
+use Rattle.vt_objects.specs.declared.scale.Scale.{Scale}
+use Rattle.vt_objects.specs.declared.entries.Child.{Child}
+use Rattle.vt_objects.specs.declared.entries.MacroEntry.{MacroEntry}
+use Rattle.vt_objects.specs.declared.entries.Language.{Language}
+use Rattle.vt_objects.specs.declared.entries.Point.{Point}
+use Rattle.vt_objects.specs.declared.masks.WorkingSet.{WorkingSet}
+use Rattle.vt_objects.specs.declared.masks.DataMask.{DataMask}
+use Rattle.vt_objects.specs.declared.masks.AlarmMask.{AlarmMask}
+use Rattle.vt_objects.specs.declared.masks.Container.{Container}
+use Rattle.vt_objects.specs.declared.keys.SoftKeyMask.{SoftKeyMask}
+use Rattle.vt_objects.specs.declared.keys.Key.{Key}
+use Rattle.vt_objects.specs.declared.keys.Button.{Button}
+use Rattle.vt_objects.specs.declared.input_fields.InputBoolean.{InputBoolean}
+use Rattle.vt_objects.specs.declared.input_fields.InputString.{InputString}
+use Rattle.vt_objects.specs.declared.input_fields.InputNumber.{InputNumber}
+use Rattle.vt_objects.specs.declared.input_fields.InputList.{InputList}
+use Rattle.vt_objects.specs.declared.output_fields.OutputString.{OutputString}
+use Rattle.vt_objects.specs.declared.output_fields.OutputNumber.{OutputNumber}
+use Rattle.vt_objects.specs.declared.shapes.Line.{Line}
+use Rattle.vt_objects.specs.declared.shapes.Rectangle.{Rectangle}
+use Rattle.vt_objects.specs.declared.shapes.Ellipse.{Ellipse}
+use Rattle.vt_objects.specs.declared.shapes.Polygon.{Polygon}
+use Rattle.vt_objects.specs.declared.graphs.Meter.{Meter}
+use Rattle.vt_objects.specs.declared.graphs.LinearBar.{LinearBar}
+use Rattle.vt_objects.specs.declared.graphs.ArchedBar.{ArchedBar}
+use Rattle.vt_objects.specs.declared.pictures.Picture.{Picture}
+use Rattle.vt_objects.specs.declared.variables.NumberVariable.{NumberVariable}
+use Rattle.vt_objects.specs.declared.variables.StringVariable.{StringVariable}
+use Rattle.vt_objects.specs.declared.attribute_objects.Font.{Font}
+use Rattle.vt_objects.specs.declared.attribute_objects.LineAttributes.{LineAttributes}
+use Rattle.vt_objects.specs.declared.attribute_objects.FillAttributes.{FillAttributes}
+use Rattle.vt_objects.specs.declared.attribute_objects.InputAttributes.{InputAttributes}
+use Rattle.vt_objects.specs.declared.variables.ObjectPointer.{ObjectPointer}
+use Rattle.vt_objects.specs.declared.macros.Macro.{Macro}
+use Rattle.vt_objects.specs.Layout.{number, ScaleBytes, DecimalPlaces, Named, Table, byte, word, long, count, rows_of, bytes_of, Objects, Macros, Others}
+use Rattle.vt_objects.specs.Scales.{scale_number}
+
+-- ---- the entries of lists
+
+abbrev pub child_sizes : List ℕ
+child_sizes = 2 ∷ 2 ∷ 2 ∷ []
+
+abbrev pub child_numbers : Child → List ℕ
+child_numbers c = c.id ∷ cast_unsigned w16 c.x ∷ cast_unsigned w16 c.y ∷ []
+
+abbrev pub macro_sizes : List ℕ
+macro_sizes = 1 ∷ 1 ∷ []
+
+abbrev pub macro_numbers : MacroEntry → List ℕ
+macro_numbers m = m.event ∷ m.macro_id ∷ []
+
+abbrev pub language_sizes : List ℕ
+language_sizes = 1 ∷ 1 ∷ []
+
+abbrev pub language_numbers : Language → List ℕ
+language_numbers l = l.first ∷ l.second ∷ []
+
+abbrev pub id_sizes : List ℕ
+id_sizes = 2 ∷ []
+
+abbrev pub id_numbers : ℕ → List ℕ
+id_numbers id = id ∷ []
+
+abbrev pub point_sizes : List ℕ
+point_sizes = 2 ∷ 2 ∷ []
+
+abbrev pub point_numbers : Point → List ℕ
+point_numbers p = p.x ∷ p.y ∷ []
+
+-- ---- the fields of a table
+
+abbrev pub children : {A : Type 0} → (A → List Child) → Named A
+children f = rows_of Objects child_sizes child_numbers f
+
+abbrev pub macros : {A : Type 0} → (A → List MacroEntry) → Named A
+macros f = rows_of Macros macro_sizes macro_numbers f
+
+abbrev pub languages : {A : Type 0} → (A → List Language) → Named A
+languages f = rows_of Others language_sizes language_numbers f
+
+abbrev pub keys : {A : Type 0} → (A → List ℕ) → Named A
+keys f = rows_of Objects id_sizes id_numbers f
+
+abbrev pub items : {A : Type 0} → (A → List ℕ) → Named A
+items f = rows_of Others id_sizes id_numbers f
+
+abbrev pub points : {A : Type 0} → (A → List Point) → Named A
+points f = rows_of Others point_sizes point_numbers f
+
+-- the bytes of a text, a picture or a macro
+abbrev pub content : {A : Type 0} → (A → List ℕ) → Named A
+content f = bytes_of Others f
+
+abbrev pub signed_long : {A : Type 0} → (A → ℤ) → Named A
+signed_long f = long (λ x. cast_unsigned w32 (f x))
+
+abbrev pub scale : {A : Type 0} → (A → Scale) → Named A
+scale f = record { field = ScaleBytes; value = λ x. number (scale_number (f x)) }
+
+abbrev pub decimals : {A : Type 0} → (A → ℕ) → Named A
+decimals f = record { field = DecimalPlaces; value = λ x. number (f x) }
+
+-- ---- one table a kind
+
+abbrev pub working_set : Table WorkingSet
+working_set =
+    byte (λ o. o.colour) ∷ byte (λ o. o.selectable) ∷ word (λ o. o.active_mask) ∷ count 1 Objects (λ o. o.children)
+    ∷ count 1 Macros (λ o. o.macros) ∷ count 1 Others (λ o. o.languages) ∷ children (λ o. o.children)
+    ∷ macros (λ o. o.macros) ∷ languages (λ o. o.languages) ∷ []
+
+abbrev pub data_mask : Table DataMask
+data_mask =
+    byte (λ o. o.colour) ∷ word (λ o. o.soft_key_mask) ∷ count 1 Objects (λ o. o.children)
+    ∷ count 1 Macros (λ o. o.macros) ∷ children (λ o. o.children) ∷ macros (λ o. o.macros) ∷ []
+
+abbrev pub alarm_mask : Table AlarmMask
+alarm_mask =
+    byte (λ o. o.colour) ∷ word (λ o. o.soft_key_mask) ∷ byte (λ o. o.priority) ∷ byte (λ o. o.acoustic)
+    ∷ count 1 Objects (λ o. o.children) ∷ count 1 Macros (λ o. o.macros) ∷ children (λ o. o.children)
+    ∷ macros (λ o. o.macros) ∷ []
+
+abbrev pub container : Table Container
+container =
+    word (λ o. o.width) ∷ word (λ o. o.height) ∷ byte (λ o. o.hidden) ∷ count 1 Objects (λ o. o.children)
+    ∷ count 1 Macros (λ o. o.macros) ∷ children (λ o. o.children) ∷ macros (λ o. o.macros) ∷ []
+
+abbrev pub soft_key_mask : Table SoftKeyMask
+soft_key_mask =
+    byte (λ o. o.colour) ∷ count 1 Objects (λ o. o.keys) ∷ count 1 Macros (λ o. o.macros) ∷ keys (λ o. o.keys)
+    ∷ macros (λ o. o.macros) ∷ []
+
+abbrev pub key : Table Key
+key =
+    byte (λ o. o.colour) ∷ byte (λ o. o.key_code) ∷ count 1 Objects (λ o. o.children)
+    ∷ count 1 Macros (λ o. o.macros) ∷ children (λ o. o.children) ∷ macros (λ o. o.macros) ∷ []
+
+abbrev pub button : Table Button
+button =
+    word (λ o. o.width) ∷ word (λ o. o.height) ∷ byte (λ o. o.colour) ∷ byte (λ o. o.border)
+    ∷ byte (λ o. o.key_code) ∷ byte (λ o. o.options) ∷ count 1 Objects (λ o. o.children)
+    ∷ count 1 Macros (λ o. o.macros) ∷ children (λ o. o.children) ∷ macros (λ o. o.macros) ∷ []
+
+abbrev pub input_boolean : Table InputBoolean
+input_boolean =
+    byte (λ o. o.colour) ∷ word (λ o. o.width) ∷ word (λ o. o.font) ∷ word (λ o. o.variable) ∷ byte (λ o. o.value)
+    ∷ byte (λ o. o.enabled) ∷ count 1 Macros (λ o. o.macros) ∷ macros (λ o. o.macros) ∷ []
+
+abbrev pub input_string : {B : Type 0} → Table (InputString B)
+input_string =
+    word (λ o. o.width) ∷ word (λ o. o.height) ∷ byte (λ o. o.colour) ∷ word (λ o. o.font)
+    ∷ word (λ o. o.input_attributes) ∷ byte (λ o. o.options) ∷ word (λ o. o.variable) ∷ byte (λ o. o.justification)
+    ∷ count 1 Others (λ o. o.text) ∷ content (λ o. o.text) ∷ byte (λ o. o.enabled) ∷ count 1 Macros (λ o. o.macros)
+    ∷ macros (λ o. o.macros) ∷ []
+
+abbrev pub input_number : Table InputNumber
+input_number =
+    word (λ o. o.width) ∷ word (λ o. o.height) ∷ byte (λ o. o.colour) ∷ word (λ o. o.font) ∷ byte (λ o. o.options)
+    ∷ word (λ o. o.variable) ∷ long (λ o. o.value) ∷ long (λ o. o.min) ∷ long (λ o. o.max)
+    ∷ signed_long (λ o. o.offset) ∷ scale (λ o. o.scale) ∷ decimals (λ o. o.decimals) ∷ byte (λ o. o.format)
+    ∷ byte (λ o. o.justification) ∷ byte (λ o. o.options_two) ∷ count 1 Macros (λ o. o.macros)
+    ∷ macros (λ o. o.macros) ∷ []
+
+abbrev pub input_list : Table InputList
+input_list =
+    word (λ o. o.width) ∷ word (λ o. o.height) ∷ word (λ o. o.variable) ∷ byte (λ o. o.value)
+    ∷ count 1 Others (λ o. o.items) ∷ byte (λ o. o.options) ∷ count 1 Macros (λ o. o.macros) ∷ items (λ o. o.items)
+    ∷ macros (λ o. o.macros) ∷ []
+
+abbrev pub output_string : {B : Type 0} → Table (OutputString B)
+output_string =
+    word (λ o. o.width) ∷ word (λ o. o.height) ∷ byte (λ o. o.colour) ∷ word (λ o. o.font) ∷ byte (λ o. o.options)
+    ∷ word (λ o. o.variable) ∷ byte (λ o. o.justification) ∷ count 2 Others (λ o. o.text) ∷ content (λ o. o.text)
+    ∷ count 1 Macros (λ o. o.macros) ∷ macros (λ o. o.macros) ∷ []
+
+abbrev pub output_number : Table OutputNumber
+output_number =
+    word (λ o. o.width) ∷ word (λ o. o.height) ∷ byte (λ o. o.colour) ∷ word (λ o. o.font) ∷ byte (λ o. o.options)
+    ∷ word (λ o. o.variable) ∷ long (λ o. o.value) ∷ signed_long (λ o. o.offset) ∷ scale (λ o. o.scale)
+    ∷ decimals (λ o. o.decimals) ∷ byte (λ o. o.format) ∷ byte (λ o. o.justification)
+    ∷ count 1 Macros (λ o. o.macros) ∷ macros (λ o. o.macros) ∷ []
+
+abbrev pub line : Table Line
+line =
+    word (λ o. o.line_attributes) ∷ word (λ o. o.width) ∷ word (λ o. o.height) ∷ byte (λ o. o.direction)
+    ∷ count 1 Macros (λ o. o.macros) ∷ macros (λ o. o.macros) ∷ []
+
+abbrev pub rectangle : Table Rectangle
+rectangle =
+    word (λ o. o.line_attributes) ∷ word (λ o. o.width) ∷ word (λ o. o.height) ∷ byte (λ o. o.suppression)
+    ∷ word (λ o. o.fill) ∷ count 1 Macros (λ o. o.macros) ∷ macros (λ o. o.macros) ∷ []
+
+abbrev pub ellipse : Table Ellipse
+ellipse =
+    word (λ o. o.line_attributes) ∷ word (λ o. o.width) ∷ word (λ o. o.height) ∷ byte (λ o. o.ellipse_type)
+    ∷ byte (λ o. o.start) ∷ byte (λ o. o.end) ∷ word (λ o. o.fill) ∷ count 1 Macros (λ o. o.macros)
+    ∷ macros (λ o. o.macros) ∷ []
+
+abbrev pub polygon : Table Polygon
+polygon =
+    word (λ o. o.width) ∷ word (λ o. o.height) ∷ word (λ o. o.line_attributes) ∷ word (λ o. o.fill)
+    ∷ byte (λ o. o.polygon_type) ∷ count 1 Others (λ o. o.points) ∷ count 1 Macros (λ o. o.macros)
+    ∷ points (λ o. o.points) ∷ macros (λ o. o.macros) ∷ []
+
+abbrev pub meter : Table Meter
+meter =
+    word (λ o. o.width) ∷ byte (λ o. o.needle_colour) ∷ byte (λ o. o.border_colour) ∷ byte (λ o. o.arc_colour)
+    ∷ byte (λ o. o.options) ∷ byte (λ o. o.ticks) ∷ byte (λ o. o.start) ∷ byte (λ o. o.end) ∷ word (λ o. o.min)
+    ∷ word (λ o. o.max) ∷ word (λ o. o.variable) ∷ word (λ o. o.value) ∷ count 1 Macros (λ o. o.macros)
+    ∷ macros (λ o. o.macros) ∷ []
+
+abbrev pub linear_bar : Table LinearBar
+linear_bar =
+    word (λ o. o.width) ∷ word (λ o. o.height) ∷ byte (λ o. o.colour) ∷ byte (λ o. o.target_colour)
+    ∷ byte (λ o. o.options) ∷ byte (λ o. o.ticks) ∷ word (λ o. o.min) ∷ word (λ o. o.max) ∷ word (λ o. o.variable)
+    ∷ word (λ o. o.value) ∷ word (λ o. o.target_variable) ∷ word (λ o. o.target) ∷ count 1 Macros (λ o. o.macros)
+    ∷ macros (λ o. o.macros) ∷ []
+
+abbrev pub arched_bar : Table ArchedBar
+arched_bar =
+    word (λ o. o.width) ∷ word (λ o. o.height) ∷ byte (λ o. o.colour) ∷ byte (λ o. o.target_colour)
+    ∷ byte (λ o. o.options) ∷ byte (λ o. o.start) ∷ byte (λ o. o.end) ∷ word (λ o. o.bar_width) ∷ word (λ o. o.min)
+    ∷ word (λ o. o.max) ∷ word (λ o. o.variable) ∷ word (λ o. o.value) ∷ word (λ o. o.target_variable)
+    ∷ word (λ o. o.target) ∷ count 1 Macros (λ o. o.macros) ∷ macros (λ o. o.macros) ∷ []
+
+abbrev pub picture : {B : Type 0} → Table (Picture B)
+picture =
+    word (λ o. o.width) ∷ word (λ o. o.actual_width) ∷ word (λ o. o.actual_height) ∷ byte (λ o. o.format)
+    ∷ byte (λ o. o.options) ∷ byte (λ o. o.transparency) ∷ count 4 Others (λ o. o.bytes)
+    ∷ count 1 Macros (λ o. o.macros) ∷ content (λ o. o.bytes) ∷ macros (λ o. o.macros) ∷ []
+
+abbrev pub number_variable : Table NumberVariable
+number_variable =
+    long (λ o. o.value) ∷ []
+
+abbrev pub string_variable : {B : Type 0} → Table (StringVariable B)
+string_variable =
+    count 2 Others (λ o. o.text) ∷ content (λ o. o.text) ∷ []
+
+abbrev pub font : Table Font
+font =
+    byte (λ o. o.colour) ∷ byte (λ o. o.size) ∷ byte (λ o. o.font_type) ∷ byte (λ o. o.style)
+    ∷ count 1 Macros (λ o. o.macros) ∷ macros (λ o. o.macros) ∷ []
+
+abbrev pub line_attributes : Table LineAttributes
+line_attributes =
+    byte (λ o. o.colour) ∷ byte (λ o. o.width) ∷ word (λ o. o.line_art) ∷ count 1 Macros (λ o. o.macros)
+    ∷ macros (λ o. o.macros) ∷ []
+
+abbrev pub fill_attributes : Table FillAttributes
+fill_attributes =
+    byte (λ o. o.fill_type) ∷ byte (λ o. o.colour) ∷ word (λ o. o.pattern) ∷ count 1 Macros (λ o. o.macros)
+    ∷ macros (λ o. o.macros) ∷ []
+
+abbrev pub input_attributes : {B : Type 0} → Table (InputAttributes B)
+input_attributes =
+    byte (λ o. o.validation_type) ∷ count 1 Others (λ o. o.text) ∷ content (λ o. o.text)
+    ∷ count 1 Macros (λ o. o.macros) ∷ macros (λ o. o.macros) ∷ []
+
+abbrev pub object_pointer : Table ObjectPointer
+object_pointer =
+    word (λ o. o.value) ∷ []
+
+abbrev pub macro_object : {B : Type 0} → Table (Macro B)
+macro_object =
+    count 2 Others (λ o. o.bytes) ∷ content (λ o. o.bytes) ∷ []

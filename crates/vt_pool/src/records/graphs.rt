@@ -1,0 +1,186 @@
+//! The records of output graphics.
+
+ghost use Rattle.std.specs.Prelude.{◌≡◌, IfOk, OnOk, Some};
+ghost use Rattle.vt_objects.specs.Layout.{fields, values, no_counts};
+ghost use Rattle.vt_objects.specs.Tables.{meter, linear_bar, arched_bar};
+ghost use Rattle.vt_objects.specs.FromValues.{meter_from, linear_bar_from, arched_bar_from};
+ghost use Rattle.vt_pool.specs.Reading.{Gives, values_at};
+ghost use Rattle.vt_pool.specs.Writing.{written};
+
+use crate::entry::{entries, put_entries};
+use crate::reader::Reader;
+use crate::stop::Stop;
+use crate::write::{put_id, put_u8, put_u16};
+use std::alloc::{AllocError, Global};
+use vt_objects::{ArchedBar, LinearBar, Meter};
+
+pub fn read_meter(alloc: Global, reader: &mut Reader<'_>) -> Result<Meter, Stop>
+    ensures read { Gives (λ x. (values meter x, reader.new)) result (values_at (fields meter) no_counts reader.old) }
+    ensures back { IfOk result (λ x. meter_from (values meter x) ≡ Some x) }
+{
+    let width = reader.u16()?;
+    let needle_colour = reader.u8()?;
+    let border_colour = reader.u8()?;
+    let arc_colour = reader.u8()?;
+    let options = reader.u8()?;
+    let ticks = reader.u8()?;
+    let start = reader.u8()?;
+    let end = reader.u8()?;
+    let min = reader.u16()?;
+    let max = reader.u16()?;
+    let variable = reader.id()?;
+    let value = reader.u16()?;
+    let macro_count = reader.u8()?;
+    let macros = entries(alloc, reader, macro_count)?;
+    Ok(Meter {
+        width,
+        needle_colour,
+        border_colour,
+        arc_colour,
+        options,
+        ticks,
+        start,
+        end,
+        min,
+        max,
+        variable,
+        value,
+        macros,
+    })
+}
+
+pub fn write_meter(out: &mut Vec<u8>, o: &Meter) -> Result<(), AllocError>
+    ensures { OnOk result (out.new.items ≡ written out.old.items (fields meter) (values meter o.now)) }
+{
+    put_u16(out, o.width)?;
+    put_u8(out, o.needle_colour)?;
+    put_u8(out, o.border_colour)?;
+    put_u8(out, o.arc_colour)?;
+    put_u8(out, o.options)?;
+    put_u8(out, o.ticks)?;
+    put_u8(out, o.start)?;
+    put_u8(out, o.end)?;
+    put_u16(out, o.min)?;
+    put_u16(out, o.max)?;
+    put_id(out, o.variable)?;
+    put_u16(out, o.value)?;
+    put_u8(out, o.macros.len())?;
+    put_entries(out, &o.macros)?;
+    Ok(())
+}
+
+pub fn read_linear_bar(alloc: Global, reader: &mut Reader<'_>) -> Result<LinearBar, Stop>
+    ensures read { Gives (λ x. (values linear_bar x, reader.new)) result (values_at (fields linear_bar) no_counts reader.old) }
+    ensures back { IfOk result (λ x. linear_bar_from (values linear_bar x) ≡ Some x) }
+{
+    let width = reader.u16()?;
+    let height = reader.u16()?;
+    let colour = reader.u8()?;
+    let target_colour = reader.u8()?;
+    let options = reader.u8()?;
+    let ticks = reader.u8()?;
+    let min = reader.u16()?;
+    let max = reader.u16()?;
+    let variable = reader.id()?;
+    let value = reader.u16()?;
+    let target_variable = reader.id()?;
+    let target = reader.u16()?;
+    let macro_count = reader.u8()?;
+    let macros = entries(alloc, reader, macro_count)?;
+    Ok(LinearBar {
+        width,
+        height,
+        colour,
+        target_colour,
+        options,
+        ticks,
+        min,
+        max,
+        variable,
+        value,
+        target_variable,
+        target,
+        macros,
+    })
+}
+
+pub fn write_linear_bar(out: &mut Vec<u8>, o: &LinearBar) -> Result<(), AllocError>
+    ensures { OnOk result (out.new.items ≡ written out.old.items (fields linear_bar) (values linear_bar o.now)) }
+{
+    put_u16(out, o.width)?;
+    put_u16(out, o.height)?;
+    put_u8(out, o.colour)?;
+    put_u8(out, o.target_colour)?;
+    put_u8(out, o.options)?;
+    put_u8(out, o.ticks)?;
+    put_u16(out, o.min)?;
+    put_u16(out, o.max)?;
+    put_id(out, o.variable)?;
+    put_u16(out, o.value)?;
+    put_id(out, o.target_variable)?;
+    put_u16(out, o.target)?;
+    put_u8(out, o.macros.len())?;
+    put_entries(out, &o.macros)?;
+    Ok(())
+}
+
+pub fn read_arched_bar(alloc: Global, reader: &mut Reader<'_>) -> Result<ArchedBar, Stop>
+    ensures read { Gives (λ x. (values arched_bar x, reader.new)) result (values_at (fields arched_bar) no_counts reader.old) }
+    ensures back { IfOk result (λ x. arched_bar_from (values arched_bar x) ≡ Some x) }
+{
+    let width = reader.u16()?;
+    let height = reader.u16()?;
+    let colour = reader.u8()?;
+    let target_colour = reader.u8()?;
+    let options = reader.u8()?;
+    let start = reader.u8()?;
+    let end = reader.u8()?;
+    let bar_width = reader.u16()?;
+    let min = reader.u16()?;
+    let max = reader.u16()?;
+    let variable = reader.id()?;
+    let value = reader.u16()?;
+    let target_variable = reader.id()?;
+    let target = reader.u16()?;
+    let macro_count = reader.u8()?;
+    let macros = entries(alloc, reader, macro_count)?;
+    Ok(ArchedBar {
+        width,
+        height,
+        colour,
+        target_colour,
+        options,
+        start,
+        end,
+        bar_width,
+        min,
+        max,
+        variable,
+        value,
+        target_variable,
+        target,
+        macros,
+    })
+}
+
+pub fn write_arched_bar(out: &mut Vec<u8>, o: &ArchedBar) -> Result<(), AllocError>
+    ensures { OnOk result (out.new.items ≡ written out.old.items (fields arched_bar) (values arched_bar o.now)) }
+{
+    put_u16(out, o.width)?;
+    put_u16(out, o.height)?;
+    put_u8(out, o.colour)?;
+    put_u8(out, o.target_colour)?;
+    put_u8(out, o.options)?;
+    put_u8(out, o.start)?;
+    put_u8(out, o.end)?;
+    put_u16(out, o.bar_width)?;
+    put_u16(out, o.min)?;
+    put_u16(out, o.max)?;
+    put_id(out, o.variable)?;
+    put_u16(out, o.value)?;
+    put_id(out, o.target_variable)?;
+    put_u16(out, o.target)?;
+    put_u8(out, o.macros.len())?;
+    put_entries(out, &o.macros)?;
+    Ok(())
+}

@@ -1,0 +1,222 @@
+//! The records of input fields.
+
+ghost use Rattle.std.specs.Prelude.{◌≡◌, ℕ, List, IfOk, OnOk, Some};
+ghost use Rattle.vt_objects.specs.Layout.{fields, values, no_counts};
+ghost use Rattle.vt_objects.specs.Tables.{input_boolean, input_string, input_number, input_list};
+ghost use Rattle.vt_objects.specs.FromValues.{input_boolean_from, input_string_from, input_number_from, input_list_from};
+ghost use Rattle.vt_objects.specs.Records.{seen_input_string};
+ghost use Rattle.vt_pool.specs.Heads.{Reads, fields_at};
+ghost use Rattle.vt_pool.specs.Reading.{Gives, values_at};
+ghost use Rattle.vt_pool.specs.Writing.{written};
+
+use crate::entry::{entries, put_entries};
+use crate::reader::Reader;
+use crate::stop::Stop;
+use crate::write::{put_i32, put_id, put_scale, put_u8, put_u16, put_u32};
+use std::alloc::{AllocError, Global};
+use std::convert::AsSlice;
+use vt_objects::{Decimals, InputBoolean, InputList, InputNumber, InputString, Scale};
+
+pub fn read_input_boolean(alloc: Global, reader: &mut Reader<'_>) -> Result<InputBoolean, Stop>
+    ensures read { Gives (λ x. (values input_boolean x, reader.new)) result (values_at (fields input_boolean) no_counts reader.old) }
+    ensures back { IfOk result (λ x. input_boolean_from (values input_boolean x) ≡ Some x) }
+{
+    let colour = reader.u8()?;
+    let width = reader.u16()?;
+    let font = reader.id()?;
+    let variable = reader.id()?;
+    let value = reader.u8()?;
+    let enabled = reader.u8()?;
+    let macro_count = reader.u8()?;
+    let macros = entries(alloc, reader, macro_count)?;
+    Ok(InputBoolean {
+        colour,
+        width,
+        font,
+        variable,
+        value,
+        enabled,
+        macros,
+    })
+}
+
+pub fn write_input_boolean(out: &mut Vec<u8>, o: &InputBoolean) -> Result<(), AllocError>
+    ensures { OnOk result (out.new.items ≡ written out.old.items (fields input_boolean) (values input_boolean o.now)) }
+{
+    put_u8(out, o.colour)?;
+    put_u16(out, o.width)?;
+    put_id(out, o.font)?;
+    put_id(out, o.variable)?;
+    put_u8(out, o.value)?;
+    put_u8(out, o.enabled)?;
+    put_u8(out, o.macros.len())?;
+    put_entries(out, &o.macros)?;
+    Ok(())
+}
+
+pub fn read_input_string<'a>(
+    alloc: Global,
+    reader: &mut Reader<'a>,
+) -> Result<InputString<&'a [u8]>, Stop>
+    ensures read { Gives (λ x. (values input_string x, reader.new)) result (values_at (fields (input_string {B = List ℕ})) no_counts reader.old) }
+    ensures back { IfOk result (λ x. input_string_from (values input_string x) ≡ Some (seen_input_string x)) }
+{
+    let width = reader.u16()?;
+    let height = reader.u16()?;
+    let colour = reader.u8()?;
+    let font = reader.id()?;
+    let input_attributes = reader.id()?;
+    let options = reader.u8()?;
+    let variable = reader.id()?;
+    let justification = reader.u8()?;
+    let length = reader.u8()?;
+    let text = reader.short_text(length)?;
+    let enabled = reader.u8()?;
+    let macro_count = reader.u8()?;
+    let macros = entries(alloc, reader, macro_count)?;
+    Ok(InputString {
+        width,
+        height,
+        colour,
+        font,
+        input_attributes,
+        options,
+        variable,
+        justification,
+        text,
+        enabled,
+        macros,
+    })
+}
+
+pub fn write_input_string<B: AsSlice<u8>>(
+    out: &mut Vec<u8>,
+    o: &InputString<B>,
+) -> Result<(), AllocError>
+    ensures { OnOk result (out.new.items ≡ written out.old.items (fields (input_string {B = List ℕ})) (values input_string o.now)) }
+{
+    put_u16(out, o.width)?;
+    put_u16(out, o.height)?;
+    put_u8(out, o.colour)?;
+    put_id(out, o.font)?;
+    put_id(out, o.input_attributes)?;
+    put_u8(out, o.options)?;
+    put_id(out, o.variable)?;
+    put_u8(out, o.justification)?;
+    let text = o.text.as_slice();
+    put_u8(out, text.len() as u8)?;
+    out.extend_from_slice(text)?;
+    put_u8(out, o.enabled)?;
+    put_u8(out, o.macros.len())?;
+    put_entries(out, &o.macros)?;
+    Ok(())
+}
+
+pub fn read_input_number(alloc: Global, reader: &mut Reader<'_>) -> Result<InputNumber, Stop>
+    ensures read { Reads (λ x. (values input_number x, reader.new)) result (fields_at (fields input_number) reader.old) }
+    ensures back { IfOk result (λ x. input_number_from (values input_number x) ≡ Some x) }
+{
+    let width = reader.u16()?;
+    let height = reader.u16()?;
+    let colour = reader.u8()?;
+    let font = reader.id()?;
+    let options = reader.u8()?;
+    let variable = reader.id()?;
+    let value = reader.u32()?;
+    let min = reader.u32()?;
+    let max = reader.u32()?;
+    let offset = reader.i32()?;
+    let scale = reader.four_bytes()?;
+    let decimals = reader.u8()?;
+    let format = reader.u8()?;
+    let justification = reader.u8()?;
+    let options_two = reader.u8()?;
+    let macro_count = reader.u8()?;
+    let macros = entries(alloc, reader, macro_count)?;
+    let Some(scale) = Scale::from_bytes(scale) else {
+        return Err(Stop::Scale { at: 29 });
+    };
+    let Some(decimals) = Decimals::new(decimals) else {
+        return Err(Stop::Decimals { at: 33 });
+    };
+    Ok(InputNumber {
+        width,
+        height,
+        colour,
+        font,
+        options,
+        variable,
+        value,
+        min,
+        max,
+        offset,
+        scale,
+        decimals,
+        format,
+        justification,
+        options_two,
+        macros,
+    })
+}
+
+pub fn write_input_number(out: &mut Vec<u8>, o: &InputNumber) -> Result<(), AllocError>
+    ensures { OnOk result (out.new.items ≡ written out.old.items (fields input_number) (values input_number o.now)) }
+{
+    put_u16(out, o.width)?;
+    put_u16(out, o.height)?;
+    put_u8(out, o.colour)?;
+    put_id(out, o.font)?;
+    put_u8(out, o.options)?;
+    put_id(out, o.variable)?;
+    put_u32(out, o.value)?;
+    put_u32(out, o.min)?;
+    put_u32(out, o.max)?;
+    put_i32(out, o.offset)?;
+    put_scale(out, o.scale)?;
+    put_u8(out, o.decimals.count())?;
+    put_u8(out, o.format)?;
+    put_u8(out, o.justification)?;
+    put_u8(out, o.options_two)?;
+    put_u8(out, o.macros.len())?;
+    put_entries(out, &o.macros)?;
+    Ok(())
+}
+
+pub fn read_input_list(alloc: Global, reader: &mut Reader<'_>) -> Result<InputList, Stop>
+    ensures read { Gives (λ x. (values input_list x, reader.new)) result (values_at (fields input_list) no_counts reader.old) }
+    ensures back { IfOk result (λ x. input_list_from (values input_list x) ≡ Some x) }
+{
+    let width = reader.u16()?;
+    let height = reader.u16()?;
+    let variable = reader.id()?;
+    let value = reader.u8()?;
+    let item_count = reader.u8()?;
+    let options = reader.u8()?;
+    let macro_count = reader.u8()?;
+    let items = entries(alloc, reader, item_count)?;
+    let macros = entries(alloc, reader, macro_count)?;
+    Ok(InputList {
+        width,
+        height,
+        variable,
+        value,
+        options,
+        items,
+        macros,
+    })
+}
+
+pub fn write_input_list(out: &mut Vec<u8>, o: &InputList) -> Result<(), AllocError>
+    ensures { OnOk result (out.new.items ≡ written out.old.items (fields input_list) (values input_list o.now)) }
+{
+    put_u16(out, o.width)?;
+    put_u16(out, o.height)?;
+    put_id(out, o.variable)?;
+    put_u8(out, o.value)?;
+    put_u8(out, o.items.len())?;
+    put_u8(out, o.options)?;
+    put_u8(out, o.macros.len())?;
+    put_entries(out, &o.items)?;
+    put_entries(out, &o.macros)?;
+    Ok(())
+}

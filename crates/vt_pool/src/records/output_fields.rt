@@ -1,0 +1,131 @@
+//! The records of output fields.
+
+ghost use Rattle.std.specs.Prelude.{◌≡◌, ℕ, List, IfOk, OnOk, Some};
+ghost use Rattle.vt_objects.specs.Layout.{fields, values, no_counts};
+ghost use Rattle.vt_objects.specs.Tables.{output_string, output_number};
+ghost use Rattle.vt_objects.specs.FromValues.{output_string_from, output_number_from};
+ghost use Rattle.vt_objects.specs.Records.{seen_output_string};
+ghost use Rattle.vt_pool.specs.Heads.{Reads, fields_at};
+ghost use Rattle.vt_pool.specs.Reading.{Gives, values_at};
+ghost use Rattle.vt_pool.specs.Writing.{written};
+
+use crate::entry::{entries, put_entries};
+use crate::reader::Reader;
+use crate::stop::Stop;
+use crate::write::{put_i32, put_id, put_scale, put_u8, put_u16, put_u32};
+use std::alloc::{AllocError, Global};
+use std::convert::AsSlice;
+use vt_objects::{Decimals, OutputNumber, OutputString, Scale};
+
+pub fn read_output_string<'a>(
+    alloc: Global,
+    reader: &mut Reader<'a>,
+) -> Result<OutputString<&'a [u8]>, Stop>
+    ensures read { Gives (λ x. (values output_string x, reader.new)) result (values_at (fields (output_string {B = List ℕ})) no_counts reader.old) }
+    ensures back { IfOk result (λ x. output_string_from (values output_string x) ≡ Some (seen_output_string x)) }
+{
+    let width = reader.u16()?;
+    let height = reader.u16()?;
+    let colour = reader.u8()?;
+    let font = reader.id()?;
+    let options = reader.u8()?;
+    let variable = reader.id()?;
+    let justification = reader.u8()?;
+    let length = reader.u16()?;
+    let text = reader.long_text(length)?;
+    let macro_count = reader.u8()?;
+    let macros = entries(alloc, reader, macro_count)?;
+    Ok(OutputString {
+        width,
+        height,
+        colour,
+        font,
+        options,
+        variable,
+        justification,
+        text,
+        macros,
+    })
+}
+
+pub fn write_output_string<B: AsSlice<u8>>(
+    out: &mut Vec<u8>,
+    o: &OutputString<B>,
+) -> Result<(), AllocError>
+    ensures { OnOk result (out.new.items ≡ written out.old.items (fields (output_string {B = List ℕ})) (values output_string o.now)) }
+{
+    put_u16(out, o.width)?;
+    put_u16(out, o.height)?;
+    put_u8(out, o.colour)?;
+    put_id(out, o.font)?;
+    put_u8(out, o.options)?;
+    put_id(out, o.variable)?;
+    put_u8(out, o.justification)?;
+    let text = o.text.as_slice();
+    put_u16(out, text.len() as u16)?;
+    out.extend_from_slice(text)?;
+    put_u8(out, o.macros.len())?;
+    put_entries(out, &o.macros)?;
+    Ok(())
+}
+
+pub fn read_output_number(alloc: Global, reader: &mut Reader<'_>) -> Result<OutputNumber, Stop>
+    ensures read { Reads (λ x. (values output_number x, reader.new)) result (fields_at (fields output_number) reader.old) }
+    ensures back { IfOk result (λ x. output_number_from (values output_number x) ≡ Some x) }
+{
+    let width = reader.u16()?;
+    let height = reader.u16()?;
+    let colour = reader.u8()?;
+    let font = reader.id()?;
+    let options = reader.u8()?;
+    let variable = reader.id()?;
+    let value = reader.u32()?;
+    let offset = reader.i32()?;
+    let scale = reader.four_bytes()?;
+    let decimals = reader.u8()?;
+    let format = reader.u8()?;
+    let justification = reader.u8()?;
+    let macro_count = reader.u8()?;
+    let macros = entries(alloc, reader, macro_count)?;
+    let Some(scale) = Scale::from_bytes(scale) else {
+        return Err(Stop::Scale { at: 21 });
+    };
+    let Some(decimals) = Decimals::new(decimals) else {
+        return Err(Stop::Decimals { at: 25 });
+    };
+    Ok(OutputNumber {
+        width,
+        height,
+        colour,
+        font,
+        options,
+        variable,
+        value,
+        offset,
+        scale,
+        decimals,
+        format,
+        justification,
+        macros,
+    })
+}
+
+pub fn write_output_number(out: &mut Vec<u8>, o: &OutputNumber) -> Result<(), AllocError>
+    ensures { OnOk result (out.new.items ≡ written out.old.items (fields output_number) (values output_number o.now)) }
+{
+    put_u16(out, o.width)?;
+    put_u16(out, o.height)?;
+    put_u8(out, o.colour)?;
+    put_id(out, o.font)?;
+    put_u8(out, o.options)?;
+    put_id(out, o.variable)?;
+    put_u32(out, o.value)?;
+    put_i32(out, o.offset)?;
+    put_scale(out, o.scale)?;
+    put_u8(out, o.decimals.count())?;
+    put_u8(out, o.format)?;
+    put_u8(out, o.justification)?;
+    put_u8(out, o.macros.len())?;
+    put_entries(out, &o.macros)?;
+    Ok(())
+}

@@ -1,0 +1,60 @@
+//! The records of pictures.
+
+ghost use Rattle.std.specs.Prelude.{◌≡◌, ℕ, List, IfOk, OnOk, Some};
+ghost use Rattle.vt_objects.specs.Layout.{fields, values, no_counts};
+ghost use Rattle.vt_objects.specs.Tables.{picture};
+ghost use Rattle.vt_objects.specs.FromValues.{picture_from};
+ghost use Rattle.vt_objects.specs.Records.{seen_picture};
+ghost use Rattle.vt_pool.specs.Reading.{Gives, values_at};
+ghost use Rattle.vt_pool.specs.Writing.{written};
+
+use crate::entry::{entries, put_entries};
+use crate::reader::Reader;
+use crate::stop::Stop;
+use crate::write::{put_u8, put_u16, put_u32};
+use std::alloc::{AllocError, Global};
+use std::convert::AsSlice;
+use vt_objects::Picture;
+
+pub fn read_picture<'a>(alloc: Global, reader: &mut Reader<'a>) -> Result<Picture<&'a [u8]>, Stop>
+    ensures read { Gives (λ x. (values picture x, reader.new)) result (values_at (fields (picture {B = List ℕ})) no_counts reader.old) }
+    ensures back { IfOk result (λ x. picture_from (values picture x) ≡ Some (seen_picture x)) }
+{
+    let width = reader.u16()?;
+    let actual_width = reader.u16()?;
+    let actual_height = reader.u16()?;
+    let format = reader.u8()?;
+    let options = reader.u8()?;
+    let transparency = reader.u8()?;
+    let byte_count = reader.u32()?;
+    let macro_count = reader.u8()?;
+    let bytes = reader.picture_bytes(byte_count)?;
+    let macros = entries(alloc, reader, macro_count)?;
+    Ok(Picture {
+        width,
+        actual_width,
+        actual_height,
+        format,
+        options,
+        transparency,
+        bytes,
+        macros,
+    })
+}
+
+pub fn write_picture<B: AsSlice<u8>>(out: &mut Vec<u8>, o: &Picture<B>) -> Result<(), AllocError>
+    ensures { OnOk result (out.new.items ≡ written out.old.items (fields (picture {B = List ℕ})) (values picture o.now)) }
+{
+    put_u16(out, o.width)?;
+    put_u16(out, o.actual_width)?;
+    put_u16(out, o.actual_height)?;
+    put_u8(out, o.format)?;
+    put_u8(out, o.options)?;
+    put_u8(out, o.transparency)?;
+    let bytes = o.bytes.as_slice();
+    put_u32(out, bytes.len() as u32)?;
+    put_u8(out, o.macros.len())?;
+    out.extend_from_slice(bytes)?;
+    put_entries(out, &o.macros)?;
+    Ok(())
+}

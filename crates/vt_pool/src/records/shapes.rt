@@ -1,0 +1,159 @@
+//! The records of output shapes.
+
+ghost use Rattle.std.specs.Prelude.{◌≡◌, IfOk, OnOk, Some};
+ghost use Rattle.vt_objects.specs.Layout.{fields, values, no_counts};
+ghost use Rattle.vt_objects.specs.Tables.{line, rectangle, ellipse, polygon};
+ghost use Rattle.vt_objects.specs.FromValues.{line_from, rectangle_from, ellipse_from, polygon_from};
+ghost use Rattle.vt_pool.specs.Reading.{Gives, values_at};
+ghost use Rattle.vt_pool.specs.Writing.{written};
+
+use crate::entry::{entries, put_entries};
+use crate::reader::Reader;
+use crate::stop::Stop;
+use crate::write::{put_id, put_u8, put_u16};
+use std::alloc::{AllocError, Global};
+use vt_objects::{Ellipse, Line, Polygon, Rectangle};
+
+pub fn read_line(alloc: Global, reader: &mut Reader<'_>) -> Result<Line, Stop>
+    ensures read { Gives (λ x. (values line x, reader.new)) result (values_at (fields line) no_counts reader.old) }
+    ensures back { IfOk result (λ x. line_from (values line x) ≡ Some x) }
+{
+    let line_attributes = reader.id()?;
+    let width = reader.u16()?;
+    let height = reader.u16()?;
+    let direction = reader.u8()?;
+    let macro_count = reader.u8()?;
+    let macros = entries(alloc, reader, macro_count)?;
+    Ok(Line {
+        line_attributes,
+        width,
+        height,
+        direction,
+        macros,
+    })
+}
+
+pub fn write_line(out: &mut Vec<u8>, o: &Line) -> Result<(), AllocError>
+    ensures { OnOk result (out.new.items ≡ written out.old.items (fields line) (values line o.now)) }
+{
+    put_id(out, o.line_attributes)?;
+    put_u16(out, o.width)?;
+    put_u16(out, o.height)?;
+    put_u8(out, o.direction)?;
+    put_u8(out, o.macros.len())?;
+    put_entries(out, &o.macros)?;
+    Ok(())
+}
+
+pub fn read_rectangle(alloc: Global, reader: &mut Reader<'_>) -> Result<Rectangle, Stop>
+    ensures read { Gives (λ x. (values rectangle x, reader.new)) result (values_at (fields rectangle) no_counts reader.old) }
+    ensures back { IfOk result (λ x. rectangle_from (values rectangle x) ≡ Some x) }
+{
+    let line_attributes = reader.id()?;
+    let width = reader.u16()?;
+    let height = reader.u16()?;
+    let suppression = reader.u8()?;
+    let fill = reader.id()?;
+    let macro_count = reader.u8()?;
+    let macros = entries(alloc, reader, macro_count)?;
+    Ok(Rectangle {
+        line_attributes,
+        width,
+        height,
+        suppression,
+        fill,
+        macros,
+    })
+}
+
+pub fn write_rectangle(out: &mut Vec<u8>, o: &Rectangle) -> Result<(), AllocError>
+    ensures { OnOk result (out.new.items ≡ written out.old.items (fields rectangle) (values rectangle o.now)) }
+{
+    put_id(out, o.line_attributes)?;
+    put_u16(out, o.width)?;
+    put_u16(out, o.height)?;
+    put_u8(out, o.suppression)?;
+    put_id(out, o.fill)?;
+    put_u8(out, o.macros.len())?;
+    put_entries(out, &o.macros)?;
+    Ok(())
+}
+
+pub fn read_ellipse(alloc: Global, reader: &mut Reader<'_>) -> Result<Ellipse, Stop>
+    ensures read { Gives (λ x. (values ellipse x, reader.new)) result (values_at (fields ellipse) no_counts reader.old) }
+    ensures back { IfOk result (λ x. ellipse_from (values ellipse x) ≡ Some x) }
+{
+    let line_attributes = reader.id()?;
+    let width = reader.u16()?;
+    let height = reader.u16()?;
+    let ellipse_type = reader.u8()?;
+    let start = reader.u8()?;
+    let end = reader.u8()?;
+    let fill = reader.id()?;
+    let macro_count = reader.u8()?;
+    let macros = entries(alloc, reader, macro_count)?;
+    Ok(Ellipse {
+        line_attributes,
+        width,
+        height,
+        ellipse_type,
+        start,
+        end,
+        fill,
+        macros,
+    })
+}
+
+pub fn write_ellipse(out: &mut Vec<u8>, o: &Ellipse) -> Result<(), AllocError>
+    ensures { OnOk result (out.new.items ≡ written out.old.items (fields ellipse) (values ellipse o.now)) }
+{
+    put_id(out, o.line_attributes)?;
+    put_u16(out, o.width)?;
+    put_u16(out, o.height)?;
+    put_u8(out, o.ellipse_type)?;
+    put_u8(out, o.start)?;
+    put_u8(out, o.end)?;
+    put_id(out, o.fill)?;
+    put_u8(out, o.macros.len())?;
+    put_entries(out, &o.macros)?;
+    Ok(())
+}
+
+pub fn read_polygon(alloc: Global, reader: &mut Reader<'_>) -> Result<Polygon, Stop>
+    ensures read { Gives (λ x. (values polygon x, reader.new)) result (values_at (fields polygon) no_counts reader.old) }
+    ensures back { IfOk result (λ x. polygon_from (values polygon x) ≡ Some x) }
+{
+    let width = reader.u16()?;
+    let height = reader.u16()?;
+    let line_attributes = reader.id()?;
+    let fill = reader.id()?;
+    let polygon_type = reader.u8()?;
+    let point_count = reader.u8()?;
+    let macro_count = reader.u8()?;
+    let points = entries(alloc, reader, point_count)?;
+    let macros = entries(alloc, reader, macro_count)?;
+    Ok(Polygon {
+        width,
+        height,
+        line_attributes,
+        fill,
+        polygon_type,
+        points,
+        macros,
+    })
+}
+
+pub fn write_polygon(out: &mut Vec<u8>, o: &Polygon) -> Result<(), AllocError>
+    ensures { OnOk result (out.new.items ≡ written out.old.items (fields polygon) (values polygon o.now)) }
+{
+    put_u16(out, o.width)?;
+    put_u16(out, o.height)?;
+    put_id(out, o.line_attributes)?;
+    put_id(out, o.fill)?;
+    put_u8(out, o.polygon_type)?;
+    put_u8(out, o.points.len())?;
+    put_u8(out, o.macros.len())?;
+    put_entries(out, &o.points)?;
+    put_entries(out, &o.macros)?;
+    Ok(())
+}

@@ -1,0 +1,85 @@
+-- Elements of lists: where they stand, and the first that passes a test.
+use Rattle.std.proofs.Common.{◌≡◌, ℕ, Bool, true, false, cond, ◌⊎◌, inl, inr, Some, None, List, [], ◌∷◌, ◌++◌, refl, sym, ap, subst, arith}
+use Rattle.std.specs.List.{Contains, find}
+use Rattle.vt_rank.specs.Searches.{IsDistinct}
+use Rattle.std.proofs.lemmas.List.Elements.{Contains-append_left, Contains-append_right, Contains-append_cases, Contains-push, Contains-push_cases}
+
+pub Contains-nil : {X : Type 0} (x : X) → Contains [] x → ⊥
+Contains-nil x h = omega (arith, h.1)
+
+pub Contains-head : {X : Type 0} (x : X) (xs : List X) → Contains (x ∷ xs) x
+Contains-head x xs = Contains-append_left (x ∷ []) xs x (Contains-push [] x)
+
+pub Contains-tail : {X : Type 0} (y x : X) (xs : List X) → Contains xs x → Contains (y ∷ xs) x
+Contains-tail y x xs h = Contains-append_right (y ∷ []) xs x h
+
+pub Contains-cons_cases : {X : Type 0} (y x : X) (xs : List X) → Contains (y ∷ xs) x → (y ≡ x) ⊎ Contains xs x
+Contains-cons_cases y x xs h =
+    elim (Contains-append_cases (y ∷ []) xs x h) as (λ _. (y ≡ x) ⊎ Contains xs x) [
+      | inl only ↦ elim (Contains-push_cases [] y x only) as (λ _. (y ≡ x) ⊎ Contains xs x) [ inl none ↦ absurd (Contains-nil x none) | inr e ↦ inl e ]
+      | inr later ↦ inr later
+    ]
+
+-- the list around an element
+pub around : (x : ℕ) (xs : List ℕ) → Contains xs x → (before : List ℕ) × (after : List ℕ) × (xs ≡ before ++ x ∷ after)
+around x [] h = absurd (Contains-nil x h)
+around x (y ∷ ys) h =
+    elim (Contains-cons_cases y x ys h) as (λ _. (before : List ℕ) × (after : List ℕ) × (y ∷ ys ≡ before ++ x ∷ after)) [
+      | inl e ↦ ([], ys, ap (λ (z : ℕ). z ∷ ys) e)
+      | inr later ↦ let r = around x ys later in (y ∷ r.0, r.1, ap (λ (zs : List ℕ). y ∷ zs) r.2)
+    ]
+
+-- ---- the first element that passes a test
+
+pub find-append_some : {X : Type 0} (p : X → Bool) (xs ys : List X) (x : X) → find p xs ≡ Some x → find p (xs ++ ys) ≡ Some x
+find-append_some p [] ys x e = cc
+find-append_some p (y ∷ xs) ys x e =
+    elim (p y) as (λ b. cond b (Some y) (find p xs) ≡ Some x → cond b (Some y) (find p (xs ++ ys)) ≡ Some x) [
+      | true ↦ λ here. here
+      | false ↦ λ later. find-append_some p xs ys x later
+    ] e
+
+pub find-append_none : {X : Type 0} (p : X → Bool) (xs ys : List X) → find p xs ≡ None → find p (xs ++ ys) ≡ find p ys
+find-append_none p [] ys e = refl
+find-append_none {X} p (y ∷ xs) ys e =
+    elim (p y) as (λ b. cond b (Some y) (find p xs) ≡ None → cond b (Some y) (find p (xs ++ ys)) ≡ find p ys) [
+      | true ↦ λ here. cc
+      | false ↦ λ later. find-append_none p xs ys later
+    ] e
+
+pub find_some : {X : Type 0} (p : X → Bool) (xs : List X) (x : X) → find p xs ≡ Some x → Contains xs x × (p x ≡ true)
+find_some p [] x e = cc
+find_some {X} p (y ∷ xs) x e =
+    elim (p y) as (λ b. p y ≡ b → cond b (Some y) (find p xs) ≡ Some x → Contains (y ∷ xs) x × (p x ≡ true)) [
+      | true ↦ λ passes here. let same : y ≡ x = cc in subst (λ (z : X). Contains (y ∷ xs) z × (p z ≡ true)) same (Contains-head y xs, passes)
+      | false ↦ λ _ later. let r = find_some p xs x later in (Contains-tail y x xs r.0, r.1)
+    ] refl e
+
+pub find_none : {X : Type 0} (p : X → Bool) (xs : List X) → find p xs ≡ None → (x : X) → Contains xs x → p x ≡ false
+find_none p [] e x h = absurd (Contains-nil x h)
+find_none {X} p (y ∷ xs) e x h =
+    elim (p y) as (λ b. p y ≡ b → cond b (Some y) (find p xs) ≡ None → p x ≡ false) [
+      | true ↦ λ _ here. cc
+      | false ↦ λ fails later.
+          elim (Contains-cons_cases y x xs h) as (λ _. p x ≡ false) [
+            | inl same ↦ subst (λ (z : X). p z ≡ false) same fails
+            | inr inside ↦ find_none p xs later x inside
+          ]
+    ] refl e
+
+-- ---- no element twice
+
+pub IsDistinct-push : (xs : List ℕ) (y : ℕ) → IsDistinct xs → (Contains xs y → ⊥) → IsDistinct (xs ++ y ∷ [])
+IsDistinct-push [] y d apart = (Contains-nil y, tt)
+IsDistinct-push (x ∷ xs) y d apart = (
+  λ h. elim (Contains-push_cases xs y x h) as (λ _. ⊥) [ inl inside ↦ d.0 inside | inr same ↦ apart (subst (λ (z : ℕ). Contains (x ∷ xs) z) (sym same) (Contains-head x xs)) ],
+  IsDistinct-push xs y d.1 (λ h. apart (Contains-tail x y xs h)),
+)
+
+pub IsDistinct-pop : (xs : List ℕ) (y : ℕ) → IsDistinct (xs ++ y ∷ []) → IsDistinct xs × (Contains xs y → ⊥)
+IsDistinct-pop [] y d = (tt, Contains-nil y)
+IsDistinct-pop (x ∷ xs) y d =
+    let rest = IsDistinct-pop xs y d.1 in (
+      (λ h. d.0 (Contains-append_left xs (y ∷ []) x h), rest.0),
+      λ h. elim (Contains-cons_cases x y xs h) as (λ _. ⊥) [ inl same ↦ d.0 (subst (λ (z : ℕ). Contains (xs ++ y ∷ []) z) (sym same) (Contains-push xs y)) | inr inside ↦ rest.1 inside ],
+    )

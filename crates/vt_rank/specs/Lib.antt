@@ -1,0 +1,5 @@
+pub mod Graphs
+pub mod Paths
+pub mod Searches
+pub mod Costs
+pub mod Tables

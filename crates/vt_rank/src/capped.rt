@@ -1,0 +1,71 @@
+//! Costs under a cap.
+
+ghost use Rattle.std.specs.Prelude.{◌≡◌, ℕ, ◌<◌, ◌≤◌, IfOk, IfErr, IfSome, IfNone, slice_index};
+ghost use Rattle.vt_rank.specs.Paths.{AreRanks};
+ghost use Rattle.vt_rank.specs.Costs.{group_total, AreCosts, IsWithin, IsFirstOver, CostsAreTotals};
+
+use crate::budget::{Costs, OverBudget};
+use crate::graph::Graph;
+use crate::ranking::Ranks;
+use crate::table::{cost_of_nodes, fill, no_costs};
+
+/// What each node costs, or the name that is over the cap: the least node, or where no node is over it the
+/// first group. A step costs one, a group what its nodes cost together, `Item::Most` what the costliest of its
+/// groups costs, and 0 where there is none. `ranks` are those of this graph.
+///
+/// It takes no memory, and about five kilobytes of stack with its answer. It reads each item once.
+pub fn costs(graph: &Graph, ranks: &Ranks, cap: u32) -> Result<Costs, OverBudget>
+    requires { AreRanks graph.now ranks.now }
+    ensures costs { IfOk result (AreCosts graph.now) }
+    ensures within { IfOk result (λ _. IsWithin graph.now cap) }
+    ensures over { IfErr result (IsFirstOver graph.now cap) }
+
+    // Where there are ranks, each node costs what its items cost.
+    ensures totals { CostsAreTotals graph.now }
+{
+    let limit = u64::from(cap) + 1;
+    let mut table = no_costs();
+    for rank in 0..256usize {
+        fill(graph, ranks, rank as u8, limit, &mut table);
+    }
+    let costs = match nodes_within(&table, cap) {
+        Ok(costs) => costs,
+        Err(node) => return Err(OverBudget::Node(node)),
+    };
+    match group_over(graph, &table, cap) {
+        Some(group) => Err(OverBudget::Group(group)),
+        None => Ok(Costs { costs }),
+    }
+}
+
+// The costs of all nodes, or the least node over the cap.
+fn nodes_within(table: &[u64; 256], cap: u32) -> Result<[u32; 256], u8>
+    ensures costs { IfOk result (λ costs. (n : ℕ) → n < 256 → slice_index costs n ≡ slice_index table.now n) }
+    ensures within { IfOk result (λ _. (n : ℕ) → n < 256 → slice_index table.now n ≤ cap) }
+    ensures over { IfErr result (λ n. cap < slice_index table.now n) }
+    ensures least { IfErr result (λ n. (m : ℕ) → m < n → slice_index table.now m ≤ cap) }
+{
+    let mut costs = [0; 256];
+    for node in 0..256usize {
+        if table[node] > u64::from(cap) {
+            return Err(node as u8);
+        }
+        costs[node] = table[node] as u32;
+    }
+    Ok(costs)
+}
+
+// The first group whose nodes cost more than the cap together.
+fn group_over(graph: &Graph, table: &[u64; 256], cap: u32) -> Option<usize>
+    ensures over { IfSome result (λ k. cap < group_total (slice_index table.now) graph.now k) }
+    ensures first { IfSome result (λ k. (j : ℕ) → j < k → group_total (slice_index table.now) graph.now j ≤ cap) }
+    ensures none { IfNone result ((k : ℕ) → group_total (slice_index table.now) graph.now k ≤ cap) }
+{
+    let limit = u64::from(cap) + 1;
+    for group in 0..graph.groups.len() {
+        if cost_of_nodes(table, graph.group(group), limit) > u64::from(cap) {
+            return Some(group);
+        }
+    }
+    None
+}

@@ -1,0 +1,23 @@
+//! Ranks and costs on a graph of triggers.
+//!
+//! docs/PROFILE.md has the rules: "Triggers and circles", "Costs and budgets". A node stands for a macro, an
+//! item for what one of its commands adds to its cost, a group for the macros listed at an event of an object.
+#![tactic(auto)]
+
+mod budget;
+mod capped;
+mod circle;
+mod graph;
+mod marks;
+mod ranking;
+mod search;
+mod table;
+
+pub use budget::{Costs, OverBudget};
+pub use capped::costs;
+pub use circle::Circle;
+pub use graph::{Graph, Item};
+pub use ranking::{Ranks, rank, ranks_leave_no_circle};
+
+#[cfg(test)]
+mod tests;

@@ -1,0 +1,64 @@
+//! Ranks.
+
+ghost use Rattle.std.specs.Prelude.{◌≡◌, ℕ, List, IfOk, OnOk, IfErr, slice_index};
+ghost use Rattle.vt_rank.specs.Graphs.{Triggers};
+ghost use Rattle.vt_rank.specs.Paths.{AreRanks, RanksFall, HasNoCircle, IsCircle, IsLeastOnCircles};
+ghost use Rattle.vt_rank.specs.declared.graph.Graph.{Graph as Network};
+
+use crate::circle::{Circle, least_circle};
+use crate::graph::Graph;
+use crate::search::Search;
+use std::marker::Model;
+
+/// A rank for each node of a graph, below that of every node that triggers it.
+#[derive(Debug, Drop)]
+pub struct Ranks {
+    ranks: [u8; 256],
+}
+
+impl Model for Ranks {
+    ghost use Rattle.std.specs.Prelude.{ℕ, List};
+
+    ghost Value = { List ℕ };
+
+    ghost view = { λ r. r.ranks };
+}
+
+impl Ranks {
+    /// The rank of a node.
+    pub fn of(&self, node: u8) -> u8
+        ensures { result ≡ slice_index self.now node }
+    {
+        self.ranks[usize::from(node)]
+    }
+}
+
+/// Ranks the nodes of a graph so that ranks fall along every trigger, or answers a circle of triggers. The
+/// circle begins with the least node that lies on any; which circle through that node is not promised.
+///
+/// It takes no memory, and about two and a half kilobytes of stack. Without a circle it reads a node's items
+/// once, and again for each node that it first reaches from there; with one, up to 256 times as often.
+pub fn rank(graph: &Graph) -> Result<Ranks, Circle>
+    // Ranks fall along every trigger, and where there are ranks there is no circle.
+    ensures falls { IfOk result (AreRanks graph.now) }
+    ensures none { OnOk result (HasNoCircle graph.now) }
+
+    // The path is a circle, and begins with the least node that lies on any.
+    ensures circle { IfErr result (λ c. IsCircle graph.now c.path.items) }
+    ensures least { IfErr result (λ c. IsLeastOnCircles graph.now (slice_index c.path.items 0)) }
+{
+    let mut search = Search::new();
+    for node in 0..256usize {
+        if let Err(known) = search.visit(graph, node as u8) {
+            return Err(least_circle(graph, known));
+        }
+    }
+    Ok(Ranks {
+        ranks: search.ranks,
+    })
+}
+
+/// A law: ranks that fall along every trigger leave no circle.
+pub fn ranks_leave_no_circle()
+    ensures { (g : Network) (ranks : List ℕ) → RanksFall g ranks → HasNoCircle g }
+{}

@@ -1,0 +1,165 @@
+use super::{graph_of, line_of};
+use crate::*;
+use std::alloc::{AllocError, Global};
+use std::test::Fail;
+
+/// Nodes 1 to `last`, each with two commands that may run the next one; the last has none. Group k - 1 is node k.
+fn doubling(alloc: Global, last: u8) -> Result<Graph, AllocError> {
+    let mut nodes = Vec::new(alloc);
+    let mut groups = Vec::new(alloc);
+    nodes.push(Vec::new(alloc))?;
+    for node in 0..last {
+        let mut items = Vec::new(alloc);
+        if node < last - 1 {
+            for _ in 0..2 {
+                items.push(Item::Step)?;
+                items.push(Item::Group(usize::from(node) + 1))?;
+            }
+        }
+        nodes.push(items)?;
+        let mut group = Vec::new(alloc);
+        group.push(node + 1)?;
+        groups.push(group)?;
+    }
+    Ok(Graph {
+        nodes,
+        groups,
+        most: Vec::new(alloc),
+    })
+}
+
+/// A graph in which nodes 1, 2 and 3 have so many steps, with these groups and `most`; node 0 is a step and `Most`.
+fn stepping(
+    alloc: Global,
+    steps: [u8; 3],
+    groups: &[&[u8]],
+    most: &[usize],
+) -> Result<Graph, AllocError> {
+    let mut graph = graph_of(alloc, &[])?;
+    graph.nodes.push(vec![in alloc; Item::Step, Item::Most]?)?;
+    for count in steps {
+        graph
+            .nodes
+            .push(vec![in alloc; Item::Step; usize::from(count)]?)?;
+    }
+    for group in groups {
+        graph.groups.push(Vec::from_slice(alloc, *group)?)?;
+    }
+    graph.most = Vec::from_slice(alloc, most)?;
+    Ok(graph)
+}
+
+fn costs_of(graph: &Graph, cap: u32) -> Result<Result<Costs, OverBudget>, Fail> {
+    match rank(graph) {
+        Ok(ranks) => Ok(costs(graph, &ranks, cap)),
+        Err(_circle) => Err(Fail::new("a circle")),
+    }
+}
+
+#[test]
+fn sixteen_that_double(rt: HostRuntime) -> Result<(), Fail> {
+    let graph = doubling(rt.alloc(), 16)?;
+    let Ok(costs) = costs_of(&graph, 65_535)? else {
+        return Err(Fail::new("over the cap"));
+    };
+    assert_eq!(rt; costs.node(1), 65_534);
+    assert_eq!(rt; costs.node(15), 2);
+    assert_eq!(rt; costs.node(16), 0);
+    Ok(())
+}
+
+#[test]
+fn seventeen_that_double(rt: HostRuntime) -> Result<(), Fail> {
+    let graph = doubling(rt.alloc(), 17)?;
+    assert_eq!(rt; costs_of(&graph, 65_535)?.err(), Some(OverBudget::Node(1)));
+    let Ok(costs) = costs_of(&graph, 1_000_000)? else {
+        return Err(Fail::new("over the cap"));
+    };
+    assert_eq!(rt; costs.node(1), 131_070);
+    Ok(())
+}
+
+#[test]
+fn cap_itself_is_within(rt: HostRuntime) -> Result<(), Fail> {
+    let graph = doubling(rt.alloc(), 5)?;
+    assert!(rt; costs_of(&graph, 30)?.is_ok());
+    assert_eq!(rt; costs_of(&graph, 29)?.err(), Some(OverBudget::Node(1)));
+    assert_eq!(rt; costs_of(&graph, 0)?.err(), Some(OverBudget::Node(1)));
+    Ok(())
+}
+
+#[test]
+fn past_32_bits(rt: HostRuntime) -> Result<(), Fail> {
+    let graph = doubling(rt.alloc(), 32)?;
+    let Ok(costs) = costs_of(&graph, u32::MAX)? else {
+        return Err(Fail::new("over the cap"));
+    };
+    assert_eq!(rt; costs.node(1), u32::MAX - 1);
+    let graph = doubling(rt.alloc(), 200)?;
+    assert_eq!(rt;
+        costs_of(&graph, u32::MAX)?.err(),
+        Some(OverBudget::Node(1))
+    );
+    Ok(())
+}
+
+#[test]
+fn most_of_groups(rt: HostRuntime) -> Result<(), Fail> {
+    let groups: [&[u8]; 3] = [&[1, 1, 2], &[3], &[2, 2]];
+    let graph = stepping(rt.alloc(), [1, 2, 5], &groups, &[0, 2])?;
+    let Ok(costs) = costs_of(&graph, 65_535)? else {
+        return Err(Fail::new("over the cap"));
+    };
+    assert_eq!(rt; costs.node(0), 5);
+    let graph = stepping(rt.alloc(), [1, 2, 5], &groups, &[0, 1, 2])?;
+    let Ok(costs) = costs_of(&graph, 65_535)? else {
+        return Err(Fail::new("over the cap"));
+    };
+    assert_eq!(rt; costs.node(0), 6);
+    Ok(())
+}
+
+#[test]
+fn most_of_no_group(rt: HostRuntime) -> Result<(), Fail> {
+    let graph = stepping(rt.alloc(), [1, 2, 5], &[&[1]], &[])?;
+    let Ok(costs) = costs_of(&graph, 65_535)? else {
+        return Err(Fail::new("over the cap"));
+    };
+    assert_eq!(rt; costs.node(0), 1);
+    Ok(())
+}
+
+#[test]
+fn group_over_where_no_node_is(rt: HostRuntime) -> Result<(), Fail> {
+    let graph = stepping(rt.alloc(), [1, 2, 5], &[&[3], &[3, 1], &[3, 3]], &[])?;
+    assert_eq!(rt; costs_of(&graph, 5)?.err(), Some(OverBudget::Group(1)));
+    assert_eq!(rt; costs_of(&graph, 4)?.err(), Some(OverBudget::Node(3)));
+    Ok(())
+}
+
+#[test]
+fn groups_count_repeats(rt: HostRuntime) -> Result<(), Fail> {
+    let graph = stepping(rt.alloc(), [1, 2, 5], &[&[3], &[2, 1, 2], &[]], &[])?;
+    let Ok(ranks) = rank(&graph) else {
+        return Err(Fail::new("a circle"));
+    };
+    let Ok(costs) = costs(&graph, &ranks, 65_535) else {
+        return Err(Fail::new("over the cap"));
+    };
+    assert_eq!(rt; costs.group(&graph, 0), 5);
+    assert_eq!(rt; costs.group(&graph, 1), 5);
+    assert_eq!(rt; costs.group(&graph, 2), 0);
+    Ok(())
+}
+
+#[test]
+fn line_of_256_costs(rt: HostRuntime) -> Result<(), Fail> {
+    let graph = line_of(rt.alloc(), &[])?;
+    let Ok(costs) = costs_of(&graph, 256)? else {
+        return Err(Fail::new("over the cap"));
+    };
+    for node in 0..=u8::MAX {
+        assert_eq!(rt; costs.node(node), 256 - u32::from(node));
+    }
+    Ok(())
+}

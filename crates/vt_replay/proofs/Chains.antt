@@ -1,0 +1,48 @@
+-- What clap asks of the arguments of the application, to say that one of them has a value.
+use Rattle.std.proofs.Common.{◌≡◌, ◌<◌, ◌∙◌, ◌==◌, ℕ, zero, suc, [], ◌∷◌, false, sym, ap, inl, inr, codes, slice_index, if◌then◌else◌, arith}
+use Rattle.std.specs.List.{All, slice_index_or}
+use Rattle.std.proofs.lemmas.Slice.Eq.{bytes_eq-Decides}
+use Rattle.clap.specs.Words.{IsPlainArg, Text}
+use Rattle.clap.specs.Built.{FitsChain, HasDistinctIds}
+use Rattle.clap.specs.declared.builder.arg.Arg.{Arg}
+
+-- an ID that is neither empty nor that of a flag that clap adds, by its first byte
+pub fits_chain : (a : Arg) (id : Text) → a.id.now ≡ id → IsPlainArg a → a.global ≡ false
+    → (slice_index id 0 ≡ 0 → ⊥) → (slice_index id 0 ≡ 104 → ⊥) → (slice_index id 0 ≡ 118 → ⊥) → FitsChain a
+fits_chain a id named plain local some no_help no_version = (
+  plain,
+  local,
+  λ e. some (ap (λ (t : Text). slice_index t 0) (sym named ∙ e)),
+  λ auto. elim auto [
+    | inl e ↦ no_help (ap (λ (t : Text). slice_index t 0) (sym named ∙ e))
+    | inr e ↦ no_version (ap (λ (t : Text). slice_index t 0) (sym named ∙ e))
+  ],
+)
+
+-- the place of each ID, by its fourth byte
+abbrev place : Text → ℕ
+place id =
+    if slice_index id 3 == 69 then 0 else (if slice_index id 3 == 108 then 2 else (if slice_index id 3 == 101 then 3 else 1))
+
+module _ (log own pool owner : Arg) (is_log : log.id.now ≡ codes "FILE") (is_own : own.id.now ≡ codes "own")
+    (is_pool : pool.id.now ≡ codes "pool") (is_owner : owner.id.now ≡ codes "owner") where
+  place_at : (k : ℕ) (d : Arg) → k < 4 → place (slice_index_or (log ∷ own ∷ pool ∷ owner ∷ []) k d).id.now ≡ k
+  place_at zero d low = ap place is_log
+  place_at (suc zero) d low = ap place is_own
+  place_at (suc (suc zero)) d low = ap place is_pool
+  place_at (suc (suc (suc zero))) d low = ap place is_owner
+  place_at (suc (suc (suc (suc k)))) d low = absurd (omega arith)
+
+  pub four_ids : HasDistinctIds (log ∷ own ∷ pool ∷ owner ∷ [])
+  four_ids j k d e low high same =
+      let t = (slice_index_or (log ∷ own ∷ pool ∷ owner ∷ []) j e).id.now in
+      let u = (slice_index_or (log ∷ own ∷ pool ∷ owner ∷ []) k d).id.now in
+      let equal : t ≡ u = (bytes_eq-Decides t u).0 same in
+      sym (place_at j e low) ∙ ap place equal ∙ place_at k d high
+
+  pub four_fit : FitsChain log → FitsChain own → FitsChain pool → FitsChain owner → All FitsChain (log ∷ own ∷ pool ∷ owner ∷ [])
+  four_fit a b c e zero d low = a
+  four_fit a b c e (suc zero) d low = b
+  four_fit a b c e (suc (suc zero)) d low = c
+  four_fit a b c e (suc (suc (suc zero))) d low = e
+  four_fit a b c e (suc (suc (suc (suc k)))) d low = absurd (omega arith)

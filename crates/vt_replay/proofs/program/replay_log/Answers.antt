@@ -1,0 +1,33 @@
+use Rattle.std.proofs.Common.{◌≡◌, ◌∙◌, ℕ, Some, ap, rules}
+use Rattle.vt_replay.specs.Runs.{IsStart}
+use Rattle.vt_replay.specs.States.{state_of}
+use Rattle.vt_replay.specs.Terminals.{State}
+use Rattle.vt_replay.proofs.Loading.{replay_written, start_alone, start_with_set}
+use Rattle.vt_replay.proofs.program.replay_log.Goals.{in-Some+in_ok-load, in_default}
+use Rattle.vt_replay.proofs.program.replay_log.Goals as goal
+
+pub returns-in-Ok-flush-clause-replayed : goal.returns-in-Ok-flush-clause-replayed
+returns-in-Ok-flush-clause-replayed g c =
+    let files = g.F.Open.file c.args.files.now in
+    let options = c.args.options.now in
+    let held = g.W.Write.contents in
+    let terminal = c.match-options.terminal in
+    let own = ap (λ (s : State). s.own) c.new-terminal.ensures in
+    let begun : IsStart files options (state_of terminal) = elim c.match-options.branch [
+      | in-Some+in_ok-load w ↦
+          let set = w.in_ok-load.ensures.set in
+          start_with_set files options (state_of terminal) w.in-Some.preload set.0 w.in-Some.is set.1
+          (ap state_of w.terminal-is ∙ set.2 ∙ ap (λ (n : ℕ). record (state_of terminal) { own = n; set = Some set.0 }) own)
+      | in_default w ↦
+          start_alone files options (state_of terminal) (search rules) (ap state_of w.terminal-is ∙ c.new-terminal.ensures)
+    ] in
+    let same : g.F.Open.file c.match-options.files ≡ files = elim c.match-options.branch [
+      | in-Some+in_ok-load w ↦ ap g.F.Open.file w.files-is ∙ w.load.ensures.stay
+      | in_default w ↦ ap g.F.Open.file w.files-is
+    ] in
+    record {
+      start = state_of terminal;
+      given = begun;
+      writes = replay_written (files options.log.now) _ (held c.args.out.now) (held c.replay.new.writer) (held c.flush.new.self) (state_of terminal)
+          (state_of c.replay.new.terminal) c.in-Ok-replay._counts (rw same at c.in-Ok.ensures.bytes) c.in-Ok-replay.ensures.text c.flush.ensures.bytes;
+    }

@@ -1,0 +1,139 @@
+-- A run of the program: its statuses, and what it writes (docs/PROFILE.md, "The program").
+use Rattle.std.specs.Prelude.{◌≡◌, ◌⊎◌, ℕ, List, reverse, Option, Some, None, IfSome, IsSomeAnd, codes}
+use Rattle.std.specs.Borrow.{Bor}
+use Rattle.std.specs.Io.KnownBytes.{Appends, Keeps}
+use Rattle.clap.specs.Words.{Text, kind_of}
+use Rattle.clap.specs.declared.error.kind.ErrorKind.{ErrorKind}
+use Rattle.clap.specs.declared.error.kind.ErrorKind.TheVariants.{DisplayHelp, DisplayVersion}
+use Rattle.vt_objects.specs.Stores.{Contents}
+use Rattle.vt_pool.specs.Pools.{Entry, AreRecords, IsFault, contents, joined}
+use Rattle.vt_replay.specs.declared.counts.Counts.{Counts}
+use Rattle.vt_replay.specs.declared.fault.ReplayFault.TheVariants as replay_fault
+use Rattle.vt_replay.specs.declared.options.Options.{Options}
+use Rattle.vt_replay.specs.declared.options.Preload.{Preload}
+use Rattle.vt_replay.specs.declared.options.Refusal.{Refusal}
+use Rattle.vt_replay.specs.declared.options.Refusal.TheVariants.{Words, Address, OwnerIsOwn, Alone, Memory}
+use Rattle.vt_replay.specs.declared.program.Fault.{Fault}
+use Rattle.vt_replay.specs.declared.program.Fault.TheVariants as fault
+use Rattle.vt_replay.specs.declared.program.Status.{Status}
+use Rattle.vt_replay.specs.declared.program.Status.TheVariants as status
+use Rattle.vt_replay.specs.Replays.{IsReplay, HasLongLine}
+use Rattle.vt_replay.specs.Terminals.{State, SetState}
+use Rattle.vt_replay.specs.Words.{IsRefusalOf, WordsGive}
+
+-- the bytes of the file under each path, where they are known
+abbrev pub Files : Type 0
+Files = Text → Option (List ℕ)
+
+-- ---- what stands before the first line
+
+-- the objects of a pool's bytes: of each ID the last record's
+pub record IsPoolOf (bytes : List ℕ) (objects : Contents) : Type 0 where
+  pub records : List Entry
+  pub whole : AreRecords records
+  pub spelled : bytes ≡ joined records
+  pub in_force : objects ≡ contents (reverse records)
+
+-- the working set of an owner and of a pool's file
+pub record IsSetOf (owner : ℕ) (file : Option (List ℕ)) (set : SetState) : Type 0 where
+  pub address : set.address ≡ owner
+  pub objects : IfSome file (λ bytes. IsPoolOf bytes set.contents)
+
+abbrev pub IsPreloaded : Files → Option Preload → Option SetState → Type 0
+IsPreloaded files None None = Unit {0}
+IsPreloaded files (Some p) (Some set) = IsSetOf p.owner (files p.pool.now) set
+IsPreloaded files None (Some set) = ⊥
+IsPreloaded files (Some p) None = ⊥
+
+-- the terminal that the options give
+pub record IsStart (files : Files) (options : Options) (s : State) : Type 0 where
+  pub own : s.own ≡ options.own
+  pub set : IsPreloaded files options.preload s.set
+
+-- ---- what a run writes
+
+-- The text of the replay of these bytes is written.
+pub record WritesReplay (start : State) (input : List ℕ) (old new : Option (List ℕ)) : Type 0 where
+  pub text : List ℕ
+  pub counts : Counts
+  pub end : State
+  pub replay : IsReplay start input text counts end
+  pub written : Appends old new text
+
+-- The log of the options is replayed, by the terminal that they give.
+pub record HasReplayed (files : Files) (options : Options) (old new : Option (List ℕ)) : Type 0 where
+  pub start : State
+  pub given : IsStart files options start
+  pub writes : IfSome (files options.log.now) (λ input. WritesReplay start input old new)
+
+-- ---- why a log is not replayed
+
+-- the file of this path could not be read
+abbrev pub IsFileFault : Bor Text → Fault → Type 0
+IsFileFault path (fault.File other cause) = other ≡ path
+IsFileFault path (fault.Pool why) = ⊥
+IsFileFault path fault.Memory = ⊥
+IsFileFault path (fault.Replay why) = ⊥
+
+abbrev pub IsLoadFault : Files → Preload → Fault → Type 0
+IsLoadFault files p (fault.File path cause) = path ≡ p.pool
+IsLoadFault files p (fault.Pool why) = IfSome (files p.pool.now) (λ bytes. IsFault bytes why)
+IsLoadFault files p fault.Memory = Unit {0}
+IsLoadFault files p (fault.Replay why) = ⊥
+
+-- of the replay itself; where Read and Write are answered, std does not say
+abbrev pub IsLogFault : Files → Text → Fault → Type 0
+IsLogFault files log (fault.File path cause) = path.now ≡ log
+IsLogFault files log (fault.Pool why) = ⊥
+IsLogFault files log fault.Memory = ⊥
+IsLogFault files log (fault.Replay why) = IfSome (files log) (λ input. why ≡ replay_fault.TooLong → HasLongLine input)
+
+abbrev pub IsFaultOf : Files → Options → Fault → Type 0
+IsFaultOf files options why = IsSomeAnd options.preload (λ p. IsLoadFault files p why) ⊎ IsLogFault files options.log.now why
+
+-- ---- statuses
+
+-- help, or the version
+abbrev pub IsHelp : ErrorKind → Type 0
+IsHelp kind = (kind ≡ DisplayHelp) ⊎ (kind ≡ DisplayVersion)
+
+-- the status after a refusal
+abbrev pub EndsBy : Refusal → Status → Type 0
+EndsBy (Words error) status.Done = IsHelp (kind_of error)
+EndsBy (Words error) status.Usage = IsHelp (kind_of error) → ⊥
+EndsBy (Words error) status.Fault = ⊥
+EndsBy (Address option) end = end ≡ status.Usage
+EndsBy OwnerIsOwn end = end ≡ status.Usage
+EndsBy Alone end = end ≡ status.Usage
+EndsBy Memory end = end ≡ status.Fault
+
+-- The words are refused, and a refusal of them ends with this status.
+pub record Refuses (words : List Text) (end : Status) : Type 0 where
+  pub refusal : Refusal
+  pub of_words : IsRefusalOf words refusal
+  pub ends : EndsBy refusal end
+
+-- The words give options, and their log is replayed.
+pub record Replays (words : List Text) (files : Files) (old new : Option (List ℕ)) : Type 0 where
+  pub options : Options
+  pub given : WordsGive words options
+  pub replayed : HasReplayed files options old new
+
+-- The words ask for help, or give options.
+abbrev pub AreTaken : List Text → Type 0
+AreTaken words = Refuses words status.Done ⊎ ((options : Options) × WordsGive words options)
+
+-- Which status a run ends with. Memory may run out at any words, and then it is Fault.
+abbrev pub Ends : List Text → Files → Option (List ℕ) → Option (List ℕ) → Status → Type 0
+Ends words files old new status.Done = Refuses words status.Done ⊎ Replays words files old new
+Ends words files old new status.Usage = Refuses words status.Usage × Keeps old new
+Ends words files old new status.Fault = Unit {0}
+
+-- ---- the texts of faults
+
+-- what is printed of a fault; what the system, a pool's fault and a replay's print no contract says
+abbrev pub fault_line : Fault → Option Text
+fault_line (fault.File path cause) = None
+fault_line (fault.Pool why) = None
+fault_line fault.Memory = Some (codes "out of memory")
+fault_line (fault.Replay why) = None
