@@ -1,2 +1,4 @@
 pub mod Places
 pub mod Rounding
+pub mod OneRounding
+pub mod Cutting

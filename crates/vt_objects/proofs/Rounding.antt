@@ -16,7 +16,7 @@ sub_cases : (b : Bool) (x y : ℕ) → ltb x (suc y) ≡ b → nat_abs (cond b (
 sub_cases true x y is = let lt = ltb-true x (suc y) is in omega arith
 sub_cases false x y is = let le = ltb-false x (suc y) is in omega arith
 
-abs_pos : (x y : ℕ) → nat_abs (pos x -ℤ pos y) ≡ apart x y
+pub abs_pos : (x y : ℕ) → nat_abs (pos x -ℤ pos y) ≡ apart x y
 abs_pos x zero = omega arith
 abs_pos x (suc y) = sub_cases (ltb x (suc y)) x y refl
 
@@ -24,13 +24,13 @@ sum_cases : (b : Bool) (x y : ℕ) → ltb y (suc x) ≡ b → nat_abs (cond b (
 sum_cases true x y is = let lt = ltb-true y (suc x) is in omega arith
 sum_cases false x y is = let le = ltb-false y (suc x) is in omega arith
 
-abs_neg : (x y : ℕ) → nat_abs (neg_ℤ (pos x) -ℤ neg_ℤ (pos y)) ≡ apart x y
+pub abs_neg : (x y : ℕ) → nat_abs (neg_ℤ (pos x) -ℤ neg_ℤ (pos y)) ≡ apart x y
 abs_neg zero zero = refl
 abs_neg zero (suc y) = omega arith
 abs_neg (suc x) zero = sum_cases (ltb 0 (suc x)) x 0 refl
 abs_neg (suc x) (suc y) = sum_cases (ltb (suc y) (suc x)) x (suc y) refl
 
-abs_of_neg : (x : ℕ) → nat_abs (neg_ℤ (pos x)) ≡ x
+pub abs_of_neg : (x : ℕ) → nat_abs (neg_ℤ (pos x)) ≡ x
 abs_of_neg zero = refl
 abs_of_neg (suc x) = refl
 

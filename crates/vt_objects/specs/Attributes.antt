@@ -1,5 +1,5 @@
--- The attributes that Change Attribute writes, by their numbers, and what a value must meet
--- (docs/PROFILE.md, "Attribute numbers" and "Values of attributes").
+-- The attributes that Change Attribute writes, by their numbers, and of which sort the values of each are
+-- (docs/PROFILE.md, "Attribute numbers"; "Values of attributes" has what each sort takes).
 use Rattle.std.specs.Prelude.{ℕ, zero, suc, List, [], ◌∷◌, ◌==◌, if◌then◌else◌, Option, Some, None, slice_get}
 use Rattle.vt_objects.specs.declared.kind.Kind.{Kind}
 use Rattle.vt_objects.specs.declared.kind.Kind.TheVariants as kinds

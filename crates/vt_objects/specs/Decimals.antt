@@ -27,3 +27,7 @@ pub record IsShown (n : ℤ) (places decimals : ℕ) (text : List ℕ) : Type 0 
   pub rounded : ℤ
   pub is : IsRounded n places decimals rounded
   pub digits : text ≡ decimal_text decimals rounded
+
+-- A number is shown in one way alone.
+abbrev pub ShownIsOne : Type 0
+ShownIsOne = (n : ℤ) (places decimals : ℕ) (a b : List ℕ) → IsShown n places decimals a → IsShown n places decimals b → a ≡ b

@@ -49,7 +49,7 @@ pub enum Field {
     Value,
 }
 
-/// Which values a field takes. A field of fewer than four bytes takes the lowest bytes of a value.
+/// Which values a field takes (docs/PROFILE.md, "Values of attributes"). A field of fewer than four bytes takes the lowest bytes of a value.
 #[derive(Clone, Copy, Debug, PartialEq, Eq)]
 pub enum Values {
     /// Every value of one byte.
@@ -60,7 +60,7 @@ pub enum Values {
     Long,
     /// Every value of four bytes, signed.
     SignedLong,
-    /// What this place allows, two bytes.
+    /// NULL or an object, as this place allows, two bytes. The value of an object pointer has to meet more.
     Reference(Place),
     /// 0 to 2, one byte.
     Priority,

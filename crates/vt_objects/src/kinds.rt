@@ -12,7 +12,8 @@ use crate::kind::Kind;
 pub enum Kinds {
     Masks,
     SoftKeyMasks,
-    /// What is drawn: all kinds that stand on masks and in other objects.
+    /// What stands on masks and in other objects: working sets, containers, buttons, inputs, outputs, shapes,
+    /// graphs, pictures, and pointers.
     Drawn,
     /// What is drawn, without working sets.
     DrawnInWorkingSet,

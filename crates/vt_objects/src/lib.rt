@@ -1,7 +1,7 @@
 //! The objects of an ISOBUS virtual terminal (ISO 11783-6): their kinds, their fields, what they name, the
 //! commands that change them, and the stores that hold them.
 //!
-//! docs/PROFILE.md has the tables: "Records" for the kinds and their fields, "References" for what they
+//! docs/PROFILE.md has the tables: "Records" for the kinds and their fields, "References and inclusions" for what they
 //! name, "Attributes" for what Change Attribute writes, "Commands" for the bytes of the commands.
 #![tactic(auto)]
 
@@ -26,6 +26,7 @@ mod object;
 mod output_fields;
 mod picture_bytes;
 mod pictures;
+mod pieces;
 mod place;
 mod references;
 mod scale;
@@ -38,7 +39,7 @@ mod variables;
 pub use attribute_objects::{FillAttributes, Font, InputAttributes, LineAttributes};
 pub use attributes::attribute;
 pub use command::Command;
-pub use decimal::Decimal;
+pub use decimal::{Decimal, shown_is_one};
 pub use entries::{Child, Entries, Language, MacroEntry, Point};
 pub use fields::{Attribute, Field, Values};
 pub use graphs::{ArchedBar, LinearBar, Meter};
@@ -56,6 +57,7 @@ pub use object::Object;
 pub use output_fields::{OutputNumber, OutputString};
 pub use picture_bytes::PictureBytes;
 pub use pictures::Picture;
+pub use pieces::{cut_is_one, split_command};
 pub use place::Place;
 pub use references::slots;
 pub use scale::{Decimals, Scale};

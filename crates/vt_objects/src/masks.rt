@@ -6,7 +6,7 @@ use crate::entries::{Child, Entries, Language, MacroEntry};
 use crate::id::ObjectId;
 use std::alloc::{AllocError, Global};
 
-/// A Working Set, type 0: the implement itself, and the one object that each pool has once.
+/// A Working Set, type 0: the implement itself. A pool that is taken has just one.
 #[derive(Drop)]
 pub struct WorkingSet {
     /// The number of the background's colour.

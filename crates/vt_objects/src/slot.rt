@@ -26,7 +26,7 @@ pub struct Slot {
 
 impl Slot {
     /// The slot of a place in an object of a kind.
-    pub fn new(kind: Kind, place: Place, id: ObjectId) -> Slot
+    pub(crate) fn new(kind: Kind, place: Place, id: ObjectId) -> Slot
         ensures { result ≡ slot kind place id }
     {
         Slot {
@@ -40,7 +40,7 @@ impl Slot {
 
 /// The entries of a list that are still to be given.
 #[derive(Clone, Copy)]
-pub enum Listed<'a> {
+pub(crate) enum Listed<'a> {
     Children(&'a [Child]),
     Keys(&'a [ObjectId]),
     Items(&'a [ObjectId]),
@@ -71,7 +71,7 @@ impl<'a> Model for Slots<'a> {
 
 impl<'a> Slots<'a> {
     /// Up to three slots, and then those of a list.
-    pub fn new(
+    pub(crate) fn new(
         kind: Kind,
         first: Option<Slot>,
         second: Option<Slot>,

@@ -1,7 +1,10 @@
+mod attributes;
 mod commands;
 mod copies;
 mod decimals;
+mod kind_sets;
 mod objects;
+mod pieces;
 mod references;
 
 use super::*;

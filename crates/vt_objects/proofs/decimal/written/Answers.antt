@@ -1,7 +1,6 @@
-use Rattle.std.proofs.Common.{◌≡◌, ◌≤◌, ◌<◌, ◌/◌, ◌%◌, length, ap, sym, subst, ℕ, arith}
+use Rattle.std.proofs.Common.{◌<◌, ◌/◌, ◌%◌, length, ap, subst, ℕ, arith}
 use Rattle.std.proofs.lemmas.Fmt.{length-decimal-le}
 use Rattle.std.proofs.Math.Nat.{mod-lt}
-use Rattle.std.specs.Fmt.{decimal}
 use Rattle.vt_objects.proofs.decimal.written.Goals as goal
 
 pub nonzero_div-magnitude : goal.nonzero_div-magnitude

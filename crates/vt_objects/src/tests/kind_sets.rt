@@ -1,0 +1,47 @@
+//! The kinds that each place allows, by their numbers.
+
+use crate::{Kind, Kinds};
+
+const SETS: [(Kinds, &[u8]); 13] = [
+    (Kinds::Masks, &[1, 2]),
+    (Kinds::SoftKeyMasks, &[4]),
+    (
+        Kinds::Drawn,
+        &[
+            0, 3, 6, 7, 8, 9, 10, 11, 12, 13, 14, 15, 16, 17, 18, 19, 20, 27,
+        ],
+    ),
+    (
+        Kinds::DrawnInWorkingSet,
+        &[
+            3, 6, 7, 8, 9, 10, 11, 12, 13, 14, 15, 16, 17, 18, 19, 20, 27,
+        ],
+    ),
+    (Kinds::Keys, &[5, 27]),
+    (Kinds::Fonts, &[23]),
+    (Kinds::InputAttributes, &[26]),
+    (Kinds::NumberVariables, &[21]),
+    (Kinds::StringVariables, &[22]),
+    (Kinds::LineAttributes, &[24]),
+    (Kinds::FillAttributes, &[25]),
+    (Kinds::Pictures, &[20]),
+    (
+        Kinds::AllButPointers,
+        &[
+            0, 1, 2, 3, 4, 5, 6, 7, 8, 9, 10, 11, 12, 13, 14, 15, 16, 17, 18, 19, 20, 21, 22, 23,
+            24, 25, 26, 28,
+        ],
+    ),
+];
+
+#[test]
+fn members_of_each_set(rt: HostRuntime) {
+    for (set, members) in SETS {
+        for number in 0..29u8 {
+            let Some(kind) = Kind::from_number(number) else {
+                panic!(rt; "no kind {number}");
+            };
+            assert_eq!(rt; set.contains(kind), members.contains(&number), "{number}");
+        }
+    }
+}
