@@ -11,3 +11,4 @@ pub mod Force
 pub mod Joins
 pub mod Progress
 pub mod Writing
+pub mod Again

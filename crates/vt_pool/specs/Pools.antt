@@ -1,6 +1,6 @@
 -- A pool: records, joined, and the objects that they leave in force (docs/PROFILE.md, "Pools and faults").
-use Rattle.std.specs.Prelude.{◌≡◌, ◌≢◌, ◌<◌, ◌≤◌, ◌==◌, not, ℕ, ◌+◌, ◌⊎◌, List, [], ◌∷◌, ◌++◌, length, map, filter, reverse, drop, Some, None, slice_index}
-use Rattle.std.specs.List.{flat_map, AllByRecursion}
+use Rattle.std.specs.Prelude.{◌≡◌, ◌≢◌, ◌<◌, ◌≤◌, ◌==◌, not, eqb, ℕ, ◌+◌, ◌⊎◌, List, [], ◌∷◌, ◌++◌, length, map, filter, reverse, drop, Some, None, slice_index}
+use Rattle.std.specs.List.{flat_map, AllByRecursion, IsDistinct}
 use Rattle.byteorder.specs.Endian.{little_number}
 use Rattle.vt_objects.specs.declared.kind.Kind.{Kind}
 use Rattle.vt_objects.specs.Layout.{Field, ScaleBytes, DecimalPlaces, Value, field_spelling, spelling, Shaped, IsProper, no_counts}
@@ -40,6 +40,11 @@ contents entries = finite.from_entries entries
 pub record IsInForce (records objects : List Entry) : Type 0 where
   pub order : ids objects ≡ first_occurrences (ids records)
   pub last : contents objects ≡ contents (reverse records)
+
+-- The objects of a pool: no ID stands twice, and each has a record.
+pub record AreObjects (objects : List Entry) : Type 0 where
+  pub distinct : IsDistinct eqb (ids objects)
+  pub whole : AreRecords objects
 
 -- ---- faults
 
@@ -141,3 +146,9 @@ IsWantOfMemory _ = ⊥
 abbrev pub RecordsAreWhole : Type 0
 RecordsAreWhole = (a b : ℕ) (o p : Seen) (rest : List ℕ) → HasRecord a o → HasRecord b p → record_of a o ++ rest ≡ record_of b p
     → (rest ≡ []) × (a ≡ b) × (o ≡ p)
+
+-- The records of distinct IDs are read as those objects, in that order: whatever records have the same bytes leave
+-- them in force.
+abbrev pub WrittenIsRead : Type 0
+WrittenIsRead = (written records objects : List Entry) → AreObjects written → AreRecords records → joined written ≡ joined records → IsInForce records objects
+    → objects ≡ written

@@ -1,7 +1,8 @@
 //! The entries of the lists of a record.
 
 ghost use Rattle.std.specs.Prelude.{◌≡◌, ◌++◌, ℕ, List, length, map, IfOk, OnOk};
-ghost use Rattle.vt_objects.specs.Layout.{row_spelling, rows_spelling};
+ghost use Rattle.std.specs.List.{AllByRecursion};
+ghost use Rattle.vt_objects.specs.Layout.{RowFits, row_spelling, rows_spelling};
 ghost use Rattle.vt_objects.specs.Tables.{child_sizes, child_numbers, macro_sizes, macro_numbers, language_sizes, language_numbers, id_sizes, id_numbers, point_sizes, point_numbers};
 ghost use Rattle.vt_objects.specs.FromValues.{child_from, macro_from, language_from, id_from, point_from};
 ghost use Rattle.vt_pool.specs.Reading.{Gives, row_at, rows_at};
@@ -27,7 +28,9 @@ pub trait Entry: Drop {
         ensures back { IfOk result (λ x. from_numbers (numbers x) ≡ x) };
 
     fn write(&self, out: &mut Vec<u8>) -> Result<(), AllocError>
-        ensures { OnOk result (out.new.items ≡ out.old.items ++ row_spelling sizes (numbers self.now)) };
+        ensures written { OnOk result (out.new.items ≡ out.old.items ++ row_spelling sizes (numbers self.now)) }
+        ensures fits { OnOk result (RowFits sizes (numbers self.now)) }
+        ensures back { OnOk result (from_numbers (numbers self.now) ≡ self.now) };
 }
 
 impl Entry for Child {
@@ -153,7 +156,10 @@ pub fn entries<T: Entry>(
 
 /// Writes entries one after the other.
 pub fn put_entries<T: Entry>(out: &mut Vec<u8>, entries: &Entries<T>) -> Result<(), AllocError>
-    ensures { OnOk result (out.new.items ≡ out.old.items ++ rows_spelling T.sizes (map T.numbers entries.now)) }
+    ensures written { OnOk result (out.new.items ≡ out.old.items ++ rows_spelling T.sizes (map T.numbers entries.now)) }
+    ensures len { length (map T.numbers entries.now) ≡ length entries.now }
+    ensures fits { OnOk result (AllByRecursion (RowFits T.sizes) (map T.numbers entries.now)) }
+    ensures back { OnOk result (map T.from_numbers (map T.numbers entries.now) ≡ entries.now) }
 {
     for entry in entries.as_slice() {
         entry.write(out)?;

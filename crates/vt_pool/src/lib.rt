@@ -14,7 +14,7 @@ mod write;
 
 pub use fault::PoolFault;
 pub use pool::{Pool, read_pool};
-pub use record::records_are_whole;
+pub use record::{records_are_whole, written_is_read};
 pub use write::write_object;
 
 #[cfg(test)]

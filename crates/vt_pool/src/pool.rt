@@ -3,9 +3,9 @@
 ghost use Rattle.std.specs.Prelude.{◌≡◌, ◌<◌, [], ◌++◌, length, map, slice_set, List, ℕ, IfOk, IfErr, OnOk};
 ghost use Rattle.std.specs.Option.{option_map};
 ghost use Rattle.std.specs.FinMap as finite;
-ghost use Rattle.vt_objects.specs.Records.{seen};
+ghost use Rattle.vt_objects.specs.Records.{seen, HasRecord};
 ghost use Rattle.vt_objects.specs.Stores.{shown};
-ghost use Rattle.vt_pool.specs.Pools.{Entry, AreRecords, joined, contents, IsInForce, IsFault, IsWantOfMemory};
+ghost use Rattle.vt_pool.specs.Pools.{Entry, AreObjects, AreRecords, joined, contents, IsInForce, IsFault, IsWantOfMemory};
 ghost use Rattle.vt_pool.specs.declared.stop.Stop.TheVariants as stops;
 ghost use Rattle.vt_pool.specs.Places.{with_entry};
 
@@ -28,13 +28,13 @@ pub struct Pool<'a> {
 impl<'a> Model for Pool<'a> {
     ghost use Rattle.std.specs.Prelude.{◌≡◌, List, map};
     ghost use Rattle.vt_objects.specs.Stores.{shown};
-    ghost use Rattle.vt_pool.specs.Pools.{Entry, ids};
+    ghost use Rattle.vt_pool.specs.Pools.{Entry, ids, AreObjects};
 
     ghost Value = { List Entry };
 
     ghost view = { λ p. map shown p.objects.items };
 
-    ghost invariant = { λ p. p.places.keys ≡ ids (map shown p.objects.items) };
+    ghost invariant = { λ p. (p.places.keys ≡ ids (map shown p.objects.items)) × AreObjects (map shown p.objects.items) };
 }
 
 impl<'a> Pool<'a> {
@@ -47,9 +47,10 @@ impl<'a> Pool<'a> {
         }
     }
 
-    /// The objects in the pool's order, each ID once.
+    /// The objects in the pool's order, each ID once. None has the ID NULL.
     pub fn objects(&self) -> &[(ObjectId, Object<&'a [u8]>)]
-        ensures { map shown result.now ≡ self.now }
+        ensures all { map shown result.now ≡ self.now }
+        ensures each { AreObjects self.now }
     {
         &self.objects
     }
@@ -66,6 +67,7 @@ impl<'a> Pool<'a> {
 
     /// Puts an object in the place of the one of its ID, or at the end.
     fn put(&mut self, id: ObjectId, object: Object<&'a [u8]>) -> Result<(), Stop>
+        requires { HasRecord id (seen object) }
         ensures ok { OnOk result (self.new ≡ with_entry self.old id (seen object.entry)) }
         ensures err { IfErr result (λ stop. stop ≡ stops.OutOfMemory) }
     {

@@ -4,7 +4,7 @@ ghost use Rattle.std.specs.Prelude.{◌≡◌, ◌<◌, ◌++◌, length, IfOk, 
 ghost use Rattle.vt_objects.specs.Kinds.{kind_at};
 ghost use Rattle.vt_objects.specs.Records.{kind_of, values_of, seen, object_from, record_of, HasRecord};
 ghost use Rattle.vt_pool.specs.Heads.{Reads, record_at, or_stop, other_type};
-ghost use Rattle.vt_pool.specs.Pools.{RecordsAreWhole};
+ghost use Rattle.vt_pool.specs.Pools.{RecordsAreWhole, WrittenIsRead};
 ghost use Rattle.vt_pool.specs.Stops.{IsStop};
 
 use crate::reader::Reader;
@@ -66,4 +66,9 @@ fn kind_with(number: u8) -> Result<Kind, Stop>
 /// The law that no record is the front of another one.
 pub fn records_are_whole()
     ensures { RecordsAreWhole }
+{}
+
+/// The law that the records of distinct IDs are read back as the objects that were written.
+pub fn written_is_read()
+    ensures { WrittenIsRead }
 {}

@@ -1,6 +1,7 @@
 //! The records of all kinds: what stands behind the ID and the type.
 
 ghost use Rattle.std.specs.Prelude.{◌≡◌, IfOk, OnOk, Some};
+ghost use Rattle.vt_objects.specs.Layout.{Proper, Shaped, no_counts};
 ghost use Rattle.vt_objects.specs.Records.{fields_of, values_of, kind_of, object_from, seen};
 ghost use Rattle.vt_pool.specs.Heads.{Reads, fields_at};
 ghost use Rattle.vt_pool.specs.Writing.{written};
@@ -98,7 +99,10 @@ pub fn read_fields<'a>(
 
 /// Writes the fields of an object.
 pub fn write_fields<B: AsSlice<u8>>(out: &mut Vec<u8>, object: &Object<B>) -> Result<(), AllocError>
-    ensures { OnOk result (out.new.items ≡ written out.old.items (fields_of (kind_of object.now)) (values_of object.now)) }
+    ensures written { OnOk result (out.new.items ≡ written out.old.items (fields_of (kind_of object.now)) (values_of object.now)) }
+    ensures shaped { OnOk result (Shaped (fields_of (kind_of (seen object.now))) no_counts (values_of (seen object.now))) }
+    ensures proper { OnOk result (Proper (fields_of (kind_of (seen object.now))) (values_of (seen object.now))) }
+    ensures back { OnOk result (object_from (kind_of (seen object.now)) (values_of (seen object.now)) ≡ Some (seen object.now)) }
 {
     match object {
         Object::WorkingSet(o) => write_working_set(out, o),

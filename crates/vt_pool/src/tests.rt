@@ -1,3 +1,5 @@
+mod each_kind;
+
 use super::*;
 use std::test::Fail;
 use vt_objects::{Child, Language, LongText, MacroEntry, Object, ObjectId, StringVariable};
@@ -18,6 +20,17 @@ const AGAIN: [u8; 21] = [
 const LISTS: [u8; 34] = [
     9, 0, 3, 1, 0, 2, 0, 0, 1, 1, 7, 0, 0xFE, 0xFF, 3, 0, 8, 4, // the Container
     0, 0, 0, 0, 1, 0xE8, 3, 0, 1, 2, 8, 4, 101, 110, 100, 101, // the Working Set
+];
+
+/// An Output Number 9 with the bytes of 0.5 for a scale, from byte 21.
+const SCALE: [u8; 29] = [
+    9, 0, 12, 1, 0, 2, 0, 3, 4, 0, 5, 0xFF, 0xFF, 6, 0, 0, 0, 0, 0, 0, 0, 0, 0, 0, 0x3F, 0, 0, 0, 0,
+];
+
+/// The same with the scale 1 and 8 decimals, at byte 25.
+const DECIMALS: [u8; 29] = [
+    9, 0, 12, 1, 0, 2, 0, 3, 4, 0, 5, 0xFF, 0xFF, 6, 0, 0, 0, 0, 0, 0, 0, 0, 0, 0x80, 0x3F, 8, 0,
+    0, 0,
 ];
 
 /// A String Variable 9 of the text `AB`.
@@ -156,6 +169,9 @@ fn faults(rt: HostRuntime) -> Result<(), Fail> {
         ([1, 0, 34].as_slice(), PoolFault::UnknownType { at: 0 }),
         ([1, 0, 255].as_slice(), PoolFault::UnknownType { at: 0 }),
         ([1, 0].as_slice(), PoolFault::Truncated { at: 0 }),
+        (SCALE.as_slice(), PoolFault::Scale { at: 21 }),
+        (DECIMALS.as_slice(), PoolFault::Decimals { at: 25 }),
+        (&SCALE[..28], PoolFault::Truncated { at: 0 }),
         (
             [9, 0, 22, 0, 0, 1, 0, 34].as_slice(),
             PoolFault::UnknownType { at: 5 },
@@ -164,6 +180,7 @@ fn faults(rt: HostRuntime) -> Result<(), Fail> {
     for (bytes, want) in cases {
         assert_eq!(rt; read_pool(rt.alloc(), bytes).err(), Some(want), "{bytes:?}");
     }
+    assert!(rt; read_pool(rt.alloc(), &[]).is_ok());
     let shown = format!(in rt.alloc(); "{}", PoolFault::Truncated { at: 24 })?;
     assert_eq!(rt; shown.as_str(), "fault 1 Truncated at 24");
     Ok(())

@@ -1,7 +1,7 @@
 //! The records of the objects that say how others look.
 
 ghost use Rattle.std.specs.Prelude.{◌≡◌, ℕ, List, IfOk, OnOk, Some};
-ghost use Rattle.vt_objects.specs.Layout.{fields, values, no_counts};
+ghost use Rattle.vt_objects.specs.Layout.{Shaped, Proper, fields, values, no_counts};
 ghost use Rattle.vt_objects.specs.Tables.{font, line_attributes, fill_attributes, input_attributes};
 ghost use Rattle.vt_objects.specs.FromValues.{font_from, line_attributes_from, fill_attributes_from, input_attributes_from};
 ghost use Rattle.vt_objects.specs.Records.{seen_input_attributes};
@@ -11,7 +11,7 @@ ghost use Rattle.vt_pool.specs.Writing.{written};
 use crate::entry::{entries, put_entries};
 use crate::reader::Reader;
 use crate::stop::Stop;
-use crate::write::{put_id, put_u8, put_u16};
+use crate::write::{put_bytes, put_id, put_u8, put_u16};
 use std::alloc::{AllocError, Global};
 use std::convert::AsSlice;
 use vt_objects::{FillAttributes, Font, InputAttributes, LineAttributes};
@@ -36,7 +36,10 @@ pub fn read_font(alloc: Global, reader: &mut Reader<'_>) -> Result<Font, Stop>
 }
 
 pub fn write_font(out: &mut Vec<u8>, o: &Font) -> Result<(), AllocError>
-    ensures { OnOk result (out.new.items ≡ written out.old.items (fields font) (values font o.now)) }
+    ensures written { OnOk result (out.new.items ≡ written out.old.items (fields font) (values font o.now)) }
+    ensures shaped { OnOk result (Shaped (fields font) no_counts (values font o.now)) }
+    ensures proper { OnOk result (Proper (fields font) (values font o.now)) }
+    ensures back { OnOk result (font_from (values font o.now) ≡ Some o.now) }
 {
     put_u8(out, o.colour)?;
     put_u8(out, o.size)?;
@@ -65,7 +68,10 @@ pub fn read_line_attributes(alloc: Global, reader: &mut Reader<'_>) -> Result<Li
 }
 
 pub fn write_line_attributes(out: &mut Vec<u8>, o: &LineAttributes) -> Result<(), AllocError>
-    ensures { OnOk result (out.new.items ≡ written out.old.items (fields line_attributes) (values line_attributes o.now)) }
+    ensures written { OnOk result (out.new.items ≡ written out.old.items (fields line_attributes) (values line_attributes o.now)) }
+    ensures shaped { OnOk result (Shaped (fields line_attributes) no_counts (values line_attributes o.now)) }
+    ensures proper { OnOk result (Proper (fields line_attributes) (values line_attributes o.now)) }
+    ensures back { OnOk result (line_attributes_from (values line_attributes o.now) ≡ Some o.now) }
 {
     put_u8(out, o.colour)?;
     put_u8(out, o.width)?;
@@ -93,7 +99,10 @@ pub fn read_fill_attributes(alloc: Global, reader: &mut Reader<'_>) -> Result<Fi
 }
 
 pub fn write_fill_attributes(out: &mut Vec<u8>, o: &FillAttributes) -> Result<(), AllocError>
-    ensures { OnOk result (out.new.items ≡ written out.old.items (fields fill_attributes) (values fill_attributes o.now)) }
+    ensures written { OnOk result (out.new.items ≡ written out.old.items (fields fill_attributes) (values fill_attributes o.now)) }
+    ensures shaped { OnOk result (Shaped (fields fill_attributes) no_counts (values fill_attributes o.now)) }
+    ensures proper { OnOk result (Proper (fields fill_attributes) (values fill_attributes o.now)) }
+    ensures back { OnOk result (fill_attributes_from (values fill_attributes o.now) ≡ Some o.now) }
 {
     put_u8(out, o.fill_type)?;
     put_u8(out, o.colour)?;
@@ -126,12 +135,15 @@ pub fn write_input_attributes<B: AsSlice<u8>>(
     out: &mut Vec<u8>,
     o: &InputAttributes<B>,
 ) -> Result<(), AllocError>
-    ensures { OnOk result (out.new.items ≡ written out.old.items (fields (input_attributes {B = List ℕ})) (values input_attributes o.now)) }
+    ensures written { OnOk result (out.new.items ≡ written out.old.items (fields (input_attributes {B = List ℕ})) (values input_attributes o.now)) }
+    ensures shaped { OnOk result (Shaped (fields (input_attributes {B = List ℕ})) no_counts (values input_attributes o.now)) }
+    ensures proper { OnOk result (Proper (fields (input_attributes {B = List ℕ})) (values input_attributes o.now)) }
+    ensures back { OnOk result (input_attributes_from (values input_attributes o.now) ≡ Some (seen_input_attributes o.now)) }
 {
     put_u8(out, o.validation_type)?;
     let text = o.text.as_slice();
     put_u8(out, text.len() as u8)?;
-    out.extend_from_slice(text)?;
+    put_bytes(out, text)?;
     put_u8(out, o.macros.len())?;
     put_entries(out, &o.macros)?;
     Ok(())

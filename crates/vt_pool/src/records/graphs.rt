@@ -1,7 +1,7 @@
 //! The records of output graphics.
 
 ghost use Rattle.std.specs.Prelude.{◌≡◌, IfOk, OnOk, Some};
-ghost use Rattle.vt_objects.specs.Layout.{fields, values, no_counts};
+ghost use Rattle.vt_objects.specs.Layout.{Shaped, Proper, fields, values, no_counts};
 ghost use Rattle.vt_objects.specs.Tables.{meter, linear_bar, arched_bar};
 ghost use Rattle.vt_objects.specs.FromValues.{meter_from, linear_bar_from, arched_bar_from};
 ghost use Rattle.vt_pool.specs.Reading.{Gives, values_at};
@@ -50,7 +50,10 @@ pub fn read_meter(alloc: Global, reader: &mut Reader<'_>) -> Result<Meter, Stop>
 }
 
 pub fn write_meter(out: &mut Vec<u8>, o: &Meter) -> Result<(), AllocError>
-    ensures { OnOk result (out.new.items ≡ written out.old.items (fields meter) (values meter o.now)) }
+    ensures written { OnOk result (out.new.items ≡ written out.old.items (fields meter) (values meter o.now)) }
+    ensures shaped { OnOk result (Shaped (fields meter) no_counts (values meter o.now)) }
+    ensures proper { OnOk result (Proper (fields meter) (values meter o.now)) }
+    ensures back { OnOk result (meter_from (values meter o.now) ≡ Some o.now) }
 {
     put_u16(out, o.width)?;
     put_u8(out, o.needle_colour)?;
@@ -105,7 +108,10 @@ pub fn read_linear_bar(alloc: Global, reader: &mut Reader<'_>) -> Result<LinearB
 }
 
 pub fn write_linear_bar(out: &mut Vec<u8>, o: &LinearBar) -> Result<(), AllocError>
-    ensures { OnOk result (out.new.items ≡ written out.old.items (fields linear_bar) (values linear_bar o.now)) }
+    ensures written { OnOk result (out.new.items ≡ written out.old.items (fields linear_bar) (values linear_bar o.now)) }
+    ensures shaped { OnOk result (Shaped (fields linear_bar) no_counts (values linear_bar o.now)) }
+    ensures proper { OnOk result (Proper (fields linear_bar) (values linear_bar o.now)) }
+    ensures back { OnOk result (linear_bar_from (values linear_bar o.now) ≡ Some o.now) }
 {
     put_u16(out, o.width)?;
     put_u16(out, o.height)?;
@@ -164,7 +170,10 @@ pub fn read_arched_bar(alloc: Global, reader: &mut Reader<'_>) -> Result<ArchedB
 }
 
 pub fn write_arched_bar(out: &mut Vec<u8>, o: &ArchedBar) -> Result<(), AllocError>
-    ensures { OnOk result (out.new.items ≡ written out.old.items (fields arched_bar) (values arched_bar o.now)) }
+    ensures written { OnOk result (out.new.items ≡ written out.old.items (fields arched_bar) (values arched_bar o.now)) }
+    ensures shaped { OnOk result (Shaped (fields arched_bar) no_counts (values arched_bar o.now)) }
+    ensures proper { OnOk result (Proper (fields arched_bar) (values arched_bar o.now)) }
+    ensures back { OnOk result (arched_bar_from (values arched_bar o.now) ≡ Some o.now) }
 {
     put_u16(out, o.width)?;
     put_u16(out, o.height)?;

@@ -1,7 +1,7 @@
 //! The records of input fields.
 
 ghost use Rattle.std.specs.Prelude.{◌≡◌, ℕ, List, IfOk, OnOk, Some};
-ghost use Rattle.vt_objects.specs.Layout.{fields, values, no_counts};
+ghost use Rattle.vt_objects.specs.Layout.{Shaped, Proper, fields, values, no_counts};
 ghost use Rattle.vt_objects.specs.Tables.{input_boolean, input_string, input_number, input_list};
 ghost use Rattle.vt_objects.specs.FromValues.{input_boolean_from, input_string_from, input_number_from, input_list_from};
 ghost use Rattle.vt_objects.specs.Records.{seen_input_string};
@@ -12,7 +12,7 @@ ghost use Rattle.vt_pool.specs.Writing.{written};
 use crate::entry::{entries, put_entries};
 use crate::reader::Reader;
 use crate::stop::Stop;
-use crate::write::{put_i32, put_id, put_scale, put_u8, put_u16, put_u32};
+use crate::write::{put_bytes, put_i32, put_id, put_scale, put_u8, put_u16, put_u32};
 use std::alloc::{AllocError, Global};
 use std::convert::AsSlice;
 use vt_objects::{Decimals, InputBoolean, InputList, InputNumber, InputString, Scale};
@@ -41,7 +41,10 @@ pub fn read_input_boolean(alloc: Global, reader: &mut Reader<'_>) -> Result<Inpu
 }
 
 pub fn write_input_boolean(out: &mut Vec<u8>, o: &InputBoolean) -> Result<(), AllocError>
-    ensures { OnOk result (out.new.items ≡ written out.old.items (fields input_boolean) (values input_boolean o.now)) }
+    ensures written { OnOk result (out.new.items ≡ written out.old.items (fields input_boolean) (values input_boolean o.now)) }
+    ensures shaped { OnOk result (Shaped (fields input_boolean) no_counts (values input_boolean o.now)) }
+    ensures proper { OnOk result (Proper (fields input_boolean) (values input_boolean o.now)) }
+    ensures back { OnOk result (input_boolean_from (values input_boolean o.now) ≡ Some o.now) }
 {
     put_u8(out, o.colour)?;
     put_u16(out, o.width)?;
@@ -93,7 +96,10 @@ pub fn write_input_string<B: AsSlice<u8>>(
     out: &mut Vec<u8>,
     o: &InputString<B>,
 ) -> Result<(), AllocError>
-    ensures { OnOk result (out.new.items ≡ written out.old.items (fields (input_string {B = List ℕ})) (values input_string o.now)) }
+    ensures written { OnOk result (out.new.items ≡ written out.old.items (fields (input_string {B = List ℕ})) (values input_string o.now)) }
+    ensures shaped { OnOk result (Shaped (fields (input_string {B = List ℕ})) no_counts (values input_string o.now)) }
+    ensures proper { OnOk result (Proper (fields (input_string {B = List ℕ})) (values input_string o.now)) }
+    ensures back { OnOk result (input_string_from (values input_string o.now) ≡ Some (seen_input_string o.now)) }
 {
     put_u16(out, o.width)?;
     put_u16(out, o.height)?;
@@ -105,7 +111,7 @@ pub fn write_input_string<B: AsSlice<u8>>(
     put_u8(out, o.justification)?;
     let text = o.text.as_slice();
     put_u8(out, text.len() as u8)?;
-    out.extend_from_slice(text)?;
+    put_bytes(out, text)?;
     put_u8(out, o.enabled)?;
     put_u8(out, o.macros.len())?;
     put_entries(out, &o.macros)?;
@@ -160,7 +166,10 @@ pub fn read_input_number(alloc: Global, reader: &mut Reader<'_>) -> Result<Input
 }
 
 pub fn write_input_number(out: &mut Vec<u8>, o: &InputNumber) -> Result<(), AllocError>
-    ensures { OnOk result (out.new.items ≡ written out.old.items (fields input_number) (values input_number o.now)) }
+    ensures written { OnOk result (out.new.items ≡ written out.old.items (fields input_number) (values input_number o.now)) }
+    ensures shaped { OnOk result (Shaped (fields input_number) no_counts (values input_number o.now)) }
+    ensures proper { OnOk result (Proper (fields input_number) (values input_number o.now)) }
+    ensures back { OnOk result (input_number_from (values input_number o.now) ≡ Some o.now) }
 {
     put_u16(out, o.width)?;
     put_u16(out, o.height)?;
@@ -207,7 +216,10 @@ pub fn read_input_list(alloc: Global, reader: &mut Reader<'_>) -> Result<InputLi
 }
 
 pub fn write_input_list(out: &mut Vec<u8>, o: &InputList) -> Result<(), AllocError>
-    ensures { OnOk result (out.new.items ≡ written out.old.items (fields input_list) (values input_list o.now)) }
+    ensures written { OnOk result (out.new.items ≡ written out.old.items (fields input_list) (values input_list o.now)) }
+    ensures shaped { OnOk result (Shaped (fields input_list) no_counts (values input_list o.now)) }
+    ensures proper { OnOk result (Proper (fields input_list) (values input_list o.now)) }
+    ensures back { OnOk result (input_list_from (values input_list o.now) ≡ Some o.now) }
 {
     put_u16(out, o.width)?;
     put_u16(out, o.height)?;

@@ -1,7 +1,7 @@
 //! The records of soft key masks, keys and buttons.
 
 ghost use Rattle.std.specs.Prelude.{◌≡◌, IfOk, OnOk, Some};
-ghost use Rattle.vt_objects.specs.Layout.{fields, values, no_counts};
+ghost use Rattle.vt_objects.specs.Layout.{Shaped, Proper, fields, values, no_counts};
 ghost use Rattle.vt_objects.specs.Tables.{soft_key_mask, key, button};
 ghost use Rattle.vt_objects.specs.FromValues.{soft_key_mask_from, key_from, button_from};
 ghost use Rattle.vt_pool.specs.Reading.{Gives, values_at};
@@ -31,7 +31,10 @@ pub fn read_soft_key_mask(alloc: Global, reader: &mut Reader<'_>) -> Result<Soft
 }
 
 pub fn write_soft_key_mask(out: &mut Vec<u8>, o: &SoftKeyMask) -> Result<(), AllocError>
-    ensures { OnOk result (out.new.items ≡ written out.old.items (fields soft_key_mask) (values soft_key_mask o.now)) }
+    ensures written { OnOk result (out.new.items ≡ written out.old.items (fields soft_key_mask) (values soft_key_mask o.now)) }
+    ensures shaped { OnOk result (Shaped (fields soft_key_mask) no_counts (values soft_key_mask o.now)) }
+    ensures proper { OnOk result (Proper (fields soft_key_mask) (values soft_key_mask o.now)) }
+    ensures back { OnOk result (soft_key_mask_from (values soft_key_mask o.now) ≡ Some o.now) }
 {
     put_u8(out, o.colour)?;
     put_u8(out, o.keys.len())?;
@@ -60,7 +63,10 @@ pub fn read_key(alloc: Global, reader: &mut Reader<'_>) -> Result<Key, Stop>
 }
 
 pub fn write_key(out: &mut Vec<u8>, o: &Key) -> Result<(), AllocError>
-    ensures { OnOk result (out.new.items ≡ written out.old.items (fields key) (values key o.now)) }
+    ensures written { OnOk result (out.new.items ≡ written out.old.items (fields key) (values key o.now)) }
+    ensures shaped { OnOk result (Shaped (fields key) no_counts (values key o.now)) }
+    ensures proper { OnOk result (Proper (fields key) (values key o.now)) }
+    ensures back { OnOk result (key_from (values key o.now) ≡ Some o.now) }
 {
     put_u8(out, o.colour)?;
     put_u8(out, o.key_code)?;
@@ -98,7 +104,10 @@ pub fn read_button(alloc: Global, reader: &mut Reader<'_>) -> Result<Button, Sto
 }
 
 pub fn write_button(out: &mut Vec<u8>, o: &Button) -> Result<(), AllocError>
-    ensures { OnOk result (out.new.items ≡ written out.old.items (fields button) (values button o.now)) }
+    ensures written { OnOk result (out.new.items ≡ written out.old.items (fields button) (values button o.now)) }
+    ensures shaped { OnOk result (Shaped (fields button) no_counts (values button o.now)) }
+    ensures proper { OnOk result (Proper (fields button) (values button o.now)) }
+    ensures back { OnOk result (button_from (values button o.now) ≡ Some o.now) }
 {
     put_u16(out, o.width)?;
     put_u16(out, o.height)?;

@@ -1,7 +1,7 @@
 //! The records of macros.
 
 ghost use Rattle.std.specs.Prelude.{◌≡◌, ℕ, List, IfOk, OnOk, Some};
-ghost use Rattle.vt_objects.specs.Layout.{fields, values, no_counts};
+ghost use Rattle.vt_objects.specs.Layout.{Shaped, Proper, fields, values, no_counts};
 ghost use Rattle.vt_objects.specs.Tables.{macro_object};
 ghost use Rattle.vt_objects.specs.FromValues.{macro_object_from};
 ghost use Rattle.vt_objects.specs.Records.{seen_macro_object};
@@ -10,7 +10,7 @@ ghost use Rattle.vt_pool.specs.Writing.{written};
 
 use crate::reader::Reader;
 use crate::stop::Stop;
-use crate::write::put_u16;
+use crate::write::{put_bytes, put_u16};
 use std::alloc::AllocError;
 use std::convert::AsSlice;
 use vt_objects::Macro;
@@ -25,10 +25,13 @@ pub fn read_macro_object<'a>(reader: &mut Reader<'a>) -> Result<Macro<&'a [u8]>,
 }
 
 pub fn write_macro_object<B: AsSlice<u8>>(out: &mut Vec<u8>, o: &Macro<B>) -> Result<(), AllocError>
-    ensures { OnOk result (out.new.items ≡ written out.old.items (fields (macro_object {B = List ℕ})) (values macro_object o.now)) }
+    ensures written { OnOk result (out.new.items ≡ written out.old.items (fields (macro_object {B = List ℕ})) (values macro_object o.now)) }
+    ensures shaped { OnOk result (Shaped (fields (macro_object {B = List ℕ})) no_counts (values macro_object o.now)) }
+    ensures proper { OnOk result (Proper (fields (macro_object {B = List ℕ})) (values macro_object o.now)) }
+    ensures back { OnOk result (macro_object_from (values macro_object o.now) ≡ Some (seen_macro_object o.now)) }
 {
     let bytes = o.bytes.as_slice();
     put_u16(out, bytes.len() as u16)?;
-    out.extend_from_slice(bytes)?;
+    put_bytes(out, bytes)?;
     Ok(())
 }

@@ -1,7 +1,7 @@
 //! The records of output fields.
 
 ghost use Rattle.std.specs.Prelude.{◌≡◌, ℕ, List, IfOk, OnOk, Some};
-ghost use Rattle.vt_objects.specs.Layout.{fields, values, no_counts};
+ghost use Rattle.vt_objects.specs.Layout.{Shaped, Proper, fields, values, no_counts};
 ghost use Rattle.vt_objects.specs.Tables.{output_string, output_number};
 ghost use Rattle.vt_objects.specs.FromValues.{output_string_from, output_number_from};
 ghost use Rattle.vt_objects.specs.Records.{seen_output_string};
@@ -12,7 +12,7 @@ ghost use Rattle.vt_pool.specs.Writing.{written};
 use crate::entry::{entries, put_entries};
 use crate::reader::Reader;
 use crate::stop::Stop;
-use crate::write::{put_i32, put_id, put_scale, put_u8, put_u16, put_u32};
+use crate::write::{put_bytes, put_i32, put_id, put_scale, put_u8, put_u16, put_u32};
 use std::alloc::{AllocError, Global};
 use std::convert::AsSlice;
 use vt_objects::{Decimals, OutputNumber, OutputString, Scale};
@@ -52,7 +52,10 @@ pub fn write_output_string<B: AsSlice<u8>>(
     out: &mut Vec<u8>,
     o: &OutputString<B>,
 ) -> Result<(), AllocError>
-    ensures { OnOk result (out.new.items ≡ written out.old.items (fields (output_string {B = List ℕ})) (values output_string o.now)) }
+    ensures written { OnOk result (out.new.items ≡ written out.old.items (fields (output_string {B = List ℕ})) (values output_string o.now)) }
+    ensures shaped { OnOk result (Shaped (fields (output_string {B = List ℕ})) no_counts (values output_string o.now)) }
+    ensures proper { OnOk result (Proper (fields (output_string {B = List ℕ})) (values output_string o.now)) }
+    ensures back { OnOk result (output_string_from (values output_string o.now) ≡ Some (seen_output_string o.now)) }
 {
     put_u16(out, o.width)?;
     put_u16(out, o.height)?;
@@ -63,7 +66,7 @@ pub fn write_output_string<B: AsSlice<u8>>(
     put_u8(out, o.justification)?;
     let text = o.text.as_slice();
     put_u16(out, text.len() as u16)?;
-    out.extend_from_slice(text)?;
+    put_bytes(out, text)?;
     put_u8(out, o.macros.len())?;
     put_entries(out, &o.macros)?;
     Ok(())
@@ -111,7 +114,10 @@ pub fn read_output_number(alloc: Global, reader: &mut Reader<'_>) -> Result<Outp
 }
 
 pub fn write_output_number(out: &mut Vec<u8>, o: &OutputNumber) -> Result<(), AllocError>
-    ensures { OnOk result (out.new.items ≡ written out.old.items (fields output_number) (values output_number o.now)) }
+    ensures written { OnOk result (out.new.items ≡ written out.old.items (fields output_number) (values output_number o.now)) }
+    ensures shaped { OnOk result (Shaped (fields output_number) no_counts (values output_number o.now)) }
+    ensures proper { OnOk result (Proper (fields output_number) (values output_number o.now)) }
+    ensures back { OnOk result (output_number_from (values output_number o.now) ≡ Some o.now) }
 {
     put_u16(out, o.width)?;
     put_u16(out, o.height)?;

@@ -1,7 +1,7 @@
 //! The records of pictures.
 
 ghost use Rattle.std.specs.Prelude.{◌≡◌, ℕ, List, IfOk, OnOk, Some};
-ghost use Rattle.vt_objects.specs.Layout.{fields, values, no_counts};
+ghost use Rattle.vt_objects.specs.Layout.{Shaped, Proper, fields, values, no_counts};
 ghost use Rattle.vt_objects.specs.Tables.{picture};
 ghost use Rattle.vt_objects.specs.FromValues.{picture_from};
 ghost use Rattle.vt_objects.specs.Records.{seen_picture};
@@ -11,7 +11,7 @@ ghost use Rattle.vt_pool.specs.Writing.{written};
 use crate::entry::{entries, put_entries};
 use crate::reader::Reader;
 use crate::stop::Stop;
-use crate::write::{put_u8, put_u16, put_u32};
+use crate::write::{put_bytes, put_u8, put_u16, put_u32};
 use std::alloc::{AllocError, Global};
 use std::convert::AsSlice;
 use vt_objects::Picture;
@@ -43,7 +43,10 @@ pub fn read_picture<'a>(alloc: Global, reader: &mut Reader<'a>) -> Result<Pictur
 }
 
 pub fn write_picture<B: AsSlice<u8>>(out: &mut Vec<u8>, o: &Picture<B>) -> Result<(), AllocError>
-    ensures { OnOk result (out.new.items ≡ written out.old.items (fields (picture {B = List ℕ})) (values picture o.now)) }
+    ensures written { OnOk result (out.new.items ≡ written out.old.items (fields (picture {B = List ℕ})) (values picture o.now)) }
+    ensures shaped { OnOk result (Shaped (fields (picture {B = List ℕ})) no_counts (values picture o.now)) }
+    ensures proper { OnOk result (Proper (fields (picture {B = List ℕ})) (values picture o.now)) }
+    ensures back { OnOk result (picture_from (values picture o.now) ≡ Some (seen_picture o.now)) }
 {
     put_u16(out, o.width)?;
     put_u16(out, o.actual_width)?;
@@ -54,7 +57,7 @@ pub fn write_picture<B: AsSlice<u8>>(out: &mut Vec<u8>, o: &Picture<B>) -> Resul
     let bytes = o.bytes.as_slice();
     put_u32(out, bytes.len() as u32)?;
     put_u8(out, o.macros.len())?;
-    out.extend_from_slice(bytes)?;
+    put_bytes(out, bytes)?;
     put_entries(out, &o.macros)?;
     Ok(())
 }

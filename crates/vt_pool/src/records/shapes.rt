@@ -1,7 +1,7 @@
 //! The records of output shapes.
 
 ghost use Rattle.std.specs.Prelude.{◌≡◌, IfOk, OnOk, Some};
-ghost use Rattle.vt_objects.specs.Layout.{fields, values, no_counts};
+ghost use Rattle.vt_objects.specs.Layout.{Shaped, Proper, fields, values, no_counts};
 ghost use Rattle.vt_objects.specs.Tables.{line, rectangle, ellipse, polygon};
 ghost use Rattle.vt_objects.specs.FromValues.{line_from, rectangle_from, ellipse_from, polygon_from};
 ghost use Rattle.vt_pool.specs.Reading.{Gives, values_at};
@@ -34,7 +34,10 @@ pub fn read_line(alloc: Global, reader: &mut Reader<'_>) -> Result<Line, Stop>
 }
 
 pub fn write_line(out: &mut Vec<u8>, o: &Line) -> Result<(), AllocError>
-    ensures { OnOk result (out.new.items ≡ written out.old.items (fields line) (values line o.now)) }
+    ensures written { OnOk result (out.new.items ≡ written out.old.items (fields line) (values line o.now)) }
+    ensures shaped { OnOk result (Shaped (fields line) no_counts (values line o.now)) }
+    ensures proper { OnOk result (Proper (fields line) (values line o.now)) }
+    ensures back { OnOk result (line_from (values line o.now) ≡ Some o.now) }
 {
     put_id(out, o.line_attributes)?;
     put_u16(out, o.width)?;
@@ -67,7 +70,10 @@ pub fn read_rectangle(alloc: Global, reader: &mut Reader<'_>) -> Result<Rectangl
 }
 
 pub fn write_rectangle(out: &mut Vec<u8>, o: &Rectangle) -> Result<(), AllocError>
-    ensures { OnOk result (out.new.items ≡ written out.old.items (fields rectangle) (values rectangle o.now)) }
+    ensures written { OnOk result (out.new.items ≡ written out.old.items (fields rectangle) (values rectangle o.now)) }
+    ensures shaped { OnOk result (Shaped (fields rectangle) no_counts (values rectangle o.now)) }
+    ensures proper { OnOk result (Proper (fields rectangle) (values rectangle o.now)) }
+    ensures back { OnOk result (rectangle_from (values rectangle o.now) ≡ Some o.now) }
 {
     put_id(out, o.line_attributes)?;
     put_u16(out, o.width)?;
@@ -105,7 +111,10 @@ pub fn read_ellipse(alloc: Global, reader: &mut Reader<'_>) -> Result<Ellipse, S
 }
 
 pub fn write_ellipse(out: &mut Vec<u8>, o: &Ellipse) -> Result<(), AllocError>
-    ensures { OnOk result (out.new.items ≡ written out.old.items (fields ellipse) (values ellipse o.now)) }
+    ensures written { OnOk result (out.new.items ≡ written out.old.items (fields ellipse) (values ellipse o.now)) }
+    ensures shaped { OnOk result (Shaped (fields ellipse) no_counts (values ellipse o.now)) }
+    ensures proper { OnOk result (Proper (fields ellipse) (values ellipse o.now)) }
+    ensures back { OnOk result (ellipse_from (values ellipse o.now) ≡ Some o.now) }
 {
     put_id(out, o.line_attributes)?;
     put_u16(out, o.width)?;
@@ -144,7 +153,10 @@ pub fn read_polygon(alloc: Global, reader: &mut Reader<'_>) -> Result<Polygon, S
 }
 
 pub fn write_polygon(out: &mut Vec<u8>, o: &Polygon) -> Result<(), AllocError>
-    ensures { OnOk result (out.new.items ≡ written out.old.items (fields polygon) (values polygon o.now)) }
+    ensures written { OnOk result (out.new.items ≡ written out.old.items (fields polygon) (values polygon o.now)) }
+    ensures shaped { OnOk result (Shaped (fields polygon) no_counts (values polygon o.now)) }
+    ensures proper { OnOk result (Proper (fields polygon) (values polygon o.now)) }
+    ensures back { OnOk result (polygon_from (values polygon o.now) ≡ Some o.now) }
 {
     put_u16(out, o.width)?;
     put_u16(out, o.height)?;

@@ -1,7 +1,7 @@
 //! The records of variables and pointers.
 
 ghost use Rattle.std.specs.Prelude.{◌≡◌, ℕ, List, IfOk, OnOk, Some};
-ghost use Rattle.vt_objects.specs.Layout.{fields, values, no_counts};
+ghost use Rattle.vt_objects.specs.Layout.{Shaped, Proper, fields, values, no_counts};
 ghost use Rattle.vt_objects.specs.Tables.{number_variable, string_variable, object_pointer};
 ghost use Rattle.vt_objects.specs.FromValues.{number_variable_from, string_variable_from, object_pointer_from};
 ghost use Rattle.vt_objects.specs.Records.{seen_string_variable};
@@ -10,7 +10,7 @@ ghost use Rattle.vt_pool.specs.Writing.{written};
 
 use crate::reader::Reader;
 use crate::stop::Stop;
-use crate::write::{put_id, put_u16, put_u32};
+use crate::write::{put_bytes, put_id, put_u16, put_u32};
 use std::alloc::AllocError;
 use std::convert::AsSlice;
 use vt_objects::{NumberVariable, ObjectPointer, StringVariable};
@@ -24,7 +24,10 @@ pub fn read_number_variable(reader: &mut Reader<'_>) -> Result<NumberVariable, S
 }
 
 pub fn write_number_variable(out: &mut Vec<u8>, o: &NumberVariable) -> Result<(), AllocError>
-    ensures { OnOk result (out.new.items ≡ written out.old.items (fields number_variable) (values number_variable o.now)) }
+    ensures written { OnOk result (out.new.items ≡ written out.old.items (fields number_variable) (values number_variable o.now)) }
+    ensures shaped { OnOk result (Shaped (fields number_variable) no_counts (values number_variable o.now)) }
+    ensures proper { OnOk result (Proper (fields number_variable) (values number_variable o.now)) }
+    ensures back { OnOk result (number_variable_from (values number_variable o.now) ≡ Some o.now) }
 {
     put_u32(out, o.value)?;
     Ok(())
@@ -43,11 +46,14 @@ pub fn write_string_variable<B: AsSlice<u8>>(
     out: &mut Vec<u8>,
     o: &StringVariable<B>,
 ) -> Result<(), AllocError>
-    ensures { OnOk result (out.new.items ≡ written out.old.items (fields (string_variable {B = List ℕ})) (values string_variable o.now)) }
+    ensures written { OnOk result (out.new.items ≡ written out.old.items (fields (string_variable {B = List ℕ})) (values string_variable o.now)) }
+    ensures shaped { OnOk result (Shaped (fields (string_variable {B = List ℕ})) no_counts (values string_variable o.now)) }
+    ensures proper { OnOk result (Proper (fields (string_variable {B = List ℕ})) (values string_variable o.now)) }
+    ensures back { OnOk result (string_variable_from (values string_variable o.now) ≡ Some (seen_string_variable o.now)) }
 {
     let text = o.text.as_slice();
     put_u16(out, text.len() as u16)?;
-    out.extend_from_slice(text)?;
+    put_bytes(out, text)?;
     Ok(())
 }
 
@@ -60,7 +66,10 @@ pub fn read_object_pointer(reader: &mut Reader<'_>) -> Result<ObjectPointer, Sto
 }
 
 pub fn write_object_pointer(out: &mut Vec<u8>, o: &ObjectPointer) -> Result<(), AllocError>
-    ensures { OnOk result (out.new.items ≡ written out.old.items (fields object_pointer) (values object_pointer o.now)) }
+    ensures written { OnOk result (out.new.items ≡ written out.old.items (fields object_pointer) (values object_pointer o.now)) }
+    ensures shaped { OnOk result (Shaped (fields object_pointer) no_counts (values object_pointer o.now)) }
+    ensures proper { OnOk result (Proper (fields object_pointer) (values object_pointer o.now)) }
+    ensures back { OnOk result (object_pointer_from (values object_pointer o.now) ≡ Some o.now) }
 {
     put_id(out, o.value)?;
     Ok(())

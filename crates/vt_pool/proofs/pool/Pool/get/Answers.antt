@@ -6,10 +6,10 @@ use Rattle.vt_pool.proofs.pool.Pool.get.Goals as goal
 
 pub returns-in-None : goal.returns-in-None
 returns-in-None c =
-    got_none c.args.id c.self.inside.objects.items c.self.inside.places.keys c.self.invariant (sym c.in-None.ensures.index)
+    got_none c.args.id c.self.inside.objects.items c.self.inside.places.keys c.self.invariant.0 (sym c.in-None.ensures.index)
     ∙ ap (λ (es : List Entry). finite.get (contents es) c.args.id) c.self.view_is
 
 pub returns-in-Some : goal.returns-in-Some
 returns-in-Some c =
-    got_some c.args.id c.self.inside.objects.items c.self.inside.places.keys c.in-Some.place c.index.result.now c.self.invariant (sym c.in-Some.ensures.index) c.index.ensures
+    got_some c.args.id c.self.inside.objects.items c.self.inside.places.keys c.in-Some.place c.index.result.now c.self.invariant.0 (sym c.in-Some.ensures.index) c.index.ensures
     ∙ ap (λ (es : List Entry). finite.get (contents es) c.args.id) c.self.view_is

@@ -5,6 +5,7 @@ use Rattle.vt_objects.specs.Stores.{shown}
 use Rattle.vt_pool.specs.Pools.{Entry}
 use Rattle.vt_pool.specs.Places.{with_entry}
 use Rattle.vt_pool.proofs.InPlace.{shown_set, shown_push, same_ids}
+use Rattle.vt_pool.proofs.Again.{objects_with}
 use Rattle.vt_pool.proofs.pool.Pool.put.Goals as goal
 
 not_is : (b t : Bool) → b ≡ not t → t ≡ not b
@@ -17,8 +18,11 @@ invariant_of-self-else-is_new c =
     let keys = c.self.inside.places.keys in
     let any : list_any (eqb c.args.id) keys ≡ true = not_is _ _ c.in_ok-place.ensures.added ∙ ap not c.if-is_new.false in
     let left = c.replace.ensures ∙ ap (λ (l : List _). set l c.in_ok-place.place (c.args.id, c.args.object)) c.in_ok-reserve.ensures.items in
-    same_ids keys c.insert_full.new.self.keys (map shown items) _ c.args.id (seen c.args.object) c.self.invariant c.in_ok-place.ensures.keys
-    (ap (map shown) left ∙ shown_set items keys c.args.id c.in_ok-place.place c.args.object c.self.invariant c.in_ok-place.ensures.index any)
+    let gives = ap (map shown) left ∙ shown_set items keys c.args.id c.in_ok-place.place c.args.object c.self.invariant.0 c.in_ok-place.ensures.index any in
+    (
+      same_ids keys c.insert_full.new.self.keys (map shown items) _ c.args.id (seen c.args.object) c.self.invariant.0 c.in_ok-place.ensures.keys gives,
+      objects_with (map shown items) _ c.args.id (seen c.args.object) c.self.invariant.1 c.requires gives,
+    )
 
 pub returns-in_ok-push-clause-ok : goal.returns-in_ok-push-clause-ok
 returns-in_ok-push-clause-ok c =
@@ -26,7 +30,7 @@ returns-in_ok-push-clause-ok c =
     let keys = c.self.inside.places.keys in
     let none : list_any (eqb c.args.id) keys ≡ false = not_is _ _ c.in_ok-place.ensures.added ∙ ap not c.if-is_new.true in
     let left = c.in_ok-push.ensures.items ∙ ap (λ (l : List _). l ++ (c.args.id, c.args.object) ∷ []) c.in_ok-reserve.ensures.items in
-    ap (map shown) left ∙ shown_push items keys c.args.id c.args.object c.self.invariant none
+    ap (map shown) left ∙ shown_push items keys c.args.id c.args.object c.self.invariant.0 none
     ∙ ap (λ (es : List Entry). with_entry es c.args.id (seen c.args.object)) c.self.view_is
 
 pub returns-else-is_new-clause-ok : goal.returns-else-is_new-clause-ok
@@ -35,5 +39,5 @@ returns-else-is_new-clause-ok c =
     let keys = c.self.inside.places.keys in
     let any : list_any (eqb c.args.id) keys ≡ true = not_is _ _ c.in_ok-place.ensures.added ∙ ap not c.if-is_new.false in
     let left = c.replace.ensures ∙ ap (λ (l : List _). set l c.in_ok-place.place (c.args.id, c.args.object)) c.in_ok-reserve.ensures.items in
-    ap (map shown) left ∙ shown_set items keys c.args.id c.in_ok-place.place c.args.object c.self.invariant c.in_ok-place.ensures.index any
+    ap (map shown) left ∙ shown_set items keys c.args.id c.in_ok-place.place c.args.object c.self.invariant.0 c.in_ok-place.ensures.index any
     ∙ ap (λ (es : List Entry). with_entry es c.args.id (seen c.args.object)) c.self.view_is

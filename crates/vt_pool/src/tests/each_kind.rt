@@ -1,0 +1,147 @@
+//! One record of each kind, 0 to 28, under the IDs 256 to 284.
+
+use crate::{PoolFault, read_pool, write_object};
+use std::test::Fail;
+
+// The records by kind, as the table of records lays them out.
+const RECORDS: [&[u8]; 29] = [
+    // Working Set
+    &[
+        0, 1, 0, 16, 17, 18, 19, 1, 1, 2, 20, 21, 22, 23, 24, 25, 26, 27, 28, 29, 30, 31,
+    ],
+    // Data Mask
+    &[
+        1, 1, 1, 16, 17, 18, 2, 2, 19, 20, 21, 22, 23, 24, 25, 26, 27, 28, 29, 30, 31, 32, 33, 34,
+    ],
+    // Alarm Mask
+    &[
+        2, 1, 2, 16, 17, 18, 19, 20, 2, 1, 21, 22, 23, 24, 25, 26, 27, 28, 29, 30, 31, 32, 33, 34,
+    ],
+    // Container
+    &[
+        3, 1, 3, 16, 17, 18, 19, 20, 2, 2, 21, 22, 23, 24, 25, 26, 27, 28, 29, 30, 31, 32, 33, 34,
+        35, 36,
+    ],
+    // Soft Key Mask
+    &[4, 1, 4, 16, 2, 1, 17, 18, 19, 20, 21, 22],
+    // Key
+    &[
+        5, 1, 5, 16, 17, 2, 2, 18, 19, 20, 21, 22, 23, 24, 25, 26, 27, 28, 29, 30, 31, 32, 33,
+    ],
+    // Button
+    &[
+        6, 1, 6, 16, 17, 18, 19, 20, 21, 22, 23, 2, 1, 24, 25, 26, 27, 28, 29, 30, 31, 32, 33, 34,
+        35, 36, 37,
+    ],
+    // Input Boolean
+    &[
+        7, 1, 7, 16, 17, 18, 19, 20, 21, 22, 23, 24, 2, 25, 26, 27, 28,
+    ],
+    // Input String
+    &[
+        8, 1, 8, 16, 17, 18, 19, 20, 21, 22, 23, 24, 25, 26, 27, 28, 3, 29, 30, 31, 32, 1, 33, 34,
+    ],
+    // Input Number
+    &[
+        9, 1, 9, 16, 17, 18, 19, 20, 21, 22, 23, 24, 25, 26, 27, 28, 29, 30, 31, 32, 33, 34, 35,
+        36, 37, 38, 39, 40, 41, 205, 204, 204, 61, 5, 42, 43, 44, 2, 45, 46, 47, 48,
+    ],
+    // Input List
+    &[
+        10, 1, 10, 16, 17, 18, 19, 20, 21, 22, 2, 23, 1, 24, 25, 26, 27, 28, 29,
+    ],
+    // Output String
+    &[
+        11, 1, 11, 16, 17, 18, 19, 20, 21, 22, 23, 24, 25, 26, 2, 0, 27, 28, 2, 29, 30, 31, 32,
+    ],
+    // Output Number
+    &[
+        12, 1, 12, 16, 17, 18, 19, 20, 21, 22, 23, 24, 25, 26, 27, 28, 29, 30, 31, 32, 33, 205,
+        204, 204, 61, 5, 34, 35, 1, 36, 37,
+    ],
+    // Line
+    &[13, 1, 13, 16, 17, 18, 19, 20, 21, 22, 2, 23, 24, 25, 26],
+    // Rectangle
+    &[14, 1, 14, 16, 17, 18, 19, 20, 21, 22, 23, 24, 1, 25, 26],
+    // Ellipse
+    &[
+        15, 1, 15, 16, 17, 18, 19, 20, 21, 22, 23, 24, 25, 26, 2, 27, 28, 29, 30,
+    ],
+    // Polygon
+    &[
+        16, 1, 16, 16, 17, 18, 19, 20, 21, 22, 23, 24, 3, 1, 25, 26, 27, 28, 29, 30, 31, 32, 33,
+        34, 35, 36, 37, 38,
+    ],
+    // Meter
+    &[
+        17, 1, 17, 16, 17, 18, 19, 20, 21, 22, 23, 24, 25, 26, 27, 28, 29, 30, 31, 32, 2, 33, 34,
+        35, 36,
+    ],
+    // Linear Bar
+    &[
+        18, 1, 18, 16, 17, 18, 19, 20, 21, 22, 23, 24, 25, 26, 27, 28, 29, 30, 31, 32, 33, 34, 35,
+        1, 36, 37,
+    ],
+    // Arched Bar
+    &[
+        19, 1, 19, 16, 17, 18, 19, 20, 21, 22, 23, 24, 25, 26, 27, 28, 29, 30, 31, 32, 33, 34, 35,
+        36, 37, 38, 2, 39, 40, 41, 42,
+    ],
+    // Picture
+    &[
+        20, 1, 20, 16, 17, 18, 19, 20, 21, 22, 23, 24, 5, 0, 0, 0, 1, 25, 26, 27, 28, 29, 30, 31,
+    ],
+    // Number Variable
+    &[21, 1, 21, 16, 17, 18, 19],
+    // String Variable
+    &[22, 1, 22, 4, 0, 16, 17, 18, 19],
+    // Font
+    &[23, 1, 23, 16, 17, 18, 19, 2, 20, 21, 22, 23],
+    // Line Attributes
+    &[24, 1, 24, 16, 17, 18, 19, 1, 20, 21],
+    // Fill Attributes
+    &[25, 1, 25, 16, 17, 18, 19, 2, 20, 21, 22, 23],
+    // Input Attributes
+    &[26, 1, 26, 16, 1, 17, 1, 18, 19],
+    // Object Pointer
+    &[27, 1, 27, 16, 17],
+    // Macro
+    &[28, 1, 28, 8, 0, 16, 17, 18, 19, 20, 21, 22, 23],
+];
+
+#[test]
+fn written_as_they_were_read(rt: HostRuntime) -> Result<(), Fail> {
+    let mut bytes = Vec::new(rt.alloc());
+    for record in RECORDS {
+        bytes.extend_from_slice(record)?;
+    }
+    let pool = read_pool(rt.alloc(), &bytes)?;
+    assert_eq!(rt; pool.objects().len(), RECORDS.len());
+    let mut out = Vec::new(rt.alloc());
+    for (index, (id, object)) in pool.objects().iter().enumerate() {
+        assert_eq!(rt; usize::from(object.kind().number()), index);
+        assert!(rt; id.raw() < 0xFFFF);
+        write_object(rt.alloc(), *id, object, &mut out)?;
+    }
+    assert_eq!(rt; out.as_slice(), bytes.as_slice());
+    Ok(())
+}
+
+#[test]
+fn cut_at_each_byte(rt: HostRuntime) -> Result<(), Fail> {
+    let mut bytes = Vec::new(rt.alloc());
+    for record in RECORDS {
+        let at = bytes.len();
+        for (index, byte) in record.iter().enumerate() {
+            bytes.push(*byte)?;
+            let is_whole = index + 1 == record.len();
+            let want = if is_whole {
+                None
+            } else {
+                Some(PoolFault::Truncated { at })
+            };
+            assert_eq!(rt; read_pool(rt.alloc(), &bytes).err(), want);
+        }
+    }
+    Ok(())
+}
