@@ -15,6 +15,7 @@ test:
 build:
 	cd crates/vt_replay && rt run -- --version
 
-# Times the proved program on a million lines, read alone, and read and answered.
+# Times the proved program on a million lines, read alone, and read and answered, and pools written and read.
 bench: build
 	@bash scripts/bench.sh
+	@bash scripts/bench_pools.sh

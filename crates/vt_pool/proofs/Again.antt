@@ -1,14 +1,14 @@
 -- What was written is read again.
-use Rattle.std.proofs.Common.{◌≡◌, ◌≢◌, ℕ, ◌<◌, ◌-◌, ◌||◌, Bool, true, false, cond, eqb, not, List, [], ◌∷◌, ◌++◌, length, reverse, filter, Option, Some, None, refl, sym, ap, subst, ◌∙◌, arith}
+use Rattle.std.proofs.Common.{◌≡◌, ℕ, Bool, true, false, cond, eqb, not, List, [], ◌∷◌, ◌++◌, length, reverse, filter, Option, Some, None, refl, sym, ap, subst, ◌∙◌, arith}
 use Rattle.std.specs.List.{AllByRecursion, IsDistinct, list_any}
-use Rattle.std.proofs.lemmas.Bool.{eqb-true, eqb-false, ne_eqb, eq-eqb}
+use Rattle.std.proofs.lemmas.Bool.{eqb-true, eq-eqb}
 use Rattle.std.proofs.lemmas.Cmp.{nat_eq_equiv}
 use Rattle.std.proofs.lemmas.Map.Keys.{IsDistinct-head, IsDistinct-tail, IsDistinct-push}
 use Rattle.std.proofs.lemmas.List.{reverse-append}
 use Rattle.std.specs.FinMap as finite
 use Rattle.vt_objects.specs.Records.{Seen, HasRecord}
 use Rattle.vt_objects.specs.Stores.{Contents}
-use Rattle.vt_pool.specs.Pools.{Entry, joined, AreRecords, contents, first_occurrences, ids, AreObjects, IsInForce, WrittenIsRead}
+use Rattle.vt_pool.specs.Pools.{Entry, joined, AreRecords, first_occurrences, ids, AreObjects, IsInForce, WrittenIsRead}
 use Rattle.vt_pool.specs.Places.{with_entry}
 use Rattle.vt_pool.proofs.InPlace.{entry_at, get-contents, ids_with}
 use Rattle.vt_pool.proofs.Taken.{same_record}

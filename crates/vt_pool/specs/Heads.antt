@@ -32,7 +32,7 @@ abbrev pub ◌>>=◌ : {A B : Type 0} → Result A Stop → (A → Result B Stop
 (Ok x) >>= f = f x
 (Err e) >>= f = Err e
 
--- the types of auxiliary functions and inputs
+-- why a type that is no kind's is refused: 29 to 33 are those of auxiliary functions and inputs
 abbrev pub other_type : ℕ → Stop
 other_type n = if nat_le 29 n && nat_le n 33 then stops.LeftOutType else stops.UnknownType
 

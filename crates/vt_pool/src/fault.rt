@@ -9,7 +9,7 @@ pub enum PoolFault {
     /// The bytes end inside a record.
     #[error("fault 1 Truncated at {at}")]
     Truncated { at: usize },
-    /// A record has a type that no kind has.
+    /// A record has a type that no kind has, other than 29 to 33.
     #[error("fault 2 UnknownType at {at}")]
     UnknownType { at: usize },
     /// A record is of an auxiliary function or input, types 29 to 33.

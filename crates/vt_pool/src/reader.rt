@@ -10,7 +10,7 @@ use byteorder::{ByteOrder, LittleEndian};
 use std::marker::Model;
 use vt_objects::{LongText, MacroBytes, ObjectId, PictureBytes, ShortText};
 
-/// The bytes that are still to be read. After a fault they are as they were.
+/// The bytes that are still to be read.
 #[derive(Drop)]
 pub struct Reader<'a> {
     rest: &'a [u8],

@@ -6,6 +6,7 @@ use Rattle.clap.specs.Words.{Text, kind_of}
 use Rattle.clap.specs.declared.error.kind.ErrorKind.{ErrorKind}
 use Rattle.clap.specs.declared.error.kind.ErrorKind.TheVariants.{DisplayHelp, DisplayVersion}
 use Rattle.vt_objects.specs.Stores.{Contents}
+use Rattle.vt_pool.specs.declared.fault.PoolFault.{PoolFault}
 use Rattle.vt_pool.specs.Pools.{Entry, AreRecords, IsFault, contents, joined}
 use Rattle.vt_replay.specs.declared.counts.Counts.{Counts}
 use Rattle.vt_replay.specs.declared.fault.ReplayFault.TheVariants as replay_fault
@@ -119,9 +120,16 @@ pub record Replays (words : List Text) (files : Files) (old new : Option (List �
   pub given : WordsGive words options
   pub replayed : HasReplayed files options old new
 
--- The words ask for help, or give options.
-abbrev pub AreTaken : List Text → Type 0
-AreTaken words = Refuses words status.Done ⊎ ((options : Options) × WordsGive words options)
+-- The words give options with a pool, and its file has a fault.
+pub record HasFaultyPool (words : List Text) (files : Files) : Type 0 where
+  pub options : Options
+  pub given : WordsGive words options
+  pub why : PoolFault
+  pub faulty : IsSomeAnd options.preload (λ p. IsLoadFault files p (fault.Pool why))
+
+-- Help is to be printed, or the fault of a pool.
+abbrev pub HasToPrint : List Text → Files → Type 0
+HasToPrint words files = Refuses words status.Done ⊎ HasFaultyPool words files
 
 -- Which status a run ends with. Memory may run out at any words, and then it is Fault.
 abbrev pub Ends : List Text → Files → Option (List ℕ) → Option (List ℕ) → Status → Type 0

@@ -6,7 +6,7 @@ ghost use Rattle.vt_replay.specs.declared.program.Fault.TheVariants.{Memory};
 ghost use Rattle.vt_replay.specs.Terminals.{SetState};
 ghost use Rattle.vt_replay.specs.States.{state_of};
 ghost use Rattle.vt_replay.specs.Words.{AreApart, status_code};
-ghost use Rattle.vt_replay.specs.Runs.{AreTaken, Ends, EndsBy, HasReplayed, IsFaultOf, IsFileFault, IsLoadFault, IsSetOf, fault_line};
+ghost use Rattle.vt_replay.specs.Runs.{Ends, EndsBy, HasReplayed, HasToPrint, IsFaultOf, IsFileFault, IsLoadFault, IsSetOf, fault_line};
 
 use crate::fault::ReplayFault;
 use crate::options::{Options, Preload, Refusal};
@@ -94,8 +94,8 @@ pub fn run<S: AsStr, F: Open, W: Write, E: Write>(
     errors: &mut E,
 ) -> io::Result<Status>
     ensures ends { IfOk result (Ends (map S.text words.now) (F.file files.old) (W.contents out.old) (W.contents out.new)) }
-    // It fails only where it prints help, or the fault of a pool.
-    ensures fails { OnErr result (AreTaken (map S.text words.now)) }
+    // It fails only where it has to print help, or the fault of a pool.
+    ensures fails { OnErr result (HasToPrint (map S.text words.now) (F.file files.old)) }
 {
     let options = match Options::parse(alloc, words) {
         Ok(options) => options,

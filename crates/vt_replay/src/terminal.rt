@@ -70,7 +70,7 @@ impl Terminal {
         Ok(())
     }
 
-    /// Hears a frame. A command of the working set is answered; all else is ignored.
+    /// Hears a frame. A Hide/Show command of the working set is answered; all else is ignored.
     pub fn hear(&mut self, frame: &Frame) -> Option<Frame>
         ensures after { state_of self.new ≡ (step (state_of self.old) frame.now).after }
         ensures reply { option_to_list result ≡ (step (state_of self.old) frame.now).replies }

@@ -1,4 +1,4 @@
-use Rattle.std.proofs.Common.{◌≡◌, Option, Result, Ok, Err, ap}
+use Rattle.std.proofs.Common.{Option, Result, Ok, Err, ap}
 use Rattle.std.specs.Prelude.{OnOk}
 use Rattle.vt_objects.specs.declared.input_fields.InputNumber.{InputNumber}
 use Rattle.vt_objects.specs.declared.object.Object.TheVariants as objects

@@ -18,8 +18,7 @@ invariant_of-self-else-is_new c =
     let keys = c.self.inside.places.keys in
     let any : list_any (eqb c.args.id) keys ≡ true = not_is _ _ c.in_ok-place.ensures.added ∙ ap not c.if-is_new.false in
     let left = c.replace.ensures ∙ ap (λ (l : List _). set l c.in_ok-place.place (c.args.id, c.args.object)) c.in_ok-reserve.ensures.items in
-    let gives = ap (map shown) left ∙ shown_set items keys c.args.id c.in_ok-place.place c.args.object c.self.invariant.0 c.in_ok-place.ensures.index any in
-    (
+    let gives = ap (map shown) left ∙ shown_set items keys c.args.id c.in_ok-place.place c.args.object c.self.invariant.0 c.in_ok-place.ensures.index any in (
       same_ids keys c.insert_full.new.self.keys (map shown items) _ c.args.id (seen c.args.object) c.self.invariant.0 c.in_ok-place.ensures.keys gives,
       objects_with (map shown items) _ c.args.id (seen c.args.object) c.self.invariant.1 c.requires gives,
     )
