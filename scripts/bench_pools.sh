@@ -63,4 +63,8 @@ fn main(rt: HostRuntime) -> io::Result<()> {
 }
 PROGRAM
 cd "$work/crates/bench"
-rt run
+rt run >"$work/log" 2>&1 || {
+    cat "$work/log" >&2
+    exit 1
+}
+out/bench
