@@ -2,7 +2,7 @@
 
 ghost use Rattle.std.specs.Prelude.{◌≡◌, ℕ, List, IfOk, OnOk, IfErr, slice_index};
 ghost use Rattle.vt_rank.specs.Graphs.{Triggers};
-ghost use Rattle.vt_rank.specs.Paths.{AreRanks, RanksFall, HasNoCircle, IsCircle, IsLeastOnCircles};
+ghost use Rattle.vt_rank.specs.Paths.{AreRanks, RanksFall, HasNoCircle, IsCircle, IsDistinct, IsLeastOnCircles};
 ghost use Rattle.vt_rank.specs.declared.graph.Graph.{Graph as Network};
 
 use crate::circle::{Circle, least_circle};
@@ -43,8 +43,9 @@ pub fn rank(graph: &Graph) -> Result<Ranks, Circle>
     ensures falls { IfOk result (AreRanks graph.now) }
     ensures none { OnOk result (HasNoCircle graph.now) }
 
-    // The path is a circle, and begins with the least node that lies on any.
+    // The path is a circle, has no node twice, and begins with the least node that lies on any.
     ensures circle { IfErr result (λ c. IsCircle graph.now c.path.items) }
+    ensures once { IfErr result (λ c. IsDistinct c.path.items) }
     ensures least { IfErr result (λ c. IsLeastOnCircles graph.now (slice_index c.path.items 0)) }
 {
     let mut search = Search::new();
