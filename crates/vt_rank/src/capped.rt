@@ -25,8 +25,9 @@ pub fn costs(graph: &Graph, ranks: &Ranks, cap: u32) -> Result<Costs, OverBudget
 {
     let limit = u64::from(cap) + 1;
     let mut table = no_costs();
+    let mut most = None;
     for rank in 0..256usize {
-        fill(graph, ranks, rank as u8, limit, &mut table);
+        fill(graph, ranks, rank as u8, limit, &mut table, &mut most);
     }
     let costs = match nodes_within(&table, cap) {
         Ok(costs) => costs,
