@@ -18,6 +18,7 @@ pub struct Circle {
 }
 
 /// A circle through the least node that lies on any, where a node is known that lies on one.
+#[inline(never)]
 pub(crate) fn least_circle(graph: &Graph, known: u8) -> Circle
     requires { IsOnCircle graph.now known }
     ensures circle { IsCircle graph.now result.path.items }

@@ -16,12 +16,17 @@ pub(crate) struct Reach {
 }
 
 /// The least node that lies on a circle, where a node is known that lies on one.
+// Its table has eight kilobytes, which a graph without a circle does not pay for.
+#[inline(never)]
 pub(crate) fn least_on_circles(graph: &Graph, known: u8) -> u8
     requires { IsOnCircle graph.now known }
     ensures on { IsOnCircle graph.now result }
     ensures least { (n : ℕ) → n < result → IsOnCircle graph.now n → ⊥ }
 {
-    let mut reach = Reach::along_triggers(graph);
+    let mut reach = Reach {
+        rows: [NodeSet::new(); 256],
+    };
+    reach.write_triggers(graph);
     reach.close(graph);
     for node in 0..known {
         if reach.has(node, node) {
@@ -32,16 +37,14 @@ pub(crate) fn least_on_circles(graph: &Graph, known: u8) -> u8
 }
 
 impl Reach {
-    // From each node to those that it triggers.
-    fn along_triggers(graph: &Graph) -> Reach
-        ensures { (m : ℕ) → IsSetOf (row result.rows m) (triggered graph.now m) }
+    // Writes for each node those that it triggers.
+    fn write_triggers(&mut self, graph: &Graph)
+        ensures { (m : ℕ) → IsSetOf (row self.new.rows m) (triggered graph.now m) }
     {
         let most = targets_of_most(graph);
-        let mut rows = [NodeSet::new(); 256];
         for node in 0..256usize {
-            rows[node] = targets(graph, node as u8, &most);
+            self.rows[node] = targets(graph, node as u8, &most);
         }
-        Reach { rows }
     }
 
     // Makes paths of any length of single triggers, by joining them at each node.
