@@ -1,18 +1,13 @@
 -- Paths joined at one node after the other, until each has its pair.
-use Rattle.std.proofs.Common.{◌≡◌, ℕ, ◌+◌, ◌%◌, ◌<◌, ◌≤◌, ◌↔◌, inl, inr, Bool, false, eqb, List, [], ◌∷◌, ◌++◌, length, get_or, set, sym, ◌∙◌, subst, ap, append_assoc, arith, get_or-set_same, get_or-set_other}
-use Rattle.std.specs.List.{Contains, flat_map}
-use Rattle.std.specs.Int.{bit_at}
+use Rattle.std.proofs.Common.{◌≡◌, ℕ, ◌+◌, ◌%◌, ◌<◌, ◌≤◌, ◌↔◌, inl, inr, List, [], ◌∷◌, ◌++◌, length, set, sym, ◌∙◌, subst, ap, append_assoc, arith, get_or-set_same, get_or-set_other}
 use Rattle.std.proofs.lemmas.Bool.{cases_lt, cases_eq}
 use Rattle.std.proofs.lemmas.Nat.Bits.{bit_at-zero}
 use Rattle.std.proofs.lemmas.List.{get_or_past, length-set}
 use Rattle.vt_rank.specs.declared.graph.Graph.{Graph}
-use Rattle.vt_rank.specs.declared.graph.Item.{Item}
 use Rattle.vt_rank.specs.declared.node_set.NodeSet.{NodeSet}
-use Rattle.vt_rank.specs.declared.reach.Reach.{Reach}
-use Rattle.vt_rank.specs.Graphs.{Triggers, triggered, items_of, nodes_of}
-use Rattle.vt_rank.specs.Paths.{IsPath, IsOnCircle}
+use Rattle.vt_rank.specs.Graphs.{Triggers, triggered}
+use Rattle.vt_rank.specs.Paths.{IsPath}
 use Rattle.vt_rank.specs.NodeSets.{bit_of, IsIn, IsSetOf, IsJoined, row, Reaches, Leads}
-use Rattle.vt_rank.proofs.Members.{Contains-nil}
 use Rattle.vt_rank.proofs.Paths.{IsPath-join}
 use Rattle.vt_rank.proofs.Searching.{none_past}
 
@@ -87,13 +82,13 @@ rows_joined before now via node size all j m =
 
 -- ---- at one node after the other
 
-pub record IsClosing (g : Graph) (reach : Reach) (via : ℕ) : Type 0 where
-  pub sound : (m n : ℕ) → Reaches reach m n → Leads g m n
-  pub direct : (m n : ℕ) → Triggers g m n → Reaches reach m n
-  pub through : (m v n : ℕ) → v < via → Reaches reach m v → Reaches reach v n → Reaches reach m n
+pub record IsClosing (g : Graph) (rows : List NodeSet) (via : ℕ) : Type 0 where
+  pub sound : (m n : ℕ) → Reaches rows m n → Leads g m n
+  pub direct : (m n : ℕ) → Triggers g m n → Reaches rows m n
+  pub through : (m v n : ℕ) → v < via → Reaches rows m v → Reaches rows v n → Reaches rows m n
 
-pub closing_begins : (g : Graph) (reach : Reach) → ((m : ℕ) → IsSetOf (row reach.rows m) (triggered g m)) → IsClosing g reach 0
-closing_begins g reach are = record {
+pub closing_begins : (g : Graph) (rows : List NodeSet) → ((m : ℕ) → IsSetOf (row rows m) (triggered g m)) → IsClosing g rows 0
+closing_begins g rows are = record {
   sound = λ m n is. ([], ((are m n).0 is, tt));
   direct = λ m n t. (are m n).1 t;
   through = λ m v n none. absurd (omega (arith, none));
@@ -103,7 +98,7 @@ leads_on : (g : Graph) (m v n : ℕ) → Leads g m v → Leads g v n → Leads g
 leads_on g m v n first then_ =
     (first.0 ++ v ∷ then_.0, subst (IsPath g) (sym (append_assoc (m ∷ first.0) (v ∷ then_.0) (n ∷ []))) (IsPath-join g (m ∷ first.0) v (then_.0 ++ n ∷ []) first.1 then_.1))
 
-pub closing_more : (g : Graph) (before now : Reach) (via : ℕ) → IsClosing g before via → ((m : ℕ) → IsJoined (row before.rows m) (row now.rows m) (row before.rows via) via) → IsClosing g now (via + 1)
+pub closing_more : (g : Graph) (before now : List NodeSet) (via : ℕ) → IsClosing g before via → ((m : ℕ) → IsJoined (row before m) (row now m) (row before via) via) → IsClosing g now (via + 1)
 closing_more g before now via c are =
     let same = λ (m : ℕ) (is : Reaches now m via). elim ((are m).only via is) as (λ _. Reaches before m via) [ inl was ↦ was | inr joined ↦ joined.0 ] in
     let after = λ (n : ℕ) (is : Reaches now via n). elim ((are via).only n is) as (λ _. Reaches before via n) [ inl was ↦ was | inr joined ↦ joined.1 ] in
@@ -134,14 +129,14 @@ ends : (g : Graph) (z : ℕ) (zs : List ℕ) (n : ℕ) → 256 ≤ z → IsPath 
 ends g z [] n past h = none_past g z n past h.0
 ends g z (y ∷ ys) n past h = none_past g z y past h.0
 
-along : (g : Graph) (reach : Reach) (via : ℕ) → 256 ≤ via → IsClosing g reach via → (m : ℕ) (between : List ℕ) (n : ℕ) → IsPath g (m ∷ between ++ n ∷ []) → Reaches reach m n
-along g reach via all c m [] n h = c.direct m n h.0
-along g reach via all c m (z ∷ zs) n h =
-    let rest = along g reach via all c z zs n h.1 in
-    elim (cases_lt z via) as (λ _. Reaches reach m n) [
+along : (g : Graph) (rows : List NodeSet) (via : ℕ) → 256 ≤ via → IsClosing g rows via → (m : ℕ) (between : List ℕ) (n : ℕ) → IsPath g (m ∷ between ++ n ∷ []) → Reaches rows m n
+along g rows via all c m [] n h = c.direct m n h.0
+along g rows via all c m (z ∷ zs) n h =
+    let rest = along g rows via all c z zs n h.1 in
+    elim (cases_lt z via) as (λ _. Reaches rows m n) [
       | inl less ↦ c.through m z n less (c.direct m z h.0) rest
       | inr past ↦ absurd (ends g z zs n (omega (arith, all, past)) h.1)
     ]
 
-pub closed : (g : Graph) (reach : Reach) (via : ℕ) → 256 ≤ via → IsClosing g reach via → (m n : ℕ) → Reaches reach m n ↔ Leads g m n
-closed g reach via all c m n = (λ is. c.sound m n is, λ path. along g reach via all c m path.0 n path.1)
+pub closed : (g : Graph) (rows : List NodeSet) (via : ℕ) → 256 ≤ via → IsClosing g rows via → (m n : ℕ) → Reaches rows m n ↔ Leads g m n
+closed g rows via all c m n = (λ is. c.sound m n is, λ path. along g rows via all c m path.0 n path.1)

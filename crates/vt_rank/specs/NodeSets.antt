@@ -1,9 +1,8 @@
 -- Sets of nodes, and which nodes lead to which.
-use Rattle.std.specs.Prelude.{◌≡◌, ℕ, ◌/◌, ◌%◌, ◌⊎◌, ◌↔◌, List, [], ◌∷◌, ◌++◌, slice_index, slice_index_or, Contains, Bool, ◌==◌}
+use Rattle.std.specs.Prelude.{◌≡◌, ℕ, ◌/◌, ◌%◌, ◌⊎◌, ◌↔◌, List, [], ◌∷◌, ◌++◌, slice_index, slice_index_or, Contains}
 use Rattle.std.specs.Int.{bit_at}
 use Rattle.vt_rank.specs.declared.graph.Graph.{Graph}
 use Rattle.vt_rank.specs.declared.node_set.NodeSet.{NodeSet}
-use Rattle.vt_rank.specs.declared.reach.Reach.{Reach}
 use Rattle.vt_rank.specs.Paths.{IsPath}
 
 -- node n is bit n % 64 of word n / 64
@@ -32,8 +31,8 @@ pub record IsJoined (before after beyond : NodeSet) (via : ℕ) : Type 0 where
 abbrev pub row : List NodeSet → ℕ → NodeSet
 row rows m = slice_index_or rows m (record { words = [] })
 
-abbrev pub Reaches : Reach → ℕ → ℕ → Type 0
-Reaches reach m n = IsIn (row reach.rows m) n
+abbrev pub Reaches : List NodeSet → ℕ → ℕ → Type 0
+Reaches rows m n = IsIn (row rows m) n
 
 -- a path of one trigger or more
 abbrev pub Leads : Graph → ℕ → ℕ → Type 0

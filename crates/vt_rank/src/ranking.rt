@@ -36,8 +36,9 @@ impl Ranks {
 /// Ranks the nodes of a graph so that ranks fall along every trigger, or answers a circle of triggers. The
 /// circle begins with the least node that lies on any; which circle through that node is not promised.
 ///
-/// It takes no memory, and about two and a half kilobytes of stack. Without a circle it reads a node's items
-/// once, and again for each node that it first reaches from there; with one, up to 256 times as often.
+/// It takes no memory, and on x86-64 two kilobytes of stack where there is no circle, eleven where there is one.
+/// It reads a node's items once, and again for each node that it first reaches from there. Where there is a
+/// circle it also joins 256 sets of 256 nodes at each node, and searches once more.
 pub fn rank(graph: &Graph) -> Result<Ranks, Circle>
     // Ranks fall along every trigger, and where there are ranks there is no circle.
     ensures falls { IfOk result (AreRanks graph.now) }

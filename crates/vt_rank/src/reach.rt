@@ -1,19 +1,13 @@
-//! Which nodes lead to which, along paths of any length.
+//! Which nodes lead to which, along paths of any length: for each node the set of those that it leads to.
 
-ghost use Rattle.std.specs.Prelude.{◌≡◌, ◌==◌, ℕ, ◌<◌, ◌↔◌};
+ghost use Rattle.std.specs.Prelude.{◌≡◌, ℕ, ◌<◌, ◌↔◌};
 ghost use Rattle.vt_rank.specs.Graphs.{nodes_of, triggered};
 ghost use Rattle.vt_rank.specs.Paths.{IsOnCircle};
-ghost use Rattle.vt_rank.specs.NodeSets.{bit_of, Adds, IsSetOf, IsJoined, row, Reaches, Leads};
+ghost use Rattle.vt_rank.specs.NodeSets.{Adds, IsSetOf, IsJoined, row, Reaches, Leads};
 ghost use Rattle.vt_rank.specs.declared.graph.Item.TheVariants.{Most};
 
 use crate::graph::{Graph, Item};
 use crate::node_set::NodeSet;
-
-/// For each node a set of nodes that it leads to.
-#[derive(Drop)]
-pub(crate) struct Reach {
-    rows: [NodeSet; 256],
-}
 
 /// The least node that lies on a circle, where a node is known that lies on one.
 // Its table has eight kilobytes, which a graph without a circle does not pay for.
@@ -23,54 +17,45 @@ pub(crate) fn least_on_circles(graph: &Graph, known: u8) -> u8
     ensures on { IsOnCircle graph.now result }
     ensures least { (n : ℕ) → n < result → IsOnCircle graph.now n → ⊥ }
 {
-    let mut reach = Reach {
-        rows: [NodeSet::new(); 256],
-    };
-    reach.write_triggers(graph);
-    reach.close(graph);
+    let mut rows = [NodeSet::new(); 256];
+    write_triggers(&mut rows, graph);
+    close(&mut rows, graph);
     for node in 0..known {
-        if reach.has(node, node) {
+        if rows[usize::from(node)].contains(node) {
             return node;
         }
     }
     known
 }
 
-impl Reach {
-    // Writes for each node those that it triggers.
-    fn write_triggers(&mut self, graph: &Graph)
-        ensures { (m : ℕ) → IsSetOf (row self.new.rows m) (triggered graph.now m) }
-    {
-        let most = targets_of_most(graph);
-        for node in 0..256usize {
-            self.rows[node] = targets(graph, node as u8, &most);
-        }
+// Makes paths of any length of single triggers, by joining them at each node.
+fn close(rows: &mut [NodeSet; 256], graph: &Graph)
+    requires { (m : ℕ) → IsSetOf (row rows.old m) (triggered graph.now m) }
+    ensures { (m n : ℕ) → Reaches rows.new m n ↔ Leads graph.now m n }
+{
+    for via in 0..256usize {
+        join_at(rows, via as u8);
     }
+}
 
-    // Makes paths of any length of single triggers, by joining them at each node.
-    fn close(&mut self, graph: &Graph)
-        requires { (m : ℕ) → IsSetOf (row self.old.rows m) (triggered graph.now m) }
-        ensures { (m n : ℕ) → Reaches self.new m n ↔ Leads graph.now m n }
-    {
-        for via in 0..256usize {
-            self.join_at(via as u8);
-        }
+// What reaches a node reaches all that this node does.
+fn join_at(rows: &mut [NodeSet; 256], via: u8)
+    ensures { (m : ℕ) → IsJoined (row rows.old m) (row rows.new m) (row rows.old via) via }
+{
+    let beyond = rows[usize::from(via)];
+    for node in 0..256usize {
+        rows[node].join(via, &beyond);
     }
+}
 
-    // What reaches a node reaches all that this node does.
-    fn join_at(&mut self, via: u8)
-        ensures { (m : ℕ) → IsJoined (row self.old.rows m) (row self.new.rows m) (row self.old.rows via) via }
-    {
-        let beyond = self.rows[usize::from(via)];
-        for node in 0..256usize {
-            self.rows[node].join(via, &beyond);
-        }
-    }
+// ---- single triggers
 
-    fn has(&self, from: u8, to: u8) -> bool
-        ensures { result ≡ (bit_of (row self.now.rows from) to == 1) }
-    {
-        self.rows[usize::from(from)].contains(to)
+fn write_triggers(rows: &mut [NodeSet; 256], graph: &Graph)
+    ensures { (m : ℕ) → IsSetOf (row rows.new m) (triggered graph.now m) }
+{
+    let most = targets_of_most(graph);
+    for node in 0..256usize {
+        rows[node] = targets(graph, node as u8, &most);
     }
 }
 

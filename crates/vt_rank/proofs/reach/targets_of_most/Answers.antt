@@ -1,4 +1,4 @@
-use Rattle.std.proofs.Common.{◌≡◌, List, ℕ, subst, ap, ◌∙◌, sym, rules}
+use Rattle.std.proofs.Common.{List, ℕ, subst}
 use Rattle.std.specs.List.{flat_map}
 use Rattle.vt_rank.specs.NodeSets.{Adds, IsSetOf}
 use Rattle.vt_rank.specs.Graphs.{group_of}

@@ -1,5 +1,0 @@
-use Rattle.vt_rank.proofs.Reaching.{IsClosing}
-use Rattle.vt_rank.proofs.reach.Reach.close.Given as goal
-
-abbrev pub invariant-loop-via : goal.invariant-loop-via
-invariant-loop-via l = IsClosing l.graph l.self l.via

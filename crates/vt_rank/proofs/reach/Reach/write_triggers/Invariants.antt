@@ -1,5 +1,0 @@
-use Rattle.vt_rank.proofs.Reaching.{IsWriting}
-use Rattle.vt_rank.proofs.reach.Reach.write_triggers.Given as goal
-
-abbrev pub invariant-loop-node : goal.invariant-loop-node
-invariant-loop-node l = IsWriting l.graph l.self.rows l.node
