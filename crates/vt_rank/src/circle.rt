@@ -1,7 +1,6 @@
 //! The circle that is reported: through the least node that lies on any.
 
-ghost use Rattle.std.specs.Prelude.{◌≡◌, ℕ, ◌≤◌, [], ◌∷◌, List, IfSome, IfNone, slice_index};
-ghost use Rattle.vt_rank.specs.Graphs.{is_unmarked};
+ghost use Rattle.std.specs.Prelude.{◌≡◌, ℕ, ◌∷◌, List, IfSome, IfNone, slice_index};
 ghost use Rattle.vt_rank.specs.Paths.{IsCircle, IsDistinct, IsOnCircle, IsLeastOnCircles};
 
 use crate::graph::Graph;

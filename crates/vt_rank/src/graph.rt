@@ -1,6 +1,6 @@
 //! Graphs.
 
-ghost use Rattle.std.specs.Prelude.{◌≡◌, not, find, None, IsTrue};
+ghost use Rattle.std.specs.Prelude.{◌≡◌, find, None, IsTrue};
 ghost use Rattle.vt_rank.specs.Graphs.{items_of, group_of, nodes_of, triggered, is_unmarked};
 
 /// What a node is made of.

@@ -1,7 +1,6 @@
 //! Ranks.
 
 ghost use Rattle.std.specs.Prelude.{◌≡◌, ℕ, List, IfOk, OnOk, IfErr, slice_index};
-ghost use Rattle.vt_rank.specs.Graphs.{Triggers};
 ghost use Rattle.vt_rank.specs.Paths.{AreRanks, RanksFall, HasNoCircle, IsCircle, IsDistinct, IsLeastOnCircles};
 ghost use Rattle.vt_rank.specs.declared.graph.Graph.{Graph as Network};
 

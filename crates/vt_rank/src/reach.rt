@@ -1,6 +1,6 @@
 //! Which nodes lead to which, along paths of any length: for each node the set of those that it leads to.
 
-ghost use Rattle.std.specs.Prelude.{◌≡◌, ℕ, ◌<◌, ◌↔◌};
+ghost use Rattle.std.specs.Prelude.{ℕ, ◌<◌, ◌↔◌};
 ghost use Rattle.vt_rank.specs.Graphs.{nodes_of, triggered};
 ghost use Rattle.vt_rank.specs.Paths.{IsOnCircle};
 ghost use Rattle.vt_rank.specs.NodeSets.{Adds, IsSetOf, IsJoined, row, Reaches, Leads};
