@@ -1,5 +1,5 @@
 -- Reading a list in a list of vectors, and the first element of joined lists, loop by loop.
-use Rattle.std.proofs.Common.{◌≡◌, ℕ, ◌+◌, ◌<◌, ◌≤◌, Bool, true, false, Option, Some, None, List, [], length, get_or, drop, sym, ◌∙◌, ap, arith, Vec}
+use Rattle.std.proofs.Common.{◌≡◌, ℕ, ◌+◌, ◌<◌, ◌≤◌, Bool, true, false, ◌||◌, IsTrue, Option, Some, None, List, [], length, get_or, drop, sym, ◌∙◌, ap, arith, Vec}
 use Rattle.std.specs.Option.{is_some}
 use Rattle.std.specs.List.{find, flat_map}
 use Rattle.std.proofs.lemmas.List.{at_drop_more, at_drop_all, get_or-map, get_or_past, length-map}
@@ -27,3 +27,9 @@ not_here {X} p f xs i d all None inside left is none =
 
 pub nowhere : {X : Type 0} (p : ℕ → Bool) (f : X → List ℕ) (xs : List X) (i : ℕ) (all : Option ℕ) → length xs ≤ i → find p (flat_map f (drop i xs)) ≡ all → None ≡ all
 nowhere {X} p f xs i all past left = sym (at_drop_all (λ (ys : List X). find p (flat_map f ys)) xs i past) ∙ left
+
+-- where no element of a piece passes, none does when the piece comes again
+pub none_again : {X : Type 0} (p : ℕ → Bool) (f : X → List ℕ) (passed here : Bool) (item again : X) (found : Option ℕ) → (IsTrue passed → find p (f again) ≡ None) → (IsTrue here → item ≡ again) → found ≡ find p (f item) → is_some found ≡ false → IsTrue (passed || here) → find p (f again) ≡ None
+none_again {X} p f true here item again found before same is none now = before now
+none_again {X} p f false here item again (Some n) before same is none now = cc
+none_again {X} p f false here item again None before same is none now = ap (λ (x : X). find p (f x)) (sym (same now)) ∙ sym is

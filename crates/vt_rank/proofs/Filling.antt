@@ -5,13 +5,13 @@ use Rattle.std.proofs.lemmas.Bool.{cases_eq, cases_lt}
 use Rattle.std.proofs.lemmas.List.{at_drop_more, get_or_past, length-set}
 use Rattle.std.proofs.lemmas.List.Sums.{sum_by-cons}
 use Rattle.vt_rank.specs.declared.graph.Graph.{Graph}
-use Rattle.vt_rank.specs.Graphs.{group_of, Triggers}
+use Rattle.vt_rank.specs.Graphs.{group_of, triggered}
 use Rattle.vt_rank.specs.Paths.{AreRanks}
 use Rattle.vt_rank.specs.Costs.{group_total, group_cost, item_cost, node_total, cost_of, AreCosts, IsWithin}
-use Rattle.vt_rank.specs.Tables.{IsFilled}
+use Rattle.vt_rank.specs.Tables.{IsFilled, AreSettled}
 use Rattle.vt_rank.proofs.Entries.{get_or-lists_past}
 use Rattle.vt_rank.proofs.Searching.{items_past}
-use Rattle.vt_rank.proofs.Totals.{node_total-meets, sum_by-same, costs_are_totals}
+use Rattle.vt_rank.proofs.Totals.{sum_by-same, costs_are_totals}
 
 -- ---- a loop that sums, cut at a limit
 
@@ -31,20 +31,18 @@ cost_past g ranks are n past = costs_are_totals g ranks are n ∙ ap (sum_by (it
 cut_twice : (a c l : ℕ) → a ≡ min c l → min a l ≡ min c l
 cut_twice a c l is = omega arith
 
-cost_meets : (g : Graph) (ranks : List ℕ) (limit rank node : ℕ) (table : List ℕ) → AreRanks g ranks → IsFilling g ranks limit rank node table → (n : ℕ) → slice_index ranks n ≡ rank → min (node_total (slice_index table) g n) limit ≡ min (cost_of g n) limit
-cost_meets g ranks limit rank node table are f n of_rank =
-    let meet = λ (t : ℕ) (inside : Triggers g n t).
+pub settled_here : (g : Graph) (ranks : List ℕ) (limit rank node : ℕ) (table : List ℕ) → AreRanks g ranks → IsFilling g ranks limit rank node table → (n : ℕ) → slice_index ranks n ≡ rank → AreSettled g limit table (triggered g n)
+settled_here g ranks limit rank node table are f n of_rank t inside =
     let less : slice_index ranks t < rank = omega (arith, are.falls n t inside, of_rank) in
     elim (cases_lt t 256) as (λ _. min (slice_index table t) limit ≡ min (cost_of g t) limit) [
       | inl within ↦ cut_twice (slice_index table t) (cost_of g t) limit (f.costs t within less)
       | inr past ↦ let none : slice_index table t ≡ 0 = get_or_past table t 0 (omega (arith, f.size)) in ap (λ (k : ℕ). min k limit) (none ∙ sym (cost_past g ranks are t past))
-    ] in
-    node_total-meets g (slice_index table) (cost_of g) limit n meet ∙ ap (λ (k : ℕ). min k limit) (sym (costs_are_totals g ranks are n))
+    ]
 
-pub filled_here : (g : Graph) (ranks : List ℕ) (limit rank node cost : ℕ) (table : List ℕ) → AreRanks g ranks → IsFilling g ranks limit rank node table → slice_index ranks node ≡ rank → node < 256 → cost ≡ min (node_total (slice_index table) g node) limit → IsFilling g ranks limit rank (node + 1) (set table node cost)
+pub filled_here : (g : Graph) (ranks : List ℕ) (limit rank node cost : ℕ) (table : List ℕ) → AreRanks g ranks → IsFilling g ranks limit rank node table → slice_index ranks node ≡ rank → node < 256 → cost ≡ min (node_total (cost_of g) g node) limit → IsFilling g ranks limit rank (node + 1) (set table node cost)
 filled_here g ranks limit rank node cost table are f of_rank small is =
     let inside : node < length table = omega (arith, f.size) in
-    let value : cost ≡ min (cost_of g node) limit = is ∙ cost_meets g ranks limit rank node table are f node of_rank in
+    let value : cost ≡ min (cost_of g node) limit = is ∙ ap (λ (k : ℕ). min k limit) (sym (costs_are_totals g ranks are node)) in
     record {
       size = length-set table node cost ∙ f.size;
       costs = λ n within below.

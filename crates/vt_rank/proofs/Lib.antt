@@ -4,5 +4,7 @@ pub mod Entries
 pub mod Paths
 pub mod Quests
 pub mod Searching
+pub mod NodeSets
+pub mod Reaching
 pub mod Totals
 pub mod Filling

@@ -1,7 +1,7 @@
 -- Elements of lists: where they stand, and the first that passes a test.
 use Rattle.std.proofs.Common.{◌≡◌, ℕ, Bool, true, false, cond, ◌⊎◌, inl, inr, Some, None, List, [], ◌∷◌, ◌++◌, refl, sym, ap, subst, arith}
 use Rattle.std.specs.List.{Contains, find}
-use Rattle.vt_rank.specs.Searches.{IsDistinct}
+use Rattle.vt_rank.specs.Paths.{IsDistinct}
 use Rattle.std.proofs.lemmas.List.Elements.{Contains-append_left, Contains-append_right, Contains-append_cases, Contains-push, Contains-push_cases}
 
 pub Contains-nil : {X : Type 0} (x : X) → Contains [] x → ⊥

@@ -5,18 +5,21 @@ use Rattle.std.proofs.lemmas.List.{get_or_append_left, length-set}
 use Rattle.std.proofs.lemmas.List.Elements.{Contains-append_left, Contains-push, Contains-push_cases}
 use Rattle.vt_rank.specs.declared.graph.Graph.{Graph}
 use Rattle.vt_rank.specs.Graphs.{Triggers, triggered, is_unmarked}
-use Rattle.vt_rank.specs.Paths.{IsPath, IsCircle}
+use Rattle.vt_rank.specs.Paths.{IsPath, IsCircle, IsDistinct}
 use Rattle.vt_rank.specs.Searches.{IsMarked}
-use Rattle.vt_rank.proofs.Members.{Contains-nil, Contains-head, find_some, find_none}
-use Rattle.vt_rank.proofs.MarkedNodes.{marked_still, marked_before, left-set, not_both, unmarked_is, marked_is}
+use Rattle.vt_rank.proofs.Members.{Contains-nil, Contains-head, Contains-cons_cases, IsDistinct-push, IsDistinct-pop, find_some, find_none}
+use Rattle.vt_rank.proofs.MarkedNodes.{marked_here, marked_still, marked_before, left-set, not_both, unmarked_is, marked_is}
 use Rattle.vt_rank.proofs.Paths.{IsPath-front, IsPath-push}
 
--- Whatever a node triggers that was seen, or the start, is seen, unless the node is on the path.
+-- Whatever a node triggers that was seen, or the start, is seen, unless the node is on the path. The path has no
+-- node twice.
 pub record IsQuest (g : Graph) (start : ℕ) (seen : List Bool) (path : List ℕ) : Type 0 where
   pub closed : (m n : ℕ) → (start ≡ m) ⊎ IsMarked seen m → Triggers g m n → IsMarked seen n ⊎ Contains path m
   pub size : length seen ≡ 256
   pub unseen : get_or seen start false ≡ false
   pub walk : IsPath g path
+  pub on_path : (n : ℕ) → Contains path n → (start ≡ n) ⊎ IsMarked seen n
+  pub distinct : IsDistinct path
   pub first : 0 < length path → slice_index path 0 ≡ start
   pub room : length path + count_by not seen ≤ 257
 
@@ -29,6 +32,8 @@ quest_begins g start seen none left size = record {
   ];
   unseen = none start;
   walk = tt;
+  on_path = λ n among. elim (Contains-cons_cases start n [] among) as (λ _. (start ≡ n) ⊎ IsMarked seen n) [ inl same ↦ inl same | inr none_left ↦ absurd (Contains-nil n none_left) ];
+  distinct = (Contains-nil start, tt);
   first = λ _. refl;
   room = omega arith;
 }
@@ -48,6 +53,12 @@ quest_pushed g start seen path next q longer some unseen other inside = record {
   size = length-set seen next true ∙ q.size;
   unseen = let differs : start ≢ next = λ e. other (sym e) in rw get_or-set_other q.unseen;
   walk = longer;
+  on_path = λ n among.
+      elim (Contains-push_cases path next n among) as (λ _. (start ≡ n) ⊎ IsMarked (set seen next true) n) [
+        | inl before ↦ elim (q.on_path n before) as (λ _. (start ≡ n) ⊎ IsMarked (set seen next true) n) [ inl same ↦ inl same | inr marked ↦ inr (marked_still seen next n inside marked) ]
+        | inr same ↦ inr (subst (λ (k : ℕ). IsMarked (set seen next true) k) same (marked_here seen next inside))
+      ];
+  distinct = IsDistinct-push path next q.distinct (λ among. elim (q.on_path next among) as (λ _. ⊥) [ inl same ↦ other (sym same) | inr marked ↦ not_both seen next unseen marked ]);
   first = λ _. get_or_append_left path (next ∷ []) 0 0 some ∙ q.first some;
   room = simp length-append (omega (arith, q.room, left-set seen next inside unseen));
 }
@@ -66,6 +77,8 @@ quest_popped g start seen front node q all = record {
   size = q.size;
   unseen = q.unseen;
   walk = IsPath-front g front (node ∷ []) q.walk;
+  on_path = λ n still. q.on_path n (Contains-append_left front (node ∷ []) n still);
+  distinct = (IsDistinct-pop front node q.distinct).0;
   first = λ some. sym (get_or_append_left front (node ∷ []) 0 0 some) ∙ q.first (simp length-append (omega arith));
   room = omega (arith, q.room, length-append front (node ∷ []));
 }
@@ -138,13 +151,13 @@ next_smaller g start seen path front node next i after later quest parts found s
     omega (arith, fewer, same, longer)
 
 pub next_found : (g : Graph) (start : ℕ) (seen : List Bool) (path front : List ℕ) (node next : ℕ) (after : List ℕ)
-    → IsQuest g start seen path → path ≡ front ++ node ∷ [] → Some next ≡ find (is_unmarked seen) (triggered g node) → next ≡ start → after ≡ front ++ node ∷ [] → IsCircle g after × (slice_index after 0 ≡ start)
+    → IsQuest g start seen path → path ≡ front ++ node ∷ [] → Some next ≡ find (is_unmarked seen) (triggered g node) → next ≡ start → after ≡ front ++ node ∷ [] → IsCircle g after × IsDistinct after × (slice_index after 0 ≡ start)
 next_found g start seen path front node next after quest parts found same is_after =
     let t = target_of g seen node next found in
     let q = subst (λ (p : List ℕ). IsQuest g start seen p) parts quest in
     let circle = quest_found g start seen front node q (subst (λ (k : ℕ). Triggers g node k) same t.0) in
     let some : 0 < length (front ++ node ∷ []) = simp length-append (omega arith) in
-    (subst (IsCircle g) (sym is_after) circle, subst (λ (p : List ℕ). slice_index p 0 ≡ start) (sym is_after) (q.first some))
+    (subst (IsCircle g) (sym is_after) circle, subst IsDistinct (sym is_after) q.distinct, subst (λ (p : List ℕ). slice_index p 0 ≡ start) (sym is_after) (q.first some))
 
 pub last_popped : (g : Graph) (start : ℕ) (seen : List Bool) (path front : List ℕ) (node : ℕ) (found : Option ℕ)
     → IsQuest g start seen path → path ≡ front ++ node ∷ [] → found ≡ find (is_unmarked seen) (triggered g node) → found ≡ None → IsQuest g start seen front

@@ -163,7 +163,7 @@ pub items_past : (g : Graph) (m : ℕ) → 256 ≤ m → items_of g m ≡ []
 unfolding items_of
 items_past g m past = get_or_past (take 256 (lists g.nodes)) m [] (omega (arith, length-take 256 (lists g.nodes)))
 
-none_past : (g : Graph) (m n : ℕ) → 256 ≤ m → Triggers g m n → ⊥
+pub none_past : (g : Graph) (m n : ℕ) → 256 ≤ m → Triggers g m n → ⊥
 none_past g m n past t = Contains-nil n (subst (λ (items : List Item). Contains (flat_map (nodes_of g) items) n) (items_past g m past) t)
 
 pub all_ranked : (g : Graph) (s : Search) → IsSearch g s [] → ((n : ℕ) → n < 256 → IsMarked s.ranked n) → AreRanks g s.ranks

@@ -37,7 +37,7 @@ greatest-meets f h l [] meet = refl
 greatest-meets f h l (x ∷ xs) meet =
     greatest_meet (f x) (h x) (greatest f xs) (greatest h xs) l (meet x (Contains-head x xs)) (greatest-meets f h l xs (λ y inside. meet y (Contains-tail x y xs inside)))
 
-item_cost-meets : (g : Graph) (f h : ℕ → ℕ) (l : ℕ) (item : Item) → ((n : ℕ) → Contains (nodes_of g item) n → min (f n) l ≡ min (h n) l) → min (item_cost f g item) l ≡ min (item_cost h g item) l
+pub item_cost-meets : (g : Graph) (f h : ℕ → ℕ) (l : ℕ) (item : Item) → ((n : ℕ) → Contains (nodes_of g item) n → min (f n) l ≡ min (h n) l) → min (item_cost f g item) l ≡ min (item_cost h g item) l
 item_cost-meets g f h l Step meet = refl
 item_cost-meets g f h l (Group k) meet = sum_by-meets f h l (group_of g k) meet
 item_cost-meets g f h l Most meet =

@@ -3,3 +3,4 @@ pub mod Paths
 pub mod Searches
 pub mod Costs
 pub mod Tables
+pub mod NodeSets

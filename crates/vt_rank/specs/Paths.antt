@@ -1,5 +1,5 @@
 -- Paths along triggers, circles, and ranks.
-use Rattle.std.specs.Prelude.{ℕ, ◌<◌, ◌≤◌, List, [], ◌∷◌, ◌++◌, slice_index, All}
+use Rattle.std.specs.Prelude.{ℕ, ◌<◌, ◌≤◌, List, [], ◌∷◌, ◌++◌, slice_index, All, Contains}
 use Rattle.vt_rank.specs.declared.graph.Graph.{Graph}
 use Rattle.vt_rank.specs.Graphs.{Triggers}
 
@@ -13,6 +13,11 @@ IsPath g (m ∷ n ∷ ns) = Triggers g m n × IsPath g (n ∷ ns)
 abbrev pub IsCircle : Graph → List ℕ → Type 0
 IsCircle g [] = ⊥
 IsCircle g (n ∷ ns) = IsPath g ((n ∷ ns) ++ n ∷ [])
+
+-- no node twice
+abbrev pub IsDistinct : List ℕ → Type 0
+IsDistinct [] = Unit {0}
+IsDistinct (n ∷ ns) = (Contains ns n → ⊥) × IsDistinct ns
 
 abbrev pub HasNoCircle : Graph → Type 0
 HasNoCircle g = (path : List ℕ) → IsCircle g path → ⊥

@@ -1,17 +1,12 @@
 -- How far the search in depth has come that ranks the nodes.
-use Rattle.std.specs.Prelude.{◌≡◌, ℕ, ◌+◌, ◌<◌, ◌≤◌, Bool, true, false, not, ◌⊎◌, List, [], ◌∷◌, length, count_by, slice_index, slice_index_or, Contains}
+use Rattle.std.specs.Prelude.{◌≡◌, ℕ, ◌+◌, ◌<◌, ◌≤◌, Bool, true, false, not, ◌⊎◌, List, length, count_by, slice_index, slice_index_or, Contains}
 use Rattle.vt_rank.specs.declared.graph.Graph.{Graph}
 use Rattle.vt_rank.specs.declared.search.Search.{Search}
 use Rattle.vt_rank.specs.Graphs.{Triggers}
-use Rattle.vt_rank.specs.Paths.{IsPath}
+use Rattle.vt_rank.specs.Paths.{IsPath, IsDistinct}
 
 abbrev pub IsMarked : List Bool → ℕ → Type 0
 IsMarked marks n = slice_index_or marks n false ≡ true
-
--- no node twice
-abbrev pub IsDistinct : List ℕ → Type 0
-IsDistinct [] = Unit {0}
-IsDistinct (n ∷ ns) = (Contains ns n → ⊥) × IsDistinct ns
 
 -- The path leads from the node where the search began to the one it is at. Every node seen is on the path or
 -- has a rank.

@@ -13,7 +13,8 @@ use crate::table::{cost_of_nodes, fill, no_costs};
 /// first group. A step costs one, a group what its nodes cost together, `Item::Most` what the costliest of its
 /// groups costs, and 0 where there is none. `ranks` are those of this graph.
 ///
-/// It takes no memory, and about five kilobytes of stack with its answer. It reads each item once.
+/// It takes no memory, and on x86-64 about six kilobytes of stack. It reads each item once, with the nodes of
+/// its group, and the groups of `Item::Most` once in all.
 pub fn costs(graph: &Graph, ranks: &Ranks, cap: u32) -> Result<Costs, OverBudget>
     requires { AreRanks graph.now ranks.now }
     ensures costs { IfOk result (AreCosts graph.now) }
@@ -25,8 +26,9 @@ pub fn costs(graph: &Graph, ranks: &Ranks, cap: u32) -> Result<Costs, OverBudget
 {
     let limit = u64::from(cap) + 1;
     let mut table = no_costs();
+    let mut most = None;
     for rank in 0..256usize {
-        fill(graph, ranks, rank as u8, limit, &mut table);
+        fill(graph, ranks, rank as u8, limit, &mut table, &mut most);
     }
     let costs = match nodes_within(&table, cap) {
         Ok(costs) => costs,

@@ -1,6 +1,6 @@
 //! Graphs.
 
-ghost use Rattle.std.specs.Prelude.{◌≡◌, not, find};
+ghost use Rattle.std.specs.Prelude.{◌≡◌, find, None, IsTrue};
 ghost use Rattle.vt_rank.specs.Graphs.{items_of, group_of, nodes_of, triggered, is_unmarked};
 
 /// What a node is made of.
@@ -12,6 +12,14 @@ pub enum Item {
     Group(usize),
     /// Stands for the nodes of the groups in `Graph::most`, and costs what the costliest of these groups does.
     Most,
+}
+
+impl Item {
+    fn is_most(self) -> bool
+        ensures { IsTrue result → self ≡ Item.Most }
+    {
+        matches!(self, Item::Most)
+    }
 }
 
 /// A graph of 256 nodes. A node triggers those that its items stand for.
@@ -51,21 +59,26 @@ impl Graph {
     pub(crate) fn unmarked(&self, node: u8, marks: &[bool; 256]) -> Option<u8>
         ensures { result ≡ find (is_unmarked marks.now) (triggered self.now node) }
     {
+        let mut most_passed = false;
         for item in self.items(node) {
-            let found = self.unmarked_of(*item, marks);
+            let found = self.unmarked_of(*item, marks, most_passed);
             if found.is_some() {
                 return found;
             }
+            most_passed |= item.is_most();
         }
         None
     }
 
-    fn unmarked_of(&self, item: Item, marks: &[bool; 256]) -> Option<u8>
+    // Reads the groups of `Item::Most` once for a node: where they were passed, all their nodes have marks.
+    fn unmarked_of(&self, item: Item, marks: &[bool; 256], most_passed: bool) -> Option<u8>
+        requires { IsTrue most_passed → find (is_unmarked marks.now) (nodes_of self.now Item.Most) ≡ None }
         ensures { result ≡ find (is_unmarked marks.now) (nodes_of self.now item) }
     {
         match item {
             Item::Step => None,
             Item::Group(group) => unmarked_in(self.group(group), marks),
+            Item::Most if most_passed => None,
             Item::Most => self.unmarked_of_most(marks),
         }
     }

@@ -9,7 +9,9 @@ mod capped;
 mod circle;
 mod graph;
 mod marks;
+mod node_set;
 mod ranking;
+mod reach;
 mod search;
 mod table;
 

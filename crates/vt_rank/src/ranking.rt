@@ -1,8 +1,7 @@
 //! Ranks.
 
 ghost use Rattle.std.specs.Prelude.{◌≡◌, ℕ, List, IfOk, OnOk, IfErr, slice_index};
-ghost use Rattle.vt_rank.specs.Graphs.{Triggers};
-ghost use Rattle.vt_rank.specs.Paths.{AreRanks, RanksFall, HasNoCircle, IsCircle, IsLeastOnCircles};
+ghost use Rattle.vt_rank.specs.Paths.{AreRanks, RanksFall, HasNoCircle, IsCircle, IsDistinct, IsLeastOnCircles};
 ghost use Rattle.vt_rank.specs.declared.graph.Graph.{Graph as Network};
 
 use crate::circle::{Circle, least_circle};
@@ -36,15 +35,17 @@ impl Ranks {
 /// Ranks the nodes of a graph so that ranks fall along every trigger, or answers a circle of triggers. The
 /// circle begins with the least node that lies on any; which circle through that node is not promised.
 ///
-/// It takes no memory, and about two and a half kilobytes of stack. Without a circle it reads a node's items
-/// once, and again for each node that it first reaches from there; with one, up to 256 times as often.
+/// It takes no memory, and on x86-64 two kilobytes of stack where there is no circle, eleven where there is one.
+/// It reads a node's items once, and again for each node that it first reaches from there. Where there is a
+/// circle it also joins 256 sets of 256 nodes at each node, and searches once more.
 pub fn rank(graph: &Graph) -> Result<Ranks, Circle>
     // Ranks fall along every trigger, and where there are ranks there is no circle.
     ensures falls { IfOk result (AreRanks graph.now) }
     ensures none { OnOk result (HasNoCircle graph.now) }
 
-    // The path is a circle, and begins with the least node that lies on any.
+    // The path is a circle, has no node twice, and begins with the least node that lies on any.
     ensures circle { IfErr result (λ c. IsCircle graph.now c.path.items) }
+    ensures once { IfErr result (λ c. IsDistinct c.path.items) }
     ensures least { IfErr result (λ c. IsLeastOnCircles graph.now (slice_index c.path.items 0)) }
 {
     let mut search = Search::new();

@@ -1,6 +1,6 @@
 //! The search in depth that ranks the nodes.
 
-ghost use Rattle.std.specs.Prelude.{◌≡◌, ℕ, [], OnOk, IfErr};
+ghost use Rattle.std.specs.Prelude.{ℕ, [], OnOk, IfErr};
 
 use crate::graph::Graph;
 use crate::marks::no_marks;

@@ -116,3 +116,32 @@ fn ring_of_256(rt: HostRuntime) -> Result<(), Fail> {
     }
     Ok(())
 }
+
+#[test]
+fn between_two_circles(rt: HostRuntime) -> Result<(), Fail> {
+    // 1 and 2 lead from the circle of 5 and 6 to that of 7 and 8, and lie on none.
+    let graph = graph_of(
+        rt.alloc(),
+        &[&[1], &[2], &[7], &[], &[], &[6], &[1, 5], &[8], &[7]],
+    )?;
+    let Err(circle) = rank(&graph) else {
+        return Err(Fail::new("no circle"));
+    };
+    assert_eq!(rt; circle.path.as_slice(), [5, 6].as_slice());
+    Ok(())
+}
+
+#[test]
+fn circle_through_most(rt: HostRuntime) -> Result<(), Fail> {
+    let mut graph = graph_of(rt.alloc(), &[&[], &[3], &[]])?;
+    graph
+        .nodes
+        .push(vec![in rt.alloc(); Item::Most, Item::Step, Item::Most]?)?;
+    graph.groups.push(Vec::from_slice(rt.alloc(), &[2, 1])?)?;
+    graph.most = Vec::from_slice(rt.alloc(), &[0, 3])?;
+    let Err(circle) = rank(&graph) else {
+        return Err(Fail::new("no circle"));
+    };
+    assert_eq!(rt; circle.path.as_slice(), [1, 3].as_slice());
+    Ok(())
+}

@@ -163,3 +163,49 @@ fn line_of_256_costs(rt: HostRuntime) -> Result<(), Fail> {
     }
     Ok(())
 }
+
+#[test]
+fn empty_graph(rt: HostRuntime) -> Result<(), Fail> {
+    let graph = graph_of(rt.alloc(), &[])?;
+    let Ok(costs) = costs_of(&graph, 0)? else {
+        return Err(Fail::new("over the cap"));
+    };
+    assert_eq!(rt; costs.node(255), 0);
+    Ok(())
+}
+
+#[test]
+fn entries_past_the_nodes(rt: HostRuntime) -> Result<(), Fail> {
+    let mut graph = graph_of(rt.alloc(), &[])?;
+    for _ in 0..256 {
+        graph.nodes.push(Vec::new(rt.alloc()))?;
+    }
+    graph.nodes.push(vec![in rt.alloc(); Item::Step]?)?;
+    assert!(rt; costs_of(&graph, 0)?.is_ok());
+    Ok(())
+}
+
+#[test]
+fn groups_that_are_not_there(rt: HostRuntime) -> Result<(), Fail> {
+    let mut graph = stepping(rt.alloc(), [1, 2, 5], &[&[1]], &[7, 0])?;
+    graph
+        .nodes
+        .push(vec![in rt.alloc(); Item::Group(7), Item::Group(0)]?)?;
+    let Ok(costs) = costs_of(&graph, 65_535)? else {
+        return Err(Fail::new("over the cap"));
+    };
+    assert_eq!(rt; costs.node(0), 2);
+    assert_eq!(rt; costs.node(4), 1);
+    Ok(())
+}
+
+#[test]
+fn group_past_32_bits(rt: HostRuntime) -> Result<(), Fail> {
+    let mut graph = doubling(rt.alloc(), 32)?;
+    graph.groups.push(Vec::from_slice(rt.alloc(), &[1, 1, 1])?)?;
+    assert_eq!(rt;
+        costs_of(&graph, u32::MAX)?.err(),
+        Some(OverBudget::Group(32))
+    );
+    Ok(())
+}

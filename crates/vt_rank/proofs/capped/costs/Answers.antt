@@ -9,7 +9,7 @@ returns-in-Err-clause-totals c = costs_are_totals c.args.graph.now c.args.ranks.
 
 pub returns-in-Some-clause-over : goal.returns-in-Some-clause-over
 returns-in-Some-clause-over c =
-    let filled = subst (λ (k : ℕ). IsFilled c.args.graph.now c.args.ranks.now (k + 1) c.loop-rank.rank c.loop-rank.table) c.from-limit.ensures c.loop-rank.invariant in
+    let filled = subst (λ (k : ℕ). IsFilled c.args.graph.now c.args.ranks.now (k + 1) c.loop-rank.rank c.loop-rank.table) c.from-limit.ensures c.loop-rank.invariant.filled in
     let f = full c.args.graph.now c.args.ranks.now c.args.cap c.loop-rank.rank c.loop-rank.table c.requires filled c.loop-rank-test.false in
     first_group c.args.graph.now c.args.cap c.loop-rank.table c.in-Some.group f c.in-Ok.ensures.within c.in-Some.ensures.over c.in-Some.ensures.first
 
@@ -18,7 +18,7 @@ returns-in-Some-clause-totals c = costs_are_totals c.args.graph.now c.args.ranks
 
 pub returns-in-None-clause-costs : goal.returns-in-None-clause-costs
 returns-in-None-clause-costs c =
-    let filled = subst (λ (k : ℕ). IsFilled c.args.graph.now c.args.ranks.now (k + 1) c.loop-rank.rank c.loop-rank.table) c.from-limit.ensures c.loop-rank.invariant in
+    let filled = subst (λ (k : ℕ). IsFilled c.args.graph.now c.args.ranks.now (k + 1) c.loop-rank.rank c.loop-rank.table) c.from-limit.ensures c.loop-rank.invariant.filled in
     let f = full c.args.graph.now c.args.ranks.now c.args.cap c.loop-rank.rank c.loop-rank.table c.requires filled c.loop-rank-test.false in
     let size : length c.in-Ok.costs ≡ 256 = search rules in
     let small : c.args.cap < 2 ^ 32 = omega arith in
@@ -26,7 +26,7 @@ returns-in-None-clause-costs c =
 
 pub returns-in-None-clause-within : goal.returns-in-None-clause-within
 returns-in-None-clause-within c =
-    let filled = subst (λ (k : ℕ). IsFilled c.args.graph.now c.args.ranks.now (k + 1) c.loop-rank.rank c.loop-rank.table) c.from-limit.ensures c.loop-rank.invariant in
+    let filled = subst (λ (k : ℕ). IsFilled c.args.graph.now c.args.ranks.now (k + 1) c.loop-rank.rank c.loop-rank.table) c.from-limit.ensures c.loop-rank.invariant.filled in
     let f = full c.args.graph.now c.args.ranks.now c.args.cap c.loop-rank.rank c.loop-rank.table c.requires filled c.loop-rank-test.false in
     within_cap c.args.graph.now c.args.cap c.loop-rank.table f c.in-Ok.ensures.within c.in-None.ensures.none
 

@@ -17,9 +17,13 @@ pub returns-then-next-start-clause-circle : goal.returns-then-next-start-clause-
 returns-then-next-start-clause-circle c =
     (next_found _ _ _ _ _ _ _ _ c.search.invariant c.in-Some.ensures.items c.in-Some-unmarked.ensures c.if-next-start.true c.push-in-Some-unmarked.ensures.items).0
 
+pub returns-then-next-start-clause-once : goal.returns-then-next-start-clause-once
+returns-then-next-start-clause-once c =
+    (next_found _ _ _ _ _ _ _ _ c.search.invariant c.in-Some.ensures.items c.in-Some-unmarked.ensures c.if-next-start.true c.push-in-Some-unmarked.ensures.items).1
+
 pub returns-then-next-start-clause-first : goal.returns-then-next-start-clause-first
 returns-then-next-start-clause-first c =
-    (next_found _ _ _ _ _ _ _ _ c.search.invariant c.in-Some.ensures.items c.in-Some-unmarked.ensures c.if-next-start.true c.push-in-Some-unmarked.ensures.items).1
+    (next_found _ _ _ _ _ _ _ _ c.search.invariant c.in-Some.ensures.items c.in-Some-unmarked.ensures c.if-next-start.true c.push-in-Some-unmarked.ensures.items).2
 
 pub push-requires-in-Some-unmarked-2 : goal.push-requires-in-Some-unmarked-2
 push-requires-in-Some-unmarked-2 c =

@@ -1,0 +1,5 @@
+use Rattle.vt_rank.proofs.NodeSets.{IsMerging}
+use Rattle.vt_rank.proofs.node_set.NodeSet.insert_all.Given as goal
+
+abbrev pub invariant-loop-place : goal.invariant-loop-place
+invariant-loop-place l = IsMerging l.fn.self.words l.others.words l.self.words l.place

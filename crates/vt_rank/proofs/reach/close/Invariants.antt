@@ -1,0 +1,5 @@
+use Rattle.vt_rank.proofs.Reaching.{IsClosing}
+use Rattle.vt_rank.proofs.reach.close.Given as goal
+
+abbrev pub invariant-loop-via : goal.invariant-loop-via
+invariant-loop-via l = IsClosing l.graph l.rows l.via
