@@ -49,7 +49,8 @@ pub enum Field {
     Value,
 }
 
-/// Which values a field takes (docs/PROFILE.md, "Values of attributes"). A field of fewer than four bytes takes the lowest bytes of a value.
+/// Which values a field takes (docs/PROFILE.md, "Values of attributes"). A field of fewer than four bytes
+/// takes the lowest bytes of a value.
 #[derive(Clone, Copy, Debug, PartialEq, Eq)]
 pub enum Values {
     /// Every value of one byte.

@@ -180,9 +180,25 @@ fn faults(rt: HostRuntime) -> Result<(), Fail> {
     for (bytes, want) in cases {
         assert_eq!(rt; read_pool(rt.alloc(), bytes).err(), Some(want), "{bytes:?}");
     }
-    assert!(rt; read_pool(rt.alloc(), &[]).is_ok());
-    let shown = format!(in rt.alloc(); "{}", PoolFault::Truncated { at: 24 })?;
-    assert_eq!(rt; shown.as_str(), "fault 1 Truncated at 24");
+    assert!(rt; read_pool(rt.alloc(), &[])?.objects().is_empty());
+    Ok(())
+}
+
+#[test]
+fn texts_of_faults(rt: HostRuntime) -> Result<(), Fail> {
+    let texts = [
+        (PoolFault::Truncated { at: 24 }, "fault 1 Truncated at 24"),
+        (PoolFault::UnknownType { at: 0 }, "fault 2 UnknownType at 0"),
+        (PoolFault::LeftOutType { at: 5 }, "fault 3 LeftOutType at 5"),
+        (PoolFault::Scale { at: 21 }, "fault 4 Scale at 21"),
+        (PoolFault::Decimals { at: 25 }, "fault 5 Decimals at 25"),
+        (PoolFault::OutOfMemory { at: 7 }, "fault 6 OutOfMemory at 7"),
+        (PoolFault::NullId { at: 65535 }, "fault 7 NullId at 65535"),
+    ];
+    for (fault, want) in texts {
+        let text = format!(in rt.alloc(); "{fault}")?;
+        assert_eq!(rt; text.as_str(), want);
+    }
     Ok(())
 }
 

@@ -82,8 +82,8 @@ pub fn put_scale(out: &mut Vec<u8>, scale: Scale) -> Result<(), AllocError>
     Ok(())
 }
 
-#[tactic(auto, using(crate::proofs::Writing::written_is))]
 /// Appends the record of an object under an ID, which is not NULL. After an error the vector is as it was.
+#[tactic(auto, using(crate::proofs::Writing::written_is))]
 pub fn write_object<B: AsSlice<u8>>(
     alloc: Global,
     id: ObjectId,

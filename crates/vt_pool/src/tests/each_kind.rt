@@ -1,19 +1,22 @@
-//! One record of each kind, 0 to 28, under the IDs 256 to 284.
+//! One record of each kind, 0 to 28, under the IDs 256 to 284, whose fields are bytes that count up from 16.
+
+mod fields;
 
 use crate::{PoolFault, read_pool, write_object};
+use fields::is_as_written;
 use std::test::Fail;
 
 // The records by kind, as the table of records lays them out.
 const RECORDS: [&[u8]; 29] = [
-    // Working Set
+    // WorkingSet
     &[
         0, 1, 0, 16, 17, 18, 19, 1, 1, 2, 20, 21, 22, 23, 24, 25, 26, 27, 28, 29, 30, 31,
     ],
-    // Data Mask
+    // DataMask
     &[
         1, 1, 1, 16, 17, 18, 2, 2, 19, 20, 21, 22, 23, 24, 25, 26, 27, 28, 29, 30, 31, 32, 33, 34,
     ],
-    // Alarm Mask
+    // AlarmMask
     &[
         2, 1, 2, 16, 17, 18, 19, 20, 2, 1, 21, 22, 23, 24, 25, 26, 27, 28, 29, 30, 31, 32, 33, 34,
     ],
@@ -22,7 +25,7 @@ const RECORDS: [&[u8]; 29] = [
         3, 1, 3, 16, 17, 18, 19, 20, 2, 2, 21, 22, 23, 24, 25, 26, 27, 28, 29, 30, 31, 32, 33, 34,
         35, 36,
     ],
-    // Soft Key Mask
+    // SoftKeyMask
     &[4, 1, 4, 16, 2, 1, 17, 18, 19, 20, 21, 22],
     // Key
     &[
@@ -33,28 +36,28 @@ const RECORDS: [&[u8]; 29] = [
         6, 1, 6, 16, 17, 18, 19, 20, 21, 22, 23, 2, 1, 24, 25, 26, 27, 28, 29, 30, 31, 32, 33, 34,
         35, 36, 37,
     ],
-    // Input Boolean
+    // InputBoolean
     &[
         7, 1, 7, 16, 17, 18, 19, 20, 21, 22, 23, 24, 2, 25, 26, 27, 28,
     ],
-    // Input String
+    // InputString
     &[
         8, 1, 8, 16, 17, 18, 19, 20, 21, 22, 23, 24, 25, 26, 27, 28, 3, 29, 30, 31, 32, 1, 33, 34,
     ],
-    // Input Number
+    // InputNumber
     &[
         9, 1, 9, 16, 17, 18, 19, 20, 21, 22, 23, 24, 25, 26, 27, 28, 29, 30, 31, 32, 33, 34, 35,
         36, 37, 38, 39, 40, 41, 205, 204, 204, 61, 5, 42, 43, 44, 2, 45, 46, 47, 48,
     ],
-    // Input List
+    // InputList
     &[
         10, 1, 10, 16, 17, 18, 19, 20, 21, 22, 2, 23, 1, 24, 25, 26, 27, 28, 29,
     ],
-    // Output String
+    // OutputString
     &[
         11, 1, 11, 16, 17, 18, 19, 20, 21, 22, 23, 24, 25, 26, 2, 0, 27, 28, 2, 29, 30, 31, 32,
     ],
-    // Output Number
+    // OutputNumber
     &[
         12, 1, 12, 16, 17, 18, 19, 20, 21, 22, 23, 24, 25, 26, 27, 28, 29, 30, 31, 32, 33, 205,
         204, 204, 61, 5, 34, 35, 1, 36, 37,
@@ -77,12 +80,12 @@ const RECORDS: [&[u8]; 29] = [
         17, 1, 17, 16, 17, 18, 19, 20, 21, 22, 23, 24, 25, 26, 27, 28, 29, 30, 31, 32, 2, 33, 34,
         35, 36,
     ],
-    // Linear Bar
+    // LinearBar
     &[
         18, 1, 18, 16, 17, 18, 19, 20, 21, 22, 23, 24, 25, 26, 27, 28, 29, 30, 31, 32, 33, 34, 35,
         1, 36, 37,
     ],
-    // Arched Bar
+    // ArchedBar
     &[
         19, 1, 19, 16, 17, 18, 19, 20, 21, 22, 23, 24, 25, 26, 27, 28, 29, 30, 31, 32, 33, 34, 35,
         36, 37, 38, 2, 39, 40, 41, 42,
@@ -91,26 +94,26 @@ const RECORDS: [&[u8]; 29] = [
     &[
         20, 1, 20, 16, 17, 18, 19, 20, 21, 22, 23, 24, 5, 0, 0, 0, 1, 25, 26, 27, 28, 29, 30, 31,
     ],
-    // Number Variable
+    // NumberVariable
     &[21, 1, 21, 16, 17, 18, 19],
-    // String Variable
+    // StringVariable
     &[22, 1, 22, 4, 0, 16, 17, 18, 19],
     // Font
     &[23, 1, 23, 16, 17, 18, 19, 2, 20, 21, 22, 23],
-    // Line Attributes
+    // LineAttributes
     &[24, 1, 24, 16, 17, 18, 19, 1, 20, 21],
-    // Fill Attributes
+    // FillAttributes
     &[25, 1, 25, 16, 17, 18, 19, 2, 20, 21, 22, 23],
-    // Input Attributes
+    // InputAttributes
     &[26, 1, 26, 16, 1, 17, 1, 18, 19],
-    // Object Pointer
+    // ObjectPointer
     &[27, 1, 27, 16, 17],
     // Macro
     &[28, 1, 28, 8, 0, 16, 17, 18, 19, 20, 21, 22, 23],
 ];
 
 #[test]
-fn written_as_they_were_read(rt: HostRuntime) -> Result<(), Fail> {
+fn read_and_written_again(rt: HostRuntime) -> Result<(), Fail> {
     let mut bytes = Vec::new(rt.alloc());
     for record in RECORDS {
         bytes.extend_from_slice(record)?;
@@ -120,6 +123,7 @@ fn written_as_they_were_read(rt: HostRuntime) -> Result<(), Fail> {
     let mut out = Vec::new(rt.alloc());
     for (index, (id, object)) in pool.objects().iter().enumerate() {
         assert_eq!(rt; usize::from(object.kind().number()), index);
+        assert!(rt; is_as_written(object), "{}", object.kind());
         assert!(rt; id.raw() < 0xFFFF);
         write_object(rt.alloc(), *id, object, &mut out)?;
     }
