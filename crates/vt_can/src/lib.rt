@@ -9,6 +9,7 @@ mod frame;
 mod identifier;
 mod line;
 mod parts;
+mod sessions;
 mod shaped;
 mod write;
 
@@ -18,6 +19,7 @@ pub use line::{
     Action, Line, LineFault, Skipped, lines_have_readings, parse_line, readings_are_one,
     written_lines_are_read,
 };
+pub use sessions::{Sessions, Timed};
 pub use write::write_line;
 
 #[cfg(test)]
