@@ -107,8 +107,8 @@ module _ {T : Type 0} where
   AreFiled-set places i earliest lower x filed h less new = record {
     all = length-set places i x ∙ filed.all;
     bound = λ q timed is.
-    chosen_bound places i q lower x timed (eqb q i) new (λ old. let bound = filed.bound q timed old in omega arith)
-    (sym (get_or-placed places i q x h) ∙ is);
+        chosen_bound places i q lower x timed (eqb q i) new (λ old. let bound = filed.bound q timed old in omega arith)
+        (sym (get_or-placed places i q x h) ∙ is);
   }
 
   pub AreFiled-left : (places : List (Option (Timed T))) (i earliest : ℕ) (x : Option (Timed T)) → x ≡ None → AreFiled places earliest → i < length places
@@ -202,5 +202,5 @@ module _ {T : Type 0} where
   AreFiled-bound places earliest lower map filed is bound = record {
     all = filed.all;
     bound = λ q timed kept.
-    bound q timed (ap (λ (m : ByAddress T). finite.get m q) (sym is) ∙ get-filed places q ∙ kept);
+        bound q timed (ap (λ (m : ByAddress T). finite.get m q) (sym is) ∙ get-filed places q ∙ kept);
   }

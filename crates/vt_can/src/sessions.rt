@@ -1,6 +1,6 @@
 //! Sessions of a transport protocol, kept by address.
 
-ghost use Rattle.std.specs.Prelude.{◌≡◌, ℕ, ◌≤◌, false, IfSome, IfNone};
+ghost use Rattle.std.specs.Prelude.{◌≡◌, ℕ, ◌≤◌, false, Some, IfSome, IfNone};
 ghost use Rattle.std.specs.FinMap as finite;
 ghost use Rattle.std.specs.Option.{option_copied};
 ghost use Rattle.vt_can.specs.Sessions.{is_overdue, IsFirstOverdue, Expires, NoneExpires};
@@ -41,6 +41,16 @@ impl<T> Model for Sessions<T> {
     ghost view = { λ a. filed 0 a.places };
 
     ghost invariant = { λ a. AreFiled a.places a.earliest };
+}
+
+impl<T> Timed<T> {
+    /// Whether more than 1,250,000 microseconds have passed since the last frame. A `now` before it
+    /// counts as no time passed.
+    pub fn is_overdue(&self, now: u64) -> bool
+        ensures { result ≡ is_overdue now (Some self.now) }
+    {
+        now.saturating_sub(self.last) > TIMEOUT
+    }
 }
 
 impl<T> Sessions<T> {
@@ -137,7 +147,7 @@ fn overdue<T>(place: &Option<Timed<T>>, now: u64) -> bool
     ensures { result ≡ is_overdue now place.now }
 {
     match place {
-        Some(timed) => now.saturating_sub(timed.last) > TIMEOUT,
+        Some(timed) => timed.is_overdue(now),
         None => false,
     }
 }

@@ -9,9 +9,9 @@ loop-place-preserved g c =
     let within : c.loop-place.place-index < length c.self.inside.places = omega (arith, c.self.invariant.all) in
     elim c.match-place.branch [
       | in-Some w ↦ bound_more _ _ _ _ _ c.loop-place.invariant within c.place-item.is (omega arith) (λ timed is.
-        let same : w.in-Some.timed ≡ timed = cc in
-        let last : w.in-Some.timed.last ≡ timed.last = ap (λ (t : Timed _). t.last) same in
-        omega arith)
+          let same : w.in-Some.timed ≡ timed = cc in
+          let last : w.in-Some.timed.last ≡ timed.last = ap (λ (t : Timed _). t.last) same in
+          omega arith)
       | in_default w ↦ bound_more _ _ _ _ _ c.loop-place.invariant within c.place-item.is (omega arith) (λ timed is. absurd (w.in_default.not-Some timed (sym c.place-item.is ∙ is)))
     ]
 

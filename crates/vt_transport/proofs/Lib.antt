@@ -1,0 +1,4 @@
+pub mod ByAddress
+pub mod Taking
+pub mod Answering
+pub mod Packets
