@@ -1,5 +1,5 @@
 -- A call of the receiver that puts a session or takes one out is a step on it.
-use Rattle.std.proofs.Common.{◌≡◌, ℕ, max, List, Option, Some, None, ap, sym, subst, ◌∙◌, refl}
+use Rattle.std.proofs.Common.{◌≡◌, ℕ, max, List, Option, Some, None, ap, sym, subst, ◌∙◌}
 use Rattle.std.specs.FinMap as finite
 use Rattle.vt_can.specs.declared.sessions.Timed.{Timed}
 use Rattle.vt_can.specs.Sessions.{ByAddress}

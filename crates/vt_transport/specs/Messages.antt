@@ -1,10 +1,10 @@
 -- The messages of one source, over the whole list of what came from it (ISO 11783-3;
 -- docs/PROFILE.md, "The TP receiver"). Every list of happenings and of packets has the latest first.
-use Rattle.std.specs.Prelude.{◌≡◌, ◌<◌, ◌≤◌, ℕ, ◌+◌, ◌-◌, ◌/◌, ◌%◌, Bool, true, nat_le, ◌==◌, ◌&&◌, if◌then◌else◌, min, Option, Some, None, List, [], ◌∷◌, ◌++◌, length, take}
+use Rattle.std.specs.Prelude.{◌≡◌, ◌<◌, ℕ, ◌+◌, ◌-◌, ◌/◌, ◌%◌, Bool, true, nat_le, ◌==◌, ◌&&◌, if◌then◌else◌, min, Option, Some, None, List, [], ◌∷◌, ◌++◌, length, take}
 use Rattle.vt_transport.specs.declared.messages.Opening.{Opening}
 use Rattle.vt_transport.specs.declared.messages.TpFrame.{TpFrame}
 use Rattle.vt_transport.specs.declared.messages.TpFrame.TheVariants.{Rts, Aborted, Data}
-use Rattle.vt_transport.specs.declared.messages.Reason.TheVariants.{Timeout, Disorder}
+use Rattle.vt_transport.specs.declared.messages.Reason.TheVariants.{Disorder}
 use Rattle.vt_transport.specs.declared.messages.Reply.{Reply}
 use Rattle.vt_transport.specs.declared.messages.Reply.TheVariants.{ClearToSend, End, Abort}
 

@@ -1,12 +1,10 @@
 -- A receiver as a value, and what its calls say.
-use Rattle.std.specs.Prelude.{◌≡◌, ◌≤◌, ◌-◌, ℕ, true, if◌then◌else◌, Option, Some, None, List, [], ◌∷◌, length, slice_index, refl}
-use Rattle.std.specs.Option.{option_map}
+use Rattle.std.specs.Prelude.{◌≡◌, ◌≤◌, ℕ, true, if◌then◌else◌, Option, Some, None, length, slice_index, refl}
 use Rattle.std.specs.Coded.{Coded, code_by, coded×, coded_ℕ}
 use Rattle.std.specs.FinMap as finite
 use Rattle.vt_can.specs.declared.frame.Frame.{Frame}
 use Rattle.vt_can.specs.declared.sessions.Timed.{Timed}
 use Rattle.vt_can.specs.Sessions.{ByAddress, timed_code, is_overdue, Expires}
-use Rattle.vt_transport.specs.declared.messages.Opening.{Opening}
 use Rattle.vt_transport.specs.declared.messages.TpFrame.{TpFrame}
 use Rattle.vt_transport.specs.declared.messages.TpFrame.TheVariants.{Rts}
 use Rattle.vt_transport.specs.declared.messages.Reason.TheVariants.{Timeout}

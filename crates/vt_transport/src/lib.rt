@@ -5,6 +5,7 @@
 
 mod bytes;
 mod heard;
+mod law;
 mod messages;
 mod receiver;
 mod sender;
@@ -14,6 +15,7 @@ mod wire;
 
 pub use bytes::Bytes;
 pub use heard::Heard;
+pub use law::steps_assemble_messages;
 pub use receiver::Receiver;
 pub use sender::{SendFault, Sender};
 

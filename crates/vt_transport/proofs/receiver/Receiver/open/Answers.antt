@@ -1,4 +1,4 @@
-use Rattle.std.proofs.Common.{◌≡◌, ℕ, cond, true, false, Option, Some, None, ap, sym, refl, ◌∙◌}
+use Rattle.std.proofs.Common.{◌≡◌, cond, true, false, Some, None, ap, sym, ◌∙◌}
 use Rattle.vt_can.specs.declared.sessions.Timed.{Timed}
 use Rattle.vt_transport.specs.declared.messages.Opening.{Opening}
 use Rattle.vt_transport.specs.Kept.{Kept}

@@ -1,4 +1,4 @@
-use Rattle.std.proofs.Common.{◌≡◌, ℕ, max, Some, None, ap, sym, refl, ◌∙◌}
+use Rattle.std.proofs.Common.{ℕ, max, Some, None, ap, sym, refl, ◌∙◌}
 use Rattle.vt_transport.specs.declared.session.Received.TheVariants.{More, Whole}
 use Rattle.vt_transport.specs.Steps.{silent, ended}
 use Rattle.vt_transport.specs.Received.{outcome_of}

@@ -1,4 +1,4 @@
-use Rattle.std.proofs.Common.{◌≡◌, ℕ, max, Some, None, ap, sym, refl, ◌∙◌}
+use Rattle.std.proofs.Common.{◌≡◌, ℕ, max, Some, ap, sym, refl, ◌∙◌}
 use Rattle.vt_can.specs.declared.sessions.Timed.{Timed}
 use Rattle.vt_transport.specs.Messages.{Message}
 use Rattle.vt_transport.specs.Senders.{Sending, unanswered, refreshed}
