@@ -1,4 +1,4 @@
-//! The frames of a CAN bus: identifiers, frames, and the lines of a log.
+//! The frames of a CAN bus: identifiers, frames, and the lines of a log; and sessions by address.
 //!
 //! No call takes memory. docs/PROFILE.md, "Identifiers" and "Log lines", has the rules.
 #![tactic(auto)]

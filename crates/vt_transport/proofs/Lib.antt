@@ -6,3 +6,5 @@ pub mod Openings
 pub mod Cutting
 pub mod Histories
 pub mod Assembly
+pub mod Sources
+pub mod Serving

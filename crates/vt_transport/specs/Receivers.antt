@@ -69,6 +69,11 @@ pub record TimesOut (old new : Listening) (now : ℕ) (frame : Frame) : Type 0 w
 abbrev pub alive : ℕ → Option (Timed Kept) → Option (Timed Kept)
 alive now kept = if is_overdue now kept then None else kept
 
+-- the step that a frame makes once the sessions that are overdue have ended
+abbrev pub timely_outcome : Listening → ℕ → Frame → Outcome
+timely_outcome receiver now frame =
+    stepped now (alive now (finite.get receiver.sessions (source_of frame))) (tp_frame receiver.own frame)
+
 -- the size and first byte of a message
 abbrev pub told_of : Option Message → Option (ℕ × ℕ)
 told_of None = None

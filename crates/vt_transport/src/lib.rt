@@ -15,7 +15,7 @@ mod wire;
 
 pub use bytes::Bytes;
 pub use heard::Heard;
-pub use law::steps_assemble_messages;
+pub use law::{messages_depend_on_own_frames, steps_assemble_messages};
 pub use receiver::Receiver;
 pub use sender::{SendFault, Sender};
 

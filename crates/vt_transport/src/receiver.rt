@@ -5,7 +5,7 @@ ghost use Rattle.std.specs.FinMap as finite;
 ghost use Rattle.vt_can.specs.Sessions.{is_overdue};
 ghost use Rattle.vt_transport.specs.Wire.{source_of, tp_frame};
 ghost use Rattle.vt_transport.specs.Steps.{after_rts, after_packet, step};
-ghost use Rattle.vt_transport.specs.Receivers.{outcome, stepped, heard_of, Takes, OthersStay, IsReadyFor, TimesOut, alive, told_of};
+ghost use Rattle.vt_transport.specs.Receivers.{outcome, timely_outcome, heard_of, Takes, OthersStay, IsReadyFor, TimesOut, alive, told_of};
 ghost use Rattle.vt_transport.specs.declared.messages.TpFrame.TheVariants as declared;
 
 use crate::heard::Heard;
@@ -60,7 +60,8 @@ impl Receiver {
     /// Hears a frame at a time. Only a request to send takes memory, for the whole message; refused,
     /// it leaves the receiver as it was. docs/PROFILE.md, "The TP receiver".
     pub fn hear(&mut self, now: u64, frame: &Frame) -> Result<Heard, OutOfMemory>
-        ensures step { IfOk result (λ said. Takes self.old self.new (source_of frame.now) (outcome self.old now frame.now) said) }
+        ensures step { IfOk result
+            (λ said. Takes self.old self.new (source_of frame.now) (outcome self.old now frame.now) said) }
         ensures others { OthersStay self.old self.new (source_of frame.now) }
         ensures err { OnErr result (self.new ≡ self.old) }
         ensures ready { IsReadyFor (tp_frame self.old.own frame.now) self.old.room → IsOk result }
@@ -81,7 +82,8 @@ impl Receiver {
         ensures room { self.new.room ≡ self.old.room }
         ensures some { IfSome result (λ frame. TimesOut self.old self.new now frame) }
         ensures none { IfNone result (self.new ≡ self.old) }
-        ensures all { IfNone result ((source : ℕ) → is_overdue now (finite.get self.old.sessions source) ≡ false) }
+        ensures all { IfNone result
+            ((source : ℕ) → is_overdue now (finite.get self.old.sessions source) ≡ false) }
     {
         let (source, session) = self.sessions.expire(now)?;
         let abort = Reply::Abort {
@@ -99,7 +101,7 @@ impl Receiver {
         ensures sessions { self.new.sessions ≡ self.old.sessions }
         ensures ready { OnOk result (IsReadyFor (tp_frame self.old.own frame.now) self.new.room) }
         ensures free { IsReadyFor (tp_frame self.old.own frame.now) self.old.room → IsOk result }
-        ensures told { IfOk result (λ told. told ≡ told_of (stepped now (alive now (finite.get self.old.sessions (source_of frame.now))) (tp_frame self.old.own frame.now)).message) }
+        ensures told { IfOk result (λ told. told ≡ told_of (timely_outcome self.old now frame.now).message) }
     {
         match wire::tp_frame(self.own, frame) {
             Some(TpFrame::Rts(opening)) => {
@@ -130,7 +132,8 @@ impl Receiver {
     }
 
     fn packet(&mut self, now: u64, source: u8, number: u8, bytes: [u8; 7]) -> Heard
-        ensures step { Takes self.old self.new source (after_packet now (finite.get self.old.sessions source) number bytes) result }
+        ensures step { Takes self.old self.new source
+            (after_packet now (finite.get self.old.sessions source) number bytes) result }
         ensures others { OthersStay self.old self.new source }
     {
         let Some(Timed { last, session }) = self.sessions.take(source) else {
@@ -153,7 +156,8 @@ impl Receiver {
 
     // An abort of the sender's parameter group is no receiver's.
     fn aborted(&mut self, source: u8, pgn: u32) -> Heard
-        ensures step { Takes self.old self.new source (step 0 (finite.get self.old.sessions source) (declared.Aborted pgn)) result }
+        ensures step { Takes self.old self.new source
+            (step 0 (finite.get self.old.sessions source) (declared.Aborted pgn)) result }
         ensures others { OthersStay self.old self.new source }
     {
         if pgn == SENDING {

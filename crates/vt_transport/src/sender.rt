@@ -68,9 +68,11 @@ impl Sender {
     /// group number the low 24 bits count. The faults are tested in the order of their numbers, and
     /// after one the sender is as it was. docs/PROFILE.md, "The TP sender".
     pub fn start(&mut self, now: u64, to: u8, pgn: u32, message: &[u8]) -> Result<Frame, SendFault>
-        ensures ok { IfOk result (λ frame. Starts self.old self.new now to (record { pgn = pgn % 2 ^ 24; bytes = message.now }) frame) }
+        ensures ok { IfOk result
+            (λ frame. Starts self.old self.new now to (record { pgn = pgn % 2 ^ 24; bytes = message.now }) frame) }
         ensures busy { (result ≡ Err SendFault.Busy) ↔ IsSome (finite.get self.old.sessions to) }
-        ensures size { (result ≡ Err SendFault.Size) ↔ ((finite.get self.old.sessions to ≡ None) × (has_size message.now ≡ false)) }
+        ensures size { (result ≡ Err SendFault.Size)
+            ↔ ((finite.get self.old.sessions to ≡ None) × (has_size message.now ≡ false)) }
         ensures err { OnErr result (self.new ≡ self.old) }
     {
         if self.sessions.get(to).is_some() {
@@ -91,7 +93,8 @@ impl Sender {
     /// Hears a frame, and answers the frames to be sent to its source. It takes no memory.
     /// docs/PROFILE.md, "The TP sender".
     pub fn hear(&mut self, now: u64, frame: &Frame) -> ArrayVec<Frame, 255>
-        ensures { Answers self.old self.new (source_of frame.now) (answer self.old now frame.now) result.items }
+        ensures { Answers self.old self.new (source_of frame.now) (answer self.old now frame.now)
+            result.items }
     {
         let to = frame.id.source();
         match wire::tp_frame(self.own, frame) {
@@ -109,7 +112,8 @@ impl Sender {
     pub fn expire(&mut self, now: u64) -> Option<Frame>
         ensures some { IfSome result (λ frame. TimesOut self.old self.new now frame) }
         ensures none { IfNone result (self.new ≡ self.old) }
-        ensures all { IfNone result ((to : ℕ) → is_overdue now (finite.get self.old.sessions to) ≡ false) }
+        ensures all { IfNone result
+            ((to : ℕ) → is_overdue now (finite.get self.old.sessions to) ≡ false) }
     {
         let (to, session) = self.sessions.expire(now)?;
         let abort = Reply::Abort {
@@ -127,7 +131,8 @@ impl Sender {
         next: u8,
         pgn: u32,
     ) -> ArrayVec<Frame, 255>
-        ensures { Answers self.old self.new to (answer_of self.old to now (Some (declared.Cts count next pgn))) result.items }
+        ensures { Answers self.old self.new to
+            (answer_of self.old to now (Some (declared.Cts count next pgn))) result.items }
     {
         let Some(Timed { last, session }) = self.sessions.take(to) else {
             return ArrayVec::new();
@@ -153,7 +158,8 @@ impl Sender {
     }
 
     fn end_of_message(&mut self, to: u8, pgn: u32) -> ArrayVec<Frame, 255>
-        ensures { Answers self.old self.new to (answer_of self.old to 0 (Some (declared.EndOfMessage pgn))) result.items }
+        ensures { Answers self.old self.new to
+            (answer_of self.old to 0 (Some (declared.EndOfMessage pgn))) result.items }
     {
         if !self.sends(to, pgn) {
             return ArrayVec::new();
@@ -163,7 +169,8 @@ impl Sender {
     }
 
     fn aborted(&mut self, to: u8, pgn: u32) -> ArrayVec<Frame, 255>
-        ensures { Answers self.old self.new to (answer_of self.old to 0 (Some (declared.Aborted pgn))) result.items }
+        ensures { Answers self.old self.new to
+            (answer_of self.old to 0 (Some (declared.Aborted pgn))) result.items }
     {
         if pgn != SENDING {
             return ArrayVec::new();

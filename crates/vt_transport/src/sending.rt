@@ -55,7 +55,8 @@ impl Outgoing {
     pub(crate) fn frames(&self, own: u8, to: u8, next: u8, count: u8) -> ArrayVec<Frame, 255>
         requires first { 1 ≤ next }
         requires last { next ≤ packets_of self.now }
-        ensures { result.items ≡ map (packet_frame own to self.now.bytes) (numbers_from next (min count (packets_of self.now + 1 - next))) }
+        ensures { result.items ≡ map (packet_frame own to self.now.bytes)
+            (numbers_from next (min count (packets_of self.now + 1 - next))) }
     {
         let mut frames = ArrayVec::new();
         let left = self.packets() - (next - 1);

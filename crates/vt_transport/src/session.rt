@@ -66,7 +66,8 @@ impl Session {
 
     /// Takes a packet, which must be the next one.
     pub(crate) fn receive(mut self, number: u8, packet: [u8; 7]) -> Received
-        ensures { (now last : ℕ) → outcome_of (max now last) result ≡ after_packet now (Some (record { last = last; session = self })) number packet }
+        ensures { (now last : ℕ) → outcome_of (max now last) result
+            ≡ after_packet now (Some (record { last = last; session = self })) number packet }
     {
         let Opening {
             size,

@@ -1,7 +1,9 @@
 mod linux;
 mod linux_logs;
 mod receiving;
+mod refusing;
 mod sending;
+mod serving;
 
 use super::*;
 use std::test::Fail;

@@ -2,7 +2,6 @@ ghost use Rattle.std.specs.Prelude.{◌<◌};
 
 use super::Wanted::*;
 use super::*;
-use std::alloc::Global;
 
 const NODE: u8 = 0x26;
 
@@ -275,48 +274,5 @@ fn a_session_among_252_others(rt: HostRuntime) -> Result<(), Fail> {
     let between = all_others_open(&mut receiver)?;
     let heard = both_packets(&mut receiver)?;
     assert!(rt; before && opened && between && heard);
-    Ok(())
-}
-
-// The room of a request is set aside first, and the last packet is told before it is heard.
-fn prepared(alloc: Global) -> Result<bool, OutOfMemory> {
-    let mut receiver = Receiver::new(alloc, NODE);
-    let opened = served(
-        &mut receiver,
-        b"(1.000000) can0 1CEC2680#10090002FF00E700",
-        None,
-    )?;
-    let first = served(
-        &mut receiver,
-        b"(2.000000) can0 1CEB2680#01B4E8036400FFFF",
-        None,
-    )?;
-    let last = served(
-        &mut receiver,
-        b"(2.000000) can0 1CEB2680#020500FFFFFFFFFF",
-        Some((9, 0xB4)),
-    )?;
-    Ok(opened && first && last)
-}
-
-fn served(
-    receiver: &mut Receiver,
-    line: &[u8],
-    told: Option<(usize, u8)>,
-) -> Result<bool, OutOfMemory> {
-    match parse_line(line) {
-        Ok(Line::Frame { time, frame }) => {
-            let prepared = receiver.prepare(time, &frame)?;
-            let heard = receiver.hear(time, &frame)?;
-            Ok(prepared == told && told.is_some() == matches!(heard, Heard::Message { .. }))
-        }
-        _ => Ok(false),
-    }
-}
-
-#[test]
-fn a_message_is_told_before_it_is_heard(rt: HostRuntime) -> Result<(), Fail> {
-    let told = prepared(rt.alloc())?;
-    assert!(rt; told);
     Ok(())
 }
