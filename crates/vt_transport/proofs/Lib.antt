@@ -6,5 +6,6 @@ pub mod Openings
 pub mod Cutting
 pub mod Histories
 pub mod Assembly
+pub mod Agreement
 pub mod Sources
 pub mod Serving
