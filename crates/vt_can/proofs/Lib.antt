@@ -6,3 +6,4 @@ pub mod Writing
 pub mod Sums
 pub mod OneReading
 pub mod Written
+pub mod Filed

@@ -5,3 +5,4 @@ pub mod Readings
 pub mod Line
 pub mod Writing
 pub mod Parts
+pub mod Sessions

@@ -7,7 +7,7 @@ ghost use Rattle.vt_can.specs.Identifier.{raw_of, parts_of, pgn_of, destination_
 use std::marker::Model;
 
 /// The identifier of a frame, 29 bits.
-#[derive(Clone, Copy, Debug, PartialEq, Eq)]
+#[derive(Clone, Copy, Debug, Default, PartialEq, Eq)]
 pub struct CanId {
     raw: u32,
 }

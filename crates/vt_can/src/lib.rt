@@ -1,4 +1,4 @@
-//! The frames of a CAN bus: identifiers, frames, and the lines of a log.
+//! The frames of a CAN bus: identifiers, frames, and the lines of a log; and sessions by address.
 //!
 //! No call takes memory. docs/PROFILE.md, "Identifiers" and "Log lines", has the rules.
 #![tactic(auto)]
@@ -9,6 +9,7 @@ mod frame;
 mod identifier;
 mod line;
 mod parts;
+mod sessions;
 mod shaped;
 mod write;
 
@@ -18,6 +19,7 @@ pub use line::{
     Action, Line, LineFault, Skipped, lines_have_readings, parse_line, readings_are_one,
     written_lines_are_read,
 };
+pub use sessions::{Sessions, Timed};
 pub use write::write_line;
 
 #[cfg(test)]

@@ -1,5 +1,6 @@
 mod frames;
 mod operator;
+mod sessions;
 
 use super::*;
 use Wanted::*;

@@ -1,0 +1,270 @@
+-- The steps on the session of a source assemble the messages that were sent.
+use Rattle.std.proofs.Common.{◌≡◌, ℕ, suc, ◌+◌, ◌<◌, max, Bool, true, false, cond, eqb, List, [], ◌∷◌, ◌++◌, length, take, Option, Some, None, ap, sym, subst, ◌∙◌, refl, arith, eq-eqb, eqb-true, ne_eqb}
+use Rattle.std.proofs.lemmas.Bool.{false≢true}
+use Rattle.vt_can.specs.declared.sessions.Timed.{Timed}
+use Rattle.vt_transport.specs.declared.messages.Opening.{Opening}
+use Rattle.vt_transport.specs.declared.messages.TpFrame.TheVariants.{Rts, Cts, EndOfMessage, Aborted, Data, Other}
+use Rattle.vt_transport.specs.declared.messages.Reason.TheVariants.{Disorder}
+use Rattle.vt_transport.specs.declared.messages.Reply.TheVariants.{Abort}
+use Rattle.vt_transport.specs.Messages.{Happening, Came, TimedOut, opens, IsQuiet, AreQuiet, packets_in, numbered, joined, Sent, Stands, reply_to}
+use Rattle.vt_transport.specs.Kept.{Kept}
+use Rattle.vt_transport.specs.Steps.{Outcome, ended, after_packet, happens, session_after, untimed, Has}
+use Rattle.vt_transport.proofs.Histories.{IsBystander, sent_after_rts, sent_more, sent_packet, Came_last, AtRts, Later, last_of}
+use Rattle.vt_transport.proofs.Cutting.{take_again, take_none}
+use Rattle.vt_transport.proofs.Openings.{opens_packets, opens_size}
+
+-- the step of a packet, in its three cases
+
+pub packet_more : (now number : ℕ) (packet : List ℕ) (kept : Timed Kept) → number ≡ kept.session.received + 1
+    → (kept.session.received + 1 ≡ kept.session.opening.packets → ⊥)
+    → ◌≡◌ {A = Outcome} (after_packet now (Some kept) number packet) (record {
+      session = Some (record { last = max now kept.last; session = record { opening = kept.session.opening; bytes = take kept.session.opening.size (kept.session.bytes ++ packet); received = kept.session.received + 1 } });
+      reply = reply_to kept.session.opening (kept.session.received + 1);
+      message = None;
+    })
+packet_more now number packet kept next more =
+    let e : eqb number (kept.session.received + 1) ≡ true = eq-eqb _ _ next in
+    let f : eqb (kept.session.received + 1) kept.session.opening.packets ≡ false = ne_eqb _ _ more in
+    rw (e, f)
+
+pub packet_whole : (now number : ℕ) (packet : List ℕ) (kept : Timed Kept) → number ≡ kept.session.received + 1
+    → kept.session.received + 1 ≡ kept.session.opening.packets
+    → ◌≡◌ {A = Outcome} (after_packet now (Some kept) number packet) (record {
+      session = None;
+      reply = reply_to kept.session.opening (kept.session.received + 1);
+      message = Some (record { pgn = kept.session.opening.pgn; bytes = take kept.session.opening.size (kept.session.bytes ++ packet) });
+    })
+packet_whole now number packet kept next whole =
+    let e : eqb number (kept.session.received + 1) ≡ true = eq-eqb _ _ next in
+    let f : eqb (kept.session.received + 1) kept.session.opening.packets ≡ true = eq-eqb _ _ whole in
+    rw (e, f)
+
+pub packet_wrong : (now number : ℕ) (packet : List ℕ) (kept : Timed Kept) → (number ≡ kept.session.received + 1 → ⊥)
+    → after_packet now (Some kept) number packet ≡ ended (Abort Disorder kept.session.opening.pgn)
+packet_wrong now number packet kept wrong =
+    let e : eqb number (kept.session.received + 1) ≡ false = ne_eqb _ _ wrong in
+    rw e
+
+-- what a history has of one that is a packet shorter
+pub record IsNext (hs : List Happening) (number : ℕ) (packet : List ℕ) (o : Opening) (packets : List (List ℕ)) : Type 0 where
+  pub before : List (List ℕ)
+  pub all : packets ≡ packet ∷ before
+  pub next : number ≡ length before + 1
+  pub sent : Sent hs o before
+
+next_of : (hs later earlier : List Happening) (number : ℕ) (packet : List ℕ) (o : Opening) (packets : List (List ℕ))
+    → hs ≡ later ++ Came (Rts o) ∷ earlier → opens o ≡ true → AreQuiet later → (number, packet) ∷ packets_in later ≡ numbered packets
+    → IsNext hs number packet o packets
+next_of hs later earlier number packet o [] split opened quiet in_order = absurd cc
+next_of hs later earlier number packet o (last ∷ before) split opened quiet in_order =
+    let pair : ◌≡◌ {A = ℕ × List ℕ} (number, packet) (length before + 1, last) = cc in
+    record {
+      before = before;
+      all = ap (λ (p : List ℕ). p ∷ before) (sym (ap (λ (d : ℕ × List ℕ). d.1) pair));
+      next = ap (λ (d : ℕ × List ℕ). d.0) pair;
+      sent = record { earlier = earlier; later = later; split = split; opened = opened; quiet = quiet; in_order = cc };
+    }
+
+not_rts : (number : ℕ) (packet : List ℕ) (o : Opening) → Came (Data number packet) ≡ Came (Rts o) → ⊥
+not_rts number packet o e = cc
+
+-- a packet that a history ends with
+pub packet_last : (hs : List Happening) (number : ℕ) (packet : List ℕ) (o : Opening) (packets : List (List ℕ)) → Came_last (Came (Data number packet)) hs o packets
+    → IsNext hs number packet o packets
+packet_last hs number packet o packets (AtRts is opened none) = absurd (not_rts number packet o is)
+packet_last hs number packet o packets (Later later earlier split opened quiet rest in_order) =
+    next_of hs later earlier number packet o packets split opened rest in_order
+
+-- the session of the steps and the one that stands are the same
+pub record Matches (hs : List Happening) (session : Option (Timed Kept)) : Type 0 where
+  pub stands : (o : Opening) (packets : List (List ℕ)) → Stands hs o packets → Has session o packets
+  pub kept : (kept : Timed Kept) → session ≡ Some kept
+      → (packets : List (List ℕ)) × Stands hs kept.session.opening packets × Has (Some kept) kept.session.opening packets
+
+quiet_last : (x : Happening) (hs : List Happening) (o : Opening) (packets : List (List ℕ)) → IsBystander x → Came_last x hs o packets
+    → ((o : Opening) → x ≡ Came (Rts o) → ⊥) → Sent hs o packets
+quiet_last x hs o packets by (AtRts is opened none) other = absurd (other o is)
+quiet_last x hs o packets by (Later later earlier split opened quiet rest in_order) other = record {
+  earlier = earlier;
+  later = later;
+  split = split;
+  opened = opened;
+  quiet = rest;
+  in_order = sym (by.no_packet later) ∙ in_order;
+}
+
+matches_quiet : (hs : List Happening) (session : Option (Timed Kept)) (x : Happening) → IsBystander x → ((o : Opening) → x ≡ Came (Rts o) → ⊥)
+    → Matches hs session → Matches (x ∷ hs) session
+matches_quiet hs session x by other m = record {
+  stands = λ o packets s. m.stands o packets (record { sent = quiet_last x hs o packets by (last_of x hs o packets s.sent) other; more = s.more });
+  kept = λ kept is.
+      let k = m.kept kept is in
+      (k.0, record { sent = sent_more hs x kept.session.opening k.0 by k.1.sent; more = k.1.more }, k.2);
+}
+
+-- nothing stands after a happening that ends each session
+not_quiet : (x : Happening) (hs : List Happening) (o : Opening) (packets : List (List ℕ)) → Came_last x hs o packets → (IsQuiet x → ⊥)
+    → ((o : Opening) → x ≡ Came (Rts o) → ⊥) → ⊥
+not_quiet x hs o packets (AtRts is opened none) loud other = other o is
+not_quiet x hs o packets (Later later earlier split opened quiet rest in_order) loud other = loud quiet
+
+matches_end : (hs : List Happening) (x : Happening) → (IsQuiet x → ⊥) → ((o : Opening) → x ≡ Came (Rts o) → ⊥) → Matches (x ∷ hs) None
+matches_end hs x loud other = record {
+  stands = λ o packets s. absurd (not_quiet x hs o packets (last_of x hs o packets s.sent) loud other);
+  kept = λ kept is. absurd cc;
+}
+
+-- an RTS
+
+abbrev fresh : ℕ → Opening → Timed Kept
+fresh now o = record { last = now; session = record { opening = o; bytes = []; received = 0 } }
+
+has_fresh : (now : ℕ) (o : Opening) → Has (Some (fresh now o)) o []
+has_fresh now o = (refl, sym (take_none o.size), refl)
+
+has_rts : (now : ℕ) (o o' : Opening) (packets : List (List ℕ)) → o ≡ o' → opens o' ≡ true → packets ≡ []
+    → Has (cond (opens o) (Some (fresh now o)) None) o' packets
+has_rts now o o' packets same opened none =
+    let here : opens o ≡ true = ap opens same ∙ opened in
+    subst (λ (q : Opening). Has (cond (opens o) (Some (fresh now o)) None) q packets) same
+    (subst (λ (ps : List (List ℕ)). Has (cond (opens o) (Some (fresh now o)) None) o ps) (sym none)
+    (subst (λ (b : Bool). Has (cond b (Some (fresh now o)) None) o []) (sym here) (has_fresh now o)))
+
+rts_last : (now : ℕ) (hs : List Happening) (o o' : Opening) (packets : List (List ℕ)) → Came_last (Came (Rts o)) hs o' packets
+    → Has (cond (opens o) (Some (fresh now o)) None) o' packets
+rts_last now hs o o' packets (AtRts is opened none) = has_rts now o o' packets (cc) opened none
+rts_last now hs o o' packets (Later later earlier split opened quiet rest in_order) = absurd quiet
+
+abbrev pub IsKept : List Happening → Timed Kept → Type 0
+IsKept hs kept = (packets : List (List ℕ)) × Stands hs kept.session.opening packets × Has (Some kept) kept.session.opening packets
+
+opened_packets : (o : Opening) → opens o ≡ true → 0 < o.packets
+opened_packets o opened =
+    let p = opens_packets o opened in
+    let n = opens_size o opened in
+    omega arith
+
+rts_kept : (now : ℕ) (hs : List Happening) (o : Opening) (b : Bool) (kept : Timed Kept) → opens o ≡ b → cond b (Some (fresh now o)) None ≡ Some kept
+    → IsKept (Came (Rts o) ∷ hs) kept
+rts_kept now hs o false kept opened is = absurd cc
+rts_kept now hs o true kept opened is =
+    let same : fresh now o ≡ kept = cc in
+    subst (IsKept (Came (Rts o) ∷ hs)) same
+    ([], record { sent = sent_after_rts hs o opened; more = opened_packets o opened }, has_fresh now o)
+
+matches_rts : (now : ℕ) (hs : List Happening) (o : Opening) → Matches (Came (Rts o) ∷ hs) (cond (opens o) (Some (fresh now o)) None)
+matches_rts now hs o = record {
+  stands = λ o' packets s. rts_last now hs o o' packets (last_of _ hs o' packets s.sent);
+  kept = λ kept is. rts_kept now hs o (opens o) kept refl is;
+}
+
+-- a packet
+
+abbrev grown : ℕ → Timed Kept → List ℕ → Timed Kept
+grown now kept packet = record {
+  last = max now kept.last;
+  session = record { opening = kept.session.opening; bytes = take kept.session.opening.size (kept.session.bytes ++ packet); received = kept.session.received + 1 };
+}
+
+-- the bytes of a session and a packet
+pub grown_bytes : (kept : Timed Kept) (packet : List ℕ) (o : Opening) (packets : List (List ℕ)) → Has (Some kept) o packets
+    → take kept.session.opening.size (kept.session.bytes ++ packet) ≡ take o.size (joined (packet ∷ packets))
+grown_bytes kept packet o packets h =
+    ap (λ (q : Opening). take q.size (kept.session.bytes ++ packet)) h.0
+    ∙ ap (λ (bytes : List ℕ). take o.size (bytes ++ packet)) h.1 ∙ take_again o.size (joined packets) packet
+
+has_grown : (now : ℕ) (kept : Timed Kept) (packet : List ℕ) (o : Opening) (packets : List (List ℕ)) → Has (Some kept) o packets
+    → Has (Some (grown now kept packet)) o (packet ∷ packets)
+has_grown now kept packet o packets h =
+    let count = h.2 in
+    (h.0, grown_bytes kept packet o packets h, omega arith)
+
+has_packet : (now number : ℕ) (packet : List ℕ) (session : Option (Timed Kept)) (o : Opening) (packets : List (List ℕ)) → Has session o packets
+    → number ≡ length packets + 1 → length packets + 1 < o.packets → Has (after_packet now session number packet).session o (packet ∷ packets)
+has_packet now number packet None o packets h next more = absurd h
+has_packet now number packet (Some kept) o packets h next more =
+    let count = h.2 in
+    let all : kept.session.opening.packets ≡ o.packets = ap (λ (q : Opening). q.packets) h.0 in
+    subst (λ (out : Outcome). Has out.session o (packet ∷ packets)) (sym (packet_more now number packet kept (omega arith) (λ e. omega arith)))
+    (has_grown now kept packet o packets h)
+
+stands_packet : (now number : ℕ) (packet : List ℕ) (hs : List Happening) (session : Option (Timed Kept)) (o : Opening) (packets : List (List ℕ))
+    → Matches hs session → IsNext hs number packet o packets → length packets < o.packets → Has (after_packet now session number packet).session o packets
+stands_packet now number packet hs session o packets m n more =
+    let count : length packets ≡ suc (length n.before) = ap length n.all in
+    subst (λ (ps : List (List ℕ)). Has (after_packet now session number packet).session o ps) (sym n.all)
+    (has_packet now number packet session o n.before (m.stands o n.before (record { sent = n.sent; more = omega arith })) n.next (omega arith))
+
+-- a session that stands, and its next packet
+kept_grown : (now number : ℕ) (packet : List ℕ) (hs : List Happening) (kept : Timed Kept) → IsKept hs kept → number ≡ kept.session.received + 1
+    → (kept.session.received + 1 ≡ kept.session.opening.packets → ⊥) → IsKept (Came (Data number packet) ∷ hs) (grown now kept packet)
+kept_grown now number packet hs kept k next more =
+    let count = k.2.2 in
+    let below = k.1.more in (
+      packet ∷ k.0,
+      record { sent = sent_packet hs number packet kept.session.opening k.0 (omega arith) k.1.sent; more = omega (arith, more) },
+      has_grown now kept packet kept.session.opening k.0 k.2,
+    )
+
+kept_at : (now number : ℕ) (packet : List ℕ) (hs : List Happening) (kept kept' : Timed Kept) (whole : Bool)
+    → eqb (kept.session.received + 1) kept.session.opening.packets ≡ whole → number ≡ kept.session.received + 1 → IsKept hs kept
+    → (after_packet now (Some kept) number packet).session ≡ Some kept' → IsKept (Came (Data number packet) ∷ hs) kept'
+kept_at now number packet hs kept kept' true all next k is =
+    let none = ap (λ (out : Outcome). out.session) (packet_whole now number packet kept next (eqb-true _ _ all)) in absurd cc
+kept_at now number packet hs kept kept' false all next k is =
+    let more : kept.session.received + 1 ≡ kept.session.opening.packets → ⊥ = λ e. false≢true (sym all ∙ eq-eqb _ _ e) in
+    let some : Some (grown now kept packet) ≡ Some kept' =
+    sym (ap (λ (out : Outcome). out.session) (packet_more now number packet kept next more)) ∙ is in
+    let same : grown now kept packet ≡ kept' = cc in
+    subst (IsKept (Came (Data number packet) ∷ hs)) same (kept_grown now number packet hs kept k next more)
+
+kept_number : (now number : ℕ) (packet : List ℕ) (hs : List Happening) (kept kept' : Timed Kept) (next : Bool) → eqb number (kept.session.received + 1) ≡ next
+    → IsKept hs kept → (after_packet now (Some kept) number packet).session ≡ Some kept' → IsKept (Came (Data number packet) ∷ hs) kept'
+kept_number now number packet hs kept kept' true next k is =
+    kept_at now number packet hs kept kept' _ refl (eqb-true _ _ next) k is
+kept_number now number packet hs kept kept' false next k is =
+    let none = ap (λ (out : Outcome). out.session) (packet_wrong now number packet kept (λ e. false≢true (sym next ∙ eq-eqb _ _ e))) in absurd cc
+
+kept_packet : (now number : ℕ) (packet : List ℕ) (hs : List Happening) (session : Option (Timed Kept)) (kept' : Timed Kept) → Matches hs session
+    → (after_packet now session number packet).session ≡ Some kept' → IsKept (Came (Data number packet) ∷ hs) kept'
+kept_packet now number packet hs None kept' m is = absurd cc
+kept_packet now number packet hs (Some kept) kept' m is = kept_number now number packet hs kept kept' _ refl (m.kept kept refl) is
+
+matches_packet : (now number : ℕ) (packet : List ℕ) (hs : List Happening) (session : Option (Timed Kept)) → Matches hs session
+    → Matches (Came (Data number packet) ∷ hs) (after_packet now session number packet).session
+matches_packet now number packet hs session m = record {
+  stands = λ o packets s. stands_packet now number packet hs session o packets m (packet_last hs number packet o packets (last_of _ hs o packets s.sent)) s.more;
+  kept = λ kept' is. kept_packet now number packet hs session kept' m is;
+}
+
+-- each happening
+
+not_rts_abort : (pgn : ℕ) (o : Opening) → Came (Aborted pgn) ≡ Came (Rts o) → ⊥
+not_rts_abort pgn o e = cc
+
+matches_abort : (hs : List Happening) (session : Option (Timed Kept)) (pgn : ℕ) (b : Bool) → eqb pgn 0xE600 ≡ b → Matches hs session
+    → Matches (Came (Aborted pgn) ∷ hs) (cond b session None)
+matches_abort hs session pgn true is m =
+    matches_quiet hs session _ (record { quiet = eqb-true _ _ is; no_packet = λ _. refl }) (not_rts_abort pgn) m
+matches_abort hs session pgn false is m = matches_end hs _ (λ quiet. false≢true (sym is ∙ eq-eqb _ _ quiet)) (not_rts_abort pgn)
+
+matches_step : (now : ℕ) (hs : List Happening) (session : Option (Timed Kept)) (x : Happening) → Matches hs session
+    → Matches (x ∷ hs) (happens now session x).session
+matches_step now hs session TimedOut m = matches_end hs TimedOut (λ quiet. quiet) (λ o e. cc)
+matches_step now hs session (Came (Rts o)) m = matches_rts now hs o
+matches_step now hs session (Came (Cts count next pgn)) m = matches_quiet hs session _ (record { quiet = tt; no_packet = λ _. refl }) (λ o e. cc) m
+matches_step now hs session (Came (EndOfMessage pgn)) m = matches_quiet hs session _ (record { quiet = tt; no_packet = λ _. refl }) (λ o e. cc) m
+matches_step now hs session (Came (Aborted pgn)) m = matches_abort hs session pgn _ refl m
+matches_step now hs session (Came (Data number packet)) m = matches_packet now number packet hs session m
+matches_step now hs session (Came Other) m = matches_quiet hs session _ (record { quiet = tt; no_packet = λ _. refl }) (λ o e. cc) m
+
+no_history : (o : Opening) (packets : List (List ℕ)) (later earlier : List Happening) → [] ≡ later ++ Came (Rts o) ∷ earlier → ⊥
+no_history o packets [] earlier e = cc
+no_history o packets (x ∷ later) earlier e = cc
+
+pub matches : (xs : List (ℕ × Happening)) → Matches (untimed xs) (session_after xs)
+matches [] = record {
+  stands = λ o packets s. absurd (no_history o packets s.sent.later s.sent.earlier s.sent.split);
+  kept = λ kept is. absurd cc;
+}
+matches (x ∷ xs) = matches_step x.0 (untimed xs) (session_after xs) x.1 (matches xs)

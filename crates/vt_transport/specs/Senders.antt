@@ -1,0 +1,110 @@
+-- A sender as a value, and what its calls say (docs/PROFILE.md, "The TP sender").
+use Rattle.std.specs.Prelude.{◌≡◌, ℕ, zero, suc, max, true, false, ◌+◌, ◌-◌, ◌/◌, Bool, nat_lt, nat_le, ◌==◌, ◌&&◌, ◌||◌, if◌then◌else◌, min, Option, Some, None, List, [], ◌∷◌, length, map, refl}
+use Rattle.std.specs.Coded.{Coded, code_by, coded×, coded_ℕ, coded_list}
+use Rattle.std.specs.FinMap as finite
+use Rattle.vt_can.specs.declared.frame.Frame.{Frame}
+use Rattle.vt_can.specs.declared.sessions.Timed.{Timed}
+use Rattle.vt_can.specs.Sessions.{ByAddress, timed_code, Expires}
+use Rattle.vt_transport.specs.declared.messages.TpFrame.{TpFrame}
+use Rattle.vt_transport.specs.declared.messages.TpFrame.TheVariants.{Cts, EndOfMessage, Aborted}
+use Rattle.vt_transport.specs.declared.messages.Reason.TheVariants.{Timeout, Disorder}
+use Rattle.vt_transport.specs.declared.messages.Reply.TheVariants.{Abort}
+use Rattle.vt_transport.specs.Messages.{Message}
+use Rattle.vt_transport.specs.Wire.{source_of, tp_frame, reply_frame, rts_frame, packet_frame}
+
+abbrev pub message_code : Coded Message
+message_code =
+    code_by (ℕ × List ℕ) (coded× coded_ℕ (coded_list coded_ℕ)) (λ m. (m.pgn, m.bytes)) (λ p. record { pgn = p.0; bytes = p.1 }) (λ _. refl)
+
+-- its address, and the messages that it sends, by destination
+pub record Sending : Type 0 where
+  pub own : ℕ
+  pub sessions : ByAddress Message
+
+abbrev pub sending_code : Coded Sending
+sending_code =
+    code_by (ℕ × ByAddress Message) (coded× coded_ℕ (finite.code coded_ℕ (timed_code message_code)))
+    (λ s. (s.own, s.sessions)) (λ p. record { own = p.0; sessions = p.1 }) (λ _. refl)
+
+abbrev pub packets_of : Message → ℕ
+packets_of message = (length message.bytes + 6) / 7
+
+-- count numbers from next on
+abbrev pub numbers_from : ℕ → ℕ → List ℕ
+numbers_from next zero = []
+numbers_from next (suc count) = next ∷ numbers_from (suc next) count
+
+-- what a step leaves of a destination's session, and the frames that it sends there
+pub record Answer : Type 0 where
+  pub session : Option (Timed Message)
+  pub frames : List Frame
+
+abbrev pub refreshed : ℕ → Timed Message → Option (Timed Message)
+refreshed now kept = Some (record { last = max now kept.last; session = kept.session })
+
+-- the answer to a CTS of the session's group: none where it asks for none, an abort where its next
+-- packet isn't one of the message's, and else the packets asked for, up to the last
+abbrev pub clear_to_send : ℕ → ℕ → ℕ → Timed Message → ℕ → ℕ → Answer
+clear_to_send own to now kept count next =
+    let last = packets_of kept.session in
+    if count == 0
+    then record { session = refreshed now kept; frames = [] }
+    else if next == 0 || nat_lt last next
+    then record { session = None; frames = reply_frame own to (Abort Disorder kept.session.pgn) ∷ [] }
+    else record {
+      session = refreshed now kept;
+      frames = map (packet_frame own to kept.session.bytes) (numbers_from next (min count (last + 1 - next)));
+    }
+
+abbrev pub unanswered : Option (Timed Message) → Answer
+unanswered session = record { session = session; frames = [] }
+
+-- the answer of an open session to a frame from its destination
+abbrev pub session_answer : ℕ → ℕ → ℕ → Timed Message → TpFrame → Answer
+session_answer own to now kept (Cts count next pgn) =
+    if pgn == kept.session.pgn then clear_to_send own to now kept count next else unanswered (Some kept)
+session_answer own to now kept (EndOfMessage pgn) = unanswered (if pgn == kept.session.pgn then None else Some kept)
+session_answer own to now kept (Aborted pgn) = unanswered (if pgn == 0xE600 then None else Some kept)
+session_answer own to now kept _ = unanswered (Some kept)
+
+abbrev pub answered : ℕ → ℕ → ℕ → Option (Timed Message) → Option TpFrame → Answer
+answered own to now None frame = unanswered None
+answered own to now (Some kept) None = unanswered (Some kept)
+answered own to now (Some kept) (Some frame) = session_answer own to now kept frame
+
+-- the answer of the session to a destination, if there is one
+abbrev pub answer_of : Sending → ℕ → ℕ → Option TpFrame → Answer
+answer_of sender to now frame = answered sender.own to now (finite.get sender.sessions to) frame
+
+abbrev pub answer : Sending → ℕ → Frame → Answer
+answer sender now frame = answer_of sender (source_of frame) now (tp_frame sender.own frame)
+
+abbrev pub is_of_group : ℕ → Option (Timed Message) → Bool
+is_of_group pgn None = false
+is_of_group pgn (Some kept) = pgn == kept.session.pgn
+
+-- the session to a destination has given this answer, and those to the others stay
+pub record Answers (old new : Sending) (to : ℕ) (given : Answer) (frames : List Frame) : Type 0 where
+  pub own : new.own ≡ old.own
+  pub session : finite.get new.sessions to ≡ given.session
+  pub frames_are : frames ≡ given.frames
+  pub others : (other : ℕ) → (other ≡ to → ⊥) → finite.get new.sessions other ≡ finite.get old.sessions other
+
+-- a message of 9 to 1785 bytes
+abbrev pub has_size : List ℕ → Bool
+has_size bytes = nat_le 9 (length bytes) && nat_le (length bytes) 1785
+
+-- a session to a destination without one was opened, and its RTS is the frame
+pub record Starts (old new : Sending) (now to : ℕ) (message : Message) (frame : Frame) : Type 0 where
+  pub free : finite.get old.sessions to ≡ None
+  pub size : has_size message.bytes ≡ true
+  pub new_is : new ≡ record { own = old.own; sessions = finite.insert old.sessions to (record { last = now; session = message }) }
+  pub frame_is : frame ≡ rts_frame old.own to (length message.bytes) message.pgn
+
+-- the session of the least destination that is overdue was taken out, and its abort is the frame
+pub record TimesOut (old new : Sending) (now : ℕ) (frame : Frame) : Type 0 where
+  pub own : new.own ≡ old.own
+  pub to : ℕ
+  pub session : Message
+  pub expired : Expires old.sessions new.sessions now to session
+  pub abort : frame ≡ reply_frame old.own to (Abort Timeout session.pgn)

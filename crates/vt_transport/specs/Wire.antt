@@ -1,0 +1,69 @@
+-- The bytes of the transport protocol's frames (docs/PROFILE.md, "Transport messages").
+use Rattle.std.specs.Prelude.{ℕ, ◌+◌, ◌-◌, ◌*◌, ◌/◌, Bool, false, ◌==◌, ◌&&◌, if◌then◌else◌, Option, Some, None, List, ◌∷◌, ◌++◌, length, take, drop, slice_index, replicate}
+use Rattle.byteorder.specs.Endian.{little_number, little_bytes}
+use Rattle.vt_can.specs.declared.frame.Frame.{Frame}
+use Rattle.vt_can.specs.Identifier.{parts_of, pgn_of, destination_of, raw_of, addressed}
+use Rattle.vt_transport.specs.declared.messages.TpFrame.{TpFrame}
+use Rattle.vt_transport.specs.declared.messages.TpFrame.TheVariants.{Rts, Cts, EndOfMessage, Aborted, Data, Other}
+use Rattle.vt_transport.specs.declared.messages.Reason.{Reason}
+use Rattle.vt_transport.specs.declared.messages.Reason.TheVariants.{Timeout, Disorder}
+use Rattle.vt_transport.specs.declared.messages.Reply.{Reply}
+use Rattle.vt_transport.specs.declared.messages.Reply.TheVariants.{ClearToSend, End, Abort}
+
+abbrev pub source_of : Frame → ℕ
+source_of frame = (parts_of frame.id).source
+
+-- what the bytes of a TP.CM frame say
+abbrev pub connection_management : List ℕ → TpFrame
+connection_management bytes =
+    let control = slice_index bytes 0 in
+    let pgn = little_number 3 (drop 5 bytes) in
+    if control == 0x10
+    then Rts (record { size = little_number 2 (drop 1 bytes); packets = slice_index bytes 3; most = slice_index bytes 4; pgn = pgn })
+    else if control == 0x11 then Cts (slice_index bytes 1) (slice_index bytes 2) pgn
+    else if control == 0x13 then EndOfMessage pgn
+    else if control == 0xFF then Aborted pgn
+    else Other
+
+abbrev pub by_group : ℕ → List ℕ → Option TpFrame
+by_group pgn bytes =
+    if pgn == 0xEC00 then Some (connection_management bytes)
+    else if pgn == 0xEB00 then Some (Data (slice_index bytes 0) (drop 1 bytes))
+    else None
+
+abbrev pub is_to : ℕ → Option ℕ → Bool
+is_to own None = false
+is_to own (Some destination) = destination == own
+
+-- what a frame says to a node: eight bytes, to its address
+abbrev pub tp_frame : ℕ → Frame → Option TpFrame
+tp_frame own frame =
+    if is_to own (destination_of (parts_of frame.id)) && length frame.bytes.items == 8
+    then by_group (pgn_of (parts_of frame.id)) frame.bytes.items
+    else None
+
+-- the frame of a group, with priority 7
+abbrev pub frame_of : ℕ → ℕ → ℕ → List ℕ → Frame
+frame_of pgn own to bytes = record { id = raw_of (addressed 7 pgn to own); bytes = record { items = bytes } }
+
+abbrev pub reason_code : Reason → ℕ
+reason_code Timeout = 3
+reason_code Disorder = 7
+
+abbrev pub reply_bytes : Reply → List ℕ
+reply_bytes (ClearToSend count next pgn) = 0x11 ∷ count ∷ next ∷ 0xFF ∷ 0xFF ∷ little_bytes 3 pgn
+reply_bytes (End size packets pgn) = 0x13 ∷ (little_bytes 2 size ++ packets ∷ 0xFF ∷ little_bytes 3 pgn)
+reply_bytes (Abort reason pgn) = 0xFF ∷ reason_code reason ∷ 0xFF ∷ 0xFF ∷ 0xFF ∷ little_bytes 3 pgn
+
+abbrev pub reply_frame : ℕ → ℕ → Reply → Frame
+reply_frame own to reply = frame_of 0xEC00 own to (reply_bytes reply)
+
+-- the RTS of a message, which allows FF packets in a CTS
+abbrev pub rts_frame : ℕ → ℕ → ℕ → ℕ → Frame
+rts_frame own to size pgn =
+    frame_of 0xEC00 own to (0x10 ∷ (little_bytes 2 size ++ (size + 6) / 7 ∷ 0xFF ∷ little_bytes 3 pgn))
+
+-- packet j of a message, the last one filled with FF
+abbrev pub packet_frame : ℕ → ℕ → List ℕ → ℕ → Frame
+packet_frame own to bytes j =
+    frame_of 0xEB00 own to (j ∷ take 7 (drop (7 * (j - 1)) bytes ++ replicate 7 0xFF))

@@ -1,0 +1,26 @@
+//! The transport protocol of ISO 11783-3, which carries messages of 9 to 1785 bytes in packets of seven.
+//!
+//! docs/PROFILE.md, "Transport", has the rules. Times are in microseconds.
+#![tactic(auto)]
+
+mod bytes;
+mod heard;
+mod law;
+mod messages;
+mod receiver;
+mod sender;
+mod sending;
+mod session;
+mod wire;
+
+pub use bytes::Bytes;
+pub use heard::Heard;
+pub use law::{messages_depend_on_own_frames, steps_assemble_messages};
+pub use receiver::Receiver;
+pub use sender::{SendFault, Sender};
+
+/// A growth that was refused.
+pub use std::alloc::AllocError as OutOfMemory;
+
+#[cfg(test)]
+mod tests;

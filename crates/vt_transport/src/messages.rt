@@ -1,0 +1,95 @@
+//! The messages of the transport protocol (ISO 11783-3).
+
+ghost use Rattle.std.specs.Prelude.{◌≡◌, ◌<◌};
+ghost use Rattle.vt_transport.specs.Messages.{opens, allowed, first_reply, reply_to};
+
+/// The fewest and the most bytes of a message.
+pub(crate) const SIZES: (u16, u16) = (9, 1785);
+
+/// The parameter group of the messages that a terminal sends. An abort of it is one to a sender.
+pub(crate) const SENDING: u32 = 0xE600;
+
+/// What a request to send says.
+#[derive(Clone, Copy, Debug)]
+pub(crate) struct Opening {
+    pub(crate) size: u16,
+    pub(crate) packets: u8,
+    // The most packets that a CTS may ask for, and 0 for no limit.
+    pub(crate) most: u8,
+    pub(crate) pgn: u32,
+}
+
+/// What a frame of the transport protocol says.
+#[derive(Clone, Copy, Debug)]
+pub(crate) enum TpFrame {
+    Rts(Opening),
+    Cts { count: u8, next: u8, pgn: u32 },
+    EndOfMessage { pgn: u32 },
+    Aborted { pgn: u32 },
+    Data { number: u8, bytes: [u8; 7] },
+    Other,
+}
+
+/// Why this node ends a session.
+#[derive(Clone, Copy, Debug)]
+pub(crate) enum Reason {
+    Timeout,
+    // A frame out of order, or a request that no session can meet.
+    Disorder,
+}
+
+/// What this node answers in a session.
+#[derive(Clone, Copy, Debug)]
+pub(crate) enum Reply {
+    ClearToSend { count: u8, next: u8, pgn: u32 },
+    End { size: u16, packets: u8, pgn: u32 },
+    Abort { reason: Reason, pgn: u32 },
+}
+
+impl Opening {
+    /// Whether the size is one of a message, and the packets are those that it takes.
+    pub(crate) fn opens(&self) -> bool
+        ensures { result ≡ opens self.now }
+    {
+        let (least, most) = SIZES;
+        least <= self.size && self.size <= most && u16::from(self.packets) == (self.size + 6) / 7
+    }
+
+    /// The packets that a CTS may ask for.
+    pub(crate) fn allowed(&self) -> u8
+        ensures { result ≡ allowed self.now }
+    {
+        if self.most == 0 { 255 } else { self.most }
+    }
+
+    /// The reply to the request.
+    pub(crate) fn first_reply(&self) -> Reply
+        ensures { result ≡ first_reply self.now }
+    {
+        if self.opens() {
+            Reply::ClearToSend {
+                count: self.allowed().min(self.packets),
+                next: 1,
+                pgn: self.pgn,
+            }
+        } else {
+            Reply::Abort {
+                reason: Reason::Disorder,
+                pgn: self.pgn,
+            }
+        }
+    }
+
+    /// The reply to a packet that came in its turn, and isn't the last one.
+    pub(crate) fn reply_to(&self, number: u8) -> Option<Reply>
+        requires { number < self.now.packets }
+        ensures { result ≡ reply_to self.now number }
+    {
+        let allowed = self.allowed();
+        (number % allowed == 0).then(|| Reply::ClearToSend {
+            count: allowed.min(self.packets - number),
+            next: number + 1,
+            pgn: self.pgn,
+        })
+    }
+}

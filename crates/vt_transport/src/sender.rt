@@ -1,0 +1,199 @@
+//! The sender.
+
+ghost use Rattle.std.specs.Prelude.{◌≡◌, ◌↔◌, ℕ, ◌%◌, ◌^◌, false, Some, None, Err, [], ◌∷◌, IsSome, IfOk, OnErr, IfSome, IfNone};
+ghost use Rattle.std.specs.FinMap as finite;
+ghost use Rattle.vt_can.specs.Sessions.{is_overdue};
+ghost use Rattle.vt_transport.specs.Wire.{source_of, rts_frame};
+ghost use Rattle.vt_transport.specs.declared.messages.TpFrame.TheVariants as declared;
+ghost use Rattle.vt_transport.specs.Senders.{Answers, Starts, TimesOut, has_size, answer, answer_of, is_of_group};
+
+use crate::messages::{Reason, Reply, SENDING, SIZES, TpFrame};
+use crate::sending::Outgoing;
+use crate::wire;
+use arrayvec::ArrayVec;
+use std::alloc::Global;
+use std::marker::Model;
+use thiserror::Error;
+use vt_can::{Frame, Sessions, Timed};
+
+/// Why a message cannot be sent.
+#[derive(Clone, Copy, Debug, PartialEq, Eq, Error)]
+pub enum SendFault {
+    /// A message to that destination is being sent.
+    #[error("fault 1 Busy")]
+    Busy,
+    /// A message has 9 to 1785 bytes.
+    #[error("fault 2 Size")]
+    Size,
+    /// The memory for the message was refused.
+    #[error("fault 3 OutOfMemory")]
+    OutOfMemory,
+}
+
+/// The sender of a node: at most one session for each destination, seen as the map of the messages by
+/// destination, and the node's address.
+///
+/// docs/PROFILE.md, "The TP sender".
+#[derive(Drop)]
+pub struct Sender {
+    own: u8,
+    sessions: Sessions<Outgoing>,
+    alloc: Global,
+}
+
+impl Model for Sender {
+    ghost use Rattle.vt_transport.specs.declared.messages.TpFrame.TheVariants as declared;
+    ghost use Rattle.vt_transport.specs.Senders.{Sending, sending_code};
+
+    ghost Value = { Sending };
+
+    ghost coded = { sending_code };
+
+    ghost view = { λ s. record { own = s.own; sessions = s.sessions } };
+}
+
+impl Sender {
+    /// The sender of the node at this address, without sessions. It takes no memory.
+    pub fn new(alloc: Global, own: u8) -> Sender
+        ensures { result ≡ record { own = own; sessions = finite.empty } }
+    {
+        Sender {
+            own,
+            sessions: Sessions::new(),
+            alloc,
+        }
+    }
+
+    /// Starts to send a message of 9 to 1785 bytes, and answers its request to send. Of the parameter
+    /// group number the low 24 bits count. The faults are tested in the order of their numbers, and
+    /// after one the sender is as it was. docs/PROFILE.md, "The TP sender".
+    pub fn start(&mut self, now: u64, to: u8, pgn: u32, message: &[u8]) -> Result<Frame, SendFault>
+        ensures ok { IfOk result
+            (λ frame. Starts self.old self.new now to (record { pgn = pgn % 2 ^ 24; bytes = message.now }) frame) }
+        ensures busy { (result ≡ Err SendFault.Busy) ↔ IsSome (finite.get self.old.sessions to) }
+        ensures size { (result ≡ Err SendFault.Size)
+            ↔ ((finite.get self.old.sessions to ≡ None) × (has_size message.now ≡ false)) }
+        ensures err { OnErr result (self.new ≡ self.old) }
+    {
+        if self.sessions.get(to).is_some() {
+            return Err(SendFault::Busy);
+        }
+        let size = message.len();
+        if size < usize::from(SIZES.0) || size > usize::from(SIZES.1) {
+            return Err(SendFault::Size);
+        }
+        let Ok(bytes) = Vec::from_slice(self.alloc, message) else {
+            return Err(SendFault::OutOfMemory);
+        };
+        let pgn = pgn % (1 << 24);
+        self.sessions.put(to, now, Outgoing::new(pgn, bytes));
+        Ok(wire::rts_frame(self.own, to, size as u16, pgn))
+    }
+
+    /// Hears a frame, and answers the frames to be sent to its source. It takes no memory.
+    /// docs/PROFILE.md, "The TP sender".
+    pub fn hear(&mut self, now: u64, frame: &Frame) -> ArrayVec<Frame, 255>
+        ensures { Answers self.old self.new (source_of frame.now) (answer self.old now frame.now)
+            result.items }
+    {
+        let to = frame.id.source();
+        match wire::tp_frame(self.own, frame) {
+            Some(TpFrame::Cts { count, next, pgn }) => {
+                self.clear_to_send(now, to, count, next, pgn)
+            }
+            Some(TpFrame::EndOfMessage { pgn }) => self.end_of_message(to, pgn),
+            Some(TpFrame::Aborted { pgn }) => self.aborted(to, pgn),
+            _ => ArrayVec::new(),
+        }
+    }
+
+    /// The abort of a session that has had no frame of its own for more than 1,250,000 microseconds,
+    /// the least destination first. Call it until it answers `None`. docs/PROFILE.md, "Timeouts".
+    pub fn expire(&mut self, now: u64) -> Option<Frame>
+        ensures some { IfSome result (λ frame. TimesOut self.old self.new now frame) }
+        ensures none { IfNone result (self.new ≡ self.old) }
+        ensures all { IfNone result
+            ((to : ℕ) → is_overdue now (finite.get self.old.sessions to) ≡ false) }
+    {
+        let (to, session) = self.sessions.expire(now)?;
+        let abort = Reply::Abort {
+            reason: Reason::Timeout,
+            pgn: session.pgn(),
+        };
+        Some(wire::reply_frame(self.own, to, abort))
+    }
+
+    fn clear_to_send(
+        &mut self,
+        now: u64,
+        to: u8,
+        count: u8,
+        next: u8,
+        pgn: u32,
+    ) -> ArrayVec<Frame, 255>
+        ensures { Answers self.old self.new to
+            (answer_of self.old to now (Some (declared.Cts count next pgn))) result.items }
+    {
+        let Some(Timed { last, session }) = self.sessions.take(to) else {
+            return ArrayVec::new();
+        };
+        if pgn != session.pgn() {
+            self.sessions.put(to, last, session);
+            return ArrayVec::new();
+        }
+        if count == 0 {
+            self.sessions.put(to, now.max(last), session);
+            return ArrayVec::new();
+        }
+        if next == 0 || next > session.packets() {
+            let abort = Reply::Abort {
+                reason: Reason::Disorder,
+                pgn,
+            };
+            return one(wire::reply_frame(self.own, to, abort));
+        }
+        let frames = session.frames(self.own, to, next, count);
+        self.sessions.put(to, now.max(last), session);
+        frames
+    }
+
+    fn end_of_message(&mut self, to: u8, pgn: u32) -> ArrayVec<Frame, 255>
+        ensures { Answers self.old self.new to
+            (answer_of self.old to 0 (Some (declared.EndOfMessage pgn))) result.items }
+    {
+        if !self.sends(to, pgn) {
+            return ArrayVec::new();
+        }
+        self.sessions.remove(to);
+        ArrayVec::new()
+    }
+
+    fn aborted(&mut self, to: u8, pgn: u32) -> ArrayVec<Frame, 255>
+        ensures { Answers self.old self.new to
+            (answer_of self.old to 0 (Some (declared.Aborted pgn))) result.items }
+    {
+        if pgn != SENDING {
+            return ArrayVec::new();
+        }
+        self.sessions.remove(to);
+        ArrayVec::new()
+    }
+
+    // Whether the message that goes to a destination is of this group.
+    fn sends(&self, to: u8, pgn: u32) -> bool
+        ensures { result ≡ is_of_group pgn (finite.get self.now.sessions to) }
+    {
+        match self.sessions.get(to) {
+            Some(timed) => pgn == timed.session.pgn(),
+            None => false,
+        }
+    }
+}
+
+fn one(frame: Frame) -> ArrayVec<Frame, 255>
+    ensures { result.items ≡ frame ∷ [] }
+{
+    let mut frames = ArrayVec::new();
+    frames.push(frame);
+    frames
+}

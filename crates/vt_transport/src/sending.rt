@@ -1,0 +1,82 @@
+//! A message as it goes out.
+
+ghost use Rattle.std.specs.Prelude.{◌≡◌, ◌≤◌, ◌<◌, ◌+◌, ◌-◌, ◌*◌, ◌++◌, true, map, min, take, drop, replicate};
+ghost use Rattle.vt_transport.specs.Wire.{packet_frame};
+ghost use Rattle.vt_transport.specs.Senders.{packets_of, has_size, numbers_from};
+
+use crate::wire;
+use arrayvec::ArrayVec;
+use std::marker::Model;
+use vt_can::Frame;
+
+/// A message of 9 to 1785 bytes that is being sent.
+#[derive(Drop)]
+pub(crate) struct Outgoing {
+    pgn: u32,
+    bytes: Vec<u8>,
+}
+
+impl Model for Outgoing {
+    ghost use Rattle.std.specs.Prelude.{◌≡◌, true};
+    ghost use Rattle.vt_transport.specs.Messages.{Message};
+    ghost use Rattle.vt_transport.specs.Senders.{message_code, has_size};
+
+    ghost Value = { Message };
+
+    ghost coded = { message_code };
+
+    ghost view = { λ m. record { pgn = m.pgn; bytes = m.bytes.items } };
+
+    ghost invariant = { λ m. has_size m.bytes.items ≡ true };
+}
+
+impl Outgoing {
+    pub(crate) fn new(pgn: u32, bytes: Vec<u8>) -> Outgoing
+        requires { has_size bytes.items ≡ true }
+        ensures { result ≡ record { pgn = pgn; bytes = bytes.items } }
+    {
+        Outgoing { pgn, bytes }
+    }
+
+    pub(crate) fn pgn(&self) -> u32
+        ensures { result ≡ self.now.pgn }
+    {
+        self.pgn
+    }
+
+    /// The number of packets.
+    pub(crate) fn packets(&self) -> u8
+        ensures { result ≡ packets_of self.now }
+    {
+        ((self.bytes.len() + 6) / 7) as u8
+    }
+
+    /// The frames of as many packets as are asked for from one on, up to the last packet.
+    pub(crate) fn frames(&self, own: u8, to: u8, next: u8, count: u8) -> ArrayVec<Frame, 255>
+        requires first { 1 ≤ next }
+        requires last { next ≤ packets_of self.now }
+        ensures { result.items ≡ map (packet_frame own to self.now.bytes)
+            (numbers_from next (min count (packets_of self.now + 1 - next))) }
+    {
+        let mut frames = ArrayVec::new();
+        let left = self.packets() - (next - 1);
+        for sent in 0..count.min(left) {
+            let number = next + sent;
+            frames.push(wire::data_frame(own, to, number, self.packet(number)));
+        }
+        frames
+    }
+
+    // A packet, the last one filled with FF.
+    fn packet(&self, number: u8) -> [u8; 7]
+        requires first { 1 ≤ number }
+        requires last { number ≤ packets_of self.now }
+        ensures { result ≡ take 7 (drop (7 * (number - 1)) self.now.bytes ++ replicate 7 0xFF) }
+    {
+        let rest = &self.bytes[7 * (usize::from(number) - 1)..];
+        let filled = rest.len().min(7);
+        let mut packet = [wire::FILL; 7];
+        packet[..filled].copy_from_slice(&rest[..filled]);
+        packet
+    }
+}

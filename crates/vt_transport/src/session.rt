@@ -1,0 +1,121 @@
+//! A message as it comes in.
+
+ghost use Rattle.std.specs.Prelude.{◌≡◌, ◌+◌, ◌≤◌, ℕ, max, true, Some, [], ◌++◌, length, List, vec_len, vec_capacity};
+ghost use Rattle.vt_transport.specs.Messages.{opens};
+ghost use Rattle.vt_transport.specs.Steps.{after_packet};
+ghost use Rattle.vt_transport.specs.Received.{outcome_of};
+ghost use Rattle.vt_transport.specs.Receivers.{told_of};
+
+use crate::bytes::Bytes;
+use crate::messages::{Opening, Reason, Reply};
+use std::marker::Model;
+
+/// A message of which packets are still to come.
+#[derive(Drop)]
+pub(crate) struct Session {
+    opening: Opening,
+    received: u8,
+    bytes: Vec<u8>,
+}
+
+impl Model for Session {
+    ghost use Rattle.std.specs.Prelude.{vec_len, vec_capacity};
+    ghost use Rattle.vt_transport.specs.Kept.{Kept, kept_code, IsReceiving};
+
+    ghost Value = { Kept };
+
+    ghost coded = { kept_code };
+
+    ghost view = { λ s. record { opening = s.opening; bytes = s.bytes.items; received = s.received } };
+
+    ghost invariant = { λ s. IsReceiving s.opening s.received (vec_len s.bytes) (vec_capacity s.bytes) };
+}
+
+/// What a packet makes of a session.
+#[derive(Drop)]
+pub(crate) enum Received {
+    Refused(Reply),
+    More(Session, Option<Reply>),
+    Whole {
+        pgn: u32,
+        bytes: Bytes,
+        reply: Reply,
+    },
+}
+
+impl Session {
+    /// A session whose message has room in `bytes`.
+    pub(crate) fn new(opening: Opening, bytes: Vec<u8>) -> Session
+        requires opened { opens opening ≡ true }
+        requires empty { vec_len bytes ≡ 0 }
+        requires room { opening.size ≤ vec_capacity bytes }
+        ensures { result ≡ record { opening = opening; bytes = []; received = 0 } }
+    {
+        Session {
+            opening,
+            received: 0,
+            bytes,
+        }
+    }
+
+    pub(crate) fn pgn(&self) -> u32
+        ensures { result ≡ self.now.opening.pgn }
+    {
+        self.opening.pgn
+    }
+
+    /// Takes a packet, which must be the next one.
+    pub(crate) fn receive(mut self, number: u8, packet: [u8; 7]) -> Received
+        ensures { (now last : ℕ) → outcome_of (max now last) result
+            ≡ after_packet now (Some (record { last = last; session = self })) number packet }
+    {
+        let Opening {
+            size,
+            packets,
+            pgn,
+            ..
+        } = self.opening;
+        if number != self.received + 1 {
+            return Received::Refused(Reply::Abort {
+                reason: Reason::Disorder,
+                pgn,
+            });
+        }
+        let left = usize::from(size) - self.bytes.len();
+        append(&mut self.bytes, &packet[..left.min(7)]);
+        if number == packets {
+            return Received::Whole {
+                pgn,
+                bytes: Bytes::new(self.bytes),
+                reply: Reply::End { size, packets, pgn },
+            };
+        }
+        self.received = number;
+        let reply = self.opening.reply_to(number);
+        Received::More(self, reply)
+    }
+
+    /// The size and first byte of the message that a packet completes, if it does.
+    pub(crate) fn completed_by(&self, number: u8) -> Option<(usize, u8)>
+        ensures { (now last : ℕ) (packet : List ℕ) → length packet ≡ 7
+            → result ≡ told_of (after_packet now (Some (record { last = last; session = self.now })) number packet).message }
+    {
+        if number == self.opening.packets && number == self.received + 1 {
+            Some((usize::from(self.opening.size), self.bytes[0]))
+        } else {
+            None
+        }
+    }
+}
+
+// Appends bytes for which there is room.
+fn append(bytes: &mut Vec<u8>, part: &[u8])
+    requires { vec_len bytes.old + length part.now ≤ vec_capacity bytes.old }
+    ensures items { bytes.new.items ≡ bytes.old.items ++ part.now }
+    ensures len { vec_len bytes.new ≡ vec_len bytes.old + length part.now }
+    ensures room { vec_capacity bytes.new ≡ vec_capacity bytes.old }
+{
+    for byte in part {
+        bytes.push_reserved(*byte);
+    }
+}

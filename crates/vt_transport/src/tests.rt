@@ -1,0 +1,45 @@
+mod linux;
+mod linux_logs;
+mod receiving;
+mod refusing;
+mod sending;
+mod serving;
+
+use super::*;
+use std::test::Fail;
+use vt_can::{Frame, Line, parse_line, write_frame};
+
+// What a receiver is to say to a frame.
+#[derive(Clone, Copy)]
+enum Wanted {
+    Silence,
+    Reply(&'static [u8]),
+    Message(&'static [u8], &'static [u8]),
+}
+
+fn is_said(said: Heard, wanted: Wanted) -> bool {
+    match (said, wanted) {
+        (Heard::Nothing, Wanted::Silence) => true,
+        (Heard::Reply(frame), Wanted::Reply(text)) => write_frame(&frame).as_slice() == text,
+        (Heard::Message { bytes, reply, .. }, Wanted::Message(text, message)) => {
+            write_frame(&reply).as_slice() == text && bytes.into_vec().as_slice() == message
+        }
+        _ => false,
+    }
+}
+
+// Whether a receiver says this to the frame of a line.
+fn says(receiver: &mut Receiver, line: &[u8], wanted: Wanted) -> Result<bool, OutOfMemory> {
+    match parse_line(line) {
+        Ok(Line::Frame { time, frame }) => Ok(is_said(receiver.hear(time, &frame)?, wanted)),
+        _ => Ok(false),
+    }
+}
+
+// Whether the abort that is due at a time has this text, and whether there is none for an empty one.
+fn expires(receiver: &mut Receiver, now: u64, text: &[u8]) -> bool {
+    match receiver.expire(now) {
+        Some(frame) => write_frame(&frame).as_slice() == text,
+        None => text.is_empty(),
+    }
+}

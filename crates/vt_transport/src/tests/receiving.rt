@@ -1,0 +1,278 @@
+ghost use Rattle.std.specs.Prelude.{◌<◌};
+
+use super::Wanted::*;
+use super::*;
+
+const NODE: u8 = 0x26;
+
+// The rest of a session whose first frames came.
+fn both_packets(receiver: &mut Receiver) -> Result<bool, OutOfMemory> {
+    Ok(
+        says(
+            receiver,
+            b"(1.000000) can0 1CEB2680#01B4E8036400FFFF",
+            Silence,
+        )? && says(
+            receiver,
+            b"(1.000000) can0 1CEB2680#020500FFFFFFFFFF",
+            Message(
+                b"1CEC8026#13090002FF00E700",
+                b"\xB4\xE8\x03\x64\x00\xFF\xFF\x05\x00",
+            ),
+        )?,
+    )
+}
+
+#[test]
+fn a_message_in_two_packets(rt: HostRuntime) -> Result<(), Fail> {
+    let mut receiver = Receiver::new(rt.alloc(), NODE);
+    let opened = says(
+        &mut receiver,
+        b"(1.000000) can0 1CEC2680#10090002FF00E700",
+        Reply(b"1CEC8026#110201FFFF00E700"),
+    )?;
+    let heard = both_packets(&mut receiver)?;
+    assert!(rt; opened && heard);
+    Ok(())
+}
+
+#[test]
+fn the_second_packet_first(rt: HostRuntime) -> Result<(), Fail> {
+    let mut receiver = Receiver::new(rt.alloc(), NODE);
+    let opened = says(
+        &mut receiver,
+        b"(1.000000) can0 1CEC2680#10090002FF00E700",
+        Reply(b"1CEC8026#110201FFFF00E700"),
+    )?;
+    let aborted = says(
+        &mut receiver,
+        b"(1.000000) can0 1CEB2680#020500FFFFFFFFFF",
+        Reply(b"1CEC8026#FF07FFFFFF00E700"),
+    )?;
+    let ignored = says(
+        &mut receiver,
+        b"(1.000000) can0 1CEB2680#01B4E8036400FFFF",
+        Silence,
+    )?;
+    assert!(rt; opened && aborted && ignored);
+    Ok(())
+}
+
+#[test]
+fn two_sources_at_once(rt: HostRuntime) -> Result<(), Fail> {
+    let mut receiver = Receiver::new(rt.alloc(), NODE);
+    let opened = says(
+        &mut receiver,
+        b"(1.000000) can0 1CEC2680#10090002FF00E700",
+        Reply(b"1CEC8026#110201FFFF00E700"),
+    )? && says(
+        &mut receiver,
+        b"(1.000000) can0 1CEC2681#10090002FF00E700",
+        Reply(b"1CEC8126#110201FFFF00E700"),
+    )?;
+    let first = says(
+        &mut receiver,
+        b"(1.000000) can0 1CEB2681#01B4E8036400FFFF",
+        Silence,
+    )?;
+    let heard = both_packets(&mut receiver)?;
+    let second = says(
+        &mut receiver,
+        b"(1.000000) can0 1CEB2681#020500FFFFFFFFFF",
+        Message(
+            b"1CEC8126#13090002FF00E700",
+            b"\xB4\xE8\x03\x64\x00\xFF\xFF\x05\x00",
+        ),
+    )?;
+    assert!(rt; opened && first && heard && second);
+    Ok(())
+}
+
+#[test]
+fn a_session_times_out(rt: HostRuntime) -> Result<(), Fail> {
+    let mut receiver = Receiver::new(rt.alloc(), NODE);
+    let opened = says(
+        &mut receiver,
+        b"(1.000000) can0 1CEC2680#10090002FF00E700",
+        Reply(b"1CEC8026#110201FFFF00E700"),
+    )?;
+    let stays = expires(&mut receiver, 0, b"") && expires(&mut receiver, 2_250_000, b"");
+    let aborted = expires(&mut receiver, 2_250_001, b"1CEC8026#FF03FFFFFF00E700");
+    let gone = expires(&mut receiver, 2_250_001, b"");
+    assert!(rt; opened && stays && aborted && gone);
+    Ok(())
+}
+
+#[test]
+fn requests_of_the_wrong_size(rt: HostRuntime) -> Result<(), Fail> {
+    let mut receiver = Receiver::new(rt.alloc(), NODE);
+    let small = says(
+        &mut receiver,
+        b"(1.000000) can0 1CEC2680#10080002FF00E700",
+        Reply(b"1CEC8026#FF07FFFFFF00E700"),
+    )?;
+    let large = says(
+        &mut receiver,
+        b"(1.000000) can0 1CEC2680#10FA06FFFF00E700",
+        Reply(b"1CEC8026#FF07FFFFFF00E700"),
+    )?;
+    let few = says(
+        &mut receiver,
+        b"(1.000000) can0 1CEC2680#100F0002FF00E700",
+        Reply(b"1CEC8026#FF07FFFFFF00E700"),
+    )?;
+    assert!(rt; small && large && few);
+    Ok(())
+}
+
+#[test]
+fn a_cts_asks_for_what_is_allowed(rt: HostRuntime) -> Result<(), Fail> {
+    let mut receiver = Receiver::new(rt.alloc(), NODE);
+    let opened = says(
+        &mut receiver,
+        b"(1.000000) can0 1CEC2680#100F00030200E700",
+        Reply(b"1CEC8026#110201FFFF00E700"),
+    )?;
+    let first = says(
+        &mut receiver,
+        b"(1.000000) can0 1CEB2680#0111111111111111",
+        Silence,
+    )?;
+    let second = says(
+        &mut receiver,
+        b"(1.000000) can0 1CEB2680#0222222222222222",
+        Reply(b"1CEC8026#110103FFFF00E700"),
+    )?;
+    let last = says(
+        &mut receiver,
+        b"(1.000000) can0 1CEB2680#0333FFFFFFFFFFFF",
+        Message(
+            b"1CEC8026#130F0003FF00E700",
+            b"\x11\x11\x11\x11\x11\x11\x11\x22\x22\x22\x22\x22\x22\x22\x33",
+        ),
+    )?;
+    assert!(rt; opened && first && second && last);
+    Ok(())
+}
+
+#[test]
+fn aborts_that_end_and_that_do_not(rt: HostRuntime) -> Result<(), Fail> {
+    let mut receiver = Receiver::new(rt.alloc(), NODE);
+    let opened = says(
+        &mut receiver,
+        b"(1.000000) can0 1CEC2680#10090002FF00E700",
+        Reply(b"1CEC8026#110201FFFF00E700"),
+    )?;
+    let senders = says(
+        &mut receiver,
+        b"(1.000000) can0 1CEC2680#FF07FFFFFF00E600",
+        Silence,
+    )?;
+    let heard = both_packets(&mut receiver)?;
+    let again = says(
+        &mut receiver,
+        b"(1.000000) can0 1CEC2680#10090002FF00E700",
+        Reply(b"1CEC8026#110201FFFF00E700"),
+    )?;
+    let ended = says(
+        &mut receiver,
+        b"(1.000000) can0 1CEC2680#FF07FFFFFF00CA00",
+        Silence,
+    )?;
+    let ignored = says(
+        &mut receiver,
+        b"(1.000000) can0 1CEB2680#01B4E8036400FFFF",
+        Silence,
+    )?;
+    assert!(rt; opened && senders && heard && again && ended && ignored);
+    Ok(())
+}
+
+#[test]
+fn frames_that_are_not_heard(rt: HostRuntime) -> Result<(), Fail> {
+    let mut receiver = Receiver::new(rt.alloc(), NODE);
+    let short = says(
+        &mut receiver,
+        b"(1.000000) can0 1CEC2680#10090002FF00E7",
+        Silence,
+    )?;
+    let elsewhere = says(
+        &mut receiver,
+        b"(1.000000) can0 1CEC2780#10090002FF00E700",
+        Silence,
+    )?;
+    let to_all = says(
+        &mut receiver,
+        b"(1.000000) can0 1CECFF80#20090002FF00E700",
+        Silence,
+    )?;
+    let no_session = says(
+        &mut receiver,
+        b"(1.000000) can0 1CEB2680#01B4E8036400FFFF",
+        Silence,
+    )?;
+    assert!(rt; short && elsewhere && to_all && no_session);
+    Ok(())
+}
+
+// Whether 1,785 bytes are asked for by every source but two, with the answers that they are to have.
+fn all_others_open(receiver: &mut Receiver) -> Result<bool, OutOfMemory> {
+    let mut line = *b"(1.000000) can0 1CEC2600#10F906FFFF00E700";
+    let mut answer = *b"1CEC0026#11FF01FFFF00E700";
+    let mut all = true;
+    for source in 0..=0xFDu8 {
+        let high = digit(source / 16);
+        let low = digit(source % 16);
+        line[22] = high;
+        line[23] = low;
+        answer[4] = high;
+        answer[5] = low;
+        if source != NODE && source != 0x80 {
+            all = all && answers(receiver, &line, &answer)?;
+        }
+    }
+    Ok(all)
+}
+
+fn digit(value: u8) -> u8
+    requires { value < 16 }
+{
+    if value < 10 {
+        b'0' + value
+    } else {
+        b'A' - 10 + value
+    }
+}
+
+// Whether a receiver replies this to the frame of a line.
+fn answers(receiver: &mut Receiver, line: &[u8], text: &[u8]) -> Result<bool, OutOfMemory> {
+    match parse_line(line) {
+        Ok(Line::Frame { time, frame }) => {
+            let said = receiver.hear(time, &frame)?;
+            Ok(is_reply(&said, text))
+        }
+        _ => Ok(false),
+    }
+}
+
+fn is_reply(said: &Heard, text: &[u8]) -> bool {
+    match said {
+        Heard::Reply(reply) => write_frame(reply).as_slice() == text,
+        _ => false,
+    }
+}
+
+#[test]
+fn a_session_among_252_others(rt: HostRuntime) -> Result<(), Fail> {
+    let mut receiver = Receiver::new(rt.alloc(), NODE);
+    let before = all_others_open(&mut receiver)?;
+    let opened = answers(
+        &mut receiver,
+        b"(1.000000) can0 1CEC2680#10090002FF00E700",
+        b"1CEC8026#110201FFFF00E700",
+    )?;
+    let between = all_others_open(&mut receiver)?;
+    let heard = both_packets(&mut receiver)?;
+    assert!(rt; before && opened && between && heard);
+    Ok(())
+}

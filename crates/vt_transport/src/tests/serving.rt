@@ -1,0 +1,85 @@
+ghost use Rattle.std.specs.Prelude.{◌≡◌, ℕ, IfOk, OnErr};
+ghost use Rattle.std.specs.FinMap as finite;
+ghost use Rattle.vt_transport.specs.Wire.{source_of};
+ghost use Rattle.vt_transport.specs.Receivers.{timely_outcome, alive, told_of, heard_of};
+
+use super::*;
+use std::alloc::Global;
+
+// An input as a node takes it: room is set aside, the sessions that are overdue end, and the frame is
+// heard, which is not refused any more.
+fn served(
+    receiver: &mut Receiver,
+    now: u64,
+    frame: &Frame,
+) -> Result<(Option<(usize, u8)>, Heard), OutOfMemory>
+    ensures err { OnErr result (receiver.new.sessions ≡ receiver.old.sessions) }
+    ensures session { IfOk result (λ done. finite.get receiver.new.sessions (source_of frame.now)
+        ≡ (timely_outcome receiver.old now frame.now).session) }
+    ensures others { IfOk result (λ done. (other : ℕ) → (other ≡ source_of frame.now → ⊥)
+        → finite.get receiver.new.sessions other ≡ alive now (finite.get receiver.old.sessions other)) }
+    ensures said { IfOk result (λ done. done.1
+        ≡ heard_of receiver.old.own (source_of frame.now)
+        (timely_outcome receiver.old now frame.now).reply
+        (timely_outcome receiver.old now frame.now).message) }
+    ensures told { IfOk result
+        (λ done. done.0 ≡ told_of (timely_outcome receiver.old now frame.now).message) }
+{
+    let told = receiver.prepare(now, frame)?;
+    while let Some(_abort) = receiver.expire(now) {}
+    match receiver.hear(now, frame) {
+        Ok(said) => Ok((told, said)),
+        Err(_) => unreachable!(),
+    }
+}
+
+// Whether a frame is served, and told as a message of this size and first byte.
+fn is_told(
+    receiver: &mut Receiver,
+    line: &[u8],
+    told: Option<(usize, u8)>,
+) -> Result<bool, OutOfMemory> {
+    match parse_line(line) {
+        Ok(Line::Frame { time, frame }) => {
+            let (size, said) = served(receiver, time, &frame)?;
+            Ok(size == told && told.is_some() == matches!(said, Heard::Message { .. }))
+        }
+        _ => Ok(false),
+    }
+}
+
+fn both_are_told(alloc: Global) -> Result<bool, OutOfMemory> {
+    let mut receiver = Receiver::new(alloc, 0x26);
+    let opened = is_told(
+        &mut receiver,
+        b"(1.000000) can0 1CEC2680#10090002FF00E700",
+        None,
+    )?;
+    let first = is_told(
+        &mut receiver,
+        b"(2.000000) can0 1CEB2680#01B4E8036400FFFF",
+        None,
+    )?;
+    let last = is_told(
+        &mut receiver,
+        b"(3.250000) can0 1CEB2680#020500FFFFFFFFFF",
+        Some((9, 0xB4)),
+    )?;
+    let late = is_told(
+        &mut receiver,
+        b"(3.250000) can0 1CEC2680#10090002FF00E700",
+        None,
+    )? && is_told(
+        &mut receiver,
+        b"(4.500001) can0 1CEB2680#01B4E8036400FFFF",
+        None,
+    )?;
+    Ok(opened && first && last && late)
+}
+
+#[test]
+fn a_message_is_told_before_it_is_heard(rt: HostRuntime) -> Result<(), Fail> {
+    let told = both_are_told(rt.alloc())?;
+    assert!(rt; told);
+    Ok(())
+}

@@ -1,0 +1,155 @@
+//! The frames of the transport protocol as bytes (ISO 11783-3; docs/PROFILE.md, "Transport messages").
+
+ghost use Rattle.std.specs.Prelude.{◌≡◌, ◌≤◌, ◌∷◌, length, drop, slice_index};
+ghost use Rattle.byteorder.specs.Endian.{little_bytes};
+ghost use Rattle.vt_can.specs.Identifier.{HasDestination};
+ghost use Rattle.vt_transport.specs.declared.messages.TpFrame.TheVariants as declared;
+ghost use Rattle.vt_transport.specs.Wire.{tp_frame, connection_management, frame_of, reply_frame, reply_bytes, reason_code, rts_frame};
+
+use crate::messages::{Opening, Reason, Reply, TpFrame};
+use arrayvec::ArrayVec;
+use byteorder::{ByteOrder, LittleEndian};
+use vt_can::{CanId, Frame};
+
+const CONNECTION_MANAGEMENT: u32 = 0xEC00;
+
+const DATA_TRANSFER: u32 = 0xEB00;
+
+const RTS: u8 = 0x10;
+
+const CTS: u8 = 0x11;
+
+const END: u8 = 0x13;
+
+const ABORT: u8 = 0xFF;
+
+// The byte of the places that say nothing.
+pub(crate) const FILL: u8 = 0xFF;
+
+// The most packets of a CTS that a request of this node allows.
+const NO_LIMIT: u8 = 0xFF;
+
+/// What a frame says to a node. It is of the transport protocol, to the node's address and of 8 bytes.
+pub(crate) fn tp_frame(own: u8, frame: &Frame) -> Option<TpFrame>
+    ensures { result ≡ tp_frame own frame.now }
+{
+    let bytes = frame.bytes.as_slice();
+    if frame.id.destination() != Some(own) || bytes.len() != 8 {
+        return None;
+    }
+    match frame.id.pgn() {
+        CONNECTION_MANAGEMENT => Some(connection_management(bytes)),
+        DATA_TRANSFER => Some(data_transfer(bytes)),
+        _ => None,
+    }
+}
+
+fn connection_management(bytes: &[u8]) -> TpFrame
+    requires { length bytes.now ≡ 8 }
+    ensures { result ≡ connection_management bytes.now }
+{
+    let pgn = LittleEndian::read_u24(&bytes[5..]);
+    match bytes[0] {
+        RTS => TpFrame::Rts(Opening {
+            size: LittleEndian::read_u16(&bytes[1..]),
+            packets: bytes[3],
+            most: bytes[4],
+            pgn,
+        }),
+        CTS => TpFrame::Cts {
+            count: bytes[1],
+            next: bytes[2],
+            pgn,
+        },
+        END => TpFrame::EndOfMessage { pgn },
+        ABORT => TpFrame::Aborted { pgn },
+        _ => TpFrame::Other,
+    }
+}
+
+fn data_transfer(bytes: &[u8]) -> TpFrame
+    requires { length bytes.now ≡ 8 }
+    ensures { result ≡ declared.Data (slice_index bytes.now 0) (drop 1 bytes.now) }
+{
+    let mut packet = [0; 7];
+    packet.copy_from_slice(&bytes[1..]);
+    TpFrame::Data {
+        number: bytes[0],
+        bytes: packet,
+    }
+}
+
+/// The frame that a reply is, from this node to another.
+pub(crate) fn reply_frame(own: u8, to: u8, reply: Reply) -> Frame
+    ensures { result ≡ reply_frame own to reply }
+{
+    frame_of(CONNECTION_MANAGEMENT, own, to, reply_bytes(reply))
+}
+
+fn reply_bytes(reply: Reply) -> [u8; 8]
+    ensures { result ≡ reply_bytes reply }
+{
+    match reply {
+        Reply::ClearToSend { count, next, pgn } => {
+            let [low, middle, high] = pgn_bytes(pgn);
+            [CTS, count, next, FILL, FILL, low, middle, high]
+        }
+        Reply::End { size, packets, pgn } => {
+            let [size_low, size_high] = size.to_le_bytes();
+            let [low, middle, high] = pgn_bytes(pgn);
+            [END, size_low, size_high, packets, FILL, low, middle, high]
+        }
+        Reply::Abort { reason, pgn } => {
+            let [low, middle, high] = pgn_bytes(pgn);
+            [ABORT, code(reason), FILL, FILL, FILL, low, middle, high]
+        }
+    }
+}
+
+/// The request to send a message, which allows FF packets in a CTS.
+pub(crate) fn rts_frame(own: u8, to: u8, size: u16, pgn: u32) -> Frame
+    requires { size ≤ 1785 }
+    ensures { result ≡ rts_frame own to size pgn }
+{
+    let [size_low, size_high] = size.to_le_bytes();
+    let [low, middle, high] = pgn_bytes(pgn);
+    let packets = ((size + 6) / 7) as u8;
+    let bytes = [
+        RTS, size_low, size_high, packets, NO_LIMIT, low, middle, high,
+    ];
+    frame_of(CONNECTION_MANAGEMENT, own, to, bytes)
+}
+
+/// A packet of a message.
+pub(crate) fn data_frame(own: u8, to: u8, number: u8, packet: [u8; 7]) -> Frame
+    ensures { result ≡ frame_of 0xEB00 own to (number ∷ packet) }
+{
+    let [a, b, c, d, e, f, g] = packet;
+    frame_of(DATA_TRANSFER, own, to, [number, a, b, c, d, e, f, g])
+}
+
+fn frame_of(pgn: u32, own: u8, to: u8, bytes: [u8; 8]) -> Frame
+    requires { HasDestination pgn }
+    ensures { result ≡ frame_of pgn own to bytes }
+{
+    Frame {
+        id: CanId::new(7, pgn, to, own),
+        bytes: ArrayVec::from(bytes),
+    }
+}
+
+fn pgn_bytes(pgn: u32) -> [u8; 3]
+    ensures { result ≡ little_bytes 3 pgn }
+{
+    let [low, middle, high, _] = pgn.to_le_bytes();
+    [low, middle, high]
+}
+
+fn code(reason: Reason) -> u8
+    ensures { result ≡ reason_code reason }
+{
+    match reason {
+        Reason::Timeout => 3,
+        Reason::Disorder => 7,
+    }
+}
