@@ -1,8 +1,6 @@
-pub mod ByAddress
 pub mod Taking
 pub mod Answering
 pub mod Packets
 pub mod Openings
-pub mod Cutting
 pub mod Histories
 pub mod Assembly
