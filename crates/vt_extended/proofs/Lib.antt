@@ -1,1 +1,6 @@
 pub mod Taking
+pub mod Openings
+pub mod Histories
+pub mod Stepping
+pub mod Matching
+pub mod Assembly

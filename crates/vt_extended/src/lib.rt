@@ -3,11 +3,13 @@
 //! docs/PROFILE.md, "Transport", has the rules. Times are in microseconds.
 #![tactic(auto)]
 
+mod law;
 mod messages;
 mod receiver;
 mod session;
 mod wire;
 
+pub use law::steps_assemble_messages;
 pub use receiver::Receiver;
 pub use vt_can::{Bytes, Heard};
 
