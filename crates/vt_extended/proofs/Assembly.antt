@@ -1,5 +1,5 @@
 -- The steps on the session of a source assemble the messages that were sent.
-use Rattle.std.proofs.Common.{◌≡◌, ℕ, ◌+◌, ◌≤◌, ◌<◌, Bool, true, false, ◌&&◌, cond, eqb, leb, ltb, List, [], ◌∷◌, ◌++◌, length, take, Option, Some, None, ap, ap₂, sym, subst, ◌∙◌, refl, arith, eq-eqb, eqb-true}
+use Rattle.std.proofs.Common.{◌≡◌, ℕ, ◌+◌, ◌<◌, Bool, true, false, ◌&&◌, cond, eqb, ltb, List, [], ◌∷◌, ◌++◌, length, take, Option, Some, None, ap, ap₂, sym, subst, ◌∙◌, refl, arith, eq-eqb, eqb-true}
 use Rattle.std.proofs.lemmas.Bool.{false≢true}
 use Rattle.vt_can.specs.declared.sessions.Timed.{Timed}
 use Rattle.vt_can.specs.Messages.{Message}
@@ -8,14 +8,13 @@ use Rattle.vt_extended.specs.declared.messages.Part.{Part}
 use Rattle.vt_extended.specs.declared.messages.Part.TheVariants.{Offset, Packet}
 use Rattle.vt_extended.specs.declared.messages.EtpFrame.TheVariants as etp
 use Rattle.vt_extended.specs.declared.messages.Reason.TheVariants.{Disorder}
-use Rattle.vt_extended.specs.declared.messages.Reply.{Reply}
 use Rattle.vt_extended.specs.declared.messages.Reply.TheVariants.{Abort}
-use Rattle.vt_extended.specs.Messages.{Happening, Came, TimedOut, Group, Announced, packets_of, received, edge, bytes_of, Sent, Stands, IsWhole, IsAnswered, reply_to, offset_reply, packet_reply, part_reply}
+use Rattle.vt_extended.specs.Messages.{Happening, Came, TimedOut, Group, Announced, packets_of, received, bytes_of, Sent, Stands, IsWhole, IsAnswered, reply_to, offset_reply, packet_reply, part_reply}
 use Rattle.vt_extended.specs.Kept.{Kept}
 use Rattle.vt_extended.specs.Steps.{Outcome, is_open, after_offset, is_next, after_packet, after_part, happens, session_after, untimed, HasGroups, Has, StepsAssembleMessages}
 use Rattle.vt_extended.proofs.Openings.{both_of}
 use Rattle.vt_extended.proofs.Histories.{sent_packet, last_of, IsNext, packet_last}
-use Rattle.vt_extended.proofs.Stepping.{offset_right, offset_wrong, grown, grown_reply, packet_more, packet_whole, packet_wrong, is_open_as, is_next_as, is_next_true, grown_bytes}
+use Rattle.vt_extended.proofs.Stepping.{offset_right, offset_wrong, grown_reply, packet_more, packet_whole, packet_wrong, is_open_as, is_next_as, is_next_true, grown_bytes}
 use Rattle.vt_extended.proofs.Matching.{Matches, matches, IsKept, Next, InGroup, next_in}
 
 -- the message

@@ -4,7 +4,7 @@ use Rattle.vt_extended.specs.declared.messages.Opening.{Opening}
 use Rattle.vt_extended.specs.declared.messages.Part.{Part}
 use Rattle.vt_extended.specs.declared.messages.Part.TheVariants.{Offset, Packet}
 use Rattle.vt_extended.specs.declared.messages.EtpFrame.TheVariants as etp
-use Rattle.vt_extended.specs.Messages.{Happening, Came, Group, Announced, opens, received, edge, AreSound, numbered, parts_of, parts_in, IsQuiet, AreQuiet, Sent}
+use Rattle.vt_extended.specs.Messages.{Happening, Came, Group, Announced, opens, received, edge, AreSound, parts_of, parts_in, IsQuiet, AreQuiet, Sent}
 
 -- a happening that leaves a session as it is and is no DPO or DT
 pub record IsBystander (x : Happening) : Type 0 where

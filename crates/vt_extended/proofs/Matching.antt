@@ -1,22 +1,18 @@
 -- The session that the steps keep of a source is the one that stands.
-use Rattle.std.proofs.Common.{◌≡◌, ℕ, ◌+◌, ◌≤◌, ◌<◌, max, Bool, true, false, ◌&&◌, cond, eqb, leb, ltb, List, [], ◌∷◌, ◌++◌, length, take, Option, Some, None, ap, ap₂, sym, subst, ◌∙◌, refl, arith, eq-eqb, eqb-true, ne_eqb}
+use Rattle.std.proofs.Common.{◌≡◌, ℕ, ◌+◌, ◌≤◌, ◌<◌, Bool, true, false, ◌&&◌, cond, eqb, leb, ltb, List, [], ◌∷◌, ◌++◌, length, Option, Some, None, ap, sym, subst, ◌∙◌, refl, arith, eq-eqb, eqb-true}
 use Rattle.std.proofs.lemmas.Bool.{leb-true, ltb-true, false≢true}
 use Rattle.vt_can.specs.declared.sessions.Timed.{Timed}
-use Rattle.vt_can.specs.Messages.{Message}
 use Rattle.vt_can.proofs.Joining.{take_none}
 use Rattle.vt_extended.specs.declared.messages.Opening.{Opening}
 use Rattle.vt_extended.specs.declared.messages.Part.{Part}
 use Rattle.vt_extended.specs.declared.messages.Part.TheVariants.{Offset, Packet}
 use Rattle.vt_extended.specs.declared.messages.EtpFrame.TheVariants as etp
-use Rattle.vt_extended.specs.declared.messages.Reason.TheVariants.{Disorder}
-use Rattle.vt_extended.specs.declared.messages.Reply.{Reply}
-use Rattle.vt_extended.specs.declared.messages.Reply.TheVariants.{Abort}
-use Rattle.vt_extended.specs.Messages.{Happening, Came, TimedOut, Group, Announced, opens, packets_of, received, edge, bytes_of, IsQuiet, Sent, Stands}
+use Rattle.vt_extended.specs.Messages.{Happening, Came, TimedOut, Group, Announced, opens, packets_of, received, edge, IsQuiet, Sent, Stands}
 use Rattle.vt_extended.specs.Kept.{Kept}
 use Rattle.vt_extended.specs.Steps.{Outcome, fresh, is_open, after_offset, is_next, after_packet, after_part, happens, session_after, untimed, HasGroups, Has}
 use Rattle.vt_extended.proofs.Openings.{both_of, all_of, opened_packets}
 use Rattle.vt_extended.proofs.Histories.{IsBystander, sent_after_rts, sent_more, sent_offset, sent_packet, Came_last, AtRts, Later, last_of, IsAnnounced, offset_last, IsNext, packet_last}
-use Rattle.vt_extended.proofs.Stepping.{announced, offset_right, offset_wrong, grown, grown_reply, packet_more, packet_whole, packet_wrong, is_open_as, is_open_true, is_next_as, is_next_true, has_announced, grown_bytes, has_grown}
+use Rattle.vt_extended.proofs.Stepping.{announced, offset_right, offset_wrong, grown, packet_more, packet_whole, packet_wrong, is_open_as, is_open_true, is_next_as, is_next_true, has_announced, has_grown}
 
 -- the session of the steps and the one that stands are the same
 pub record Matches (hs : List Happening) (session : Option (Timed Kept)) : Type 0 where

@@ -86,18 +86,18 @@ fn reply_bytes(reply: Reply) -> [u8; 8]
 {
     match reply {
         Reply::ClearToSend { count, next, pgn } => {
-            let [next_low, next_middle, next_high] = three_bytes(next);
-            let [low, middle, high] = three_bytes(pgn);
-            [CTS, count, next_low, next_middle, next_high, low, middle, high]
+            let [next_0, next_1, next_2] = three_bytes(next);
+            let [pgn_0, pgn_1, pgn_2] = three_bytes(pgn);
+            [CTS, count, next_0, next_1, next_2, pgn_0, pgn_1, pgn_2]
         }
         Reply::End { size, pgn } => {
             let [size_0, size_1, size_2, size_3] = size.to_le_bytes();
-            let [low, middle, high] = three_bytes(pgn);
-            [END, size_0, size_1, size_2, size_3, low, middle, high]
+            let [pgn_0, pgn_1, pgn_2] = three_bytes(pgn);
+            [END, size_0, size_1, size_2, size_3, pgn_0, pgn_1, pgn_2]
         }
         Reply::Abort { reason, pgn } => {
-            let [low, middle, high] = three_bytes(pgn);
-            [ABORT, code(reason), FILL, FILL, FILL, low, middle, high]
+            let [pgn_0, pgn_1, pgn_2] = three_bytes(pgn);
+            [ABORT, code(reason), FILL, FILL, FILL, pgn_0, pgn_1, pgn_2]
         }
     }
 }

@@ -6,7 +6,8 @@ fn takes_group(receiver: &mut Receiver, count: u8, last: Wanted) -> Result<bool,
     let mut same = true;
     for number in 1..=count {
         let wanted = if number == count { last } else { Silence };
-        same = same && is_said(receiver.hear(1_000_000, &packet(number, [number; 7]))?, wanted);
+        let said = receiver.hear(1_000_000, &packet(number, [number; 7]))?;
+        same = same && is_said(said, wanted);
     }
     Ok(same)
 }
@@ -213,14 +214,20 @@ fn opens_600(receiver: &mut Receiver) -> Result<bool, OutOfMemory> {
 
 // Whether this frame is refused in a new session of nine bytes, and the session is gone after it.
 fn is_refused(receiver: &mut Receiver, line: &[u8]) -> Result<bool, OutOfMemory> {
-    Ok(opens_nine(receiver)?
-        && says(receiver, line, Reply(b"1CC88026#FF07FFFFFF00E700"))?
-        && says(
-            receiver,
-            b"(1.000000) can0 1CC82680#160200000000E700",
-            Silence,
-        )?
-        && is_said(receiver.hear(1_000_000, &packet(1, [1; 7]))?, Silence))
+    let refused = opens_nine(receiver)?
+        && says(receiver, line, Reply(b"1CC88026#FF07FFFFFF00E700"))?;
+    Ok(refused && is_gone(receiver)?)
+}
+
+// Whether a DPO and a packet are ignored.
+fn is_gone(receiver: &mut Receiver) -> Result<bool, OutOfMemory> {
+    let announced = says(
+        receiver,
+        b"(1.000000) can0 1CC82680#160200000000E700",
+        Silence,
+    )?;
+    let said = receiver.hear(1_000_000, &packet(1, [1; 7]))?;
+    Ok(announced && is_said(said, Silence))
 }
 
 fn opens_nine(receiver: &mut Receiver) -> Result<bool, OutOfMemory> {
@@ -234,22 +241,10 @@ fn opens_nine(receiver: &mut Receiver) -> Result<bool, OutOfMemory> {
 #[test]
 fn frames_out_of_order(rt: HostRuntime) -> Result<(), Fail> {
     let mut receiver = Receiver::new(rt.alloc(), NODE);
-    let packet_first = is_refused(
-        &mut receiver,
-        b"(1.000000) can0 1CC72680#0101010101010101",
-    )?;
-    let none_announced = is_refused(
-        &mut receiver,
-        b"(1.000000) can0 1CC82680#160000000000E700",
-    )?;
-    let too_many = is_refused(
-        &mut receiver,
-        b"(1.000000) can0 1CC82680#160300000000E700",
-    )?;
-    let offset_1 = is_refused(
-        &mut receiver,
-        b"(1.000000) can0 1CC82680#160101000000E700",
-    )?;
+    let packet_first = is_refused(&mut receiver, b"(1.000000) can0 1CC72680#0101010101010101")?;
+    let none_announced = is_refused(&mut receiver, b"(1.000000) can0 1CC82680#160000000000E700")?;
+    let too_many = is_refused(&mut receiver, b"(1.000000) can0 1CC82680#160300000000E700")?;
+    let offset_1 = is_refused(&mut receiver, b"(1.000000) can0 1CC82680#160101000000E700")?;
     assert!(rt; packet_first && none_announced && too_many && offset_1);
     Ok(())
 }
@@ -291,22 +286,14 @@ fn what_ends_a_session(rt: HostRuntime) -> Result<(), Fail> {
             b"(1.000000) can0 1CC82680#FF07FFFFFF00E600",
             Silence,
         )?;
-    let ignored = says(
-        &mut receiver,
-        b"(1.000000) can0 1CC82680#160200000000E700",
-        Silence,
-    )?;
+    let ignored = is_gone(&mut receiver)?;
     let refused = opens_nine(&mut receiver)?
         && says(
             &mut receiver,
             b"(1.000000) can0 1CC82680#140800000000EA00",
             Reply(b"1CC88026#FF07FFFFFF00EA00"),
         )?;
-    let gone = says(
-        &mut receiver,
-        b"(1.000000) can0 1CC82680#160200000000E700",
-        Silence,
-    )? && is_said(receiver.hear(1_000_000, &packet(1, [1; 7]))?, Silence);
+    let gone = is_gone(&mut receiver)?;
     assert!(rt; aborted && ignored && refused && gone);
     Ok(())
 }
