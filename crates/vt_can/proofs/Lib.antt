@@ -7,3 +7,5 @@ pub mod Sums
 pub mod OneReading
 pub mod Written
 pub mod Filed
+pub mod ByAddress
+pub mod Joining

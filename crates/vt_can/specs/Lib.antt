@@ -6,3 +6,5 @@ pub mod Line
 pub mod Writing
 pub mod Parts
 pub mod Sessions
+pub mod Messages
+pub mod Nodes

@@ -1,5 +1,5 @@
 -- Sessions by address, each with the time of its last frame (docs/PROFILE.md, "Timeouts").
-use Rattle.std.specs.Prelude.{◌≡◌, ◌<◌, ◌≤◌, ℕ, suc, ◌-◌, Bool, true, false, nat_lt, Option, Some, None, List, [], ◌∷◌, length, get_or, refl}
+use Rattle.std.specs.Prelude.{◌≡◌, ◌<◌, ◌≤◌, ℕ, suc, ◌-◌, Bool, true, false, nat_lt, if◌then◌else◌, Option, Some, None, List, [], ◌∷◌, length, get_or, refl}
 use Rattle.std.specs.Ordering.{nat_cmp}
 use Rattle.std.specs.Coded.{Coded, code_by, coded×, coded_ℕ}
 use Rattle.std.specs.FinMap as finite
@@ -28,6 +28,10 @@ module _ {T : Type 0} where
   abbrev pub is_overdue : ℕ → Option (Timed T) → Bool
   is_overdue now None = false
   is_overdue now (Some timed) = nat_lt 1250000 (now - timed.last)
+
+  -- a session that isn't overdue
+  abbrev pub alive : ℕ → Option (Timed T) → Option (Timed T)
+  alive now kept = if is_overdue now kept then None else kept
 
   -- the least address whose session is overdue
   pub record IsFirstOverdue (sessions : ByAddress T) (now address : ℕ) : Type 0 where

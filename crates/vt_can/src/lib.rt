@@ -4,8 +4,10 @@
 #![tactic(auto)]
 
 mod action;
+mod bytes;
 mod digits;
 mod frame;
+mod heard;
 mod identifier;
 mod line;
 mod parts;
@@ -13,7 +15,9 @@ mod sessions;
 mod shaped;
 mod write;
 
+pub use bytes::Bytes;
 pub use frame::{Frame, write_frame};
+pub use heard::Heard;
 pub use identifier::{CanId, parts_are_identifiers};
 pub use line::{
     Action, Line, LineFault, Skipped, lines_have_readings, parse_line, readings_are_one,

@@ -6,7 +6,8 @@ use Rattle.vt_transport.specs.declared.messages.Opening.{Opening}
 use Rattle.vt_transport.specs.declared.messages.TpFrame.TheVariants.{Rts, Cts, EndOfMessage, Aborted, Data, Other}
 use Rattle.vt_transport.specs.declared.messages.Reason.TheVariants.{Disorder}
 use Rattle.vt_transport.specs.declared.messages.Reply.TheVariants.{Abort}
-use Rattle.vt_transport.specs.Messages.{Happening, Came, TimedOut, Message, joined, Sent, Stands, IsWhole, IsAnswered, reply_to, packet_reply}
+use Rattle.vt_can.specs.Messages.{Message, joined}
+use Rattle.vt_transport.specs.Messages.{Happening, Came, TimedOut, Sent, Stands, IsWhole, IsAnswered, reply_to, packet_reply}
 use Rattle.vt_transport.specs.Kept.{Kept}
 use Rattle.vt_transport.specs.Steps.{Outcome, after_packet, happens, session_after, untimed, Has, StepsAssembleMessages}
 use Rattle.vt_transport.proofs.Histories.{sent_packet, last_of}

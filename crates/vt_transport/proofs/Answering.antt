@@ -4,14 +4,14 @@ use Rattle.std.specs.FinMap as finite
 use Rattle.vt_can.specs.declared.frame.Frame.{Frame}
 use Rattle.vt_can.specs.declared.sessions.Timed.{Timed}
 use Rattle.vt_can.specs.Sessions.{ByAddress}
+use Rattle.vt_can.specs.Messages.{Message}
 use Rattle.vt_transport.specs.declared.messages.TpFrame.{TpFrame}
 use Rattle.vt_transport.specs.declared.messages.TpFrame.TheVariants.{Cts, EndOfMessage, Aborted}
 use Rattle.vt_transport.specs.declared.messages.Reason.TheVariants.{Disorder}
 use Rattle.vt_transport.specs.declared.messages.Reply.TheVariants.{Abort}
-use Rattle.vt_transport.specs.Messages.{Message}
 use Rattle.vt_transport.specs.Wire.{reply_frame, packet_frame}
 use Rattle.vt_transport.specs.Senders.{Sending, Answer, Answers, answer_of, answered, session_answer, unanswered, refreshed, packets_of, numbers_from, is_of_group}
-use Rattle.vt_transport.proofs.ByAddress.{get-put, get-left, left_others, put_again_others}
+use Rattle.vt_can.proofs.ByAddress.{get-put, get-left, left_others, put_again_others}
 
 pub left_answers : (old new : Sending) (to : ℕ) (m : ByAddress Message) (given : Answer) (frames : List Frame) → old.sessions ≡ m → new.own ≡ old.own
     → new.sessions ≡ finite.remove m to → given.session ≡ None → frames ≡ given.frames → Answers old new to given frames

@@ -2,15 +2,16 @@
 use Rattle.std.proofs.Common.{◌≡◌, ℕ, suc, ◌+◌, ◌<◌, max, Bool, true, false, cond, eqb, List, [], ◌∷◌, ◌++◌, length, take, Option, Some, None, ap, sym, subst, ◌∙◌, refl, arith, eq-eqb, eqb-true, ne_eqb}
 use Rattle.std.proofs.lemmas.Bool.{false≢true}
 use Rattle.vt_can.specs.declared.sessions.Timed.{Timed}
+use Rattle.vt_can.specs.Messages.{Message, joined}
 use Rattle.vt_transport.specs.declared.messages.Opening.{Opening}
 use Rattle.vt_transport.specs.declared.messages.TpFrame.TheVariants.{Rts, Cts, EndOfMessage, Aborted, Data, Other}
 use Rattle.vt_transport.specs.declared.messages.Reason.TheVariants.{Disorder}
 use Rattle.vt_transport.specs.declared.messages.Reply.TheVariants.{Abort}
-use Rattle.vt_transport.specs.Messages.{Happening, Came, TimedOut, opens, IsQuiet, AreQuiet, packets_in, numbered, joined, Sent, Stands, reply_to}
+use Rattle.vt_transport.specs.Messages.{Happening, Came, TimedOut, opens, IsQuiet, AreQuiet, packets_in, numbered, Sent, Stands, reply_to}
 use Rattle.vt_transport.specs.Kept.{Kept}
 use Rattle.vt_transport.specs.Steps.{Outcome, ended, after_packet, happens, session_after, untimed, Has}
 use Rattle.vt_transport.proofs.Histories.{IsBystander, sent_after_rts, sent_more, sent_packet, Came_last, AtRts, Later, last_of}
-use Rattle.vt_transport.proofs.Cutting.{take_again, take_none}
+use Rattle.vt_can.proofs.Joining.{take_again, take_none}
 use Rattle.vt_transport.proofs.Openings.{opens_packets, opens_size}
 
 -- the step of a packet, in its three cases

@@ -1,9 +1,7 @@
-pub mod ByAddress
 pub mod Taking
 pub mod Answering
 pub mod Packets
 pub mod Openings
-pub mod Cutting
 pub mod Histories
 pub mod Assembly
 pub mod Agreement

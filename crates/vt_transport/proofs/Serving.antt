@@ -7,8 +7,8 @@ use Rattle.std.specs.FinMap as finite
 use Rattle.vt_can.specs.declared.sessions.Timed.{Timed}
 use Rattle.vt_can.specs.Sessions.{ByAddress, is_overdue, Expires}
 use Rattle.vt_transport.specs.Kept.{Kept}
-use Rattle.vt_transport.specs.Receivers.{alive}
-use Rattle.vt_transport.proofs.ByAddress.{get-left, get-left_other}
+use Rattle.vt_can.specs.Sessions.{alive}
+use Rattle.vt_can.proofs.ByAddress.{get-left, get-left_other}
 
 overdue_none : (now : ℕ) (session : Option (Timed Kept)) → is_overdue now session ≡ true → alive now session ≡ None
 overdue_none now session is = ap (λ (b : Bool). cond b None session) is

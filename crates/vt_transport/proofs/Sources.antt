@@ -3,9 +3,10 @@ use Rattle.std.proofs.Common.{◌≡◌, ℕ, ◌-◌, ◌<◌, ◌≤◌, Bool,
 use Rattle.std.proofs.lemmas.Bool.{ltb-true}
 use Rattle.std.specs.Option.{option_to_list}
 use Rattle.vt_can.specs.declared.sessions.Timed.{Timed}
-use Rattle.vt_transport.specs.Messages.{Message}
+use Rattle.vt_can.specs.Messages.{Message}
 use Rattle.vt_transport.specs.Kept.{Kept}
-use Rattle.vt_transport.specs.Receivers.{alive, stepped}
+use Rattle.vt_can.specs.Sessions.{alive}
+use Rattle.vt_transport.specs.Receivers.{stepped}
 use Rattle.vt_transport.specs.Bus.{Input, IsInOrder, is_from, session_of, messages_of, MessagesDependOnOwnFrames}
 
 -- who is overdue stays so

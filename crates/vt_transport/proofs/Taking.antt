@@ -3,8 +3,8 @@ use Rattle.std.proofs.Common.{◌≡◌, ℕ, max, List, Option, Some, None, ap,
 use Rattle.std.specs.FinMap as finite
 use Rattle.vt_can.specs.declared.sessions.Timed.{Timed}
 use Rattle.vt_can.specs.Sessions.{ByAddress}
-use Rattle.vt_transport.specs.declared.heard.Heard.{Heard}
-use Rattle.vt_transport.specs.declared.heard.Heard.TheVariants as heard
+use Rattle.vt_can.specs.declared.heard.Heard.{Heard}
+use Rattle.vt_can.specs.declared.heard.Heard.TheVariants as heard
 use Rattle.vt_transport.specs.declared.messages.Reply.{Reply}
 use Rattle.vt_transport.specs.declared.session.Received.{Received}
 use Rattle.vt_transport.specs.Kept.{Kept}
@@ -12,7 +12,7 @@ use Rattle.vt_transport.specs.Steps.{Outcome, silent, after_packet}
 use Rattle.vt_transport.specs.Received.{outcome_of}
 use Rattle.vt_transport.specs.Wire.{reply_frame}
 use Rattle.vt_transport.specs.Receivers.{Listening, Takes, heard_of}
-use Rattle.vt_transport.proofs.ByAddress.{get-put, get-left}
+use Rattle.vt_can.proofs.ByAddress.{get-put, get-left}
 
 pub put_takes : (old new : Listening) (source : ℕ) (timed : Timed Kept) (m : ByAddress Kept) (out : Outcome) (said : Heard)
     → new.own ≡ old.own → new.sessions ≡ finite.insert m source timed → out.session ≡ Some timed

@@ -2,10 +2,11 @@
 use Rattle.std.specs.Prelude.{◌≡◌, ◌≤◌, ℕ, Bool, ◌==◌, if◌then◌else◌, Option, None, List, [], ◌∷◌, ◌++◌, filter}
 use Rattle.std.specs.Option.{option_to_list}
 use Rattle.vt_can.specs.declared.sessions.Timed.{Timed}
+use Rattle.vt_can.specs.Messages.{Message}
+use Rattle.vt_can.specs.Sessions.{alive}
 use Rattle.vt_transport.specs.declared.messages.TpFrame.{TpFrame}
-use Rattle.vt_transport.specs.Messages.{Message}
 use Rattle.vt_transport.specs.Kept.{Kept}
-use Rattle.vt_transport.specs.Receivers.{alive, stepped}
+use Rattle.vt_transport.specs.Receivers.{stepped}
 
 -- a frame that was heard, and what it says to this node
 pub record Input : Type 0 where

@@ -1,6 +1,7 @@
 -- The messages of one source, over the whole list of what came from it (ISO 11783-3;
 -- docs/PROFILE.md, "The TP receiver"). Every list of happenings and of packets has the latest first.
 use Rattle.std.specs.Prelude.{◌≡◌, ◌<◌, ℕ, ◌+◌, ◌-◌, ◌/◌, ◌%◌, Bool, true, nat_le, ◌==◌, ◌&&◌, if◌then◌else◌, min, Option, Some, None, List, [], ◌∷◌, ◌++◌, length, take}
+use Rattle.vt_can.specs.Messages.{Message, joined}
 use Rattle.vt_transport.specs.declared.messages.Opening.{Opening}
 use Rattle.vt_transport.specs.declared.messages.TpFrame.{TpFrame}
 use Rattle.vt_transport.specs.declared.messages.TpFrame.TheVariants.{Rts, Aborted, Data}
@@ -12,10 +13,6 @@ use Rattle.vt_transport.specs.declared.messages.Reply.TheVariants.{ClearToSend, 
 pub data Happening : Type 0 where
   Came : TpFrame → Happening
   TimedOut : Happening
-
-pub record Message : Type 0 where
-  pub pgn : ℕ
-  pub bytes : List ℕ
 
 -- 9 to 1785 bytes, in packets of seven
 abbrev pub opens : Opening → Bool
@@ -47,10 +44,6 @@ packets_in (Came _ ∷ hs) = packets_in hs
 abbrev pub numbered : List (List ℕ) → List (ℕ × List ℕ)
 numbered [] = []
 numbered (packet ∷ packets) = (length packets + 1, packet) ∷ numbered packets
-
-abbrev pub joined : List (List ℕ) → List ℕ
-joined [] = []
-joined (packet ∷ packets) = joined packets ++ packet
 
 -- After an RTS that opens came quiet happenings alone, and the packets among them are in order.
 pub record Sent (hs : List Happening) (o : Opening) (packets : List (List ℕ)) : Type 0 where

@@ -1,19 +1,21 @@
 -- A receiver as a value, and what its calls say.
-use Rattle.std.specs.Prelude.{◌≡◌, ◌≤◌, ℕ, true, if◌then◌else◌, Option, Some, None, length, slice_index, refl}
+use Rattle.std.specs.Prelude.{◌≡◌, ◌≤◌, ℕ, true, Option, Some, None, refl}
 use Rattle.std.specs.Coded.{Coded, code_by, coded×, coded_ℕ}
 use Rattle.std.specs.FinMap as finite
 use Rattle.vt_can.specs.declared.frame.Frame.{Frame}
 use Rattle.vt_can.specs.declared.sessions.Timed.{Timed}
-use Rattle.vt_can.specs.Sessions.{ByAddress, timed_code, is_overdue, Expires}
+use Rattle.vt_can.specs.Sessions.{ByAddress, timed_code, alive, Expires}
+use Rattle.vt_can.specs.Messages.{Message}
+use Rattle.vt_can.specs.Nodes.{source_of}
 use Rattle.vt_transport.specs.declared.messages.TpFrame.{TpFrame}
 use Rattle.vt_transport.specs.declared.messages.TpFrame.TheVariants.{Rts}
 use Rattle.vt_transport.specs.declared.messages.Reason.TheVariants.{Timeout}
 use Rattle.vt_transport.specs.declared.messages.Reply.{Reply}
 use Rattle.vt_transport.specs.declared.messages.Reply.TheVariants.{Abort}
-use Rattle.vt_transport.specs.declared.heard.Heard.{Heard}
-use Rattle.vt_transport.specs.declared.heard.Heard.TheVariants as heard
-use Rattle.vt_transport.specs.Messages.{Message, opens}
-use Rattle.vt_transport.specs.Wire.{source_of, tp_frame, reply_frame}
+use Rattle.vt_can.specs.declared.heard.Heard.{Heard}
+use Rattle.vt_can.specs.declared.heard.Heard.TheVariants as heard
+use Rattle.vt_transport.specs.Messages.{opens}
+use Rattle.vt_transport.specs.Wire.{tp_frame, reply_frame}
 use Rattle.vt_transport.specs.Kept.{Kept, kept_code}
 use Rattle.vt_transport.specs.Steps.{Outcome, silent, step}
 
@@ -65,16 +67,7 @@ pub record TimesOut (old new : Listening) (now : ℕ) (frame : Frame) : Type 0 w
   pub expired : Expires old.sessions new.sessions now source session
   pub abort : frame ≡ reply_frame old.own source (Abort Timeout session.opening.pgn)
 
--- a session that isn't overdue
-abbrev pub alive : ℕ → Option (Timed Kept) → Option (Timed Kept)
-alive now kept = if is_overdue now kept then None else kept
-
 -- the step that a frame makes once the sessions that are overdue have ended
 abbrev pub timely_outcome : Listening → ℕ → Frame → Outcome
 timely_outcome receiver now frame =
     stepped now (alive now (finite.get receiver.sessions (source_of frame))) (tp_frame receiver.own frame)
-
--- the size and first byte of a message
-abbrev pub told_of : Option Message → Option (ℕ × ℕ)
-told_of None = None
-told_of (Some message) = Some (length message.bytes, slice_index message.bytes 0)

@@ -5,12 +5,13 @@ use Rattle.std.specs.FinMap as finite
 use Rattle.vt_can.specs.declared.frame.Frame.{Frame}
 use Rattle.vt_can.specs.declared.sessions.Timed.{Timed}
 use Rattle.vt_can.specs.Sessions.{ByAddress, timed_code, Expires}
+use Rattle.vt_can.specs.Messages.{Message}
+use Rattle.vt_can.specs.Nodes.{source_of}
 use Rattle.vt_transport.specs.declared.messages.TpFrame.{TpFrame}
 use Rattle.vt_transport.specs.declared.messages.TpFrame.TheVariants.{Cts, EndOfMessage, Aborted}
 use Rattle.vt_transport.specs.declared.messages.Reason.TheVariants.{Timeout, Disorder}
 use Rattle.vt_transport.specs.declared.messages.Reply.TheVariants.{Abort}
-use Rattle.vt_transport.specs.Messages.{Message}
-use Rattle.vt_transport.specs.Wire.{source_of, tp_frame, reply_frame, rts_frame, packet_frame}
+use Rattle.vt_transport.specs.Wire.{tp_frame, reply_frame, rts_frame, packet_frame}
 
 abbrev pub message_code : Coded Message
 message_code =

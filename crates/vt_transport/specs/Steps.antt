@@ -1,13 +1,14 @@
 -- One step of a receiver on the session of one source, and the law that these steps assemble the messages.
 use Rattle.std.specs.Prelude.{◌≡◌, ◌↔◌, ℕ, ◌+◌, ◌==◌, if◌then◌else◌, max, Option, Some, None, List, [], ◌∷◌, ◌++◌, length, take}
 use Rattle.vt_can.specs.declared.sessions.Timed.{Timed}
+use Rattle.vt_can.specs.Messages.{Message, joined}
 use Rattle.vt_transport.specs.declared.messages.Opening.{Opening}
 use Rattle.vt_transport.specs.declared.messages.TpFrame.{TpFrame}
 use Rattle.vt_transport.specs.declared.messages.TpFrame.TheVariants.{Rts, Aborted, Data}
 use Rattle.vt_transport.specs.declared.messages.Reason.TheVariants.{Disorder}
 use Rattle.vt_transport.specs.declared.messages.Reply.{Reply}
 use Rattle.vt_transport.specs.declared.messages.Reply.TheVariants.{Abort}
-use Rattle.vt_transport.specs.Messages.{Happening, Came, TimedOut, Message, opens, first_reply, reply_to, joined, Stands, IsWhole, IsAnswered}
+use Rattle.vt_transport.specs.Messages.{Happening, Came, TimedOut, opens, first_reply, reply_to, Stands, IsWhole, IsAnswered}
 use Rattle.vt_transport.specs.Kept.{Kept}
 
 -- what a step leaves, and what it gives

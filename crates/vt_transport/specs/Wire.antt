@@ -1,17 +1,15 @@
 -- The bytes of the transport protocol's frames (docs/PROFILE.md, "Transport messages").
-use Rattle.std.specs.Prelude.{ℕ, ◌+◌, ◌-◌, ◌*◌, ◌/◌, Bool, false, ◌==◌, ◌&&◌, if◌then◌else◌, Option, Some, None, List, ◌∷◌, ◌++◌, length, take, drop, slice_index, replicate}
+use Rattle.std.specs.Prelude.{ℕ, ◌+◌, ◌-◌, ◌*◌, ◌/◌, ◌==◌, ◌&&◌, if◌then◌else◌, Option, Some, None, List, ◌∷◌, ◌++◌, length, take, drop, slice_index, replicate}
 use Rattle.byteorder.specs.Endian.{little_number, little_bytes}
 use Rattle.vt_can.specs.declared.frame.Frame.{Frame}
-use Rattle.vt_can.specs.Identifier.{parts_of, pgn_of, destination_of, raw_of, addressed}
+use Rattle.vt_can.specs.Identifier.{parts_of, pgn_of, destination_of}
+use Rattle.vt_can.specs.Nodes.{is_to, frame_of}
 use Rattle.vt_transport.specs.declared.messages.TpFrame.{TpFrame}
 use Rattle.vt_transport.specs.declared.messages.TpFrame.TheVariants.{Rts, Cts, EndOfMessage, Aborted, Data, Other}
 use Rattle.vt_transport.specs.declared.messages.Reason.{Reason}
 use Rattle.vt_transport.specs.declared.messages.Reason.TheVariants.{Timeout, Disorder}
 use Rattle.vt_transport.specs.declared.messages.Reply.{Reply}
 use Rattle.vt_transport.specs.declared.messages.Reply.TheVariants.{ClearToSend, End, Abort}
-
-abbrev pub source_of : Frame → ℕ
-source_of frame = (parts_of frame.id).source
 
 -- what the bytes of a TP.CM frame say
 abbrev pub connection_management : List ℕ → TpFrame
@@ -31,20 +29,12 @@ by_group pgn bytes =
     else if pgn == 0xEB00 then Some (Data (slice_index bytes 0) (drop 1 bytes))
     else None
 
-abbrev pub is_to : ℕ → Option ℕ → Bool
-is_to own None = false
-is_to own (Some destination) = destination == own
-
 -- what a frame says to a node: eight bytes, to its address
 abbrev pub tp_frame : ℕ → Frame → Option TpFrame
 tp_frame own frame =
     if is_to own (destination_of (parts_of frame.id)) && length frame.bytes.items == 8
     then by_group (pgn_of (parts_of frame.id)) frame.bytes.items
     else None
-
--- the frame of a group, with priority 7
-abbrev pub frame_of : ℕ → ℕ → ℕ → List ℕ → Frame
-frame_of pgn own to bytes = record { id = raw_of (addressed 7 pgn to own); bytes = record { items = bytes } }
 
 abbrev pub reason_code : Reason → ℕ
 reason_code Timeout = 3

@@ -3,8 +3,6 @@
 //! docs/PROFILE.md, "Transport", has the rules. Times are in microseconds.
 #![tactic(auto)]
 
-mod bytes;
-mod heard;
 mod law;
 mod messages;
 mod receiver;
@@ -13,11 +11,10 @@ mod sending;
 mod session;
 mod wire;
 
-pub use bytes::Bytes;
-pub use heard::Heard;
 pub use law::{messages_depend_on_own_frames, steps_assemble_messages};
 pub use receiver::Receiver;
 pub use sender::{SendFault, Sender};
+pub use vt_can::{Bytes, Heard};
 
 /// A growth that was refused.
 pub use std::alloc::AllocError as OutOfMemory;

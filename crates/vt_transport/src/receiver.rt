@@ -2,20 +2,21 @@
 
 ghost use Rattle.std.specs.Prelude.{◌≡◌, ℕ, false, Some, None, List, length, IfOk, OnOk, OnErr, IsOk, IfSome, IfNone};
 ghost use Rattle.std.specs.FinMap as finite;
-ghost use Rattle.vt_can.specs.Sessions.{is_overdue};
-ghost use Rattle.vt_transport.specs.Wire.{source_of, tp_frame};
+ghost use Rattle.vt_can.specs.Sessions.{is_overdue, alive};
+ghost use Rattle.vt_can.specs.Nodes.{source_of};
+ghost use Rattle.vt_can.specs.Messages.{told_of};
+ghost use Rattle.vt_transport.specs.Wire.{tp_frame};
 ghost use Rattle.vt_transport.specs.Steps.{after_rts, after_packet, step};
-ghost use Rattle.vt_transport.specs.Receivers.{outcome, timely_outcome, heard_of, Takes, OthersStay, IsReadyFor, TimesOut, alive, told_of};
+ghost use Rattle.vt_transport.specs.Receivers.{outcome, timely_outcome, heard_of, Takes, OthersStay, IsReadyFor, TimesOut};
 ghost use Rattle.vt_transport.specs.declared.messages.TpFrame.TheVariants as declared;
 
-use crate::heard::Heard;
 use crate::messages::{Opening, Reason, Reply, SENDING, TpFrame};
 use crate::session::{Received, Session};
 use crate::{OutOfMemory, wire};
 use std::alloc::Global;
 use std::marker::Model;
 use std::mem;
-use vt_can::{Frame, Sessions, Timed};
+use vt_can::{Frame, Heard, Sessions, Timed};
 
 /// The receiver of a node: at most one session for each source, seen as the map of the sessions by
 /// source, the node's address, and the bytes for which room is set aside.

@@ -1,14 +1,14 @@
 //! A message as it comes in.
 
 ghost use Rattle.std.specs.Prelude.{◌≡◌, ◌+◌, ◌≤◌, ℕ, max, true, Some, [], ◌++◌, length, List, vec_len, vec_capacity};
+ghost use Rattle.vt_can.specs.Messages.{told_of};
 ghost use Rattle.vt_transport.specs.Messages.{opens};
 ghost use Rattle.vt_transport.specs.Steps.{after_packet};
 ghost use Rattle.vt_transport.specs.Received.{outcome_of};
-ghost use Rattle.vt_transport.specs.Receivers.{told_of};
 
-use crate::bytes::Bytes;
 use crate::messages::{Opening, Reason, Reply};
 use std::marker::Model;
+use vt_can::Bytes;
 
 /// A message of which packets are still to come.
 #[derive(Drop)]

@@ -3,8 +3,9 @@
 ghost use Rattle.std.specs.Prelude.{◌≡◌, ◌≤◌, ◌∷◌, length, drop, slice_index};
 ghost use Rattle.byteorder.specs.Endian.{little_bytes};
 ghost use Rattle.vt_can.specs.Identifier.{HasDestination};
+ghost use Rattle.vt_can.specs.Nodes.{frame_of};
 ghost use Rattle.vt_transport.specs.declared.messages.TpFrame.TheVariants as declared;
-ghost use Rattle.vt_transport.specs.Wire.{tp_frame, connection_management, frame_of, reply_frame, reply_bytes, reason_code, rts_frame};
+ghost use Rattle.vt_transport.specs.Wire.{tp_frame, connection_management, reply_frame, reply_bytes, reason_code, rts_frame};
 
 use crate::messages::{Opening, Reason, Reply, TpFrame};
 use arrayvec::ArrayVec;

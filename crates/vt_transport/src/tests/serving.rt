@@ -1,7 +1,9 @@
 ghost use Rattle.std.specs.Prelude.{◌≡◌, ℕ, IfOk, OnErr};
 ghost use Rattle.std.specs.FinMap as finite;
-ghost use Rattle.vt_transport.specs.Wire.{source_of};
-ghost use Rattle.vt_transport.specs.Receivers.{timely_outcome, alive, told_of, heard_of};
+ghost use Rattle.vt_can.specs.Nodes.{source_of};
+ghost use Rattle.vt_can.specs.Sessions.{alive};
+ghost use Rattle.vt_can.specs.Messages.{told_of};
+ghost use Rattle.vt_transport.specs.Receivers.{timely_outcome, heard_of};
 
 use super::*;
 use std::alloc::Global;

@@ -2,7 +2,7 @@ use Rattle.std.proofs.Common.{◌≡◌, ℕ, cond, eqb, Option, None, ap, sym, 
 use Rattle.vt_can.specs.declared.sessions.Timed.{Timed}
 use Rattle.vt_transport.specs.Kept.{Kept}
 use Rattle.vt_transport.specs.Receivers.{Listening}
-use Rattle.vt_transport.proofs.ByAddress.{left_others}
+use Rattle.vt_can.proofs.ByAddress.{left_others}
 use Rattle.vt_transport.proofs.Taking.{left_takes}
 use Rattle.vt_transport.proofs.receiver.Receiver.aborted.Goals as goal
 

@@ -4,7 +4,7 @@ use Rattle.vt_transport.specs.declared.messages.Opening.{Opening}
 use Rattle.vt_transport.specs.Kept.{Kept}
 use Rattle.vt_transport.specs.Messages.{opens}
 use Rattle.vt_transport.specs.Receivers.{Listening}
-use Rattle.vt_transport.proofs.ByAddress.{left_others, put_others}
+use Rattle.vt_can.proofs.ByAddress.{left_others, put_others}
 use Rattle.vt_transport.proofs.Taking.{left_takes, put_takes, replied}
 use Rattle.vt_transport.proofs.receiver.Receiver.open.Goals as goal
 

@@ -4,8 +4,8 @@ use Rattle.vt_transport.specs.Steps.{silent, ended}
 use Rattle.vt_transport.specs.Received.{outcome_of}
 use Rattle.vt_transport.specs.Receivers.{Listening, heard_of}
 use Rattle.vt_transport.specs.Wire.{reply_frame}
-use Rattle.vt_transport.specs.declared.heard.Heard.TheVariants as heard
-use Rattle.vt_transport.proofs.ByAddress.{left_others, put_again_others}
+use Rattle.vt_can.specs.declared.heard.Heard.TheVariants as heard
+use Rattle.vt_can.proofs.ByAddress.{left_others, put_again_others}
 use Rattle.vt_transport.proofs.Taking.{left_takes, put_takes, replied, takes_as, packet_taken, packet_absent}
 use Rattle.vt_transport.proofs.receiver.Receiver.packet.Goals as goal
 

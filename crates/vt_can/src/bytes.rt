@@ -19,7 +19,8 @@ impl Model for Bytes {
 }
 
 impl Bytes {
-    pub(crate) fn new(bytes: Vec<u8>) -> Bytes
+    /// These bytes, in the memory that they stand in.
+    pub fn new(bytes: Vec<u8>) -> Bytes
         ensures { result ≡ bytes.items }
     {
         Bytes { bytes }

@@ -1,7 +1,7 @@
 //! What a receiver says to a frame.
 
 use crate::bytes::Bytes;
-use vt_can::Frame;
+use crate::frame::Frame;
 
 /// What a receiver says to a frame. A reply is to be sent.
 #[derive(Debug, Drop)]

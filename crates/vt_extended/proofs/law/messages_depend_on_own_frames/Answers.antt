@@ -1,0 +1,5 @@
+use Rattle.vt_extended.proofs.OwnFrames.{same_messages}
+use Rattle.vt_extended.proofs.law.messages_depend_on_own_frames.Goals as goal
+
+pub returns : goal.returns
+returns c = same_messages

@@ -1,0 +1,158 @@
+-- The messages of one source, over the whole list of what came from it (ISO 11783-3;
+-- docs/PROFILE.md, "The ETP receiver"). Every list of happenings, groups and packets has the latest first.
+use Rattle.std.specs.Prelude.{◌≡◌, ◌<◌, ◌≤◌, ℕ, ◌+◌, ◌-◌, ◌/◌, Bool, true, nat_le, nat_lt, ◌==◌, ◌&&◌, if◌then◌else◌, min, Option, Some, None, List, [], ◌∷◌, ◌++◌, length, take}
+use Rattle.vt_can.specs.Messages.{Message, joined}
+use Rattle.vt_extended.specs.declared.messages.Opening.{Opening}
+use Rattle.vt_extended.specs.declared.messages.Part.{Part}
+use Rattle.vt_extended.specs.declared.messages.Part.TheVariants.{Offset, Packet}
+use Rattle.vt_extended.specs.declared.messages.EtpFrame.{EtpFrame}
+use Rattle.vt_extended.specs.declared.messages.EtpFrame.TheVariants as etp
+use Rattle.vt_extended.specs.declared.messages.Reason.{Reason}
+use Rattle.vt_extended.specs.declared.messages.Reason.TheVariants.{TooLarge, Disorder}
+use Rattle.vt_extended.specs.declared.messages.Reply.{Reply}
+use Rattle.vt_extended.specs.declared.messages.Reply.TheVariants.{ClearToSend, End, Abort}
+
+-- A frame of the extended transport protocol came from the source, or its session was aborted for silence.
+pub data Happening : Type 0 where
+  Came : EtpFrame → Happening
+  TimedOut : Happening
+
+-- 9 to 1048576 bytes
+abbrev pub opens : Opening → Bool
+opens o = nat_le 9 o.size && nat_le o.size 1048576
+
+-- the packets of seven bytes that carry the message
+abbrev pub packets_of : Opening → ℕ
+packets_of o = (o.size + 6) / 7
+
+-- A DPO announced a count of packets, and these came after it.
+pub data Group : Type 0 where
+  Announced : ℕ → List (List ℕ) → Group
+
+abbrev pub received : List Group → ℕ
+received [] = 0
+received (Announced count packets ∷ groups) = received groups + length packets
+
+-- the packets received at the end of the last group of which all have come
+abbrev pub full : List Group → ℕ
+full [] = 0
+full (Announced count packets ∷ groups) =
+    if length packets == count then received groups + length packets else full groups
+
+-- the last packet that a CTS after so many packets opens
+abbrev pub edge_after : Opening → ℕ → ℕ
+edge_after o count = min (packets_of o) (count + 255)
+
+-- the last packet that a DPO may announce after these groups
+abbrev pub edge : Opening → List Group → ℕ
+edge o groups = edge_after o (full groups)
+
+-- A group announces packets that are open, and no more came of it.
+abbrev pub AreSound : Opening → List Group → Type 0
+AreSound o [] = Unit {0}
+AreSound o (Announced count packets ∷ groups) =
+    (1 ≤ count) × (received groups + count ≤ edge o groups) × (length packets ≤ count) × AreSound o groups
+
+-- packets with the sequence numbers 1, 2, 3 and so on
+abbrev pub numbered : List (List ℕ) → List Part
+numbered [] = []
+numbered (packet ∷ packets) = Packet (length packets + 1) packet ∷ numbered packets
+
+-- the DPOs and DTs of groups: the offset of each DPO is the packets before
+abbrev pub parts_of : List Group → List Part
+parts_of [] = []
+parts_of (Announced count packets ∷ groups) = numbered packets ++ Offset count (received groups) ∷ parts_of groups
+
+abbrev pub bytes_of : List Group → List ℕ
+bytes_of [] = []
+bytes_of (Announced count packets ∷ groups) = bytes_of groups ++ joined packets
+
+-- what leaves a session as it is: no RTS, no abort and no timeout
+abbrev pub IsQuiet : Happening → Type 0
+IsQuiet TimedOut = ⊥
+IsQuiet (Came (etp.Rts o)) = ⊥
+IsQuiet (Came etp.Aborted) = ⊥
+IsQuiet (Came _) = Unit {0}
+
+abbrev pub AreQuiet : List Happening → Type 0
+AreQuiet [] = Unit {0}
+AreQuiet (h ∷ hs) = IsQuiet h × AreQuiet hs
+
+-- the DPOs and DTs that came
+abbrev pub parts_in : List Happening → List Part
+parts_in [] = []
+parts_in (TimedOut ∷ hs) = parts_in hs
+parts_in (Came (etp.Part part) ∷ hs) = part ∷ parts_in hs
+parts_in (Came _ ∷ hs) = parts_in hs
+
+-- After an RTS that opens came quiet happenings alone, and the DPOs and DTs among them are those of sound groups.
+pub record Sent (hs : List Happening) (o : Opening) (groups : List Group) : Type 0 where
+  pub earlier : List Happening
+  pub later : List Happening
+  pub split : hs ≡ later ++ Came (etp.Rts o) ∷ earlier
+  pub opened : opens o ≡ true
+  pub quiet : AreQuiet later
+  pub in_order : parts_in later ≡ parts_of groups
+  pub sound : AreSound o groups
+
+-- a session is open, with packets still to come
+pub record Stands (hs : List Happening) (o : Opening) (groups : List Group) : Type 0 where
+  pub sent : Sent hs o groups
+  pub more : received groups < packets_of o
+
+-- x is the last packet of a message
+pub record IsWhole (hs : List Happening) (x : Happening) (message : Message) : Type 0 where
+  pub opening : Opening
+  pub groups : List Group
+  pub sent : Sent (x ∷ hs) opening groups
+  pub all : received groups ≡ packets_of opening
+  pub packet : (number : ℕ) × (bytes : List ℕ) × (x ≡ Came (etp.Part (Packet number bytes)))
+  pub pgn : message.pgn ≡ opening.pgn
+  pub bytes : message.bytes ≡ take opening.size (bytes_of groups)
+
+-- the CTS after so many packets, for 255 of those left at most
+abbrev pub clear_to_send : Opening → ℕ → Reply
+clear_to_send o count = ClearToSend (min 255 (packets_of o - count)) (count + 1) o.pgn
+
+-- why an RTS of a size that doesn't open is refused
+abbrev pub refusal : Opening → Reason
+refusal o = if nat_lt o.size 9 then Disorder else TooLarge
+
+-- the reply to an RTS
+abbrev pub first_reply : Opening → Reply
+first_reply o = if opens o then clear_to_send o 0 else Abort (refusal o) o.pgn
+
+-- the reply to packet j in its turn: the end, the next CTS where its group is whole, or none
+abbrev pub reply_to : Opening → ℕ → Bool → Option Reply
+reply_to o j whole =
+    if j == packets_of o then Some (End o.size o.pgn)
+    else if whole then Some (clear_to_send o j)
+    else None
+
+-- the reply to a DPO, which must announce packets that are open, from the next one on
+abbrev pub offset_reply : Opening → List Group → ℕ → ℕ → Option Reply
+offset_reply o groups count offset =
+    if nat_le 1 count && nat_le (received groups + count) (edge o groups) && offset == received groups
+    then None
+    else Some (Abort Disorder o.pgn)
+
+-- the reply to a DT, which must be the next packet of the last group
+abbrev pub packet_reply : Opening → List Group → ℕ → Option Reply
+packet_reply o [] number = Some (Abort Disorder o.pgn)
+packet_reply o (Announced count packets ∷ groups) number =
+    if nat_lt (length packets) count && number == length packets + 1
+    then reply_to o (received groups + number) (number == count)
+    else Some (Abort Disorder o.pgn)
+
+abbrev pub part_reply : Opening → List Group → Part → Option Reply
+part_reply o groups (Offset count offset) = offset_reply o groups count offset
+part_reply o groups (Packet number bytes) = packet_reply o groups number
+
+-- the reply to x after hs
+abbrev pub IsAnswered : List Happening → Happening → Option Reply → Type 0
+IsAnswered hs TimedOut reply = reply ≡ None
+IsAnswered hs (Came (etp.Rts o)) reply = reply ≡ Some (first_reply o)
+IsAnswered hs (Came (etp.Part part)) reply =
+    ((o : Opening) (groups : List Group) → Stands hs o groups → reply ≡ part_reply o groups part)
+    × (((o : Opening) (groups : List Group) → Stands hs o groups → ⊥) → reply ≡ None)
+IsAnswered hs (Came _) reply = reply ≡ None

@@ -1,0 +1,49 @@
+-- The bytes of the extended transport protocol's frames (docs/PROFILE.md, "Transport messages").
+use Rattle.std.specs.Prelude.{ℕ, ◌==◌, ◌&&◌, if◌then◌else◌, Option, Some, None, List, ◌∷◌, ◌++◌, length, drop, slice_index}
+use Rattle.byteorder.specs.Endian.{little_number, little_bytes}
+use Rattle.vt_can.specs.declared.frame.Frame.{Frame}
+use Rattle.vt_can.specs.Identifier.{parts_of, pgn_of, destination_of}
+use Rattle.vt_can.specs.Nodes.{is_to, frame_of}
+use Rattle.vt_extended.specs.declared.messages.Part.TheVariants.{Offset, Packet}
+use Rattle.vt_extended.specs.declared.messages.EtpFrame.{EtpFrame}
+use Rattle.vt_extended.specs.declared.messages.EtpFrame.TheVariants.{Rts, Part, Aborted, Other}
+use Rattle.vt_extended.specs.declared.messages.Reason.{Reason}
+use Rattle.vt_extended.specs.declared.messages.Reason.TheVariants.{TooLarge, Timeout, Disorder}
+use Rattle.vt_extended.specs.declared.messages.Reply.{Reply}
+use Rattle.vt_extended.specs.declared.messages.Reply.TheVariants.{ClearToSend, End, Abort}
+
+-- what the bytes of an ETP.CM frame say
+abbrev pub connection_management : List ℕ → EtpFrame
+connection_management bytes =
+    let control = slice_index bytes 0 in
+    if control == 0x14
+    then Rts (record { size = little_number 4 (drop 1 bytes); pgn = little_number 3 (drop 5 bytes) })
+    else if control == 0x16 then Part (Offset (slice_index bytes 1) (little_number 3 (drop 2 bytes)))
+    else if control == 0xFF then Aborted
+    else Other
+
+abbrev pub by_group : ℕ → List ℕ → Option EtpFrame
+by_group pgn bytes =
+    if pgn == 0xC800 then Some (connection_management bytes)
+    else if pgn == 0xC700 then Some (Part (Packet (slice_index bytes 0) (drop 1 bytes)))
+    else None
+
+-- what a frame says to a node: eight bytes, to its address
+abbrev pub etp_frame : ℕ → Frame → Option EtpFrame
+etp_frame own frame =
+    if is_to own (destination_of (parts_of frame.id)) && length frame.bytes.items == 8
+    then by_group (pgn_of (parts_of frame.id)) frame.bytes.items
+    else None
+
+abbrev pub reason_code : Reason → ℕ
+reason_code TooLarge = 2
+reason_code Timeout = 3
+reason_code Disorder = 7
+
+abbrev pub reply_bytes : Reply → List ℕ
+reply_bytes (ClearToSend count next pgn) = 0x15 ∷ count ∷ (little_bytes 3 next ++ little_bytes 3 pgn)
+reply_bytes (End size pgn) = 0x17 ∷ (little_bytes 4 size ++ little_bytes 3 pgn)
+reply_bytes (Abort reason pgn) = 0xFF ∷ reason_code reason ∷ 0xFF ∷ 0xFF ∷ 0xFF ∷ little_bytes 3 pgn
+
+abbrev pub reply_frame : ℕ → ℕ → Reply → Frame
+reply_frame own to reply = frame_of 0xC800 own to (reply_bytes reply)

@@ -1,0 +1,118 @@
+//! The messages of the extended transport protocol (ISO 11783-3).
+
+ghost use Rattle.std.specs.Prelude.{◌≡◌, ◌<◌, true};
+ghost use Rattle.vt_extended.specs.Messages.{opens, packets_of, edge_after, clear_to_send, refusal, first_reply};
+
+/// The fewest and the most bytes of a message.
+const SIZES: (u32, u32) = (9, 1_048_576);
+
+/// The most packets that a CTS asks for.
+const MOST_PACKETS: u32 = 255;
+
+/// What a request to send says.
+#[derive(Clone, Copy, Debug)]
+pub(crate) struct Opening {
+    pub(crate) size: u32,
+    pub(crate) pgn: u32,
+}
+
+/// A frame within a session.
+#[derive(Clone, Copy, Debug)]
+pub(crate) enum Part {
+    // The data packet offset (DPO), which announces so many packets after this one.
+    Offset { count: u8, offset: u32 },
+    Packet { number: u8, bytes: [u8; 7] },
+}
+
+/// What a frame of the extended transport protocol says to a receiver.
+#[derive(Clone, Copy, Debug)]
+pub(crate) enum EtpFrame {
+    Rts(Opening),
+    Part(Part),
+    Aborted,
+    Other,
+}
+
+/// Why this node ends a session.
+#[derive(Clone, Copy, Debug)]
+pub(crate) enum Reason {
+    // A request of more bytes than a message may have here.
+    TooLarge,
+    Timeout,
+    // A frame out of order, or a request that is too small.
+    Disorder,
+}
+
+/// What this node answers in a session.
+#[derive(Clone, Copy, Debug)]
+pub(crate) enum Reply {
+    ClearToSend { count: u8, next: u32, pgn: u32 },
+    End { size: u32, pgn: u32 },
+    Abort { reason: Reason, pgn: u32 },
+}
+
+impl Opening {
+    /// Whether the size is one of a message.
+    pub(crate) fn opens(&self) -> bool
+        ensures { result ≡ opens self.now }
+    {
+        let (least, most) = SIZES;
+        least <= self.size && self.size <= most
+    }
+
+    /// The packets that the message takes.
+    pub(crate) fn packets(&self) -> u32
+        requires { opens self.now ≡ true }
+        ensures { result ≡ packets_of self.now }
+    {
+        (self.size + 6) / 7
+    }
+
+    /// The last packet that a CTS opens after a count of packets.
+    pub(crate) fn edge_after(&self, count: u32) -> u32
+        requires opened { opens self.now ≡ true }
+        requires more { count < packets_of self.now }
+        ensures { result ≡ edge_after self.now count }
+    {
+        self.packets().min(count + MOST_PACKETS)
+    }
+
+    /// The CTS after a count of packets, which aren't all.
+    pub(crate) fn clear_to_send(&self, count: u32) -> Reply
+        requires opened { opens self.now ≡ true }
+        requires more { count < packets_of self.now }
+        ensures { result ≡ clear_to_send self.now count }
+    {
+        let left = self.packets() - count;
+        Reply::ClearToSend {
+            count: MOST_PACKETS.min(left) as u8,
+            next: count + 1,
+            pgn: self.pgn,
+        }
+    }
+
+    /// The reply to the request.
+    pub(crate) fn first_reply(&self) -> Reply
+        ensures { result ≡ first_reply self.now }
+    {
+        if self.opens() {
+            self.clear_to_send(0)
+        } else {
+            Reply::Abort {
+                reason: self.refusal(),
+                pgn: self.pgn,
+            }
+        }
+    }
+
+    fn refusal(&self) -> Reason
+        ensures { result ≡ refusal self.now }
+    {
+        let (least, _) = SIZES;
+        if self.size < least {
+            Reason::Disorder
+        } else {
+            Reason::TooLarge
+        }
+    }
+}

@@ -1,0 +1,196 @@
+//! The receiver.
+
+ghost use Rattle.std.specs.Prelude.{◌≡◌, ℕ, false, Some, None, List, length, IfOk, OnOk, OnErr, IsOk, IfSome, IfNone};
+ghost use Rattle.std.specs.FinMap as finite;
+ghost use Rattle.vt_can.specs.Sessions.{is_overdue, alive};
+ghost use Rattle.vt_can.specs.Nodes.{source_of};
+ghost use Rattle.vt_can.specs.Messages.{told_of};
+ghost use Rattle.vt_extended.specs.Wire.{etp_frame};
+ghost use Rattle.vt_extended.specs.Steps.{after_rts, after_part, step};
+ghost use Rattle.vt_extended.specs.Receivers.{outcome, stepped, heard_of, Takes, OthersStay, IsReadyFor, TimesOut};
+ghost use Rattle.vt_extended.specs.declared.messages.EtpFrame.TheVariants as declared;
+ghost use Rattle.vt_extended.specs.declared.messages.Part.TheVariants as parts;
+
+use crate::messages::{EtpFrame, Opening, Part, Reason, Reply};
+use crate::session::{Received, Session};
+use crate::{OutOfMemory, wire};
+use std::alloc::Global;
+use std::marker::Model;
+use std::mem;
+use vt_can::{Frame, Heard, Sessions, Timed};
+
+/// The receiver of a node: at most one session for each source, seen as the map of the sessions by
+/// source, the node's address, and the bytes for which room is set aside.
+///
+/// docs/PROFILE.md, "The ETP receiver".
+#[derive(Drop)]
+pub struct Receiver {
+    own: u8,
+    sessions: Sessions<Session>,
+    // The memory that `prepare` has set aside.
+    spare: Vec<u8>,
+    alloc: Global,
+}
+
+impl Model for Receiver {
+    ghost use Rattle.std.specs.Prelude.{◌≡◌, vec_len, vec_capacity};
+    ghost use Rattle.vt_extended.specs.Receivers.{Listening, listening_code};
+
+    ghost Value = { Listening };
+
+    ghost coded = { listening_code };
+
+    ghost view = { λ r. record { own = r.own; sessions = r.sessions; room = vec_capacity r.spare } };
+
+    ghost invariant = { λ r. vec_len r.spare ≡ 0 };
+}
+
+impl Receiver {
+    /// The receiver of the node at this address, without sessions. It takes no memory.
+    pub fn new(alloc: Global, own: u8) -> Receiver
+        ensures own { result.own ≡ own }
+        ensures sessions { result.sessions ≡ finite.empty }
+    {
+        Receiver {
+            own,
+            sessions: Sessions::new(),
+            spare: Vec::new(alloc),
+            alloc,
+        }
+    }
+
+    /// Hears a frame at a time. Only a request to send takes memory, for the whole message; refused,
+    /// it leaves the receiver as it was. docs/PROFILE.md, "The ETP receiver".
+    pub fn hear(&mut self, now: u64, frame: &Frame) -> Result<Heard, OutOfMemory>
+        ensures step { IfOk result (λ said. Takes self.old self.new (source_of frame.now) (outcome self.old now frame.now) said) }
+        ensures others { OthersStay self.old self.new (source_of frame.now) }
+        ensures err { OnErr result (self.new ≡ self.old) }
+        ensures ready { IsReadyFor (etp_frame self.old.own frame.now) self.old.room → IsOk result }
+    {
+        let source = frame.id.source();
+        match wire::etp_frame(self.own, frame) {
+            Some(EtpFrame::Rts(opening)) => self.open(now, source, opening),
+            Some(EtpFrame::Part(part)) => Ok(self.take_part(now, source, part)),
+            Some(EtpFrame::Aborted) => Ok(self.aborted(source)),
+            _ => Ok(Heard::Nothing),
+        }
+    }
+
+    /// The abort of a session that has had no frame of its own for more than 1,250,000 microseconds,
+    /// the least source first. Call it until it answers `None`. docs/PROFILE.md, "Timeouts".
+    pub fn expire(&mut self, now: u64) -> Option<Frame>
+        ensures own { self.new.own ≡ self.old.own }
+        ensures room { self.new.room ≡ self.old.room }
+        ensures some { IfSome result (λ frame. TimesOut self.old self.new now frame) }
+        ensures none { IfNone result (self.new ≡ self.old) }
+        ensures all { IfNone result ((source : ℕ) → is_overdue now (finite.get self.old.sessions source) ≡ false) }
+    {
+        let (source, session) = self.sessions.expire(now)?;
+        let abort = Reply::Abort {
+            reason: Reason::Timeout,
+            pgn: session.pgn(),
+        };
+        Some(wire::reply_frame(self.own, source, abort))
+    }
+
+    /// Sets aside what `hear` of this frame will take, so that it isn't refused, also after any calls
+    /// of `expire`. The sessions stay. Answers the size and first byte of the message that `hear` will
+    /// hand out after those calls, if it will. docs/PROFILE.md, "The ETP receiver".
+    pub fn prepare(&mut self, now: u64, frame: &Frame) -> Result<Option<(usize, u8)>, OutOfMemory>
+        ensures own { self.new.own ≡ self.old.own }
+        ensures sessions { self.new.sessions ≡ self.old.sessions }
+        ensures ready { OnOk result (IsReadyFor (etp_frame self.old.own frame.now) self.new.room) }
+        ensures free { IsReadyFor (etp_frame self.old.own frame.now) self.old.room → IsOk result }
+        ensures told { IfOk result (λ told. told ≡ told_of (stepped now (alive now (finite.get self.old.sessions (source_of frame.now))) (etp_frame self.old.own frame.now)).message) }
+    {
+        match wire::etp_frame(self.own, frame) {
+            Some(EtpFrame::Rts(opening)) => {
+                self.set_aside(opening)?;
+                Ok(None)
+            }
+            Some(EtpFrame::Part(Part::Packet { number, bytes: _ })) => {
+                Ok(self.completed_by(now, frame.id.source(), number))
+            }
+            _ => Ok(None),
+        }
+    }
+
+    fn open(&mut self, now: u64, source: u8, opening: Opening) -> Result<Heard, OutOfMemory>
+        ensures step { IfOk result (λ said. Takes self.old self.new source (after_rts now opening) said) }
+        ensures others { OthersStay self.old self.new source }
+        ensures err { OnErr result (self.new ≡ self.old) }
+        ensures ready { IsReadyFor (Some (declared.Rts opening)) self.old.room → IsOk result }
+    {
+        if !opening.opens() {
+            self.sessions.remove(source);
+            return Ok(answered(self.own, source, Some(opening.first_reply())));
+        }
+        self.spare.reserve_exact(opening.size as usize)?;
+        let bytes = mem::replace(&mut self.spare, Vec::new(self.alloc));
+        self.sessions.put(source, now, Session::new(opening, bytes));
+        Ok(answered(self.own, source, Some(opening.first_reply())))
+    }
+
+    fn take_part(&mut self, now: u64, source: u8, part: Part) -> Heard
+        ensures step { Takes self.old self.new source (after_part now (finite.get self.old.sessions source) part) result }
+        ensures others { OthersStay self.old self.new source }
+    {
+        let Some(Timed { last, session }) = self.sessions.take(source) else {
+            return Heard::Nothing;
+        };
+        match session.receive(part) {
+            Received::Refused(reply) => answered(self.own, source, Some(reply)),
+            Received::More(session, reply) => {
+                self.sessions.put(source, now.max(last), session);
+                answered(self.own, source, reply)
+            }
+            Received::Whole { pgn, bytes, reply } => Heard::Message {
+                source,
+                pgn,
+                bytes,
+                reply: wire::reply_frame(self.own, source, reply),
+            },
+        }
+    }
+
+    fn aborted(&mut self, source: u8) -> Heard
+        ensures step { Takes self.old self.new source (step 0 (finite.get self.old.sessions source) declared.Aborted) result }
+        ensures others { OthersStay self.old self.new source }
+    {
+        self.sessions.remove(source);
+        Heard::Nothing
+    }
+
+    fn set_aside(&mut self, opening: Opening) -> Result<(), OutOfMemory>
+        ensures own { self.new.own ≡ self.old.own }
+        ensures sessions { self.new.sessions ≡ self.old.sessions }
+        ensures ready { OnOk result (IsReadyFor (Some (declared.Rts opening)) self.new.room) }
+        ensures free { IsReadyFor (Some (declared.Rts opening)) self.old.room → IsOk result }
+    {
+        if opening.opens() {
+            self.spare.reserve_exact(opening.size as usize)?;
+        }
+        Ok(())
+    }
+
+    fn completed_by(&self, now: u64, source: u8, number: u8) -> Option<(usize, u8)>
+        ensures { (packet : List ℕ) → length packet ≡ 7
+            → result ≡ told_of (after_part now (alive now (finite.get self.now.sessions source)) (parts.Packet number packet)).message }
+    {
+        let timed = self.sessions.get(source)?;
+        if timed.is_overdue(now) {
+            None
+        } else {
+            timed.session.completed_by(number)
+        }
+    }
+}
+
+fn answered(own: u8, source: u8, reply: Option<Reply>) -> Heard
+    ensures { result ≡ heard_of own source reply None }
+{
+    match reply {
+        Some(reply) => Heard::Reply(wire::reply_frame(own, source, reply)),
+        None => Heard::Nothing,
+    }
+}

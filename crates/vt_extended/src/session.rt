@@ -1,0 +1,171 @@
+//! A message as it comes in.
+
+ghost use Rattle.std.specs.Prelude.{◌≡◌, ◌+◌, ◌≤◌, ℕ, max, true, Some, [], ◌++◌, length, List, vec_len, vec_capacity};
+ghost use Rattle.vt_can.specs.Messages.{told_of};
+ghost use Rattle.vt_extended.specs.Messages.{opens};
+ghost use Rattle.vt_extended.specs.Steps.{fresh, is_open, is_next, after_part, after_offset, after_packet};
+ghost use Rattle.vt_extended.specs.Received.{outcome_of};
+ghost use Rattle.vt_extended.specs.declared.messages.Reason.TheVariants.{Disorder};
+ghost use Rattle.vt_extended.specs.declared.messages.Reply.TheVariants as replies;
+
+use crate::messages::{Opening, Part, Reason, Reply};
+use std::marker::Model;
+use vt_can::Bytes;
+
+/// A message of which packets are still to come.
+#[derive(Drop)]
+pub(crate) struct Session {
+    opening: Opening,
+    received: u32,
+    // The packets that the last DPO announced, and how many of them came: none before the first.
+    announced: u8,
+    taken: u8,
+    // The last packet that is open.
+    edge: u32,
+    bytes: Vec<u8>,
+}
+
+impl Model for Session {
+    ghost use Rattle.std.specs.Prelude.{vec_len, vec_capacity};
+    ghost use Rattle.vt_extended.specs.Kept.{Kept, kept_code, IsReceiving};
+
+    ghost Value = { Kept };
+
+    ghost coded = { kept_code };
+
+    ghost view = { λ s. record { opening = s.opening; bytes = s.bytes.items; received = s.received; announced = s.announced; taken = s.taken; edge = s.edge } };
+
+    ghost invariant = { λ s. IsReceiving s.opening s.received (vec_len s.bytes) (vec_capacity s.bytes) };
+}
+
+/// What a DPO or DT makes of a session.
+#[derive(Drop)]
+pub(crate) enum Received {
+    Refused(Reply),
+    More(Session, Option<Reply>),
+    Whole {
+        pgn: u32,
+        bytes: Bytes,
+        reply: Reply,
+    },
+}
+
+impl Session {
+    /// A session whose message has room in `bytes`.
+    pub(crate) fn new(opening: Opening, bytes: Vec<u8>) -> Session
+        requires opened { opens opening ≡ true }
+        requires empty { vec_len bytes ≡ 0 }
+        requires room { opening.size ≤ vec_capacity bytes }
+        ensures { result ≡ fresh opening }
+    {
+        Session {
+            opening,
+            received: 0,
+            announced: 0,
+            taken: 0,
+            edge: opening.edge_after(0),
+            bytes,
+        }
+    }
+
+    pub(crate) fn pgn(&self) -> u32
+        ensures { result ≡ self.now.opening.pgn }
+    {
+        self.opening.pgn
+    }
+
+    /// Takes a DPO or DT, which must be in its turn.
+    pub(crate) fn receive(self, part: Part) -> Received
+        ensures { (now last : ℕ) → outcome_of (max now last) result ≡ after_part now (Some (record { last = last; session = self })) part }
+    {
+        match part {
+            Part::Offset { count, offset } => self.announce(count, offset),
+            Part::Packet { number, bytes } => self.append(number, bytes),
+        }
+    }
+
+    fn announce(mut self, count: u8, offset: u32) -> Received
+        ensures { (now last : ℕ) → outcome_of (max now last) result ≡ after_offset now (record { last = last; session = self }) count offset }
+    {
+        if !self.is_open(count, offset) {
+            return Received::Refused(self.disorder());
+        }
+        self.announced = count;
+        self.taken = 0;
+        Received::More(self, None)
+    }
+
+    fn append(mut self, number: u8, packet: [u8; 7]) -> Received
+        ensures { (now last : ℕ) → outcome_of (max now last) result ≡ after_packet now (record { last = last; session = self }) number packet }
+    {
+        if !self.is_next(number) {
+            return Received::Refused(self.disorder());
+        }
+        let Opening { size, pgn } = self.opening;
+        let left = size as usize - self.bytes.len();
+        extend(&mut self.bytes, &packet[..left.min(7)]);
+        let received = self.received + 1;
+        if received == self.opening.packets() {
+            return Received::Whole {
+                pgn,
+                bytes: Bytes::new(self.bytes),
+                reply: Reply::End { size, pgn },
+            };
+        }
+        self.received = received;
+        self.taken = number;
+        if number < self.announced {
+            return Received::More(self, None);
+        }
+        self.edge = self.opening.edge_after(received);
+        let reply = self.opening.clear_to_send(received);
+        Received::More(self, Some(reply))
+    }
+
+    /// The size and first byte of the message that a packet completes, if it does.
+    pub(crate) fn completed_by(&self, number: u8) -> Option<(usize, u8)>
+        ensures { (now last : ℕ) (packet : List ℕ) → length packet ≡ 7
+            → result ≡ told_of (after_packet now (record { last = last; session = self.now }) number packet).message }
+    {
+        if self.is_next(number) && self.received + 1 == self.opening.packets() {
+            Some((self.opening.size as usize, self.bytes[0]))
+        } else {
+            None
+        }
+    }
+
+    // Whether a DPO announces packets that are open, from the next one on.
+    fn is_open(&self, count: u8, offset: u32) -> bool
+        ensures { result ≡ is_open self.now count offset }
+    {
+        1 <= count && self.received + u32::from(count) <= self.edge && offset == self.received
+    }
+
+    // Whether a packet is the next one of those announced.
+    fn is_next(&self, number: u8) -> bool
+        ensures { result ≡ is_next self.now number }
+    {
+        self.taken < self.announced && number == self.taken + 1
+    }
+
+    fn disorder(&self) -> Reply
+        ensures { result ≡ replies.Abort Disorder self.now.opening.pgn }
+    {
+        Reply::Abort {
+            reason: Reason::Disorder,
+            pgn: self.opening.pgn,
+        }
+    }
+}
+
+// Appends bytes for which there is room.
+fn extend(bytes: &mut Vec<u8>, part: &[u8])
+    requires { vec_len bytes.old + length part.now ≤ vec_capacity bytes.old }
+    ensures items { bytes.new.items ≡ bytes.old.items ++ part.now }
+    ensures len { vec_len bytes.new ≡ vec_len bytes.old + length part.now }
+    ensures room { vec_capacity bytes.new ≡ vec_capacity bytes.old }
+{
+    for byte in part {
+        bytes.push_reserved(*byte);
+    }
+}

@@ -1,0 +1,61 @@
+mod linux;
+mod linux_bytes;
+mod receiving;
+
+use super::*;
+use arrayvec::ArrayVec;
+use std::test::Fail;
+use vt_can::{CanId, Frame, Line, parse_line, write_frame};
+
+const NODE: u8 = 0x26;
+
+const SOURCE: u8 = 0x80;
+
+// What a receiver is to say to a frame.
+#[derive(Clone, Copy)]
+enum Wanted {
+    Silence,
+    Reply(&'static [u8]),
+    Message(&'static [u8], &'static [u8]),
+    // The reply to a message, and how many bytes the message has.
+    Size(&'static [u8], usize),
+}
+
+fn is_said(said: Heard, wanted: Wanted) -> bool {
+    match (said, wanted) {
+        (Heard::Nothing, Wanted::Silence) => true,
+        (Heard::Reply(frame), Wanted::Reply(text)) => write_frame(&frame).as_slice() == text,
+        (Heard::Message { bytes, reply, .. }, Wanted::Message(text, message)) => {
+            write_frame(&reply).as_slice() == text && bytes.into_vec().as_slice() == message
+        }
+        (Heard::Message { bytes, reply, .. }, Wanted::Size(text, size)) => {
+            write_frame(&reply).as_slice() == text && bytes.into_vec().len() == size
+        }
+        _ => false,
+    }
+}
+
+// Whether a receiver says this to the frame of a line.
+fn says(receiver: &mut Receiver, line: &[u8], wanted: Wanted) -> Result<bool, OutOfMemory> {
+    match parse_line(line) {
+        Ok(Line::Frame { time, frame }) => Ok(is_said(receiver.hear(time, &frame)?, wanted)),
+        _ => Ok(false),
+    }
+}
+
+// Whether the abort that is due at a time has this text, and whether there is none for an empty one.
+fn expires(receiver: &mut Receiver, now: u64, text: &[u8]) -> bool {
+    match receiver.expire(now) {
+        Some(frame) => write_frame(&frame).as_slice() == text,
+        None => text.is_empty(),
+    }
+}
+
+// A packet from the source to the node.
+fn packet(number: u8, bytes: [u8; 7]) -> Frame {
+    let [a, b, c, d, e, f, g] = bytes;
+    Frame {
+        id: CanId::new(7, 0xC700, NODE, SOURCE),
+        bytes: ArrayVec::from([number, a, b, c, d, e, f, g]),
+    }
+}

@@ -1,0 +1,90 @@
+use super::linux_bytes::{LOG_1786, LOG_3571, sent_1786, sent_3571};
+use super::*;
+use std::alloc::Global;
+
+// What a receiver answers: the text of its reply, and whether it hands out this message.
+fn answer(said: Heard, sent: &[u8]) -> (ArrayVec<u8, 25>, bool) {
+    match said {
+        Heard::Nothing => (ArrayVec::new(), false),
+        Heard::Reply(frame) => (write_frame(&frame), false),
+        Heard::Message { bytes, reply, .. } => {
+            (write_frame(&reply), bytes.into_vec().as_slice() == sent)
+        }
+    }
+}
+
+// The packets that a frame announces.
+fn announced(frame: &Frame) -> u8 {
+    match frame.bytes.as_slice() {
+        [0x16, count, ..] => *count,
+        _ => 0,
+    }
+}
+
+// The bytes of a packet, filled with FF.
+fn filled(part: &[u8]) -> [u8; 7] {
+    let mut bytes = [0xFF; 7];
+    for (place, byte) in bytes.iter_mut().zip(part) {
+        *place = *byte;
+    }
+    bytes
+}
+
+// The packets that were announced, after so many that came: whether all but the last are taken in
+// silence, and what is answered to that.
+fn takes_packets(
+    receiver: &mut Receiver,
+    count: u8,
+    done: usize,
+    sent: &[u8],
+) -> Result<(bool, ArrayVec<u8, 25>, bool), OutOfMemory> {
+    let mut silent = true;
+    let mut whole = false;
+    let mut said = ArrayVec::new();
+    for (number, part) in (1..=count).zip(sent.chunks(7).skip(done)) {
+        silent = silent && said.is_empty();
+        (said, whole) = answer(receiver.hear(0, &packet(number, filled(part)))?, sent);
+    }
+    Ok((silent, said, whole))
+}
+
+// Whether a receiver gives the answers of a log, and the bytes sent.
+fn follows(alloc: Global, log: &[&[u8]], sent: &[u8]) -> Result<bool, OutOfMemory> {
+    let mut receiver = Receiver::new(alloc, NODE);
+    let mut same = true;
+    let mut whole = false;
+    let mut said = ArrayVec::new();
+    let mut done = 0usize;
+    for line in log {
+        let Ok(Line::Frame { time, frame }) = parse_line(line) else {
+            return Ok(false);
+        };
+        if frame.id.source() == NODE {
+            same = same && write_frame(&frame).as_slice() == said.as_slice();
+            said = ArrayVec::new();
+        } else {
+            let (reply, _) = answer(receiver.hear(time, &frame)?, sent);
+            let count = announced(&frame);
+            let (silent, last, is_whole) = takes_packets(&mut receiver, count, done, sent)?;
+            same = same && said.is_empty() && silent && (count == 0 || reply.is_empty());
+            said = if count == 0 { reply } else { last };
+            whole = is_whole;
+            done = done.wrapping_add(usize::from(count));
+        }
+    }
+    Ok(same && whole && said.is_empty())
+}
+
+#[test]
+fn the_answers_to_1786_bytes(rt: HostRuntime) -> Result<(), Fail> {
+    let same = follows(rt.alloc(), &LOG_1786, sent_1786())?;
+    assert!(rt; same);
+    Ok(())
+}
+
+#[test]
+fn the_answers_to_3571_bytes(rt: HostRuntime) -> Result<(), Fail> {
+    let same = follows(rt.alloc(), &LOG_3571, sent_3571())?;
+    assert!(rt; same);
+    Ok(())
+}

@@ -1,0 +1,131 @@
+//! The frames of the extended transport protocol as bytes (ISO 11783-3; docs/PROFILE.md, "Transport messages").
+
+ghost use Rattle.std.specs.Prelude.{◌≡◌, length, drop, slice_index};
+ghost use Rattle.byteorder.specs.Endian.{little_bytes};
+ghost use Rattle.vt_can.specs.Identifier.{HasDestination};
+ghost use Rattle.vt_can.specs.Nodes.{frame_of};
+ghost use Rattle.vt_extended.specs.declared.messages.Part.TheVariants as declared;
+ghost use Rattle.vt_extended.specs.Wire.{etp_frame, connection_management, reply_frame, reply_bytes, reason_code};
+
+use crate::messages::{EtpFrame, Opening, Part, Reason, Reply};
+use arrayvec::ArrayVec;
+use byteorder::{ByteOrder, LittleEndian};
+use vt_can::{CanId, Frame};
+
+const CONNECTION_MANAGEMENT: u32 = 0xC800;
+
+const DATA_TRANSFER: u32 = 0xC700;
+
+const RTS: u8 = 0x14;
+
+const CTS: u8 = 0x15;
+
+const OFFSET: u8 = 0x16;
+
+const END: u8 = 0x17;
+
+const ABORT: u8 = 0xFF;
+
+// The byte of the places that say nothing.
+const FILL: u8 = 0xFF;
+
+/// What a frame says to a node. It is of the extended transport protocol, to the node's address and of 8 bytes.
+pub(crate) fn etp_frame(own: u8, frame: &Frame) -> Option<EtpFrame>
+    ensures { result ≡ etp_frame own frame.now }
+{
+    let bytes = frame.bytes.as_slice();
+    if frame.id.destination() != Some(own) || bytes.len() != 8 {
+        return None;
+    }
+    match frame.id.pgn() {
+        CONNECTION_MANAGEMENT => Some(connection_management(bytes)),
+        DATA_TRANSFER => Some(EtpFrame::Part(data_transfer(bytes))),
+        _ => None,
+    }
+}
+
+fn connection_management(bytes: &[u8]) -> EtpFrame
+    requires { length bytes.now ≡ 8 }
+    ensures { result ≡ connection_management bytes.now }
+{
+    match bytes[0] {
+        RTS => EtpFrame::Rts(Opening {
+            size: LittleEndian::read_u32(&bytes[1..]),
+            pgn: LittleEndian::read_u24(&bytes[5..]),
+        }),
+        OFFSET => EtpFrame::Part(Part::Offset {
+            count: bytes[1],
+            offset: LittleEndian::read_u24(&bytes[2..]),
+        }),
+        ABORT => EtpFrame::Aborted,
+        _ => EtpFrame::Other,
+    }
+}
+
+fn data_transfer(bytes: &[u8]) -> Part
+    requires { length bytes.now ≡ 8 }
+    ensures { result ≡ declared.Packet (slice_index bytes.now 0) (drop 1 bytes.now) }
+{
+    let mut packet = [0; 7];
+    packet.copy_from_slice(&bytes[1..]);
+    Part::Packet {
+        number: bytes[0],
+        bytes: packet,
+    }
+}
+
+/// The frame that a reply is, from this node to another.
+pub(crate) fn reply_frame(own: u8, to: u8, reply: Reply) -> Frame
+    ensures { result ≡ reply_frame own to reply }
+{
+    frame_of(CONNECTION_MANAGEMENT, own, to, reply_bytes(reply))
+}
+
+fn reply_bytes(reply: Reply) -> [u8; 8]
+    ensures { result ≡ reply_bytes reply }
+{
+    match reply {
+        Reply::ClearToSend { count, next, pgn } => {
+            let [next_0, next_1, next_2] = three_bytes(next);
+            let [pgn_0, pgn_1, pgn_2] = three_bytes(pgn);
+            [CTS, count, next_0, next_1, next_2, pgn_0, pgn_1, pgn_2]
+        }
+        Reply::End { size, pgn } => {
+            let [size_0, size_1, size_2, size_3] = size.to_le_bytes();
+            let [pgn_0, pgn_1, pgn_2] = three_bytes(pgn);
+            [END, size_0, size_1, size_2, size_3, pgn_0, pgn_1, pgn_2]
+        }
+        Reply::Abort { reason, pgn } => {
+            let [pgn_0, pgn_1, pgn_2] = three_bytes(pgn);
+            [ABORT, code(reason), FILL, FILL, FILL, pgn_0, pgn_1, pgn_2]
+        }
+    }
+}
+
+fn frame_of(pgn: u32, own: u8, to: u8, bytes: [u8; 8]) -> Frame
+    requires { HasDestination pgn }
+    ensures { result ≡ frame_of pgn own to bytes }
+{
+    Frame {
+        id: CanId::new(7, pgn, to, own),
+        bytes: ArrayVec::from(bytes),
+    }
+}
+
+// The three low bytes, the lowest first.
+fn three_bytes(number: u32) -> [u8; 3]
+    ensures { result ≡ little_bytes 3 number }
+{
+    let [low, middle, high, _] = number.to_le_bytes();
+    [low, middle, high]
+}
+
+fn code(reason: Reason) -> u8
+    ensures { result ≡ reason_code reason }
+{
+    match reason {
+        Reason::TooLarge => 2,
+        Reason::Timeout => 3,
+        Reason::Disorder => 7,
+    }
+}
