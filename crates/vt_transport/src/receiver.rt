@@ -6,8 +6,9 @@ ghost use Rattle.vt_can.specs.Sessions.{is_overdue, alive};
 ghost use Rattle.vt_can.specs.Nodes.{source_of};
 ghost use Rattle.vt_can.specs.Messages.{told_of};
 ghost use Rattle.vt_transport.specs.Wire.{tp_frame};
+ghost use Rattle.vt_transport.specs.Messages.{opens};
 ghost use Rattle.vt_transport.specs.Steps.{after_rts, after_packet, step};
-ghost use Rattle.vt_transport.specs.Receivers.{outcome, timely_outcome, heard_of, Takes, OthersStay, IsReadyFor, TimesOut};
+ghost use Rattle.vt_transport.specs.Receivers.{outcome, timely_outcome, heard_of, Takes, OthersStay, IsReadyFor, OpensNone, TimesOut};
 ghost use Rattle.vt_transport.specs.declared.messages.TpFrame.TheVariants as declared;
 
 use crate::messages::{Opening, Reason, Reply, SENDING, TpFrame};
@@ -49,6 +50,7 @@ impl Receiver {
     pub fn new(alloc: Global, own: u8) -> Receiver
         ensures own { result.own ≡ own }
         ensures sessions { result.sessions ≡ finite.empty }
+        ensures room { result.room ≡ 0 }
     {
         Receiver {
             own,
@@ -66,6 +68,7 @@ impl Receiver {
         ensures others { OthersStay self.old self.new (source_of frame.now) }
         ensures err { OnErr result (self.new ≡ self.old) }
         ensures ready { IsReadyFor (tp_frame self.old.own frame.now) self.old.room → IsOk result }
+        ensures room { OpensNone (tp_frame self.old.own frame.now) → self.new.room ≡ self.old.room }
     {
         let source = frame.id.source();
         match wire::tp_frame(self.own, frame) {
@@ -102,6 +105,7 @@ impl Receiver {
         ensures sessions { self.new.sessions ≡ self.old.sessions }
         ensures ready { OnOk result (IsReadyFor (tp_frame self.old.own frame.now) self.new.room) }
         ensures free { IsReadyFor (tp_frame self.old.own frame.now) self.old.room → IsOk result }
+        ensures room { OpensNone (tp_frame self.old.own frame.now) → self.new.room ≡ self.old.room }
         ensures told { IfOk result (λ told. told ≡ told_of (timely_outcome self.old now frame.now).message) }
     {
         match wire::tp_frame(self.own, frame) {
@@ -121,6 +125,7 @@ impl Receiver {
         ensures others { OthersStay self.old self.new source }
         ensures err { OnErr result (self.new ≡ self.old) }
         ensures ready { IsReadyFor (Some (declared.Rts opening)) self.old.room → IsOk result }
+        ensures room { opens opening ≡ false → self.new.room ≡ self.old.room }
     {
         if !opening.opens() {
             self.sessions.remove(source);
@@ -136,6 +141,7 @@ impl Receiver {
         ensures step { Takes self.old self.new source
             (after_packet now (finite.get self.old.sessions source) number bytes) result }
         ensures others { OthersStay self.old self.new source }
+        ensures room { self.new.room ≡ self.old.room }
     {
         let Some(Timed { last, session }) = self.sessions.take(source) else {
             return Heard::Nothing;
@@ -160,6 +166,7 @@ impl Receiver {
         ensures step { Takes self.old self.new source
             (step 0 (finite.get self.old.sessions source) (declared.Aborted pgn)) result }
         ensures others { OthersStay self.old self.new source }
+        ensures room { self.new.room ≡ self.old.room }
     {
         if pgn == SENDING {
             return Heard::Nothing;
@@ -173,6 +180,7 @@ impl Receiver {
         ensures sessions { self.new.sessions ≡ self.old.sessions }
         ensures ready { OnOk result (IsReadyFor (Some (declared.Rts opening)) self.new.room) }
         ensures free { IsReadyFor (Some (declared.Rts opening)) self.old.room → IsOk result }
+        ensures room { opens opening ≡ false → self.new.room ≡ self.old.room }
     {
         if opening.opens() {
             self.spare.reserve_exact(usize::from(opening.size))?;
