@@ -9,3 +9,4 @@ pub mod Written
 pub mod Filed
 pub mod ByAddress
 pub mod Joining
+pub mod OwnFrames

@@ -8,3 +8,4 @@ pub mod Parts
 pub mod Sessions
 pub mod Messages
 pub mod Nodes
+pub mod Bus

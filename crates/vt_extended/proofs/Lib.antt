@@ -4,4 +4,3 @@ pub mod Histories
 pub mod Stepping
 pub mod Matching
 pub mod Assembly
-pub mod OwnFrames

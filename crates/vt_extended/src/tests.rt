@@ -1,6 +1,7 @@
 mod linux;
 mod linux_bytes;
 mod receiving;
+mod sources;
 
 use super::*;
 use arrayvec::ArrayVec;

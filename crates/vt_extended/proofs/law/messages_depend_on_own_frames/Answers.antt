@@ -1,5 +1,6 @@
-use Rattle.vt_extended.proofs.OwnFrames.{same_messages}
+use Rattle.vt_can.proofs.OwnFrames.{same_messages}
+use Rattle.vt_extended.specs.Bus.{left, given}
 use Rattle.vt_extended.proofs.law.messages_depend_on_own_frames.Goals as goal
 
 pub returns : goal.returns
-returns c = same_messages
+returns c = same_messages left given
