@@ -1,5 +1,5 @@
 -- A receiver as a value, and what its calls say.
-use Rattle.std.specs.Prelude.{◌≡◌, ◌≤◌, ℕ, true, Option, Some, None, refl}
+use Rattle.std.specs.Prelude.{◌≡◌, ◌≤◌, ℕ, true, false, Option, Some, None, refl}
 use Rattle.std.specs.Coded.{Coded, code_by, coded×, coded_ℕ}
 use Rattle.std.specs.FinMap as finite
 use Rattle.vt_can.specs.declared.frame.Frame.{Frame}
@@ -59,6 +59,11 @@ OthersStay old new source = (other : ℕ) → (other ≡ source → ⊥) → fin
 abbrev pub IsReadyFor : Option EtpFrame → ℕ → Type 0
 IsReadyFor (Some (Rts o)) room = opens o ≡ true → o.size ≤ room
 IsReadyFor _ room = Unit {0}
+
+-- the frame opens no session
+abbrev pub OpensNone : Option EtpFrame → Type 0
+OpensNone (Some (Rts o)) = opens o ≡ false
+OpensNone _ = Unit {0}
 
 -- the session of the least address that is overdue was taken out, and its abort is the frame
 pub record TimesOut (old new : Listening) (now : ℕ) (frame : Frame) : Type 0 where

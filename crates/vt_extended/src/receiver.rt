@@ -6,8 +6,9 @@ ghost use Rattle.vt_can.specs.Sessions.{is_overdue, alive};
 ghost use Rattle.vt_can.specs.Nodes.{source_of};
 ghost use Rattle.vt_can.specs.Messages.{told_of};
 ghost use Rattle.vt_extended.specs.Wire.{etp_frame};
+ghost use Rattle.vt_extended.specs.Messages.{opens};
 ghost use Rattle.vt_extended.specs.Steps.{after_rts, after_part, step};
-ghost use Rattle.vt_extended.specs.Receivers.{outcome, stepped, heard_of, Takes, OthersStay, IsReadyFor, TimesOut};
+ghost use Rattle.vt_extended.specs.Receivers.{outcome, stepped, heard_of, Takes, OthersStay, IsReadyFor, OpensNone, TimesOut};
 ghost use Rattle.vt_extended.specs.declared.messages.EtpFrame.TheVariants as declared;
 ghost use Rattle.vt_extended.specs.declared.messages.Part.TheVariants as parts;
 
@@ -50,6 +51,7 @@ impl Receiver {
     pub fn new(alloc: Global, own: u8) -> Receiver
         ensures own { result.own ≡ own }
         ensures sessions { result.sessions ≡ finite.empty }
+        ensures room { result.room ≡ 0 }
     {
         Receiver {
             own,
@@ -66,6 +68,7 @@ impl Receiver {
         ensures others { OthersStay self.old self.new (source_of frame.now) }
         ensures err { OnErr result (self.new ≡ self.old) }
         ensures ready { IsReadyFor (etp_frame self.old.own frame.now) self.old.room → IsOk result }
+        ensures room { OpensNone (etp_frame self.old.own frame.now) → self.new.room ≡ self.old.room }
     {
         let source = frame.id.source();
         match wire::etp_frame(self.own, frame) {
@@ -101,6 +104,7 @@ impl Receiver {
         ensures sessions { self.new.sessions ≡ self.old.sessions }
         ensures ready { OnOk result (IsReadyFor (etp_frame self.old.own frame.now) self.new.room) }
         ensures free { IsReadyFor (etp_frame self.old.own frame.now) self.old.room → IsOk result }
+        ensures room { OpensNone (etp_frame self.old.own frame.now) → self.new.room ≡ self.old.room }
         ensures told { IfOk result (λ told. told ≡ told_of (stepped now (alive now (finite.get self.old.sessions (source_of frame.now))) (etp_frame self.old.own frame.now)).message) }
     {
         match wire::etp_frame(self.own, frame) {
@@ -120,6 +124,7 @@ impl Receiver {
         ensures others { OthersStay self.old self.new source }
         ensures err { OnErr result (self.new ≡ self.old) }
         ensures ready { IsReadyFor (Some (declared.Rts opening)) self.old.room → IsOk result }
+        ensures room { opens opening ≡ false → self.new.room ≡ self.old.room }
     {
         if !opening.opens() {
             self.sessions.remove(source);
@@ -134,6 +139,7 @@ impl Receiver {
     fn take_part(&mut self, now: u64, source: u8, part: Part) -> Heard
         ensures step { Takes self.old self.new source (after_part now (finite.get self.old.sessions source) part) result }
         ensures others { OthersStay self.old self.new source }
+        ensures room { self.new.room ≡ self.old.room }
     {
         let Some(Timed { last, session }) = self.sessions.take(source) else {
             return Heard::Nothing;
@@ -156,6 +162,7 @@ impl Receiver {
     fn aborted(&mut self, source: u8) -> Heard
         ensures step { Takes self.old self.new source (step 0 (finite.get self.old.sessions source) declared.Aborted) result }
         ensures others { OthersStay self.old self.new source }
+        ensures room { self.new.room ≡ self.old.room }
     {
         self.sessions.remove(source);
         Heard::Nothing
@@ -166,6 +173,7 @@ impl Receiver {
         ensures sessions { self.new.sessions ≡ self.old.sessions }
         ensures ready { OnOk result (IsReadyFor (Some (declared.Rts opening)) self.new.room) }
         ensures free { IsReadyFor (Some (declared.Rts opening)) self.old.room → IsOk result }
+        ensures room { opens opening ≡ false → self.new.room ≡ self.old.room }
     {
         if opening.opens() {
             self.spare.reserve_exact(opening.size as usize)?;
