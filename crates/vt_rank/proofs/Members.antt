@@ -1,6 +1,6 @@
--- Elements of lists: where they stand, and the first that passes a test.
-use Rattle.std.proofs.Common.{◌≡◌, ℕ, Bool, true, false, cond, ◌⊎◌, inl, inr, Some, None, List, [], ◌∷◌, ◌++◌, refl, sym, ap, subst, arith}
-use Rattle.std.specs.List.{Contains, find}
+-- Elements of lists: where they stand.
+use Rattle.std.proofs.Common.{◌≡◌, ℕ, ◌⊎◌, inl, inr, List, [], ◌∷◌, ◌++◌, sym, ap, subst, arith}
+use Rattle.std.specs.List.{Contains}
 use Rattle.vt_rank.specs.Paths.{IsDistinct}
 use Rattle.std.proofs.lemmas.List.Elements.{Contains-append_left, Contains-append_right, Contains-append_cases, Contains-push, Contains-push_cases}
 
@@ -28,44 +28,6 @@ around x (y ∷ ys) h =
       | inl e ↦ ([], ys, ap (λ (z : ℕ). z ∷ ys) e)
       | inr later ↦ let r = around x ys later in (y ∷ r.0, r.1, ap (λ (zs : List ℕ). y ∷ zs) r.2)
     ]
-
--- ---- the first element that passes a test
-
-pub find-append_some : {X : Type 0} (p : X → Bool) (xs ys : List X) (x : X) → find p xs ≡ Some x → find p (xs ++ ys) ≡ Some x
-find-append_some p [] ys x e = cc
-find-append_some p (y ∷ xs) ys x e =
-    elim (p y) as (λ b. cond b (Some y) (find p xs) ≡ Some x → cond b (Some y) (find p (xs ++ ys)) ≡ Some x) [
-      | true ↦ λ here. here
-      | false ↦ λ later. find-append_some p xs ys x later
-    ] e
-
-pub find-append_none : {X : Type 0} (p : X → Bool) (xs ys : List X) → find p xs ≡ None → find p (xs ++ ys) ≡ find p ys
-find-append_none p [] ys e = refl
-find-append_none {X} p (y ∷ xs) ys e =
-    elim (p y) as (λ b. cond b (Some y) (find p xs) ≡ None → cond b (Some y) (find p (xs ++ ys)) ≡ find p ys) [
-      | true ↦ λ here. cc
-      | false ↦ λ later. find-append_none p xs ys later
-    ] e
-
-pub find_some : {X : Type 0} (p : X → Bool) (xs : List X) (x : X) → find p xs ≡ Some x → Contains xs x × (p x ≡ true)
-find_some p [] x e = cc
-find_some {X} p (y ∷ xs) x e =
-    elim (p y) as (λ b. p y ≡ b → cond b (Some y) (find p xs) ≡ Some x → Contains (y ∷ xs) x × (p x ≡ true)) [
-      | true ↦ λ passes here. let same : y ≡ x = cc in subst (λ (z : X). Contains (y ∷ xs) z × (p z ≡ true)) same (Contains-head y xs, passes)
-      | false ↦ λ _ later. let r = find_some p xs x later in (Contains-tail y x xs r.0, r.1)
-    ] refl e
-
-pub find_none : {X : Type 0} (p : X → Bool) (xs : List X) → find p xs ≡ None → (x : X) → Contains xs x → p x ≡ false
-find_none p [] e x h = absurd (Contains-nil x h)
-find_none {X} p (y ∷ xs) e x h =
-    elim (p y) as (λ b. p y ≡ b → cond b (Some y) (find p xs) ≡ None → p x ≡ false) [
-      | true ↦ λ _ here. cc
-      | false ↦ λ fails later.
-          elim (Contains-cons_cases y x xs h) as (λ _. p x ≡ false) [
-            | inl same ↦ subst (λ (z : X). p z ≡ false) same fails
-            | inr inside ↦ find_none p xs later x inside
-          ]
-    ] refl e
 
 -- ---- no element twice
 

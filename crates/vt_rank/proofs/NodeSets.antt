@@ -1,11 +1,12 @@
 -- What changes in a set of nodes as nodes are inserted.
-use Rattle.std.proofs.Common.{◌≡◌, ◌≢◌, ℕ, ◌+◌, ◌*◌, ◌/◌, ◌%◌, ◌^◌, ◌<◌, ◌≤◌, ◌⊎◌, inl, inr, max, List, [], ◌∷◌, ◌++◌, length, get_or, set, drop, refl, sym, ◌∙◌, ap, subst, arith, w64, get_or-set_same, get_or-set_other}
-use Rattle.std.specs.Prelude.{bit_or}
-use Rattle.std.specs.Int.{bit_at}
+use Rattle.std.proofs.Common.{◌≡◌, ◌≢◌, ℕ, ◌+◌, ◌-◌, ◌*◌, ◌/◌, ◌%◌, ◌^◌, ◌<◌, ◌≤◌, ◌⊎◌, inl, inr, min, max, List, [], ◌∷◌, ◌++◌, length, get_or, set, drop, refl, sym, ◌∙◌, ap, subst, arith, w64, get_or-set_same, get_or-set_other}
+use Rattle.std.specs.Prelude.{bit_or, bit_and}
+use Rattle.std.specs.Int.{bit_at, trailing_zeros}
 use Rattle.std.specs.Int.Bits.{or_zero_r}
 use Rattle.std.specs.List.{Contains, flat_map}
 use Rattle.std.proofs.lemmas.Bool.{cases_eq, cases_lt}
-use Rattle.std.proofs.lemmas.Nat.Bits.{bit_at_set_same, bit_at_set_other, bit_at_or}
+use Rattle.std.proofs.lemmas.Nat.{and_le_l}
+use Rattle.std.proofs.lemmas.Nat.Bits.{bit_at_set_same, bit_at_set_other, bit_at_or, bit_at_and, bit_at_not, bit_at-lt, bit_at-zero, bit_at-trailing_zeros}
 use Rattle.std.proofs.lemmas.List.{at_drop_more, at_drop_all, get_or_past, length-set}
 use Rattle.std.proofs.lemmas.List.Elements.{Contains-append_left, Contains-append_right, Contains-append_cases}
 use Rattle.vt_rank.specs.declared.node_set.NodeSet.{NodeSet}
@@ -137,3 +138,50 @@ merged_only a b c small also is one =
 pub one_by_one : (xs : List ℕ) → flat_map (λ (n : ℕ). n ∷ []) xs ≡ xs
 one_by_one [] = refl
 one_by_one (x ∷ xs) = ap (λ (ys : List ℕ). x ∷ ys) (one_by_one xs)
+
+-- ---- the nodes of a word that another word has not
+
+bit_outside : (a b k : ℕ) → b < 2 ^ 64 → k < 64 → bit_at (bit_and a (18446744073709551615 - b)) k ≡ min (bit_at a k) (1 - bit_at b k)
+bit_outside a b k fits within = bit_at_and a (18446744073709551615 - b) k ∙ ap (min (bit_at a k)) (bit_at_not w64 b k fits within)
+
+bit_within : (set : NodeSet) (place i k : ℕ) → i ≡ place → k < 64 → bit_of set (64 * place + k) ≡ bit_at (get_or set.words i 0) k
+bit_within set place i k at within =
+    let word : (64 * place + k) / 64 ≡ i = omega (arith, at, within) in
+    let bit : (64 * place + k) % 64 ≡ k = omega (arith, within) in
+    ap (λ (q : ℕ). bit_at (get_or set.words q 0) ((64 * place + k) % 64)) word ∙ ap (bit_at (get_or set.words i 0)) bit
+
+pub outside_found : (a b : NodeSet) (place i j : ℕ) → i ≡ place → j ≡ place → get_or a.words i 0 < 2 ^ 64 → get_or b.words j 0 < 2 ^ 64 → (bit_and (get_or a.words i 0) (18446744073709551615 - get_or b.words j 0) ≡ 0 → ⊥)
+    → IsIn a (64 * place + trailing_zeros w64 (bit_and (get_or a.words i 0) (18446744073709551615 - get_or b.words j 0))) × (IsIn b (64 * place + trailing_zeros w64 (bit_and (get_or a.words i 0) (18446744073709551615 - get_or b.words j 0))) → ⊥)
+outside_found a b place i j at too fits others_fit some =
+    let left = bit_and (get_or a.words i 0) (18446744073709551615 - get_or b.words j 0) in
+    let least : left ≤ get_or a.words i 0 = and_le_l (get_or a.words i 0) (18446744073709551615 - get_or b.words j 0) in
+    let lowest = bit_at-trailing_zeros w64 left (omega (arith, some)) (omega (arith, least, fits)) in
+    let k = trailing_zeros w64 left in
+    let bits = bit_outside (get_or a.words i 0) (get_or b.words j 0) k others_fit lowest.0 in
+    let here = bit_within a place i k at lowest.0 in
+    let there = bit_within b place j k too lowest.0 in
+    let small : bit_at (get_or a.words i 0) k < 2 = bit_at-lt _ _ in
+    (omega (arith, bits, lowest.1, here, small), λ is. omega (arith, bits, lowest.1, there, is))
+
+pub outside_none : (a b : NodeSet) (place i j : ℕ) → i ≡ place → j ≡ place → get_or b.words j 0 < 2 ^ 64 → bit_and (get_or a.words i 0) (18446744073709551615 - get_or b.words j 0) ≡ 0
+    → ((n : ℕ) → n / 64 < place → IsIn a n → IsIn b n) → (n : ℕ) → n / 64 < place + 1 → IsIn a n → IsIn b n
+outside_none a b place i j at too fits none before n less is =
+    elim (cases_lt (n / 64) place) as (λ _. IsIn b n) [
+      | inl early ↦ before n early is
+      | inr past ↦
+          let k = n % 64 in
+          let within : k < 64 = omega arith in
+          let split : n ≡ 64 * place + k = omega (arith, less, past) in
+          let here : bit_of a n ≡ bit_at (get_or a.words i 0) k = ap (bit_of a) split ∙ bit_within a place i k at within in
+          let there : bit_of b n ≡ bit_at (get_or b.words j 0) k = ap (bit_of b) split ∙ bit_within b place j k too within in
+          let bits = bit_outside (get_or a.words i 0) (get_or b.words j 0) k fits within in
+          let zero_bit : bit_at (bit_and (get_or a.words i 0) (18446744073709551615 - get_or b.words j 0)) k ≡ 0 = ap (λ (w : ℕ). bit_at w k) none ∙ bit_at-zero k in
+          let small : bit_at (get_or b.words j 0) k < 2 = bit_at-lt _ _ in
+          omega (arith, here, there, bits, zero_bit, is, small)
+    ]
+
+pub outside_past : (a : NodeSet) (n : ℕ) → length a.words ≡ 4 → 4 ≤ n / 64 → IsIn a n → ⊥
+outside_past a n size past is =
+    let none : get_or a.words (n / 64) 0 ≡ 0 = get_or_past a.words (n / 64) 0 (omega (arith, size, past)) in
+    let zero_bit : bit_of a n ≡ 0 = ap (λ (w : ℕ). bit_at w (n % 64)) none ∙ bit_at-zero (n % 64) in
+    omega (arith, is, zero_bit)

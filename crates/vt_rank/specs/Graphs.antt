@@ -1,5 +1,5 @@
 -- What a node of a graph triggers.
-use Rattle.std.specs.Prelude.{ℕ, Bool, false, not, List, [], map, take, slice_index_or, Contains}
+use Rattle.std.specs.Prelude.{ℕ, List, [], map, take, slice_index_or, Contains}
 use Rattle.std.specs.List.{flat_map}
 use Rattle.std.specs.declared.vec.Vec.{Vec}
 use Rattle.vt_rank.specs.declared.graph.Graph.{Graph}
@@ -29,8 +29,3 @@ triggered g n = flat_map (nodes_of g) (items_of g n)
 
 abbrev pub Triggers : Graph → ℕ → ℕ → Type 0
 Triggers g m n = Contains (triggered g m) n
-
--- ---- marks on nodes
-
-abbrev pub is_unmarked : List Bool → ℕ → Bool
-is_unmarked marks n = not (slice_index_or marks n false)

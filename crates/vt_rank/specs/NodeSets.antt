@@ -1,8 +1,9 @@
 -- Sets of nodes, and which nodes lead to which.
-use Rattle.std.specs.Prelude.{◌≡◌, ℕ, ◌/◌, ◌%◌, ◌⊎◌, ◌↔◌, List, [], ◌∷◌, ◌++◌, slice_index, slice_index_or, Contains}
+use Rattle.std.specs.Prelude.{◌≡◌, ℕ, zero, suc, ◌+◌, ◌-◌, ◌/◌, ◌%◌, ◌⊎◌, ◌↔◌, List, [], ◌∷◌, ◌++◌, slice_index, slice_index_or, Contains}
 use Rattle.std.specs.Int.{bit_at}
 use Rattle.vt_rank.specs.declared.graph.Graph.{Graph}
 use Rattle.vt_rank.specs.declared.node_set.NodeSet.{NodeSet}
+use Rattle.vt_rank.specs.Graphs.{triggered}
 use Rattle.vt_rank.specs.Paths.{IsPath}
 
 -- node n is bit n % 64 of word n / 64
@@ -17,6 +18,15 @@ pub record Adds (before after : NodeSet) (nodes : List ℕ) : Type 0 where
   pub kept : (n : ℕ) → IsIn before n → IsIn after n
   pub there : (n : ℕ) → Contains nodes n → IsIn after n
   pub only : (n : ℕ) → IsIn after n → IsIn before n ⊎ Contains nodes n
+
+-- how many of the first nodes the set has not
+abbrev pub absent_below : NodeSet → ℕ → ℕ
+absent_below set zero = 0
+absent_below set (suc n) = (1 - bit_of set n) + absent_below set n
+
+-- how many of the 256 nodes the set has not
+unfoldable pub absent : NodeSet → ℕ
+absent set = absent_below set 256
 
 -- the nodes of the list, and no others
 abbrev pub IsSetOf : NodeSet → List ℕ → Type 0
@@ -33,6 +43,10 @@ row rows m = slice_index_or rows m (record { words = [] })
 
 abbrev pub Reaches : List NodeSet → ℕ → ℕ → Type 0
 Reaches rows m n = IsIn (row rows m) n
+
+-- in each row the nodes that its node triggers
+abbrev pub AreTargets : Graph → List NodeSet → Type 0
+AreTargets g rows = (m : ℕ) → IsSetOf (row rows m) (triggered g m)
 
 -- a path of one trigger or more
 abbrev pub Leads : Graph → ℕ → ℕ → Type 0

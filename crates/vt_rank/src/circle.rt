@@ -2,10 +2,11 @@
 
 ghost use Rattle.std.specs.Prelude.{◌≡◌, ℕ, ◌∷◌, List, IfSome, IfNone, slice_index};
 ghost use Rattle.vt_rank.specs.Paths.{IsCircle, IsDistinct, IsOnCircle, IsLeastOnCircles};
+ghost use Rattle.vt_rank.specs.NodeSets.{AreTargets};
 
 use crate::graph::Graph;
-use crate::marks::no_marks;
-use crate::reach::least_on_circles;
+use crate::node_set::NodeSet;
+use crate::reach::{least_on_circles, write_targets};
 use arrayvec::ArrayVec;
 
 /// A circle of triggers: each node of the path triggers the next, and the last one the first. No node stands
@@ -17,36 +18,39 @@ pub struct Circle {
 }
 
 /// A circle through the least node that lies on any, where a node is known that lies on one.
-#[inline(never)]
-pub(crate) fn least_circle(graph: &Graph, known: u8) -> Circle
-    requires { IsOnCircle graph.now known }
+pub(crate) fn least_circle(graph: &Graph, rows: &mut [NodeSet; 256], known: u8) -> Circle
+    requires targets { AreTargets graph.now rows.old }
+    requires known { IsOnCircle graph.now known }
     ensures circle { IsCircle graph.now result.path.items }
     ensures once { IsDistinct result.path.items }
     ensures least { IsLeastOnCircles graph.now (slice_index result.path.items 0) }
 {
-    let least = least_on_circles(graph, known);
+    let least = least_on_circles(rows, graph, known);
+    // The search for the least node has made paths of any length of the targets.
+    write_targets(rows, graph);
     Circle {
-        path: circle_through(graph, least).unwrap(),
+        path: circle_through(graph, rows, least).unwrap(),
     }
 }
 
 // A circle that begins with a node, if there is one: searches from it in depth, until it is triggered again.
-fn circle_through(graph: &Graph, start: u8) -> Option<ArrayVec<u8, 256>>
+fn circle_through(graph: &Graph, targets: &[NodeSet; 256], start: u8) -> Option<ArrayVec<u8, 256>>
+    requires { AreTargets graph.now targets.now }
     ensures circle { IfSome result (λ path. IsCircle graph.now path.items) }
     ensures once { IfSome result (λ path. IsDistinct path.items) }
     ensures first { IfSome result (λ path. slice_index path.items 0 ≡ start) }
     ensures none { IfNone result ((rest : List ℕ) → IsCircle graph.now (start ∷ rest) → ⊥) }
 {
-    let mut seen = no_marks();
+    let mut seen = NodeSet::new();
     let mut path = ArrayVec::new();
     path.push(start);
     'search: while let Some(node) = path.pop() {
-        if let Some(next) = graph.unmarked(node, &seen) {
+        if let Some(next) = targets[usize::from(node)].outside(&seen) {
             path.push(node);
             if next == start {
                 return Some(path);
             }
-            seen[usize::from(next)] = true;
+            seen.insert(next);
             path.push(next);
         }
     }

@@ -8,7 +8,6 @@ mod budget;
 mod capped;
 mod circle;
 mod graph;
-mod marks;
 mod node_set;
 mod ranking;
 mod reach;

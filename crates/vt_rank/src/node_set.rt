@@ -1,6 +1,6 @@
 //! Sets of nodes.
 
-ghost use Rattle.std.specs.Prelude.{◌≡◌, ◌==◌, ℕ, [], ◌∷◌, ◌⊎◌};
+ghost use Rattle.std.specs.Prelude.{◌≡◌, ◌==◌, ℕ, [], ◌∷◌, ◌⊎◌, IfSome, IfNone};
 ghost use Rattle.vt_rank.specs.NodeSets.{bit_of, IsIn, Adds, IsJoined};
 
 /// A set of nodes, a bit for each.
@@ -22,7 +22,7 @@ impl NodeSet {
         self.words[usize::from(node / 64)] >> (node % 64) & 1 == 1
     }
 
-    fn insert(&mut self, node: u8)
+    pub(crate) fn insert(&mut self, node: u8)
         ensures { Adds self.old self.new (node ∷ []) }
     {
         self.words[usize::from(node / 64)] |= 1u64 << (node % 64);
@@ -44,6 +44,20 @@ impl NodeSet {
         for place in 0..4usize {
             self.words[place] |= others.words[place];
         }
+    }
+
+    /// A node of the set that another set has not, if there is one.
+    pub(crate) fn outside(&self, others: &NodeSet) -> Option<u8>
+        ensures found { IfSome result (λ n. IsIn self.now n × (IsIn others.now n → ⊥)) }
+        ensures none { IfNone result ((n : ℕ) → IsIn self.now n → IsIn others.now n) }
+    {
+        for place in 0..4u8 {
+            let left = self.words[usize::from(place)] & !others.words[usize::from(place)];
+            if left != 0 {
+                return Some(64 * place + left.trailing_zeros() as u8);
+            }
+        }
+        None
     }
 
     /// Inserts all of another set, if it has a node.

@@ -3,23 +3,21 @@
 ghost use Rattle.std.specs.Prelude.{ℕ, ◌<◌, ◌↔◌};
 ghost use Rattle.vt_rank.specs.Graphs.{nodes_of, triggered};
 ghost use Rattle.vt_rank.specs.Paths.{IsOnCircle};
-ghost use Rattle.vt_rank.specs.NodeSets.{Adds, IsSetOf, IsJoined, row, Reaches, Leads};
+ghost use Rattle.vt_rank.specs.NodeSets.{Adds, IsSetOf, IsJoined, row, AreTargets, Reaches, Leads};
 ghost use Rattle.vt_rank.specs.declared.graph.Item.TheVariants.{Most};
 
 use crate::graph::{Graph, Item};
 use crate::node_set::NodeSet;
 
-/// The least node that lies on a circle, where a node is known that lies on one.
-// Its table has eight kilobytes, which a graph without a circle does not pay for.
-#[inline(never)]
-pub(crate) fn least_on_circles(graph: &Graph, known: u8) -> u8
-    requires { IsOnCircle graph.now known }
+/// The least node that lies on a circle, where a node is known that lies on one. Leaves in each row the nodes
+/// that its node leads to.
+pub(crate) fn least_on_circles(rows: &mut [NodeSet; 256], graph: &Graph, known: u8) -> u8
+    requires targets { AreTargets graph.now rows.old }
+    requires known { IsOnCircle graph.now known }
     ensures on { IsOnCircle graph.now result }
     ensures least { (n : ℕ) → n < result → IsOnCircle graph.now n → ⊥ }
 {
-    let mut rows = [NodeSet::new(); 256];
-    write_triggers(&mut rows, graph);
-    close(&mut rows, graph);
+    close(rows, graph);
     for node in 0..known {
         if rows[usize::from(node)].contains(node) {
             return node;
@@ -30,7 +28,7 @@ pub(crate) fn least_on_circles(graph: &Graph, known: u8) -> u8
 
 // Makes paths of any length of single triggers, by joining them at each node.
 fn close(rows: &mut [NodeSet; 256], graph: &Graph)
-    requires { (m : ℕ) → IsSetOf (row rows.old m) (triggered graph.now m) }
+    requires { AreTargets graph.now rows.old }
     ensures { (m n : ℕ) → Reaches rows.new m n ↔ Leads graph.now m n }
 {
     for via in 0..256usize {
@@ -50,8 +48,9 @@ fn join_at(rows: &mut [NodeSet; 256], via: u8)
 
 // ---- single triggers
 
-fn write_triggers(rows: &mut [NodeSet; 256], graph: &Graph)
-    ensures { (m : ℕ) → IsSetOf (row rows.new m) (triggered graph.now m) }
+/// Writes the nodes that each node triggers. Each node's items are read once, and the groups of `Item::Most` once.
+pub(crate) fn write_targets(rows: &mut [NodeSet; 256], graph: &Graph)
+    ensures { AreTargets graph.now rows.new }
 {
     let most = targets_of_most(graph);
     for node in 0..256usize {

@@ -3,20 +3,21 @@
 ghost use Rattle.std.specs.Prelude.{ℕ, [], OnOk, IfErr};
 
 use crate::graph::Graph;
-use crate::marks::no_marks;
+use crate::node_set::NodeSet;
 use arrayvec::ArrayVec;
 
 /// The nodes ranked so far, each above all that it triggers, and those that were seen.
 #[derive(Drop)]
 pub(crate) struct Search {
     pub(crate) ranks: [u8; 256],
-    ranked: [bool; 256],
-    seen: [bool; 256],
+    ranked: NodeSet,
+    seen: NodeSet,
     count: usize,
 }
 
 impl Search {
-    ghost use Rattle.vt_rank.specs.Searches.{IsMarked, IsSearch};
+    ghost use Rattle.vt_rank.specs.Searches.{IsSearch};
+    ghost use Rattle.vt_rank.specs.NodeSets.{IsIn, AreTargets};
     ghost use Rattle.vt_rank.specs.Paths.{IsOnCircle};
     ghost use Rattle.vt_rank.specs.declared.graph.Graph.{Graph as Network};
 
@@ -25,38 +26,44 @@ impl Search {
     {
         Search {
             ranks: [0; 256],
-            ranked: no_marks(),
-            seen: no_marks(),
+            ranked: NodeSet::new(),
+            seen: NodeSet::new(),
             count: 0,
         }
     }
 
     /// Ranks a node and all that it reaches, or finds a node that lies on a circle.
-    pub(crate) fn visit(&mut self, graph: &Graph, start: u8) -> Result<(), u8>
-        requires { IsSearch graph.now self.old [] }
+    pub(crate) fn visit(
+        &mut self,
+        graph: &Graph,
+        targets: &[NodeSet; 256],
+        start: u8,
+    ) -> Result<(), u8>
+        requires targets { AreTargets graph.now targets.now }
+        requires search { IsSearch graph.now self.old [] }
         ensures search { OnOk result (IsSearch graph.now self.new []) }
-        ensures ranked { OnOk result (IsMarked self.new.ranked start) }
-        ensures kept { OnOk result ((n : ℕ) → IsMarked self.old.ranked n → IsMarked self.new.ranked n) }
+        ensures ranked { OnOk result (IsIn self.new.ranked start) }
+        ensures kept { OnOk result ((n : ℕ) → IsIn self.old.ranked n → IsIn self.new.ranked n) }
         ensures circle { IfErr result (IsOnCircle graph.now) }
     {
-        if self.ranked[usize::from(start)] {
+        if self.ranked.contains(start) {
             return Ok(());
         }
-        self.seen[usize::from(start)] = true;
+        self.seen.insert(start);
         let mut path: ArrayVec<u8, 256> = ArrayVec::new();
         path.push(start);
         'search: while let Some(node) = path.pop() {
-            match graph.unmarked(node, &self.ranked) {
+            match targets[usize::from(node)].outside(&self.ranked) {
                 None => {
                     self.ranks[usize::from(node)] = self.count as u8;
-                    self.ranked[usize::from(node)] = true;
+                    self.ranked.insert(node);
                     self.count += 1;
                 }
                 Some(next) => {
-                    if self.seen[usize::from(next)] {
+                    if self.seen.contains(next) {
                         return Err(next);
                     }
-                    self.seen[usize::from(next)] = true;
+                    self.seen.insert(next);
                     path.push(node);
                     path.push(next);
                 }

@@ -5,6 +5,7 @@ use Rattle.vt_rank.proofs.ranking.rank.Goals as goal
 
 pub loop-node-init : goal.loop-node-init
 loop-node-init c = record {
+  targets = c.write_targets.ensures;
   search = c.new-search.ensures c.args.graph.now;
   ranked = λ n less. absurd (omega (arith, less));
 }

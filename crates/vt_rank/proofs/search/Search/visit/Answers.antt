@@ -1,23 +1,41 @@
-use Rattle.std.proofs.Common.{◌<◌, length, rules}
-use Rattle.vt_rank.proofs.Searching.{visit_begins, visit_pushed, visit_ranked, visit_circle}
+use Rattle.std.proofs.Common.{ℕ, ◌<◌, length, arith, rules, lit<}
+use Rattle.vt_rank.specs.Graphs.{Triggers}
+use Rattle.vt_rank.proofs.MarkedNodes.{marked_is, unmarked_is}
+use Rattle.vt_rank.proofs.Quests.{next_smaller}
+use Rattle.vt_rank.proofs.Searching.{target_is, targets_in, visit_begins, visit_pushed, visit_room, visit_ranked, visit_circle}
 use Rattle.vt_rank.proofs.search.Search.visit.Goals as goal
 
 pub search-init : goal.search-init
 search-init c =
-    let inside : c.args.start < length c.args.self.now.seen = search rules in
-    visit_begins _ _ _ _ _ _ _ c.requires c.if-self-from.false c.from.ensures c.from-2.ensures inside c.new-path.ensures c.push.ensures.items
+    let unranked = unmarked_is c.args.self.now.ranked c.args.start _ c.contains.ensures c.if-contains.false in
+    visit_begins _ _ _ _ _ _ c.requires.search unranked (omega arith) c.insert.ensures c.new-path.ensures c.push.ensures.items
 
 pub search-preserved-in-None : goal.search-preserved-in-None
 search-preserved-in-None c =
     let here : c.in-Some.node < length c.search.self.ranks = search rules in
-    let inside : c.in-Some.node < length c.search.self.ranked = search rules in
-    visit_ranked _ _ _ _ _ _ _ _ _ _ c.search.invariant c.in-Some.ensures.items c.unmarked.ensures c.in-None.is c.from-in-None.ensures c.from-in-None-2.ensures here inside
+    let all = λ (n : ℕ) (t : Triggers c.args.graph.now c.in-Some.node n). c.in-None.ensures.none n (targets_in c.args.graph.now c.args.targets.now c.in-Some.node c.from.result n c.requires.targets c.from.ensures t) in
+    visit_ranked _ _ _ _ _ _ _ _ _ c.search.invariant c.in-Some.ensures.items all c.from-in-None.ensures here c.insert-in-None.ensures
 
-pub returns-then-self-from-2-clause-circle : goal.returns-then-self-from-2-clause-circle
-returns-then-self-from-2-clause-circle c =
-    visit_circle _ _ _ _ _ _ _ _ _ c.search.invariant c.in-Some.ensures.items c.in-Some-unmarked.ensures c.if-self-from-2.true c.from-in-Some-unmarked.ensures
+pub returns-then-contains-2-clause-circle : goal.returns-then-contains-2-clause-circle
+returns-then-contains-2-clause-circle c =
+    let found = c.in-Some-outside.ensures.found in
+    let t = target_is c.args.graph.now c.args.targets.now c.in-Some.node c.from.result c.in-Some-outside.next c.requires.targets c.from.ensures found.0 in
+    let seen = marked_is c.search.self.seen c.in-Some-outside.next _ c.contains-in-Some-outside.ensures c.if-contains-2.true in
+    visit_circle _ _ _ _ _ _ _ _ c.search.invariant c.in-Some.ensures.items t found.1 seen
+
+pub push-requires-in-Some-outside-2 : goal.push-requires-in-Some-outside-2
+push-requires-in-Some-outside-2 c =
+    let unseen = unmarked_is c.search.self.seen c.in-Some-outside.next _ c.contains-in-Some-outside.ensures c.if-contains-2.false in
+    (lit< tt, visit_room _ _ _ _ _ _ _ _ _ _ c.search.invariant c.in-Some.ensures.items unseen (omega arith) c.insert-in-Some-outside.ensures c.push-in-Some-outside.ensures.items)
+
+pub search-smaller : goal.search-smaller
+search-smaller c =
+    let unseen = unmarked_is c.search.self.seen c.in-Some-outside.next _ c.contains-in-Some-outside.ensures c.if-contains-2.false in
+    next_smaller _ _ _ _ _ _ _ _ c.in-Some.ensures.items unseen (omega arith) c.insert-in-Some-outside.ensures c.push-in-Some-outside.ensures.items c.push-in-Some-outside-2.ensures.items
 
 pub search-preserved : goal.search-preserved
 search-preserved c =
-    let inside : c.in-Some-unmarked.next < length c.search.self.seen = search rules in
-    visit_pushed _ _ _ _ _ _ _ _ _ _ _ _ c.search.invariant c.in-Some.ensures.items c.in-Some-unmarked.ensures c.if-self-from-2.false c.from-in-Some-unmarked.ensures c.from-in-Some-unmarked-2.ensures inside c.push-in-Some-unmarked.ensures.items c.push-in-Some-unmarked-2.ensures.items
+    let found = c.in-Some-outside.ensures.found in
+    let t = target_is c.args.graph.now c.args.targets.now c.in-Some.node c.from.result c.in-Some-outside.next c.requires.targets c.from.ensures found.0 in
+    let unseen = unmarked_is c.search.self.seen c.in-Some-outside.next _ c.contains-in-Some-outside.ensures c.if-contains-2.false in
+    visit_pushed _ _ _ _ _ _ _ _ _ _ _ c.search.invariant c.in-Some.ensures.items t found.1 unseen (omega arith) c.insert-in-Some-outside.ensures c.push-in-Some-outside.ensures.items c.push-in-Some-outside-2.ensures.items

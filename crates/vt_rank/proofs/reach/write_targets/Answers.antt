@@ -1,6 +1,6 @@
 use Rattle.std.proofs.Common.{arith}
 use Rattle.vt_rank.proofs.Reaching.{row_written, rows_written}
-use Rattle.vt_rank.proofs.reach.write_triggers.Goals as goal
+use Rattle.vt_rank.proofs.reach.write_targets.Goals as goal
 
 pub loop-node-preserved : goal.loop-node-preserved
 loop-node-preserved c = row_written _ _ _ _ (omega arith) c.loop-node.invariant c.targets.ensures

@@ -1,5 +1,5 @@
 use Rattle.vt_rank.proofs.Reaching.{IsWriting}
-use Rattle.vt_rank.proofs.reach.write_triggers.Given as goal
+use Rattle.vt_rank.proofs.reach.write_targets.Given as goal
 
 abbrev pub invariant-loop-node : goal.invariant-loop-node
 invariant-loop-node l = IsWriting l.graph l.rows l.node
