@@ -1,7 +1,8 @@
 //! Costs under a cap.
 
-ghost use Rattle.std.specs.Prelude.{◌≡◌, ℕ, ◌<◌, ◌≤◌, IfOk, IfErr, IfSome, IfNone, slice_index};
+ghost use Rattle.std.specs.Prelude.{◌≡◌, ℕ, List, ◌<◌, ◌≤◌, IfOk, IfErr, IfSome, IfNone, slice_index};
 ghost use Rattle.vt_rank.specs.Paths.{AreRanks};
+ghost use Rattle.vt_rank.specs.declared.graph.Graph.{Graph as Network};
 ghost use Rattle.vt_rank.specs.Costs.{group_total, AreCosts, IsWithin, IsFirstOver, CostsAreTotals};
 
 use crate::budget::{Costs, OverBudget};
@@ -14,7 +15,7 @@ use crate::table::{cost_of_nodes, fill, no_costs};
 /// groups costs, and 0 where there is none. `ranks` are those of this graph.
 ///
 /// It takes no memory, and on x86-64 about six kilobytes of stack. It reads each item once, with the nodes of
-/// its group, and the groups of `Item::Most` once in all.
+/// its group, the groups of `Item::Most` once in all, and at the end each group once more.
 pub fn costs(graph: &Graph, ranks: &Ranks, cap: u32) -> Result<Costs, OverBudget>
     requires { AreRanks graph.now ranks.now }
     ensures costs { IfOk result (AreCosts graph.now) }
@@ -39,6 +40,11 @@ pub fn costs(graph: &Graph, ranks: &Ranks, cap: u32) -> Result<Costs, OverBudget
         None => Ok(Costs { costs }),
     }
 }
+
+/// A law: where there are ranks, each node costs what its items cost.
+pub fn costs_are_totals()
+    ensures { (g : Network) (ranks : List ℕ) → AreRanks g ranks → CostsAreTotals g }
+{}
 
 // The costs of all nodes, or the least node over the cap.
 fn nodes_within(table: &[u64; 256], cap: u32) -> Result<[u32; 256], u8>

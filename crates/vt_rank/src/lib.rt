@@ -15,7 +15,7 @@ mod search;
 mod table;
 
 pub use budget::{Costs, OverBudget};
-pub use capped::costs;
+pub use capped::{costs, costs_are_totals};
 pub use circle::Circle;
 pub use graph::{Graph, Item};
 pub use ranking::{Ranks, rank, ranks_leave_no_circle};
