@@ -88,6 +88,13 @@ impl Claims {
         self.own
     }
 
+    /// The node's own NAME.
+    pub fn name(&self) -> Name
+        ensures { result ≡ self.now.name }
+    {
+        self.name
+    }
+
     /// The address of a NAME, that of its last claim.
     pub fn address_of(&self, name: Name) -> Option<u8>
         ensures { result ≡ address_of self.now.addresses name }
@@ -102,7 +109,8 @@ impl Claims {
         self.holders.get(address)
     }
 
-    fn answer(&self, address: u8, name: Name) -> Heard
+    /// What the claim of an address by a NAME means for this node, without recording it.
+    pub fn answer(&self, address: u8, name: Name) -> Heard
         ensures { result ≡ answer self.now address name }
     {
         if address != self.own {
