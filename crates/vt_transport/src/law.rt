@@ -9,8 +9,8 @@ pub fn steps_assemble_messages()
     ensures { StepsAssembleMessages }
 {}
 
-/// The law that the messages assembled for a source depend on its own frames and their times alone,
-/// whatever else is heard on the bus.
+/// The law that the messages of a source depend on its own frames and their times alone, whatever
+/// other sources send.
 pub fn messages_depend_on_own_frames()
     ensures { MessagesDependOnOwnFrames }
 {}
