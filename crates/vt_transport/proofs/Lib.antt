@@ -6,3 +6,4 @@ pub mod Histories
 pub mod Assembly
 pub mod Agreement
 pub mod Serving
+pub mod BothEnds
