@@ -1,10 +1,10 @@
 -- What the sender sends, as the receiver takes it. Every list of happenings has the latest first.
-use Rattle.std.specs.Prelude.{◌≡◌, ℕ, zero, suc, ◌-◌, true, List, [], ◌∷◌, length}
+use Rattle.std.specs.Prelude.{◌≡◌, ◌<◌, ℕ, zero, suc, ◌-◌, ◌^◌, true, Some, List, [], ◌∷◌, length}
 use Rattle.vt_can.specs.Messages.{Message}
 use Rattle.vt_transport.specs.declared.messages.Opening.{Opening}
 use Rattle.vt_transport.specs.declared.messages.TpFrame.TheVariants.{Rts, Data}
 use Rattle.vt_transport.specs.Messages.{Happening, Came, IsWhole}
-use Rattle.vt_transport.specs.Wire.{packet_bytes}
+use Rattle.vt_transport.specs.Wire.{tp_frame, rts_frame, packet_bytes, packet_frame}
 use Rattle.vt_transport.specs.Senders.{packets_of, has_size}
 
 -- what the RTS of a message says
@@ -19,7 +19,13 @@ abbrev pub begun : Message → ℕ → List Happening
 begun message zero = Came (Rts (opening_of message)) ∷ []
 begun message (suc count) = packet_of message (suc count) ∷ begun message count
 
--- A message that is sent is whole with its last packet.
+-- The frames of a message from one address to another say so to the other node, and with its last packet
+-- the message is whole there.
+pub record IsReceived (own to : ℕ) (message : Message) : Type 0 where
+  pub request : tp_frame to (rts_frame own to (length message.bytes) message.pgn) ≡ Some (Rts (opening_of message))
+  pub packets : (j : ℕ) → tp_frame to (packet_frame own to message.bytes j) ≡ Some (Data j (packet_bytes message.bytes j))
+  pub whole : IsWhole (begun message (packets_of message - 1)) (packet_of message (packets_of message)) message
+
 abbrev pub SentIsReceived : Type 0
-SentIsReceived = (message : Message) → has_size message.bytes ≡ true
-    → IsWhole (begun message (packets_of message - 1)) (packet_of message (packets_of message)) message
+SentIsReceived = (own to : ℕ) (message : Message) → own < 2 ^ 8 → to < 2 ^ 8 → message.pgn < 2 ^ 24 → has_size message.bytes ≡ true
+    → IsReceived own to message
