@@ -1,0 +1,4 @@
+mod Filing
+mod Holding
+mod Histories
+mod Hearing

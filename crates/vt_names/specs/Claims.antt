@@ -1,0 +1,119 @@
+-- Address claims (ISO 11783-5; docs/PROFILE.md, "The holder of an address").
+use Rattle.std.specs.Prelude.{◌≡◌, ◌≢◌, ◌≤◌, ◌<◌, ℕ, length, get_or, ◌==◌, nat_lt, if◌then◌else◌, List, [], ◌∷◌, Option, Some, None, refl}
+use Rattle.std.specs.Ordering.{nat_cmp}
+use Rattle.std.specs.Map.{lookup, remove_entry}
+use Rattle.std.specs.BTreeMap.{insert_entry, is_at}
+use Rattle.std.specs.Coded.{Coded, code_by, coded×, coded_ℕ, coded_list}
+use Rattle.vt_names.specs.declared.claims.Heard.{Heard}
+use Rattle.vt_names.specs.declared.claims.Heard.TheVariants.{Nothing, Defend, Lost}
+
+-- ---- by all claims that were heard
+
+pub record Claim : Type 0 where
+  pub address : ℕ
+  pub name : ℕ
+
+-- A claim from the null address is a claim of no address.
+abbrev pub claimed_address : ℕ → Option ℕ
+claimed_address address = if address == 254 then None else Some address
+
+-- The address of a NAME: that of its last claim. Lists of claims have the latest first.
+abbrev pub last_claimed : List Claim → ℕ → Option ℕ
+last_claimed [] name = None
+last_claimed (claim ∷ earlier) name = if name == claim.name then claimed_address claim.address else last_claimed earlier name
+
+-- the holder of an address: the least NAME among those whose last claim was of it
+abbrev pub IsHolder : List Claim → ℕ → Option ℕ → Type 0
+IsHolder claims address None = (name : ℕ) → last_claimed claims name ≢ Some address
+IsHolder claims address (Some holder) =
+    (last_claimed claims holder ≡ Some address)
+    × ((name : ℕ) → last_claimed claims name ≡ Some address → holder ≤ name)
+
+-- ---- what is kept of them
+
+-- the address of each NAME that has one, by rising NAME
+abbrev pub Addresses : Type 0
+Addresses = List (ℕ × ℕ)
+
+abbrev pub AllAbove : ℕ → Addresses → Type 0
+AllAbove name [] = Unit {0}
+AllAbove name (e ∷ addresses) = (name < e.0) × AllAbove name addresses
+
+-- by rising NAME, each once
+abbrev pub IsRising : Addresses → Type 0
+IsRising [] = Unit {0}
+IsRising (e ∷ addresses) = AllAbove e.0 addresses × IsRising addresses
+
+-- a node: its address, its NAME, and what it has heard
+pub record Claimed : Type 0 where
+  pub own : ℕ
+  pub name : ℕ
+  pub addresses : Addresses
+
+abbrev pub claimed_code : Coded Claimed
+claimed_code =
+    code_by (ℕ × (ℕ × Addresses)) (coded× coded_ℕ (coded× coded_ℕ (coded_list (coded× coded_ℕ coded_ℕ))))
+    (λ c. (c.own, (c.name, c.addresses))) (λ p. record { own = p.0; name = p.1.0; addresses = p.1.1 }) (λ _. refl)
+
+abbrev pub with_address : Addresses → ℕ → Option ℕ → Addresses
+with_address addresses name None = remove_entry (is_at (nat_cmp name)) addresses
+with_address addresses name (Some address) = insert_entry nat_cmp addresses name address
+
+-- after one claim
+abbrev pub after_claim : Addresses → ℕ → ℕ → Addresses
+after_claim addresses address name = with_address addresses name (claimed_address address)
+
+abbrev pub heard : Claimed → ℕ → ℕ → Claimed
+heard c address name = record c { addresses = after_claim c.addresses address name }
+
+-- The address of a NAME, and the holder of an address, which is the first of those that have it.
+abbrev pub address_of : Addresses → ℕ → Option ℕ
+address_of addresses name = lookup (is_at (nat_cmp name)) addresses
+
+abbrev pub holder_of : Addresses → ℕ → Option ℕ
+holder_of [] address = None
+holder_of (e ∷ addresses) address = if e.1 == address then Some e.0 else holder_of addresses address
+
+-- A claim of the own address by a lower NAME means its loss, and is to be answered by a greater one's.
+abbrev pub answer : Claimed → ℕ → ℕ → Heard
+answer c address name =
+    if address == c.own then (if nat_lt name c.name then Lost else if nat_lt c.name name then Defend else Nothing)
+    else Nothing
+
+-- ---- They are those of the claims that were heard.
+
+abbrev pub after_claims : List Claim → Addresses
+after_claims [] = []
+after_claims (claim ∷ earlier) = after_claim (after_claims earlier) claim.address claim.name
+
+abbrev pub AddressesAreLast : Type 0
+AddressesAreLast = (claims : List Claim) (name : ℕ) → address_of (after_claims claims) name ≡ last_claimed claims name
+
+abbrev pub HoldersAreLeast : Type 0
+HoldersAreLeast = (claims : List Claim) (address : ℕ) → IsHolder claims address (holder_of (after_claims claims) address)
+
+-- ---- A claim changes the holders of two addresses at most: the one that the NAME had, and the one that it claims.
+
+abbrev pub OtherHoldersStay : Type 0
+OtherHoldersStay =
+    (claims : List Claim) (address name other : ℕ) → let addresses = after_claims claims in
+    other ≢ address → address_of addresses name ≢ Some other
+    → holder_of (after_claim addresses address name) other ≡ holder_of addresses other
+
+-- ---- the holder of each address, kept beside
+
+abbrev pub AreHolders : List (Option ℕ) → Addresses → Type 0
+AreHolders holders addresses =
+    (length holders ≡ 256) × IsRising addresses
+    × ((address : ℕ) → address < 256 → get_or holders address None ≡ holder_of addresses address)
+
+abbrev pub lesser : Option ℕ → ℕ → ℕ
+lesser None name = name
+lesser (Some holder) name = if nat_lt holder name then holder else name
+
+-- the holders are right but for the address that is claimed, whose holder is that of before
+pub record ArePartly (holders : List (Option ℕ)) (before : Addresses) (name : ℕ) (claimed : Option ℕ) : Type 0 where
+  pub all : length holders ≡ 256
+  pub rising : IsRising before
+  pub others : (q : ℕ) → q < 256 → claimed ≢ Some q → get_or holders q None ≡ holder_of (with_address before name claimed) q
+  pub own : (q : ℕ) → q < 256 → claimed ≡ Some q → get_or holders q None ≡ holder_of before q

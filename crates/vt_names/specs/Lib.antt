@@ -1,0 +1,4 @@
+-- What the contracts of this crate cite.
+pub mod Claims
+pub mod Names
+pub mod Registry

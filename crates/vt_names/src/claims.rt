@@ -1,0 +1,125 @@
+//! Address claims (ISO 11783-5).
+
+ghost use Rattle.std.specs.Prelude.{◌≡◌, None, Some, [], IfOk, OnOk, OnErr};
+ghost use Rattle.vt_names.specs.Claims.{answer, heard, address_of, holder_of, claimed_address};
+
+use crate::OutOfMemory;
+use crate::holders::Holders;
+use crate::name::Name;
+use std::alloc::Global;
+use std::collections::BTreeMap;
+use std::marker::Model;
+
+/// A claim from this address is a claim of no address.
+const NULL_ADDRESS: u8 = 254;
+
+/// What a claim means for the node that heard it.
+#[derive(Clone, Copy, Debug, PartialEq, Eq)]
+pub enum Heard {
+    /// There is nothing to do.
+    Nothing,
+    /// A greater NAME claimed the own address: it is to be claimed again.
+    Defend,
+    /// A lower NAME claimed the own address: it is lost.
+    Lost,
+}
+
+/// What a node has heard of the addresses of others, seen as its own address and NAME, and the address
+/// of each NAME that has one.
+///
+/// A claim is taken in time that grows with the logarithm of the NAMEs heard, except where the holder of
+/// an address leaves it: then the NAMEs are searched once for the next. docs/PROFILE.md, "The holder of an
+/// address".
+#[derive(Drop)]
+pub struct Claims {
+    own: u8,
+    name: Name,
+    addresses: BTreeMap<u64, u8>,
+    holders: Holders,
+}
+
+impl Model for Claims {
+    ghost use Rattle.vt_names.specs.Claims.{Claimed, claimed_code, AreHolders};
+
+    ghost Value = { Claimed };
+
+    ghost coded = { claimed_code };
+
+    ghost view = { λ c. record { own = c.own; name = c.name; addresses = c.addresses.entries } };
+
+    ghost invariant = { λ c. AreHolders c.holders.least c.addresses.entries };
+}
+
+impl Claims {
+    /// The claims that a node has heard before the first: none. It takes no memory.
+    pub fn new(alloc: Global, own: u8, name: Name) -> Claims
+        ensures { result ≡ record { own = own; name = name; addresses = [] } }
+    {
+        Claims {
+            own,
+            name,
+            addresses: BTreeMap::new(alloc),
+            holders: Holders::new(),
+        }
+    }
+
+    /// Hears that a NAME claims an address, and tells what that means for this node. After `OutOfMemory`
+    /// nothing is changed. docs/PROFILE.md, "The terminal's claims".
+    pub fn hear(&mut self, address: u8, name: Name) -> Result<Heard, OutOfMemory>
+        ensures answer { IfOk result (λ said. said ≡ answer self.old address name) }
+        ensures ok { OnOk result (self.new ≡ heard self.old address name) }
+        ensures err { OnErr result (self.new ≡ self.old) }
+    {
+        let said = self.answer(address, name);
+        let claimed = claimed_address(address);
+        let left = match claimed {
+            Some(address) => self.addresses.insert(name.raw(), address)?,
+            None => self.addresses.remove(&name.raw()),
+        };
+        self.holders.leave(name, left, claimed, &self.addresses);
+        self.holders.take(name, claimed);
+        Ok(said)
+    }
+
+    /// The node's own address.
+    pub fn own(&self) -> u8
+        ensures { result ≡ self.now.own }
+    {
+        self.own
+    }
+
+    /// The address of a NAME, that of its last claim.
+    pub fn address_of(&self, name: Name) -> Option<u8>
+        ensures { result ≡ address_of self.now.addresses name }
+    {
+        self.addresses.get(&name.raw()).copied()
+    }
+
+    /// The holder of an address: the least NAME among those whose last claim was of it.
+    pub fn holder(&self, address: u8) -> Option<Name>
+        ensures { result ≡ holder_of self.now.addresses address }
+    {
+        self.holders.get(address)
+    }
+
+    fn answer(&self, address: u8, name: Name) -> Heard
+        ensures { result ≡ answer self.now address name }
+    {
+        if address != self.own {
+            Heard::Nothing
+        } else if name < self.name {
+            Heard::Lost
+        } else if self.name < name {
+            Heard::Defend
+        } else {
+            Heard::Nothing
+        }
+    }
+}
+
+// The address that a claim from an address claims.
+fn claimed_address(address: u8) -> Option<u8>
+    ensures { result ≡ claimed_address address }
+{
+    (address != NULL_ADDRESS).then_some(address)
+}

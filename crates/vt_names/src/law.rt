@@ -1,0 +1,26 @@
+//! What the definitions come to.
+
+ghost use Rattle.vt_names.specs.Claims.{AddressesAreLast, HoldersAreLeast, OtherHoldersStay};
+ghost use Rattle.vt_names.specs.Names.{FieldsAreNames};
+
+/// The law that the ten fields of a NAME and the NAME determine each other.
+pub fn fields_are_names()
+    ensures { FieldsAreNames }
+{}
+
+/// The law that the address kept for a NAME is that of its last claim, over all claims heard.
+pub fn addresses_are_last()
+    ensures { AddressesAreLast }
+{}
+
+/// The law that the holder of an address is the least NAME among those whose last claim was of it,
+/// over all claims heard.
+pub fn holders_are_least()
+    ensures { HoldersAreLeast }
+{}
+
+/// The law that a claim changes the holders of two addresses at most: of the one that its NAME had, and
+/// of the one that it claims.
+pub fn other_holders_stay()
+    ensures { OtherHoldersStay }
+{}

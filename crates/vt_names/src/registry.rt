@@ -1,0 +1,181 @@
+//! The registry of working sets (ISO 11783-6).
+
+ghost use Rattle.std.specs.Prelude.{◌≡◌, ◌≢◌, ◌<◌, ◌≤◌, None, Some, Ok, Err, [], length, slice_get, is_some, IsOk, IfOk, IfErr, IfSome, IfNone, OnOk, OnErr, if◌then◌else◌};
+ghost use Rattle.std.specs.Option.{option_copied};
+ghost use Rattle.vt_names.specs.Registry.{set_at, with_set, without, registering, joining, binding, preloaded, has_place, IsUnnamed};
+ghost use Rattle.vt_names.specs.declared.registry.RegistryFault.TheVariants as declared;
+
+use crate::OutOfMemory;
+use crate::name::Name;
+use crate::set::Set;
+use indexmap::IndexMap;
+use std::alloc::{AllocFailed, Global};
+use std::marker::Model;
+use thiserror::Error;
+
+/// Why a message does not register.
+#[derive(Clone, Copy, Debug, PartialEq, Eq, Error)]
+pub enum RegistryFault {
+    /// The master's address has no holder.
+    #[error("fault 1 NotClaimed")]
+    NotClaimed,
+    /// There is no set of that address.
+    #[error("fault 2 NotMaster")]
+    NotMaster,
+    /// The set has its count less one members already.
+    #[error("fault 3 TooManyMembers")]
+    TooManyMembers,
+    /// The memory for a new set was refused.
+    #[error("fault 4 OutOfMemory")]
+    OutOfMemory,
+}
+
+/// The working sets, seen as their list in order of registration, and for how many more there is room.
+/// No two have the same address.
+///
+/// docs/PROFILE.md, "Working sets".
+#[derive(Drop)]
+pub struct Registry {
+    sets: IndexMap<u8, Set>,
+}
+
+impl Model for Registry {
+    ghost use Rattle.indexmap.specs.IndexMap.{values, spare};
+    ghost use Rattle.vt_names.specs.Registry.{Registered, registered_code, AreFiled};
+
+    ghost Value = { Registered };
+
+    ghost coded = { registered_code };
+
+    ghost view = { λ r. record { sets = values r.sets; room = spare r.sets } };
+
+    ghost invariant = { λ r. AreFiled r.sets.entries };
+}
+
+impl Registry {
+    /// No sets. It takes no memory.
+    pub fn new(alloc: Global) -> Registry
+        ensures { result.sets ≡ [] }
+    {
+        Registry {
+            sets: IndexMap::new(alloc),
+        }
+    }
+
+    /// Hears a master message, with the holder of its address. A set that is there keeps its place,
+    /// and loses its members. After a refusal the sets are as they were.
+    /// docs/PROFILE.md, "Working Set Master".
+    pub fn master(
+        &mut self,
+        address: u8,
+        holder: Option<Name>,
+        count: u8,
+    ) -> Result<(), RegistryFault>
+        ensures not_claimed { IfNone holder (result ≡ Err declared.NotClaimed) }
+        ensures claimed { IfSome holder (λ _. IfErr result (λ fault. fault ≡ declared.OutOfMemory)) }
+        ensures room { 0 < self.old.room → result ≢ Err declared.OutOfMemory }
+        ensures sets { result ≢ Err declared.OutOfMemory → self.new.sets ≡ registering address holder count self.old.sets }
+        ensures err { OnErr result (self.new.sets ≡ self.old.sets) }
+    {
+        let name = match holder {
+            Some(name) => name,
+            None => return Err(RegistryFault::NotClaimed),
+        };
+        self.put(Set::of_master(address, name, count))
+            .map_err(|_| RegistryFault::OutOfMemory)
+    }
+
+    /// Hears a member message. After a refusal the sets are as they were. It takes no memory.
+    /// docs/PROFILE.md, "Working Set Member".
+    pub fn member(&mut self, address: u8, name: Name) -> Result<(), RegistryFault>
+        ensures no_set { set_at address self.old.sets ≡ None → result ≡ Err declared.NotMaster }
+        ensures set { IfSome (set_at address self.old.sets)
+            (λ set. result ≡ (if has_place set then Ok tt else Err declared.TooManyMembers)) }
+        ensures sets { self.new.sets ≡ joining (set_at address self.old.sets) name self.old.sets }
+        ensures room { self.new.room ≡ self.old.room }
+    {
+        let set = match self.sets.get_mut(&address) {
+            Some(set) => set,
+            None => return Err(RegistryFault::NotMaster),
+        };
+        if !set.join(name) {
+            return Err(RegistryFault::TooManyMembers);
+        }
+        Ok(())
+    }
+
+    /// Takes the set of an address out, and tells whether there was one. The others keep their order.
+    pub fn close(&mut self, address: u8) -> bool
+        ensures found { result ≡ is_some (set_at address self.old.sets) }
+        ensures sets { self.new.sets ≡ without address self.old.sets }
+        ensures room { self.old.room ≤ self.new.room }
+    {
+        // Says that no two sets have the same address.
+        let _count = self.sets.len();
+        self.sets.shift_remove(&address).is_some()
+    }
+
+    /// How many sets there are.
+    pub fn len(&self) -> usize
+        ensures { result ≡ length self.now.sets }
+    {
+        self.sets.len()
+    }
+
+    /// The set at a place in the order of registration, counted from 0.
+    pub fn at(&self, index: usize) -> Option<&Set>
+        ensures { option_copied result ≡ slice_get self.now.sets index }
+    {
+        match self.sets.get_index(index) {
+            Some((_, set)) => Some(set),
+            None => None,
+        }
+    }
+
+    /// The set of an address.
+    pub fn get(&self, address: u8) -> Option<&Set>
+        ensures { option_copied result ≡ set_at address self.now.sets }
+    {
+        self.sets.get(&address)
+    }
+
+    /// Adds a set without a NAME. There is none of that address. After a refusal the sets are as they were.
+    pub fn preload(&mut self, address: u8) -> Result<(), OutOfMemory>
+        requires none { set_at address self.old.sets ≡ None }
+        ensures ok { OnOk result (self.new.sets ≡ with_set (preloaded address) self.old.sets) }
+        ensures err { OnErr result (self.new.sets ≡ self.old.sets) }
+    {
+        self.put(Set::without_name(address))
+    }
+
+    /// Gives the set of an address a NAME. There is one, and it has none. It takes no memory.
+    pub fn bind(&mut self, address: u8, name: Name)
+        requires unnamed { IsUnnamed (set_at address self.old.sets) }
+        ensures sets { self.new.sets ≡ binding (set_at address self.old.sets) name self.old.sets }
+        ensures room { self.new.room ≡ self.old.room }
+    {
+        match self.sets.get_mut(&address) {
+            Some(set) => set.bind(name),
+            None => {}
+        }
+    }
+
+    /// Makes room, so that the next `master` or `member` of an address is not refused for memory. The
+    /// sets stay.
+    pub fn reserve(&mut self, _address: u8) -> Result<(), OutOfMemory>
+        ensures ok { OnOk result (0 < self.new.room) }
+        ensures sets { self.new.sets ≡ self.old.sets }
+        ensures room { self.old.room ≤ self.new.room }
+    {
+        self.sets.reserve(1)
+    }
+
+    fn put(&mut self, set: Set) -> Result<(), OutOfMemory>
+        ensures ok { OnOk result (self.new.sets ≡ with_set set self.old.sets) }
+        ensures err { OnErr result (self.new.sets ≡ self.old.sets) }
+        ensures room { 0 < self.old.room → IsOk result }
+    {
+        self.sets.insert(set.address(), set)?;
+        Ok(())
+    }
+}

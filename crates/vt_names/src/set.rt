@@ -1,0 +1,104 @@
+//! A working set (ISO 11783-6).
+
+ghost use Rattle.std.specs.Prelude.{◌≡◌, ◌<◌, length, if◌then◌else◌};
+ghost use Rattle.vt_names.specs.Registry.{has_place, joined, bound, mastered, preloaded};
+
+use crate::name::Name;
+use arrayvec::ArrayVec;
+use std::marker::Model;
+
+/// A working set: the address of its master, its NAME if it has one, how many members it has with the
+/// master, and the NAMEs of the others that were heard of. docs/PROFILE.md, "What a set has".
+#[derive(Debug, Drop)]
+pub struct Set {
+    address: u8,
+    name: Option<Name>,
+    count: u8,
+    members: ArrayVec<Name, 254>,
+}
+
+impl Model for Set {
+    ghost use Rattle.std.specs.Prelude.{◌<◌, length};
+    ghost use Rattle.vt_names.specs.Registry as registry;
+
+    ghost Value = { registry.Set };
+
+    ghost coded = { registry.set_code };
+
+    ghost view = { λ s. record { address = s.address; name = s.name; count = s.count; members = s.members.items } };
+
+    ghost invariant = { λ s. length s.members.items < s.count };
+}
+
+impl Set {
+    /// The set of a master message, of a NAME. A count of 0 is one of 1.
+    pub(crate) fn of_master(address: u8, name: Name, count: u8) -> Set
+        ensures { result ≡ mastered address name count }
+    {
+        Set {
+            address,
+            name: Some(name),
+            count: count.max(1),
+            members: ArrayVec::new(),
+        }
+    }
+
+    /// A set without a NAME, of its master alone.
+    pub(crate) fn without_name(address: u8) -> Set
+        ensures { result ≡ preloaded address }
+    {
+        Set {
+            address,
+            name: None,
+            count: 1,
+            members: ArrayVec::new(),
+        }
+    }
+
+    /// The address of the master.
+    pub fn address(&self) -> u8
+        ensures { result ≡ self.now.address }
+    {
+        self.address
+    }
+
+    /// The NAME of the master. A set that was preloaded has none until a claim of its address is heard.
+    pub fn name(&self) -> Option<Name>
+        ensures { result ≡ self.now.name }
+    {
+        self.name
+    }
+
+    /// The number of members with the master, at least 1.
+    pub fn count(&self) -> u8
+        ensures { result ≡ self.now.count }
+    {
+        self.count
+    }
+
+    /// The NAMEs of the members, in the order of their messages; at most the count less one.
+    pub fn members(&self) -> &[Name]
+        ensures names { result.now ≡ self.now.members }
+        ensures few { length result.now < self.now.count }
+    {
+        self.members.as_slice()
+    }
+
+    /// Takes a member, and tells whether there was a place for it.
+    pub(crate) fn join(&mut self, name: Name) -> bool
+        ensures place { result ≡ has_place self.old }
+        ensures set { self.new ≡ if has_place self.old then joined self.old name else self.old }
+    {
+        if self.members.len() + 1 >= usize::from(self.count) {
+            return false;
+        }
+        self.members.push(name);
+        true
+    }
+
+    pub(crate) fn bind(&mut self, name: Name)
+        ensures { self.new ≡ bound self.old name }
+    {
+        self.name = Some(name);
+    }
+}
