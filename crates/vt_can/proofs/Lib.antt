@@ -10,3 +10,5 @@ pub mod Filed
 pub mod ByAddress
 pub mod Joining
 pub mod OwnFrames
+pub mod Serving
+pub mod Runs

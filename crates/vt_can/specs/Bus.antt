@@ -1,9 +1,12 @@
 -- One source among all that send on a bus, for a receiver that keeps a session of each source.
-use Rattle.std.specs.Prelude.{◌≡◌, ◌≤◌, ℕ, Bool, ◌==◌, if◌then◌else◌, Option, None, List, [], ◌∷◌, ◌++◌, filter}
+use Rattle.std.specs.Prelude.{◌≡◌, ◌≤◌, ℕ, Bool, ◌==◌, if◌then◌else◌, Option, Some, None, List, [], ◌∷◌, ◌++◌, filter}
+use Rattle.std.specs.FinMap as finite
 use Rattle.std.specs.Option.{option_to_list}
 use Rattle.vt_can.specs.declared.sessions.Timed.{Timed}
 use Rattle.vt_can.specs.Messages.{Message}
-use Rattle.vt_can.specs.Sessions.{alive}
+use Rattle.vt_can.specs.declared.heard.Heard.{Heard}
+use Rattle.vt_can.specs.declared.heard.Heard.TheVariants as heard
+use Rattle.vt_can.specs.Sessions.{ByAddress, alive}
 
 -- a frame that was heard, and what it says to this node
 pub record Input (F : Type 0) : Type 0 where
@@ -19,6 +22,22 @@ module _ {F : Type 0} where
 
   abbrev pub is_from : ℕ → Input F → Bool
   is_from source i = i.source == source
+
+-- the message of a source that is handed out
+abbrev pub handed : ℕ → Heard → Option Message
+handed source heard.Nothing = None
+handed source (heard.Reply reply) = None
+handed source (heard.Message from pgn bytes reply) =
+    if from == source then Some (record { pgn = pgn; bytes = bytes }) else None
+
+module _ {F : Type 0} where
+  abbrev pub inputs_of : List (Input F × Heard) → List (Input F)
+  inputs_of [] = []
+  inputs_of (x ∷ run) = x.0 ∷ inputs_of run
+
+  abbrev pub handed_in : ℕ → List (Input F × Heard) → List Message
+  handed_in source [] = []
+  handed_in source (x ∷ run) = option_to_list (handed source x.1) ++ handed_in source run
 
 -- The session that a frame leaves, and the message that it completes, by the time and the session before.
 module _ {T F : Type 0} (left : ℕ → Option (Timed T) → Option F → Option (Timed T)) (given : ℕ → Option (Timed T) → Option F → Option Message) where
@@ -44,3 +63,20 @@ module _ {T F : Type 0} (left : ℕ → Option (Timed T) → Option F → Option
   abbrev pub MessagesDependOnOwnFrames : Type 0
   MessagesDependOnOwnFrames = (source now : ℕ) (inputs : List (Input F)) → IsInOrder now inputs
       → messages_of source inputs ≡ messages_of source (filter (is_from source) inputs)
+
+  -- An input is served: the sessions that are overdue end, and its source's makes a step and hands out its message.
+  pub record Serves (old new : ByAddress T) (i : Input F) (said : Heard) : Type 0 where
+    pub session : finite.get new i.source ≡ left i.time (alive i.time (finite.get old i.source)) i.frame
+    pub others : (other : ℕ) → (other ≡ i.source → ⊥) → finite.get new other ≡ alive i.time (finite.get old other)
+    pub message : (source : ℕ) → handed source said
+        ≡ (if is_from source i then given i.time (alive i.time (finite.get old i.source)) i.frame else None)
+
+  -- From no session, inputs were served, and this was said to each.
+  abbrev pub IsRun : ByAddress T → List (Input F × Heard) → Type 0
+  IsRun sessions [] = sessions ≡ finite.empty
+  IsRun sessions (x ∷ run) = (old : ByAddress T) × IsRun old run × Serves old sessions x.0 x.1
+
+  -- A run hands out the messages of each source.
+  abbrev pub RunsHandOutMessages : Type 0
+  RunsHandOutMessages = (sessions : ByAddress T) (run : List (Input F × Heard)) (source : ℕ) → IsRun sessions run
+      → handed_in source run ≡ messages_of source (inputs_of run)

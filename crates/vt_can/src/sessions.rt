@@ -108,38 +108,28 @@ impl<T> Sessions<T> {
         if now.saturating_sub(self.earliest) <= TIMEOUT {
             return None;
         }
-        let Some(address) = self.first_overdue(now) else {
-            self.earliest = self.earliest_last();
-            return None;
-        };
+        let address = self.first_overdue(now)?;
         let timed = self.take(address)?;
         Some((address, timed.session))
     }
 
-    // The least address whose session is overdue.
-    fn first_overdue(&self, now: u64) -> Option<u8>
-        ensures some { IfSome result (λ address. IsFirstOverdue self.now now address) }
-        ensures none { IfNone result ((q : ℕ) → is_overdue now (finite.get self.now q) ≡ false) }
+    // The least address whose session is overdue. Where there is none, `earliest` is exact afterwards.
+    fn first_overdue(&mut self, now: u64) -> Option<u8>
+        ensures same { self.new ≡ self.old }
+        ensures some { IfSome result (λ address. IsFirstOverdue self.old now address) }
+        ensures none { IfNone result ((q : ℕ) → is_overdue now (finite.get self.old q) ≡ false) }
     {
+        let mut earliest = u64::MAX;
         for (address, place) in self.places.iter().enumerate() {
             if overdue(place, now) {
                 return Some(address as u8);
             }
-        }
-        None
-    }
-
-    // The time of the earliest last frame, and the highest time where there is no session.
-    fn earliest_last(&self) -> u64
-        ensures { (q : ℕ) (timed : _) → finite.get self.now q ≡ Some timed → result ≤ timed.last }
-    {
-        let mut earliest = u64::MAX;
-        for place in &self.places {
             if let Some(timed) = place {
                 earliest = earliest.min(timed.last);
             }
         }
-        earliest
+        self.earliest = earliest;
+        None
     }
 }
 

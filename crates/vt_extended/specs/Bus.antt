@@ -5,6 +5,9 @@ use Rattle.vt_can.specs.Messages.{Message}
 use Rattle.vt_can.specs.Bus as bus
 use Rattle.vt_extended.specs.declared.messages.EtpFrame.{EtpFrame}
 use Rattle.vt_extended.specs.Kept.{Kept}
+use Rattle.vt_can.specs.declared.frame.Frame.{Frame}
+use Rattle.vt_can.specs.Nodes.{source_of}
+use Rattle.vt_extended.specs.Wire.{etp_frame}
 use Rattle.vt_extended.specs.Receivers.{stepped}
 
 -- the session that a frame of a source leaves, and the message that it completes
@@ -17,3 +20,11 @@ given now kept frame = (stepped now kept frame).message
 -- The messages of a source depend on its own frames and their times alone.
 abbrev pub MessagesDependOnOwnFrames : Type 0
 MessagesDependOnOwnFrames = bus.MessagesDependOnOwnFrames left given
+
+-- a frame as an input of the node at an address
+abbrev pub input_of : ℕ → ℕ → Frame → bus.Input EtpFrame
+input_of own now frame = record { time = now; source = source_of frame; frame = etp_frame own frame }
+
+-- A run of a receiver hands out these messages.
+abbrev pub RunsHandOutMessages : Type 0
+RunsHandOutMessages = bus.RunsHandOutMessages left given

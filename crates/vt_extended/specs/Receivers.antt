@@ -4,7 +4,7 @@ use Rattle.std.specs.Coded.{Coded, code_by, coded×, coded_ℕ}
 use Rattle.std.specs.FinMap as finite
 use Rattle.vt_can.specs.declared.frame.Frame.{Frame}
 use Rattle.vt_can.specs.declared.sessions.Timed.{Timed}
-use Rattle.vt_can.specs.Sessions.{ByAddress, timed_code, Expires}
+use Rattle.vt_can.specs.Sessions.{ByAddress, timed_code, alive, Expires}
 use Rattle.vt_can.specs.Messages.{Message}
 use Rattle.vt_can.specs.Nodes.{source_of}
 use Rattle.vt_extended.specs.declared.messages.EtpFrame.{EtpFrame}
@@ -39,17 +39,19 @@ abbrev pub outcome : Listening → ℕ → Frame → Outcome
 outcome receiver now frame =
     stepped now (finite.get receiver.sessions (source_of frame)) (etp_frame receiver.own frame)
 
-abbrev pub heard_of : ℕ → ℕ → Option Reply → Option Message → Heard
-heard_of own source None message = heard.Nothing
-heard_of own source (Some reply) None = heard.Reply (reply_frame own source reply)
-heard_of own source (Some reply) (Some message) =
-    heard.Message source message.pgn message.bytes (reply_frame own source reply)
+-- what is said with a reply and a message, which never comes without a reply
+abbrev pub Says : ℕ → ℕ → Option Reply → Option Message → Heard → Type 0
+Says own source None None said = said ≡ heard.Nothing
+Says own source None (Some message) said = ⊥
+Says own source (Some reply) None said = said ≡ heard.Reply (reply_frame own source reply)
+Says own source (Some reply) (Some message) said =
+    said ≡ heard.Message source message.pgn message.bytes (reply_frame own source reply)
 
 -- the session of a source has taken a step, and this was said
 pub record Takes (old new : Listening) (source : ℕ) (out : Outcome) (said : Heard) : Type 0 where
   pub own : new.own ≡ old.own
   pub session : finite.get new.sessions source ≡ out.session
-  pub said_is : said ≡ heard_of old.own source out.reply out.message
+  pub says : Says old.own source out.reply out.message said
 
 -- the sessions of the other sources stay
 abbrev pub OthersStay : Listening → Listening → ℕ → Type 0
@@ -71,3 +73,8 @@ pub record TimesOut (old new : Listening) (now : ℕ) (frame : Frame) : Type 0 w
   pub session : Kept
   pub expired : Expires old.sessions new.sessions now source session
   pub abort : frame ≡ reply_frame old.own source (Abort Timeout session.opening.pgn)
+
+-- the step that a frame makes once the sessions that are overdue have ended
+abbrev pub timely_outcome : Listening → ℕ → Frame → Outcome
+timely_outcome receiver now frame =
+    stepped now (alive now (finite.get receiver.sessions (source_of frame))) (etp_frame receiver.own frame)

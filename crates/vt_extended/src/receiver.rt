@@ -8,7 +8,7 @@ ghost use Rattle.vt_can.specs.Messages.{told_of};
 ghost use Rattle.vt_extended.specs.Wire.{etp_frame};
 ghost use Rattle.vt_extended.specs.Messages.{opens};
 ghost use Rattle.vt_extended.specs.Steps.{after_rts, after_part, step};
-ghost use Rattle.vt_extended.specs.Receivers.{outcome, stepped, heard_of, Takes, OthersStay, IsReadyFor, OpensNone, TimesOut};
+ghost use Rattle.vt_extended.specs.Receivers.{outcome, timely_outcome, Says, Takes, OthersStay, IsReadyFor, OpensNone, TimesOut};
 ghost use Rattle.vt_extended.specs.declared.messages.EtpFrame.TheVariants as declared;
 ghost use Rattle.vt_extended.specs.declared.messages.Part.TheVariants as parts;
 
@@ -105,7 +105,7 @@ impl Receiver {
         ensures ready { OnOk result (IsReadyFor (etp_frame self.old.own frame.now) self.new.room) }
         ensures free { IsReadyFor (etp_frame self.old.own frame.now) self.old.room → IsOk result }
         ensures room { OpensNone (etp_frame self.old.own frame.now) → self.new.room ≡ self.old.room }
-        ensures told { IfOk result (λ told. told ≡ told_of (stepped now (alive now (finite.get self.old.sessions (source_of frame.now))) (etp_frame self.old.own frame.now)).message) }
+        ensures told { IfOk result (λ told. told ≡ told_of (timely_outcome self.old now frame.now).message) }
     {
         match wire::etp_frame(self.own, frame) {
             Some(EtpFrame::Rts(opening)) => {
@@ -195,7 +195,7 @@ impl Receiver {
 }
 
 fn answered(own: u8, source: u8, reply: Option<Reply>) -> Heard
-    ensures { result ≡ heard_of own source reply None }
+    ensures { Says own source reply None result }
 {
     match reply {
         Some(reply) => Heard::Reply(wire::reply_frame(own, source, reply)),

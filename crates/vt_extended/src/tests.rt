@@ -1,6 +1,8 @@
 mod linux;
-mod linux_bytes;
+mod linux_20000;
+mod linux_logs;
 mod receiving;
+mod serving;
 mod sources;
 
 use super::*;
@@ -54,9 +56,13 @@ fn expires(receiver: &mut Receiver, now: u64, text: &[u8]) -> bool {
 
 // A packet from the source to the node.
 fn packet(number: u8, bytes: [u8; 7]) -> Frame {
+    packet_from(SOURCE, number, bytes)
+}
+
+fn packet_from(source: u8, number: u8, bytes: [u8; 7]) -> Frame {
     let [a, b, c, d, e, f, g] = bytes;
     Frame {
-        id: CanId::new(7, 0xC700, NODE, SOURCE),
+        id: CanId::new(7, 0xC700, NODE, source),
         bytes: ArrayVec::from([number, a, b, c, d, e, f, g]),
     }
 }

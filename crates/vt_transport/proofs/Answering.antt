@@ -5,6 +5,7 @@ use Rattle.vt_can.specs.declared.frame.Frame.{Frame}
 use Rattle.vt_can.specs.declared.sessions.Timed.{Timed}
 use Rattle.vt_can.specs.Sessions.{ByAddress}
 use Rattle.vt_can.specs.Messages.{Message}
+use Rattle.vt_transport.specs.Messages.{sending_group}
 use Rattle.vt_transport.specs.declared.messages.TpFrame.{TpFrame}
 use Rattle.vt_transport.specs.declared.messages.TpFrame.TheVariants.{Cts, EndOfMessage, Aborted}
 use Rattle.vt_transport.specs.declared.messages.Reason.TheVariants.{Disorder}
@@ -116,11 +117,11 @@ pub kept_message : (own to now pgn : ℕ) (kept : Option (Timed Message)) → is
 kept_message own to now pgn None is = refl
 kept_message own to now pgn (Some kept) is = rw is
 
-pub aborted_message : (own to now pgn : ℕ) (kept : Option (Timed Message)) → pgn ≡ 0xE600
+pub aborted_message : (own to now pgn : ℕ) (kept : Option (Timed Message)) → pgn ≡ sending_group
     → unanswered None ≡ answered own to now kept (Some (Aborted pgn))
 aborted_message own to now pgn None is = refl
 aborted_message own to now pgn (Some kept) is =
-    let e : eqb pgn 0xE600 ≡ true = eq-eqb _ _ is in rw e
+    let e : eqb pgn sending_group ≡ true = eq-eqb _ _ is in rw e
 
 -- the same frames from this node's address, in other terms
 

@@ -7,7 +7,7 @@ use Rattle.vt_transport.specs.declared.messages.Opening.{Opening}
 use Rattle.vt_transport.specs.declared.messages.TpFrame.TheVariants.{Rts, Cts, EndOfMessage, Aborted, Data, Other}
 use Rattle.vt_transport.specs.declared.messages.Reason.TheVariants.{Disorder}
 use Rattle.vt_transport.specs.declared.messages.Reply.TheVariants.{Abort}
-use Rattle.vt_transport.specs.Messages.{Happening, Came, TimedOut, opens, IsQuiet, AreQuiet, packets_in, numbered, Sent, Stands, reply_to}
+use Rattle.vt_transport.specs.Messages.{Happening, Came, TimedOut, opens, sending_group, IsQuiet, AreQuiet, packets_in, numbered, Sent, Stands, reply_to}
 use Rattle.vt_transport.specs.Kept.{Kept}
 use Rattle.vt_transport.specs.Steps.{Outcome, ended, after_packet, happens, session_after, untimed, Has}
 use Rattle.vt_transport.proofs.Histories.{IsBystander, sent_after_rts, sent_more, sent_packet, Came_last, AtRts, Later, last_of}
@@ -243,7 +243,7 @@ matches_packet now number packet hs session m = record {
 not_rts_abort : (pgn : ℕ) (o : Opening) → Came (Aborted pgn) ≡ Came (Rts o) → ⊥
 not_rts_abort pgn o e = cc
 
-matches_abort : (hs : List Happening) (session : Option (Timed Kept)) (pgn : ℕ) (b : Bool) → eqb pgn 0xE600 ≡ b → Matches hs session
+matches_abort : (hs : List Happening) (session : Option (Timed Kept)) (pgn : ℕ) (b : Bool) → eqb pgn sending_group ≡ b → Matches hs session
     → Matches (Came (Aborted pgn) ∷ hs) (cond b session None)
 matches_abort hs session pgn true is m =
     matches_quiet hs session _ (record { quiet = eqb-true _ _ is; no_packet = λ _. refl }) (not_rts_abort pgn) m

@@ -5,5 +5,5 @@ pub mod Openings
 pub mod Histories
 pub mod Assembly
 pub mod Agreement
-pub mod Sources
 pub mod Serving
+pub mod BothEnds

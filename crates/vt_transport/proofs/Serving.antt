@@ -1,44 +1,58 @@
--- Sessions that are overdue, after their aborts.
-use Rattle.std.proofs.Common.{◌≡◌, ℕ, ◌-◌, ◌<◌, Bool, true, false, cond, eqb, Option, Some, None, is_some, ap, sym, subst, ◌∙◌, refl, arith, eq-eqb}
-use Rattle.std.proofs.lemmas.Bool.{eqb-true, false≢true}
-use Rattle.std.specs.Ordering.{nat_cmp}
-use Rattle.std.specs.Cmp.{nat_cmp_total}
+-- Preparing, the timeouts and hearing as one input of a run.
+use Rattle.std.proofs.Common.{◌≡◌, ℕ, Bool, true, false, cond, eqb, Option, Some, None, ap, ap₂, sym, refl, ◌∙◌}
 use Rattle.std.specs.FinMap as finite
+use Rattle.vt_can.specs.declared.frame.Frame.{Frame}
 use Rattle.vt_can.specs.declared.sessions.Timed.{Timed}
-use Rattle.vt_can.specs.Sessions.{ByAddress, is_overdue, Expires}
+use Rattle.vt_can.specs.Nodes.{source_of}
+use Rattle.vt_can.specs.Sessions.{ByAddress, is_overdue, alive}
+use Rattle.vt_can.specs.Messages.{Message}
+use Rattle.vt_can.specs.declared.heard.Heard.{Heard}
+use Rattle.vt_can.specs.Bus.{handed, Serves}
+use Rattle.vt_transport.specs.declared.messages.Reply.{Reply}
+use Rattle.vt_transport.specs.Receivers.{Listening, Says, Takes, OthersStay, stepped, outcome}
 use Rattle.vt_transport.specs.Kept.{Kept}
-use Rattle.vt_can.specs.Sessions.{alive}
-use Rattle.vt_can.proofs.ByAddress.{get-left, get-left_other}
+use Rattle.vt_transport.specs.Wire.{tp_frame}
+use Rattle.vt_transport.specs.Bus.{left, given, input_of}
 
-overdue_none : (now : ℕ) (session : Option (Timed Kept)) → is_overdue now session ≡ true → alive now session ≡ None
-overdue_none now session is = ap (λ (b : Bool). cond b None session) is
+none_chosen : (b : Bool) → ◌≡◌ {A = Option Message} None (cond b None None)
+none_chosen true = refl
+none_chosen false = refl
 
-expired_at : (old new : ByAddress Kept) (now address q : ℕ) (session : Kept) (b : Bool) → eqb q address ≡ b → Expires old new now address session
-    → alive now (finite.get new q) ≡ alive now (finite.get old q)
-expired_at old new now address q session true is expired =
-    subst (λ (k : ℕ). alive now (finite.get new k) ≡ alive now (finite.get old k)) (sym (eqb-true _ _ is))
-    (ap (λ (m : ByAddress Kept). alive now (finite.get m address)) expired.left ∙ ap (alive now) (get-left old address)
-    ∙ sym (overdue_none now _ expired.first.overdue))
-expired_at old new now address q session false is expired =
-    ap (λ (m : ByAddress Kept). alive now (finite.get m q)) expired.left
-    ∙ ap (alive now) (get-left_other old address q (λ same. false≢true (sym is ∙ eq-eqb _ _ same)))
+pub handed_is : (own from source : ℕ) (reply : Option Reply) (message : Option Message) (said : Heard) → Says own from reply message said
+    → handed source said ≡ cond (eqb from source) message None
+handed_is own from source None None said says = ap (handed source) says ∙ none_chosen (eqb from source)
+handed_is own from source None (Some message) said says = absurd says
+handed_is own from source (Some reply) None said says = ap (handed source) says ∙ none_chosen (eqb from source)
+handed_is own from source (Some reply) (Some message) said says = ap (handed source) says
 
--- the sessions that aren't overdue stay, and the others are taken for ended already
-pub expired_same : (old new : ByAddress Kept) (now address : ℕ) (session : Kept) → Expires old new now address session
-    → (q : ℕ) → alive now (finite.get new q) ≡ alive now (finite.get old q)
-expired_same old new now address session expired q = expired_at old new now address q session _ refl expired
+-- the sessions after the aborts, where none is overdue any more
+current : (old loop : Listening) (now q : ℕ) → alive now (finite.get loop.sessions q) ≡ alive now (finite.get old.sessions q)
+    → is_overdue now (finite.get loop.sessions q) ≡ false → finite.get loop.sessions q ≡ alive now (finite.get old.sessions q)
+current old loop now q same none =
+    sym (ap (λ (b : Bool). cond b None (finite.get loop.sessions q)) none) ∙ same
 
-some_left : (m : ByAddress Kept) (address : ℕ) (timed : Timed Kept) → finite.get m address ≡ Some timed → finite.len m ≡ 0 → ⊥
-some_left m address timed kept none =
-    let empty = ap (λ (n : ByAddress Kept). finite.get n address) (finite.empty_of_len m none) ∙ finite.get-empty nat_cmp address in cc
+served_by : (old loop new : Listening) (now : ℕ) (frame : Frame) (said : Heard) → loop.own ≡ old.own
+    → ((q : ℕ) → finite.get loop.sessions q ≡ alive now (finite.get old.sessions q))
+    → Takes loop new (source_of frame) (outcome loop now frame) said → OthersStay loop new (source_of frame)
+    → Serves left given old.sessions new.sessions (input_of old.own now frame) said
+served_by old loop new now frame said own_is kept takes others = record {
+  session = takes.session
+      ∙ ap₂ (λ (k : Option (Timed Kept)) (o : ℕ). (stepped now k (tp_frame o frame)).session) (kept (source_of frame)) own_is;
+  others = λ other apart. others other apart ∙ kept other;
+  message = λ source. handed_is _ _ source _ _ said takes.says
+      ∙ ap₂ (λ (k : Option (Timed Kept)) (o : ℕ). cond (eqb (source_of frame) source) (stepped now k (tp_frame o frame)).message None) (kept (source_of frame)) own_is;
+}
 
--- each abort leaves one session less
-pub expired_fewer : (old new : ByAddress Kept) (now address : ℕ) (session : Kept) → Expires old new now address session
-    → finite.len new < finite.len old
-expired_fewer old new now address session expired =
-    let there : is_some (finite.get old address) ≡ true = ap is_some expired.kept in
-    let fewer : finite.len new ≡ finite.len old - 1 =
-    ap finite.len expired.left ∙ finite.len-remove nat_cmp_total old address
-    ∙ ap (λ (b : Bool). cond b (finite.len old - 1) (finite.len old)) there in
-    let some : finite.len old ≡ 0 → ⊥ = some_left old address _ expired.kept in
-    omega (arith, some)
+-- the receiver at first, prepared, after the aborts, and after the frame
+pub serves_as : (old prepared loop mid new : Listening) (now : ℕ) (frame : Frame) (said : Heard)
+    → prepared.own ≡ old.own → prepared.sessions ≡ old.sessions → loop.own ≡ prepared.own
+    → ((q : ℕ) → alive now (finite.get loop.sessions q) ≡ alive now (finite.get prepared.sessions q)) → mid ≡ loop
+    → ((q : ℕ) → is_overdue now (finite.get loop.sessions q) ≡ false)
+    → Takes mid new (source_of frame) (outcome mid now frame) said → OthersStay mid new (source_of frame)
+    → Serves left given old.sessions new.sessions (input_of old.own now frame) said
+serves_as old prepared loop mid new now frame said own_at_first sessions own_is same is none takes others =
+    served_by old mid new now frame said
+    (ap (λ (r : Listening). r.own) is ∙ own_is ∙ own_at_first)
+    (λ q. ap (λ (r : Listening). finite.get r.sessions q) is
+    ∙ current old loop now q (same q ∙ ap (λ (m : ByAddress Kept). alive now (finite.get m q)) sessions) (none q))
+    takes others

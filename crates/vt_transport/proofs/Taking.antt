@@ -11,31 +11,31 @@ use Rattle.vt_transport.specs.Kept.{Kept}
 use Rattle.vt_transport.specs.Steps.{Outcome, silent, after_packet}
 use Rattle.vt_transport.specs.Received.{outcome_of}
 use Rattle.vt_transport.specs.Wire.{reply_frame}
-use Rattle.vt_transport.specs.Receivers.{Listening, Takes, heard_of}
+use Rattle.vt_transport.specs.Receivers.{Listening, Takes, Says}
 use Rattle.vt_can.proofs.ByAddress.{get-put, get-left}
 
 pub put_takes : (old new : Listening) (source : ℕ) (timed : Timed Kept) (m : ByAddress Kept) (out : Outcome) (said : Heard)
     → new.own ≡ old.own → new.sessions ≡ finite.insert m source timed → out.session ≡ Some timed
-    → said ≡ heard_of old.own source out.reply out.message → Takes old new source out said
-put_takes old new source timed m out said own is stays said_is = record {
+    → Says old.own source out.reply out.message said → Takes old new source out said
+put_takes old new source timed m out said own is stays says = record {
   own = own;
   session = ap (λ (n : ByAddress Kept). finite.get n source) is ∙ get-put m source timed ∙ sym stays;
-  said_is = said_is;
+  says = says;
 }
 
 pub left_takes : (old new : Listening) (source : ℕ) (m : ByAddress Kept) (out : Outcome) (said : Heard)
     → new.own ≡ old.own → new.sessions ≡ finite.remove m source → out.session ≡ None
-    → said ≡ heard_of old.own source out.reply out.message → Takes old new source out said
-left_takes old new source m out said own is none said_is = record {
+    → Says old.own source out.reply out.message said → Takes old new source out said
+left_takes old new source m out said own is none says = record {
   own = own;
   session = ap (λ (n : ByAddress Kept). finite.get n source) is ∙ get-left m source ∙ sym none;
-  said_is = said_is;
+  says = says;
 }
 
 -- what a call says, and what it makes of the session, in other terms
 
 pub replied : (own own' source : ℕ) (reply reply' : Reply) (said : Heard) → said ≡ heard.Reply (reply_frame own source reply) → own ≡ own'
-    → reply ≡ reply' → said ≡ heard_of own' source (Some reply') None
+    → reply ≡ reply' → Says own' source (Some reply') None said
 replied own own' source reply reply' said is own_is reply_is =
     is ∙ ap (λ (k : ℕ). heard.Reply (reply_frame k source reply)) own_is ∙ ap (λ (r : Reply). heard.Reply (reply_frame own' source r)) reply_is
 

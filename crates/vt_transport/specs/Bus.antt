@@ -1,46 +1,30 @@
 -- One source among all that send on a bus.
-use Rattle.std.specs.Prelude.{◌≡◌, ◌≤◌, ℕ, Bool, ◌==◌, if◌then◌else◌, Option, None, List, [], ◌∷◌, ◌++◌, filter}
-use Rattle.std.specs.Option.{option_to_list}
+use Rattle.std.specs.Prelude.{ℕ, Option}
 use Rattle.vt_can.specs.declared.sessions.Timed.{Timed}
 use Rattle.vt_can.specs.Messages.{Message}
-use Rattle.vt_can.specs.Sessions.{alive}
+use Rattle.vt_can.specs.Bus as bus
 use Rattle.vt_transport.specs.declared.messages.TpFrame.{TpFrame}
 use Rattle.vt_transport.specs.Kept.{Kept}
+use Rattle.vt_can.specs.declared.frame.Frame.{Frame}
+use Rattle.vt_can.specs.Nodes.{source_of}
+use Rattle.vt_transport.specs.Wire.{tp_frame}
 use Rattle.vt_transport.specs.Receivers.{stepped}
 
--- a frame that was heard, and what it says to this node
-pub record Input : Type 0 where
-  pub time : ℕ
-  pub source : ℕ
-  pub frame : Option TpFrame
+-- the session that a frame of a source leaves, and the message that it completes
+abbrev pub left : ℕ → Option (Timed Kept) → Option TpFrame → Option (Timed Kept)
+left now kept frame = (stepped now kept frame).session
 
--- Every list of inputs has the latest first, and time never goes back.
-abbrev pub IsInOrder : ℕ → List Input → Type 0
-IsInOrder now [] = Unit {0}
-IsInOrder now (i ∷ inputs) = (i.time ≤ now) × IsInOrder i.time inputs
+abbrev pub given : ℕ → Option (Timed Kept) → Option TpFrame → Option Message
+given now kept frame = (stepped now kept frame).message
 
-abbrev pub is_from : ℕ → Input → Bool
-is_from source i = i.source == source
-
--- The session of a source. At each input of the bus the sessions that are overdue end, before its
--- frame is heard.
-abbrev pub session_of : ℕ → List Input → Option (Timed Kept)
-session_of source [] = None
-session_of source (i ∷ inputs) =
-    let kept = alive i.time (session_of source inputs) in
-    if is_from source i then (stepped i.time kept i.frame).session else kept
-
--- the message of a source that an input completes
-abbrev pub message_at : ℕ → Input → List Input → Option Message
-message_at source i inputs =
-    if is_from source i then (stepped i.time (alive i.time (session_of source inputs)) i.frame).message else None
-
--- the messages that were assembled for a source, the latest first
-abbrev pub messages_of : ℕ → List Input → List Message
-messages_of source [] = []
-messages_of source (i ∷ inputs) = option_to_list (message_at source i inputs) ++ messages_of source inputs
-
--- They depend on the source's own frames and their times alone.
+-- The messages of a source depend on its own frames and their times alone.
 abbrev pub MessagesDependOnOwnFrames : Type 0
-MessagesDependOnOwnFrames = (source now : ℕ) (inputs : List Input) → IsInOrder now inputs
-    → messages_of source inputs ≡ messages_of source (filter (is_from source) inputs)
+MessagesDependOnOwnFrames = bus.MessagesDependOnOwnFrames left given
+
+-- a frame as an input of the node at an address
+abbrev pub input_of : ℕ → ℕ → Frame → bus.Input TpFrame
+input_of own now frame = record { time = now; source = source_of frame; frame = tp_frame own frame }
+
+-- A run of a receiver hands out these messages.
+abbrev pub RunsHandOutMessages : Type 0
+RunsHandOutMessages = bus.RunsHandOutMessages left given

@@ -6,3 +6,4 @@ pub mod Received
 pub mod Receivers
 pub mod Bus
 pub mod Senders
+pub mod BothEnds

@@ -22,11 +22,15 @@ opens o = nat_le 9 o.size && nat_le o.size 1785 && o.packets == (o.size + 6) / 7
 abbrev pub allowed : Opening → ℕ
 allowed o = if o.most == 0 then 255 else o.most
 
+-- the parameter group of the messages that a terminal sends: an abort of it is one to a sender
+abbrev pub sending_group : ℕ
+sending_group = 0xE600
+
 -- what leaves a session as it is: no RTS, no timeout, and no abort but of the sender's parameter group
 abbrev pub IsQuiet : Happening → Type 0
 IsQuiet TimedOut = ⊥
 IsQuiet (Came (Rts o)) = ⊥
-IsQuiet (Came (Aborted pgn)) = pgn ≡ 0xE600
+IsQuiet (Came (Aborted pgn)) = pgn ≡ sending_group
 IsQuiet (Came _) = Unit {0}
 
 abbrev pub AreQuiet : List Happening → Type 0

@@ -39,17 +39,19 @@ abbrev pub outcome : Listening → ℕ → Frame → Outcome
 outcome receiver now frame =
     stepped now (finite.get receiver.sessions (source_of frame)) (tp_frame receiver.own frame)
 
-abbrev pub heard_of : ℕ → ℕ → Option Reply → Option Message → Heard
-heard_of own source None message = heard.Nothing
-heard_of own source (Some reply) None = heard.Reply (reply_frame own source reply)
-heard_of own source (Some reply) (Some message) =
-    heard.Message source message.pgn message.bytes (reply_frame own source reply)
+-- what is said with a reply and a message, which never comes without a reply
+abbrev pub Says : ℕ → ℕ → Option Reply → Option Message → Heard → Type 0
+Says own source None None said = said ≡ heard.Nothing
+Says own source None (Some message) said = ⊥
+Says own source (Some reply) None said = said ≡ heard.Reply (reply_frame own source reply)
+Says own source (Some reply) (Some message) said =
+    said ≡ heard.Message source message.pgn message.bytes (reply_frame own source reply)
 
 -- the session of a source has taken a step, and this was said
 pub record Takes (old new : Listening) (source : ℕ) (out : Outcome) (said : Heard) : Type 0 where
   pub own : new.own ≡ old.own
   pub session : finite.get new.sessions source ≡ out.session
-  pub said_is : said ≡ heard_of old.own source out.reply out.message
+  pub says : Says old.own source out.reply out.message said
 
 -- the sessions of the other sources stay
 abbrev pub OthersStay : Listening → Listening → ℕ → Type 0

@@ -11,6 +11,7 @@ use Rattle.vt_transport.specs.declared.messages.TpFrame.{TpFrame}
 use Rattle.vt_transport.specs.declared.messages.TpFrame.TheVariants.{Cts, EndOfMessage, Aborted}
 use Rattle.vt_transport.specs.declared.messages.Reason.TheVariants.{Timeout, Disorder}
 use Rattle.vt_transport.specs.declared.messages.Reply.TheVariants.{Abort}
+use Rattle.vt_transport.specs.Messages.{sending_group}
 use Rattle.vt_transport.specs.Wire.{tp_frame, reply_frame, rts_frame, packet_frame}
 
 abbrev pub message_code : Coded Message
@@ -65,7 +66,7 @@ abbrev pub session_answer : ℕ → ℕ → ℕ → Timed Message → TpFrame �
 session_answer own to now kept (Cts count next pgn) =
     if pgn == kept.session.pgn then clear_to_send own to now kept count next else unanswered (Some kept)
 session_answer own to now kept (EndOfMessage pgn) = unanswered (if pgn == kept.session.pgn then None else Some kept)
-session_answer own to now kept (Aborted pgn) = unanswered (if pgn == 0xE600 then None else Some kept)
+session_answer own to now kept (Aborted pgn) = unanswered (if pgn == sending_group then None else Some kept)
 session_answer own to now kept _ = unanswered (Some kept)
 
 abbrev pub answered : ℕ → ℕ → ℕ → Option (Timed Message) → Option TpFrame → Answer

@@ -8,7 +8,7 @@ use Rattle.vt_transport.specs.declared.messages.TpFrame.TheVariants.{Rts, Aborte
 use Rattle.vt_transport.specs.declared.messages.Reason.TheVariants.{Disorder}
 use Rattle.vt_transport.specs.declared.messages.Reply.{Reply}
 use Rattle.vt_transport.specs.declared.messages.Reply.TheVariants.{Abort}
-use Rattle.vt_transport.specs.Messages.{Happening, Came, TimedOut, opens, first_reply, reply_to, Stands, IsWhole, IsAnswered}
+use Rattle.vt_transport.specs.Messages.{Happening, Came, TimedOut, opens, sending_group, first_reply, reply_to, Stands, IsWhole, IsAnswered}
 use Rattle.vt_transport.specs.Kept.{Kept}
 
 -- what a step leaves, and what it gives
@@ -55,7 +55,7 @@ after_packet now (Some kept) number packet =
 abbrev pub step : ℕ → Option (Timed Kept) → TpFrame → Outcome
 step now kept (Rts o) = after_rts now o
 step now kept (Data number packet) = after_packet now kept number packet
-step now kept (Aborted pgn) = silent (if pgn == 0xE600 then kept else None)
+step now kept (Aborted pgn) = silent (if pgn == sending_group then kept else None)
 step now kept _ = silent kept
 
 abbrev pub happens : ℕ → Option (Timed Kept) → Happening → Outcome

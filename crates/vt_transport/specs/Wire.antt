@@ -53,7 +53,9 @@ abbrev pub rts_frame : ℕ → ℕ → ℕ → ℕ → Frame
 rts_frame own to size pgn =
     frame_of 0xEC00 own to (0x10 ∷ (little_bytes 2 size ++ (size + 6) / 7 ∷ 0xFF ∷ little_bytes 3 pgn))
 
--- packet j of a message, the last one filled with FF
+-- the bytes of packet j of a message, the last one filled with FF
+abbrev pub packet_bytes : List ℕ → ℕ → List ℕ
+packet_bytes bytes j = take 7 (drop (7 * (j - 1)) bytes ++ replicate 7 0xFF)
+
 abbrev pub packet_frame : ℕ → ℕ → List ℕ → ℕ → Frame
-packet_frame own to bytes j =
-    frame_of 0xEB00 own to (j ∷ take 7 (drop (7 * (j - 1)) bytes ++ replicate 7 0xFF))
+packet_frame own to bytes j = frame_of 0xEB00 own to (j ∷ packet_bytes bytes j)

@@ -1,6 +1,7 @@
 //! What the definitions of the receiver come to.
 
-ghost use Rattle.vt_transport.specs.Bus.{MessagesDependOnOwnFrames};
+ghost use Rattle.vt_transport.specs.BothEnds.{SentIsReceived};
+ghost use Rattle.vt_transport.specs.Bus.{MessagesDependOnOwnFrames, RunsHandOutMessages};
 ghost use Rattle.vt_transport.specs.Steps.{StepsAssembleMessages};
 
 /// The law that the steps of a receiver on the session of a source hand out its messages, with the
@@ -9,8 +10,20 @@ pub fn steps_assemble_messages()
     ensures { StepsAssembleMessages }
 {}
 
-/// The law that the messages assembled for a source depend on its own frames and their times alone,
-/// whatever else is heard on the bus.
+/// The law that the messages of a source depend on its own frames and their times alone, whatever
+/// other sources send.
 pub fn messages_depend_on_own_frames()
     ensures { MessagesDependOnOwnFrames }
+{}
+
+/// The law that a message whose request and packets a sender sends is whole for the receiver that takes
+/// them, with the bytes that were to be sent.
+pub fn sent_is_received()
+    ensures { SentIsReceived }
+{}
+
+/// The law that a run of a receiver, from no session, hands out the messages of each source. At each
+/// frame of a run the sessions that are overdue end, and then the frame is heard.
+pub fn runs_hand_out_messages()
+    ensures { RunsHandOutMessages }
 {}

@@ -11,7 +11,10 @@ mod sending;
 mod session;
 mod wire;
 
-pub use law::{messages_depend_on_own_frames, steps_assemble_messages};
+pub use law::{
+    messages_depend_on_own_frames, runs_hand_out_messages, sent_is_received,
+    steps_assemble_messages,
+};
 pub use receiver::Receiver;
 pub use sender::{SendFault, Sender};
 pub use vt_can::{Bytes, Heard};

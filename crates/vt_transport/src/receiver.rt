@@ -8,7 +8,7 @@ ghost use Rattle.vt_can.specs.Messages.{told_of};
 ghost use Rattle.vt_transport.specs.Wire.{tp_frame};
 ghost use Rattle.vt_transport.specs.Messages.{opens};
 ghost use Rattle.vt_transport.specs.Steps.{after_rts, after_packet, step};
-ghost use Rattle.vt_transport.specs.Receivers.{outcome, timely_outcome, heard_of, Takes, OthersStay, IsReadyFor, OpensNone, TimesOut};
+ghost use Rattle.vt_transport.specs.Receivers.{outcome, timely_outcome, Says, Takes, OthersStay, IsReadyFor, OpensNone, TimesOut};
 ghost use Rattle.vt_transport.specs.declared.messages.TpFrame.TheVariants as declared;
 
 use crate::messages::{Opening, Reason, Reply, SENDING, TpFrame};
@@ -202,7 +202,7 @@ impl Receiver {
 }
 
 fn answered(own: u8, source: u8, reply: Option<Reply>) -> Heard
-    ensures { result ≡ heard_of own source reply None }
+    ensures { Says own source reply None result }
 {
     match reply {
         Some(reply) => Heard::Reply(wire::reply_frame(own, source, reply)),

@@ -1,7 +1,7 @@
 //! A message as it goes out.
 
-ghost use Rattle.std.specs.Prelude.{◌≡◌, ◌≤◌, ◌<◌, ◌+◌, ◌-◌, ◌*◌, ◌++◌, true, map, min, take, drop, replicate};
-ghost use Rattle.vt_transport.specs.Wire.{packet_frame};
+ghost use Rattle.std.specs.Prelude.{◌≡◌, ◌≤◌, ◌<◌, ◌+◌, ◌-◌, true, map, min};
+ghost use Rattle.vt_transport.specs.Wire.{packet_bytes, packet_frame};
 ghost use Rattle.vt_transport.specs.Senders.{packets_of, has_size, numbers_from};
 
 use crate::wire;
@@ -71,7 +71,7 @@ impl Outgoing {
     fn packet(&self, number: u8) -> [u8; 7]
         requires first { 1 ≤ number }
         requires last { number ≤ packets_of self.now }
-        ensures { result ≡ take 7 (drop (7 * (number - 1)) self.now.bytes ++ replicate 7 0xFF) }
+        ensures { result ≡ packet_bytes self.now.bytes number }
     {
         let rest = &self.bytes[7 * (usize::from(number) - 1)..];
         let filled = rest.len().min(7);

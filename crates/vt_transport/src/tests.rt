@@ -4,6 +4,7 @@ mod receiving;
 mod refusing;
 mod sending;
 mod serving;
+mod sources;
 
 use super::*;
 use std::test::Fail;

@@ -1,4 +1,5 @@
-use super::linux_bytes::{LOG_1786, LOG_3571, sent_1786, sent_3571};
+use super::linux_20000::{LOG_20000, SENT_20000};
+use super::linux_logs::*;
 use super::*;
 use std::alloc::Global;
 
@@ -34,6 +35,7 @@ fn filled(part: &[u8]) -> [u8; 7] {
 // silence, and what is answered to that.
 fn takes_packets(
     receiver: &mut Receiver,
+    now: u64,
     count: u8,
     done: usize,
     sent: &[u8],
@@ -43,7 +45,7 @@ fn takes_packets(
     let mut said = ArrayVec::new();
     for (number, part) in (1..=count).zip(sent.chunks(7).skip(done)) {
         silent = silent && said.is_empty();
-        (said, whole) = answer(receiver.hear(0, &packet(number, filled(part)))?, sent);
+        (said, whole) = answer(receiver.hear(now, &packet(number, filled(part)))?, sent);
     }
     Ok((silent, said, whole))
 }
@@ -65,7 +67,7 @@ fn follows(alloc: Global, log: &[&[u8]], sent: &[u8]) -> Result<bool, OutOfMemor
         } else {
             let (reply, _) = answer(receiver.hear(time, &frame)?, sent);
             let count = announced(&frame);
-            let (silent, last, is_whole) = takes_packets(&mut receiver, count, done, sent)?;
+            let (silent, last, is_whole) = takes_packets(&mut receiver, time, count, done, sent)?;
             same = same && said.is_empty() && silent && (count == 0 || reply.is_empty());
             said = if count == 0 { reply } else { last };
             whole = is_whole;
@@ -76,15 +78,19 @@ fn follows(alloc: Global, log: &[&[u8]], sent: &[u8]) -> Result<bool, OutOfMemor
 }
 
 #[test]
-fn the_answers_to_1786_bytes(rt: HostRuntime) -> Result<(), Fail> {
-    let same = follows(rt.alloc(), &LOG_1786, sent_1786())?;
-    assert!(rt; same);
-    Ok(())
-}
-
-#[test]
-fn the_answers_to_3571_bytes(rt: HostRuntime) -> Result<(), Fail> {
-    let same = follows(rt.alloc(), &LOG_3571, sent_3571())?;
-    assert!(rt; same);
+fn the_answers_to_the_sessions_of_linux(rt: HostRuntime) -> Result<(), Fail> {
+    let stored: [(&[&[u8]], &[u8]); 6] = [
+        (&LOG_1786, SENT_1786),
+        (&LOG_1787, SENT_1787),
+        (&LOG_1792, SENT_1792),
+        (&LOG_3570, SENT_3570),
+        (&LOG_3571, SENT_3571),
+        (&LOG_20000, SENT_20000),
+    ];
+    for (log, digits) in stored {
+        let sent = hex::decode(rt.alloc(), digits)?;
+        let same = follows(rt.alloc(), log, &sent)?;
+        assert!(rt; same, "{} bytes", sent.len());
+    }
     Ok(())
 }

@@ -57,3 +57,72 @@ fn two_sources_at_once(rt: HostRuntime) -> Result<(), Fail> {
     assert!(rt; of_80 && of_81 && first && second);
     Ok(())
 }
+
+// A frame of connection management.
+fn control(from: u8, to: u8, bytes: [u8; 8]) -> Frame {
+    Frame {
+        id: CanId::new(7, 0xC800, to, from),
+        bytes: ArrayVec::from(bytes),
+    }
+}
+
+// Whether a source is answered when it asks for nine bytes, of a group with its address.
+fn requests(receiver: &mut Receiver, source: u8) -> Result<bool, OutOfMemory> {
+    let request = control(source, NODE, [0x14, 9, 0, 0, 0, source, 0xE7, 0]);
+    let clear = control(NODE, source, [0x15, 2, 1, 0, 0, source, 0xE7, 0]);
+    let said = receiver.hear(0, &request)?;
+    Ok(is_reply(&said, write_frame(&clear).as_slice()))
+}
+
+fn is_reply(said: &Heard, text: &[u8]) -> bool {
+    match said {
+        Heard::Reply(reply) => write_frame(reply).as_slice() == text,
+        _ => false,
+    }
+}
+
+// Whether a source announces its two packets, and the first is taken.
+fn begins(receiver: &mut Receiver, source: u8) -> Result<bool, OutOfMemory> {
+    let offset = control(source, NODE, [0x16, 2, 0, 0, 0, source, 0xE7, 0]);
+    let announced = matches!(receiver.hear(0, &offset)?, Heard::Nothing);
+    let first = packet_from(source, 1, [source; 7]);
+    Ok(announced && matches!(receiver.hear(0, &first)?, Heard::Nothing))
+}
+
+// Whether the second packet of a source makes its message whole.
+fn ends(receiver: &mut Receiver, source: u8) -> Result<bool, OutOfMemory> {
+    let last = packet_from(source, 2, [source, source, 0xFF, 0xFF, 0xFF, 0xFF, 0xFF]);
+    let end = control(NODE, source, [0x17, 9, 0, 0, 0, source, 0xE7, 0]);
+    match receiver.hear(0, &last)? {
+        Heard::Message {
+            source: from,
+            pgn,
+            bytes,
+            reply,
+        } => Ok(
+            from == source
+                && pgn == 0xE700 + u32::from(source)
+                && bytes.into_vec().as_slice() == [source; 9].as_slice()
+                && write_frame(&reply).as_slice() == write_frame(&end).as_slice(),
+        ),
+        _ => Ok(false),
+    }
+}
+
+#[test]
+fn every_source_in_rounds(rt: HostRuntime) -> Result<(), Fail> {
+    let mut receiver = Receiver::new(rt.alloc(), NODE);
+    for source in 0..=255u8 {
+        let opened = source == NODE || requests(&mut receiver, source)?;
+        assert!(rt; opened, "the request of {source}");
+    }
+    for source in 0..=255u8 {
+        let taken = source == NODE || begins(&mut receiver, source)?;
+        assert!(rt; taken, "the first packet of {source}");
+    }
+    for source in 0..=255u8 {
+        let whole = source == NODE || ends(&mut receiver, source)?;
+        assert!(rt; whole, "the message of {source}");
+    }
+    Ok(())
+}

@@ -1,7 +1,8 @@
-use super::linux_logs::{LOG_22, LOG_100, SENT_22, SENT_100, sent_1785};
+use super::linux_logs::*;
 use super::*;
 use arrayvec::ArrayVec;
 use std::alloc::Global;
+use vt_can::CanId;
 
 const LINUX: u8 = 0x80;
 
@@ -40,57 +41,88 @@ fn follows(alloc: Global, log: &[&[u8]], sent: &[u8]) -> Result<bool, OutOfMemor
 }
 
 #[test]
-fn the_answers_to_22_bytes(rt: HostRuntime) -> Result<(), Fail> {
-    let same = follows(rt.alloc(), &LOG_22, SENT_22)?;
-    assert!(rt; same);
-    Ok(())
-}
-
-#[test]
-fn the_answers_to_100_bytes(rt: HostRuntime) -> Result<(), Fail> {
-    let same = follows(rt.alloc(), &LOG_100, SENT_100)?;
-    assert!(rt; same);
-    Ok(())
-}
-
-// Whether these are the packets of the bytes, in order, and the receiver takes them as the message.
-fn takes_packets(
-    receiver: &mut Receiver,
-    frames: &ArrayVec<Frame, 255>,
-    sent: &[u8],
-) -> Result<bool, OutOfMemory> {
-    let mut same = true;
-    let mut whole = false;
-    let mut said = ArrayVec::new();
-    for (frame, packet) in frames.iter().zip(sent.chunks(7)) {
-        same = same && said.is_empty() && frame.bytes.as_slice().ends_with(packet);
-        (said, whole) = answer(receiver.hear(0, frame)?, sent);
+fn the_answers_to_the_short_sessions_of_linux(rt: HostRuntime) -> Result<(), Fail> {
+    let stored: [(&[&[u8]], &[u8]); 8] = [
+        (&LOG_9, SENT_9),
+        (&LOG_10, SENT_10),
+        (&LOG_14, SENT_14),
+        (&LOG_15, SENT_15),
+        (&LOG_16, SENT_16),
+        (&LOG_21, SENT_21),
+        (&LOG_22, SENT_22),
+        (&LOG_100, SENT_100),
+    ];
+    for (log, digits) in stored {
+        let sent = hex::decode(rt.alloc(), digits)?;
+        let same = follows(rt.alloc(), log, &sent)?;
+        assert!(rt; same, "{} bytes", sent.len());
     }
-    Ok(same && whole && said.as_slice() == b"1CEC8026#13F906FFFF00E700".as_slice())
+    Ok(())
 }
 
-// The sender in the place of Linux's, with the bytes that Linux sent.
-fn both_ends(alloc: Global) -> Result<bool, Fail> {
-    let sent = sent_1785();
-    let mut sender = Sender::new(alloc, LINUX);
-    let mut receiver = Receiver::new(alloc, NODE);
-    let request = sender.start(0, NODE, 0xE700, sent)?;
-    let Heard::Reply(clear) = receiver.hear(0, &request)? else {
+// A packet of Linux's sender, filled with FF.
+fn packet(number: u8, part: &[u8]) -> Frame {
+    let mut bytes = [0xFF; 7];
+    for (place, byte) in bytes.iter_mut().zip(part) {
+        *place = *byte;
+    }
+    let [a, b, c, d, e, f, g] = bytes;
+    Frame {
+        id: CanId::new(7, 0xEB00, NODE, LINUX),
+        bytes: ArrayVec::from([number, a, b, c, d, e, f, g]),
+    }
+}
+
+// Whether the frame of a line has this text.
+fn is_frame(line: &[u8], text: &[u8]) -> bool {
+    match parse_line(line) {
+        Ok(Line::Frame { frame, .. }) => write_frame(&frame).as_slice() == text,
+        _ => false,
+    }
+}
+
+// Whether a receiver gives the answers of a log without its packets, and the bytes sent.
+fn follows_packets(alloc: Global, log: &[&[u8]; 3], sent: &[u8]) -> Result<bool, OutOfMemory> {
+    let [request, clear, end] = *log;
+    let Ok(Line::Frame { time, frame }) = parse_line(request) else {
         return Ok(false);
     };
-    let frames = sender.hear(0, &clear);
-    let whole = takes_packets(&mut receiver, &frames, sent)?;
-    Ok(
-        whole
-            && frames.len() == 255
-            && write_frame(&request).as_slice() == b"1CEC2680#10F906FFFF00E700".as_slice()
-            && write_frame(&clear).as_slice() == b"1CEC8026#11FF01FFFF00E700".as_slice(),
-    )
+    let mut receiver = Receiver::new(alloc, NODE);
+    let (opened, mut whole) = answer(receiver.hear(time, &frame)?, sent);
+    let mut same = is_frame(clear, opened.as_slice());
+    let mut said = ArrayVec::new();
+    for (number, part) in (1..=255u8).zip(sent.chunks(7)) {
+        same = same && said.is_empty();
+        (said, whole) = answer(receiver.hear(time, &packet(number, part))?, sent);
+    }
+    Ok(same && whole && is_frame(end, said.as_slice()))
+}
+
+// Whether a sender in the place of Linux's sends the request of a log and the packets of the bytes.
+fn sends_packets(alloc: Global, log: &[&[u8]; 3], sent: &[u8]) -> Result<bool, SendFault> {
+    let [request, clear, _] = *log;
+    let Ok(Line::Frame { time, frame }) = parse_line(clear) else {
+        return Ok(false);
+    };
+    let mut sender = Sender::new(alloc, LINUX);
+    let first = sender.start(time, NODE, 0xE700, sent)?;
+    let frames = sender.hear(time, &frame);
+    let mut same = is_frame(request, write_frame(&first).as_slice())
+        && frames.len() == sent.len().div_ceil(7);
+    for (frame, (number, part)) in frames.iter().zip((1..=255u8).zip(sent.chunks(7))) {
+        let wanted = packet(number, part);
+        same = same && write_frame(frame).as_slice() == write_frame(&wanted).as_slice();
+    }
+    Ok(same)
 }
 
 #[test]
-fn both_ends_of_1785_bytes(rt: HostRuntime) -> Result<(), Fail> {
-    let same = both_ends(rt.alloc())?;
-    assert!(rt; same);
+fn both_ends_of_the_long_sessions_of_linux(rt: HostRuntime) -> Result<(), Fail> {
+    for (log, digits) in [(&LOG_1779, SENT_1779), (&LOG_1785, SENT_1785)] {
+        let sent = hex::decode(rt.alloc(), digits)?;
+        let received = follows_packets(rt.alloc(), log, &sent)?;
+        let same = sends_packets(rt.alloc(), log, &sent)?;
+        assert!(rt; received && same, "{} bytes", sent.len());
+    }
     Ok(())
 }

@@ -1,12 +1,10 @@
-ghost use Rattle.std.specs.Prelude.{◌<◌};
-
 use super::Wanted::*;
 use super::*;
 
 const NODE: u8 = 0x26;
 
 // The rest of a session whose first frames came.
-fn both_packets(receiver: &mut Receiver) -> Result<bool, OutOfMemory> {
+pub(super) fn both_packets(receiver: &mut Receiver) -> Result<bool, OutOfMemory> {
     Ok(
         says(
             receiver,
@@ -55,36 +53,6 @@ fn the_second_packet_first(rt: HostRuntime) -> Result<(), Fail> {
         Silence,
     )?;
     assert!(rt; opened && aborted && ignored);
-    Ok(())
-}
-
-#[test]
-fn two_sources_at_once(rt: HostRuntime) -> Result<(), Fail> {
-    let mut receiver = Receiver::new(rt.alloc(), NODE);
-    let opened = says(
-        &mut receiver,
-        b"(1.000000) can0 1CEC2680#10090002FF00E700",
-        Reply(b"1CEC8026#110201FFFF00E700"),
-    )? && says(
-        &mut receiver,
-        b"(1.000000) can0 1CEC2681#10090002FF00E700",
-        Reply(b"1CEC8126#110201FFFF00E700"),
-    )?;
-    let first = says(
-        &mut receiver,
-        b"(1.000000) can0 1CEB2681#01B4E8036400FFFF",
-        Silence,
-    )?;
-    let heard = both_packets(&mut receiver)?;
-    let second = says(
-        &mut receiver,
-        b"(1.000000) can0 1CEB2681#020500FFFFFFFFFF",
-        Message(
-            b"1CEC8126#13090002FF00E700",
-            b"\xB4\xE8\x03\x64\x00\xFF\xFF\x05\x00",
-        ),
-    )?;
-    assert!(rt; opened && first && heard && second);
     Ok(())
 }
 
@@ -212,67 +180,5 @@ fn frames_that_are_not_heard(rt: HostRuntime) -> Result<(), Fail> {
         Silence,
     )?;
     assert!(rt; short && elsewhere && to_all && no_session);
-    Ok(())
-}
-
-// Whether 1,785 bytes are asked for by every source but two, with the answers that they are to have.
-fn all_others_open(receiver: &mut Receiver) -> Result<bool, OutOfMemory> {
-    let mut line = *b"(1.000000) can0 1CEC2600#10F906FFFF00E700";
-    let mut answer = *b"1CEC0026#11FF01FFFF00E700";
-    let mut all = true;
-    for source in 0..=0xFDu8 {
-        let high = digit(source / 16);
-        let low = digit(source % 16);
-        line[22] = high;
-        line[23] = low;
-        answer[4] = high;
-        answer[5] = low;
-        if source != NODE && source != 0x80 {
-            all = all && answers(receiver, &line, &answer)?;
-        }
-    }
-    Ok(all)
-}
-
-fn digit(value: u8) -> u8
-    requires { value < 16 }
-{
-    if value < 10 {
-        b'0' + value
-    } else {
-        b'A' - 10 + value
-    }
-}
-
-// Whether a receiver replies this to the frame of a line.
-fn answers(receiver: &mut Receiver, line: &[u8], text: &[u8]) -> Result<bool, OutOfMemory> {
-    match parse_line(line) {
-        Ok(Line::Frame { time, frame }) => {
-            let said = receiver.hear(time, &frame)?;
-            Ok(is_reply(&said, text))
-        }
-        _ => Ok(false),
-    }
-}
-
-fn is_reply(said: &Heard, text: &[u8]) -> bool {
-    match said {
-        Heard::Reply(reply) => write_frame(reply).as_slice() == text,
-        _ => false,
-    }
-}
-
-#[test]
-fn a_session_among_252_others(rt: HostRuntime) -> Result<(), Fail> {
-    let mut receiver = Receiver::new(rt.alloc(), NODE);
-    let before = all_others_open(&mut receiver)?;
-    let opened = answers(
-        &mut receiver,
-        b"(1.000000) can0 1CEC2680#10090002FF00E700",
-        b"1CEC8026#110201FFFF00E700",
-    )?;
-    let between = all_others_open(&mut receiver)?;
-    let heard = both_packets(&mut receiver)?;
-    assert!(rt; before && opened && between && heard);
     Ok(())
 }

@@ -147,3 +147,25 @@ fn sessions_that_end(rt: HostRuntime) -> Result<(), Fail> {
     assert!(rt; started && aborted && again && packet_0 && third && timeouts);
     Ok(())
 }
+
+#[test]
+fn the_highest_destinations(rt: HostRuntime) -> Result<(), Fail> {
+    let mut sender = Sender::new(rt.alloc(), NODE);
+    let started = starts(&mut sender, 0xFE, TEN, b"1CECFE26#100A0002FF00E600")?
+        && starts(&mut sender, 0xFF, TWELVE, b"1CECFF26#100C0002FF00E600")?;
+    let to_254 = sends(
+        &mut sender,
+        b"(1.000000) can0 1CEC26FE#110201FFFF00E600",
+        &[b"1CEBFE26#01082D0108414243", b"1CEBFE26#02444546FFFFFFFF"],
+    );
+    let to_255 = sends(
+        &mut sender,
+        b"(1.000000) can0 1CEC26FF#110102FFFF00E600",
+        &[b"1CEBFF26#024445464748FFFF"],
+    );
+    let timeouts = expires(&mut sender, 2_250_001, b"1CECFE26#FF03FFFFFF00E600")
+        && expires(&mut sender, 2_250_001, b"1CECFF26#FF03FFFFFF00E600")
+        && expires(&mut sender, 2_250_001, b"");
+    assert!(rt; started && to_254 && to_255 && timeouts);
+    Ok(())
+}

@@ -1,9 +1,9 @@
-ghost use Rattle.std.specs.Prelude.{◌≡◌, ℕ, IfOk, OnErr};
-ghost use Rattle.std.specs.FinMap as finite;
+ghost use Rattle.std.specs.Prelude.{◌≡◌, IfOk, OnErr};
 ghost use Rattle.vt_can.specs.Nodes.{source_of};
-ghost use Rattle.vt_can.specs.Sessions.{alive};
+ghost use Rattle.vt_can.specs.Bus.{Serves};
 ghost use Rattle.vt_can.specs.Messages.{told_of};
-ghost use Rattle.vt_transport.specs.Receivers.{timely_outcome, heard_of};
+ghost use Rattle.vt_transport.specs.Receivers.{timely_outcome, Says};
+ghost use Rattle.vt_transport.specs.Bus.{left, given, input_of};
 
 use super::*;
 use std::alloc::Global;
@@ -16,14 +16,12 @@ fn served(
     frame: &Frame,
 ) -> Result<(Option<(usize, u8)>, Heard), OutOfMemory>
     ensures err { OnErr result (receiver.new.sessions ≡ receiver.old.sessions) }
-    ensures session { IfOk result (λ done. finite.get receiver.new.sessions (source_of frame.now)
-        ≡ (timely_outcome receiver.old now frame.now).session) }
-    ensures others { IfOk result (λ done. (other : ℕ) → (other ≡ source_of frame.now → ⊥)
-        → finite.get receiver.new.sessions other ≡ alive now (finite.get receiver.old.sessions other)) }
-    ensures said { IfOk result (λ done. done.1
-        ≡ heard_of receiver.old.own (source_of frame.now)
+    ensures own { IfOk result (λ done. receiver.new.own ≡ receiver.old.own) }
+    ensures serves { IfOk result (λ done. Serves left given receiver.old.sessions receiver.new.sessions
+        (input_of receiver.old.own now frame.now) done.1) }
+    ensures said { IfOk result (λ done. Says receiver.old.own (source_of frame.now)
         (timely_outcome receiver.old now frame.now).reply
-        (timely_outcome receiver.old now frame.now).message) }
+        (timely_outcome receiver.old now frame.now).message done.1) }
     ensures told { IfOk result
         (λ done. done.0 ≡ told_of (timely_outcome receiver.old now frame.now).message) }
 {

@@ -1,13 +1,14 @@
 use Rattle.std.proofs.Common.{◌≡◌, ℕ, cond, eqb, Option, None, ap, sym, refl, ne_eqb}
 use Rattle.vt_can.specs.declared.sessions.Timed.{Timed}
 use Rattle.vt_transport.specs.Kept.{Kept}
+use Rattle.vt_transport.specs.Messages.{sending_group}
 use Rattle.vt_transport.specs.Receivers.{Listening}
 use Rattle.vt_can.proofs.ByAddress.{left_others}
 use Rattle.vt_transport.proofs.Taking.{left_takes}
 use Rattle.vt_transport.proofs.receiver.Receiver.aborted.Goals as goal
 
-not_sending : (pgn : ℕ) (kept : Option (Timed Kept)) → (pgn ≡ 0xE600 → ⊥) → cond (eqb pgn 0xE600) kept None ≡ None
-not_sending pgn kept other = ap (λ b. cond b kept None) (ne_eqb pgn 0xE600 other)
+not_sending : (pgn : ℕ) (kept : Option (Timed Kept)) → (pgn ≡ sending_group → ⊥) → cond (eqb pgn sending_group) kept None ≡ None
+not_sending pgn kept other = ap (λ b. cond b kept None) (ne_eqb pgn sending_group other)
 
 pub returns-clause-step : goal.returns-clause-step
 returns-clause-step c =

@@ -1,8 +1,8 @@
-use Rattle.std.proofs.Common.{ℕ, max, Some, None, ap, sym, refl, ◌∙◌}
+use Rattle.std.proofs.Common.{ℕ, max, Some, None, ap, sym, subst, refl, ◌∙◌}
 use Rattle.vt_transport.specs.declared.session.Received.TheVariants.{More, Whole}
 use Rattle.vt_transport.specs.Steps.{silent, ended}
 use Rattle.vt_transport.specs.Received.{outcome_of}
-use Rattle.vt_transport.specs.Receivers.{Listening, heard_of}
+use Rattle.vt_transport.specs.Receivers.{Listening, Says}
 use Rattle.vt_transport.specs.Wire.{reply_frame}
 use Rattle.vt_can.specs.declared.heard.Heard.TheVariants as heard
 use Rattle.vt_can.proofs.ByAddress.{left_others, put_again_others}
@@ -37,7 +37,7 @@ returns-in-More-clause-step c =
     c.take.ensures.found c.in-Some.is refl c.receive.ensures (ap (outcome_of (max c.args.now c.in-Some.field-0.last)) (sym c.in-More.is)))
     (put_takes _ _ _ _ c.take.new.self _ _ (ap (λ (r : Listening). r.own) c.self.view_is) c.put.ensures
     (ap (λ (l : ℕ). Some (record { last = l; session = c.in-More.session })) (sym c.max.ensures))
-    (c.answered-in-More.ensures ∙ ap (λ (k : ℕ). heard_of k c.args.source c.in-More.reply None) (ap (λ (r : Listening). r.own) c.self.view_is)))
+    (subst (λ (k : ℕ). Says k c.args.source c.in-More.reply None c.answered-in-More.result) (ap (λ (r : Listening). r.own) c.self.view_is) c.answered-in-More.ensures))
 
 pub returns-in-More-clause-others : goal.returns-in-More-clause-others
 returns-in-More-clause-others c =

@@ -1,0 +1,173 @@
+ghost use Rattle.std.specs.Prelude.{◌<◌};
+
+use super::Wanted::*;
+use super::receiving::both_packets;
+use super::*;
+use arrayvec::ArrayVec;
+use vt_can::CanId;
+
+const NODE: u8 = 0x26;
+
+#[test]
+fn two_sources_alternating(rt: HostRuntime) -> Result<(), Fail> {
+    let mut receiver = Receiver::new(rt.alloc(), NODE);
+    let message = b"\xB4\xE8\x03\x64\x00\xFF\xFF\x05\x00";
+    let said: [(&[u8], Wanted); 6] = [
+        (
+            b"(1.000000) can0 1CEC2680#10090002FF00E700",
+            Reply(b"1CEC8026#110201FFFF00E700"),
+        ),
+        (
+            b"(1.000000) can0 1CEC2681#10090002FF00E700",
+            Reply(b"1CEC8126#110201FFFF00E700"),
+        ),
+        (b"(1.000000) can0 1CEB2680#01B4E8036400FFFF", Silence),
+        (b"(1.000000) can0 1CEB2681#01B4E8036400FFFF", Silence),
+        (
+            b"(1.000000) can0 1CEB2680#020500FFFFFFFFFF",
+            Message(b"1CEC8026#13090002FF00E700", message),
+        ),
+        (
+            b"(1.000000) can0 1CEB2681#020500FFFFFFFFFF",
+            Message(b"1CEC8126#13090002FF00E700", message),
+        ),
+    ];
+    for (line, wanted) in said {
+        let same = says(&mut receiver, line, wanted)?;
+        assert!(rt; same);
+    }
+    Ok(())
+}
+
+// A frame of connection management.
+fn control(from: u8, to: u8, bytes: [u8; 8]) -> Frame {
+    Frame {
+        id: CanId::new(7, 0xEC00, to, from),
+        bytes: ArrayVec::from(bytes),
+    }
+}
+
+// A packet to the node.
+fn packet(from: u8, bytes: [u8; 8]) -> Frame {
+    Frame {
+        id: CanId::new(7, 0xEB00, NODE, from),
+        bytes: ArrayVec::from(bytes),
+    }
+}
+
+// Whether a source is answered when it asks for nine bytes, of a group with its address.
+fn requests(receiver: &mut Receiver, source: u8) -> Result<bool, OutOfMemory> {
+    let request = control(source, NODE, [0x10, 9, 0, 2, 0xFF, source, 0xE7, 0]);
+    let clear = control(NODE, source, [0x11, 2, 1, 0xFF, 0xFF, source, 0xE7, 0]);
+    let said = receiver.hear(0, &request)?;
+    Ok(is_reply(&said, write_frame(&clear).as_slice()))
+}
+
+// Whether the first packet of a source is taken.
+fn begins(receiver: &mut Receiver, source: u8) -> Result<bool, OutOfMemory> {
+    let first = packet(
+        source,
+        [1, source, source, source, source, source, source, source],
+    );
+    Ok(matches!(receiver.hear(0, &first)?, Heard::Nothing))
+}
+
+// Whether the second packet of a source makes its message whole.
+fn ends(receiver: &mut Receiver, source: u8) -> Result<bool, OutOfMemory> {
+    let last = packet(source, [2, source, source, 0xFF, 0xFF, 0xFF, 0xFF, 0xFF]);
+    let end = control(NODE, source, [0x13, 9, 0, 2, 0xFF, source, 0xE7, 0]);
+    match receiver.hear(0, &last)? {
+        Heard::Message {
+            source: from,
+            pgn,
+            bytes,
+            reply,
+        } => Ok(
+            from == source
+                && pgn == 0xE700 + u32::from(source)
+                && bytes.into_vec().as_slice() == [source; 9].as_slice()
+                && write_frame(&reply).as_slice() == write_frame(&end).as_slice(),
+        ),
+        _ => Ok(false),
+    }
+}
+
+#[test]
+fn every_source_in_rounds(rt: HostRuntime) -> Result<(), Fail> {
+    let mut receiver = Receiver::new(rt.alloc(), NODE);
+    for source in 0..=255u8 {
+        let opened = source == NODE || requests(&mut receiver, source)?;
+        assert!(rt; opened, "the request of {source}");
+    }
+    for source in 0..=255u8 {
+        let taken = source == NODE || begins(&mut receiver, source)?;
+        assert!(rt; taken, "the first packet of {source}");
+    }
+    for source in 0..=255u8 {
+        let whole = source == NODE || ends(&mut receiver, source)?;
+        assert!(rt; whole, "the message of {source}");
+    }
+    Ok(())
+}
+
+// Whether 1,785 bytes are asked for by every source but two, with the answers that they are to have.
+fn all_others_open(receiver: &mut Receiver) -> Result<bool, OutOfMemory> {
+    let mut line = *b"(1.000000) can0 1CEC2600#10F906FFFF00E700";
+    let mut answer = *b"1CEC0026#11FF01FFFF00E700";
+    let mut all = true;
+    for source in 0..=0xFDu8 {
+        let high = digit(source / 16);
+        let low = digit(source % 16);
+        line[22] = high;
+        line[23] = low;
+        answer[4] = high;
+        answer[5] = low;
+        if source != NODE && source != 0x80 {
+            all = all && answers(receiver, &line, &answer)?;
+        }
+    }
+    Ok(all)
+}
+
+fn digit(value: u8) -> u8
+    requires { value < 16 }
+{
+    if value < 10 {
+        b'0' + value
+    } else {
+        b'A' - 10 + value
+    }
+}
+
+// Whether a receiver replies this to the frame of a line.
+fn answers(receiver: &mut Receiver, line: &[u8], text: &[u8]) -> Result<bool, OutOfMemory> {
+    match parse_line(line) {
+        Ok(Line::Frame { time, frame }) => {
+            let said = receiver.hear(time, &frame)?;
+            Ok(is_reply(&said, text))
+        }
+        _ => Ok(false),
+    }
+}
+
+fn is_reply(said: &Heard, text: &[u8]) -> bool {
+    match said {
+        Heard::Reply(reply) => write_frame(reply).as_slice() == text,
+        _ => false,
+    }
+}
+
+#[test]
+fn a_session_among_252_others(rt: HostRuntime) -> Result<(), Fail> {
+    let mut receiver = Receiver::new(rt.alloc(), NODE);
+    let before = all_others_open(&mut receiver)?;
+    let opened = answers(
+        &mut receiver,
+        b"(1.000000) can0 1CEC2680#10090002FF00E700",
+        b"1CEC8026#110201FFFF00E700",
+    )?;
+    let between = all_others_open(&mut receiver)?;
+    let heard = both_packets(&mut receiver)?;
+    assert!(rt; before && opened && between && heard);
+    Ok(())
+}
