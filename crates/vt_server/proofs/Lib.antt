@@ -1,0 +1,6 @@
+mod Answering
+mod Effects
+mod Puts
+mod Registering
+mod Running
+mod Steps

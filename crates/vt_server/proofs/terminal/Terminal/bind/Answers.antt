@@ -1,0 +1,23 @@
+use Rattle.std.proofs.Common.{sym, ◌∙◌}
+use Rattle.vt_server.specs.States.{state_of}
+use Rattle.vt_server.proofs.Puts.{some-name, no-name}
+use Rattle.vt_server.proofs.Registering.{bind-none, bind-named, bind-unheld, bind-held}
+use Rattle.vt_server.proofs.terminal.Terminal.bind.Goals as goal
+
+pub returns-in-None : goal.returns-in-None
+returns-in-None c name bytes = bind-none (state_of c.args.self.now) c.args.address name bytes c.in-None.ensures
+
+pub returns-then-is_some : goal.returns-then-is_some
+returns-then-is_some c name bytes =
+    let named = some-name c.name-name.result c.if-is_some.ensures in
+    bind-named (state_of c.args.self.now) c.args.address name bytes c.in-Some.set.now named.0 c.in-Some.ensures (sym c.name-name.ensures ∙ named.1)
+
+pub returns-in-Some-holder : goal.returns-in-Some-holder
+returns-in-Some-holder c name bytes =
+    bind-held (state_of c.args.self.now) c.args.address name bytes c.in-Some.set.now c.in-Some-holder.holder c.bind.new.self.sets
+    c.in-Some.ensures (sym c.name-name.ensures ∙ no-name c.name-name.result c.if-is_some.ensures) c.in-Some-holder.ensures c.bind.ensures.sets
+
+pub returns-in-None-holder : goal.returns-in-None-holder
+returns-in-None-holder c name bytes =
+    bind-unheld (state_of c.args.self.now) c.args.address name bytes c.in-Some.set.now
+    c.in-Some.ensures (sym c.name-name.ensures ∙ no-name c.name-name.result c.if-is_some.ensures) c.in-None-holder.ensures

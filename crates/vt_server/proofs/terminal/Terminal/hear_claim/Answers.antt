@@ -1,0 +1,35 @@
+use Rattle.std.proofs.Common.{List, ◌++◌, ◌∷◌, [], sym, ap, ◌∙◌, append-nil}
+use Rattle.vt_can.specs.declared.frame.Frame.{Frame}
+use Rattle.vt_names.specs.declared.claims.Heard.TheVariants as claims
+use Rattle.vt_server.specs.Messages.{claim_from}
+use Rattle.vt_server.specs.States.{state_of, outputs_of}
+use Rattle.vt_server.specs.Terminals.{Step, Sent, is_lost_by}
+use Rattle.vt_server.specs.declared.output.Output.TheVariants as declared
+use Rattle.vt_server.specs.declared.bus.Notice.TheVariants.{Claim}
+use Rattle.vt_server.proofs.Steps.{step-lost, step-acts, sent-claim}
+use Rattle.vt_server.proofs.terminal.Terminal.hear_claim.Goals as goal
+
+pub returns-in-Lost-clause-sent : goal.returns-in-Lost-clause-sent
+returns-in-Lost-clause-sent c bytes =
+    let s = state_of c.args.self.now in
+    c.send.ensures
+    ∙ ap (λ (f : Frame). c.args.outputs.now.items ++ declared.Frame f ∷ []) (c.claim_from.ensures ∙ ap (claim_from 254) c.name-own_name.ensures)
+    ∙ ap (λ (t : Step). c.args.outputs.now.items ++ outputs_of t.sent) (step-lost s c.args.source c.args.name bytes c.answer.result c.requires.has c.answer.ensures c.in-Lost.is)
+
+pub returns-in_ok-record-in-Defend-clause-sent : goal.returns-in_ok-record-in-Defend-clause-sent
+returns-in_ok-record-in-Defend-clause-sent c bytes =
+    let s = state_of c.args.self.now in
+    c.send-in-Defend.ensures
+    ∙ ap (λ (f : Frame). c.args.outputs.now.items ++ declared.Frame f ∷ [])
+    (c.claim_from-in-Defend.ensures ∙ (λ i. claim_from (c.own-own.ensures i) (c.name-own_name.ensures i)))
+    ∙ ap (λ (l : List Sent). c.args.outputs.now.items ++ outputs_of l) (sent-claim s c.args.source c.args.name bytes claims.Defend c.in-Defend.ensures)
+    ∙ ap (λ (t : Step). c.args.outputs.now.items ++ outputs_of t.sent)
+    (step-acts s c.args.source (Claim c.args.name) bytes c.requires.has (ap is_lost_by (sym c.in-Defend.ensures)))
+
+pub returns-in_ok-record-in-Nothing-clause-sent : goal.returns-in_ok-record-in-Nothing-clause-sent
+returns-in_ok-record-in-Nothing-clause-sent c bytes =
+    let s = state_of c.args.self.now in
+    sym (append-nil c.args.outputs.now.items)
+    ∙ ap (λ (l : List Sent). c.args.outputs.now.items ++ outputs_of l) (sent-claim s c.args.source c.args.name bytes claims.Nothing c.in-Nothing.ensures)
+    ∙ ap (λ (t : Step). c.args.outputs.now.items ++ outputs_of t.sent)
+    (step-acts s c.args.source (Claim c.args.name) bytes c.requires.has (ap is_lost_by (sym c.in-Nothing.ensures)))

@@ -1,0 +1,39 @@
+-- What a frame says to the terminal (docs/PROFILE.md, "Messages of address claim", "Working sets").
+use Rattle.std.specs.Prelude.{ℕ, ◌==◌, ◌&&◌, ◌||◌, Bool, nat_le, nat_eq, if◌then◌else◌, List, [], ◌∷◌, length, Option, slice_index}
+use Rattle.std.specs.List.{starts_with}
+use Rattle.byteorder.specs.Endian.{little_number}
+use Rattle.vt_can.specs.declared.frame.Frame.{Frame}
+use Rattle.vt_can.specs.Identifier.{parts_of, pgn_of, destination_of}
+use Rattle.vt_can.specs.Nodes.{is_to, source_of}
+use Rattle.vt_server.specs.declared.bus.Notice.{Notice}
+use Rattle.vt_server.specs.declared.bus.Notice.TheVariants.{Claim, ClaimRequest, Master, Member, Message, Nothing}
+
+-- the first eight bytes as a NAME
+abbrev pub name_in : List ℕ → ℕ
+name_in bytes = little_number 8 bytes
+
+-- the first three bytes are the PGN of Address Claimed
+abbrev pub asks_for_claim : List ℕ → Bool
+asks_for_claim bytes = starts_with nat_eq bytes (0x00 ∷ 0xEE ∷ 0x00 ∷ [])
+
+-- A frame of a group to a destination. Shorter frames of the groups of claims and sets say nothing.
+abbrev pub said_in : ℕ → ℕ → Option ℕ → List ℕ → Notice
+said_in own pgn destination bytes =
+    if pgn == 0xEE00 then (if is_to 255 destination && nat_le 8 (length bytes) then Claim (name_in bytes) else Nothing)
+    else if pgn == 0xEA00 then
+    (if (is_to own destination || is_to 255 destination) && asks_for_claim bytes then ClaimRequest else Nothing)
+    else if pgn == 0xFE0D then (if nat_le 1 (length bytes) then Master (slice_index bytes 0) else Nothing)
+    else if pgn == 0xFE0C then (if nat_le 8 (length bytes) then Member (name_in bytes) else Nothing)
+    else if pgn == 0xE700 then (if is_to own destination then Message else Nothing)
+    else Nothing
+
+abbrev pub said_by : ℕ → Frame → Notice
+said_by own frame = let p = parts_of frame.id in said_in own (pgn_of p) (destination_of p) frame.bytes.items
+
+-- Of the frames from the terminal's own address only a claim by another NAME says anything; the others are echoes.
+abbrev pub unless_echo : ℕ → Notice → Notice
+unless_echo name (Claim other) = if other == name then Nothing else Claim other
+unless_echo name _ = Nothing
+
+abbrev pub said : ℕ → ℕ → Frame → Notice
+said own name frame = if source_of frame == own then unless_echo name (said_by own frame) else said_by own frame

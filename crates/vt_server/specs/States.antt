@@ -1,0 +1,38 @@
+-- What a terminal is seen as.
+use Rattle.std.specs.Prelude.{ℕ, List, [], ◌∷◌, ◌++◌, map, Option, None, get_or}
+use Rattle.std.specs.Option.{option_map}
+use Rattle.vt_objects.specs.Stores.{Contents}
+use Rattle.vt_objects.specs.contracts.list_store.ListStoreStore.TheImpl.{ghosts}
+use Rattle.vt_server.specs.declared.pools.Pools.{Pools}
+use Rattle.vt_server.specs.declared.terminal.Terminal.{Terminal}
+use Rattle.vt_server.specs.declared.output.Output.{Output}
+use Rattle.vt_server.specs.declared.output.Output.TheVariants as declared
+use Rattle.vt_server.specs.Terminals.{State, Sent, Step, no_step, step_frame}
+use Rattle.vt_server.specs.declared.input.Input.{Input}
+use Rattle.vt_server.specs.declared.input.Input.TheVariants as inputs
+
+-- the pool of each address
+abbrev pub pools_of : Pools → ℕ → Option Contents
+pools_of pools address = option_map ghosts.contents (get_or pools.places address None)
+
+abbrev pub state_of : Terminal → State
+state_of t = record { claims = t.claims; sets = t.registry.sets; pools = pools_of t.pools; lost = t.lost }
+
+-- the outputs of frames that are sent
+abbrev pub outputs_of : List Sent → List Output
+outputs_of sent = map (λ s. declared.Frame s.frame) sent
+
+-- ---- the step for an input
+
+-- Nothing comes of the operator's actions yet.
+abbrev pub step : State → Input → Step
+step s (inputs.Frame time frame) = step_frame s frame
+step s (inputs.Operator action) = no_step s
+
+abbrev pub after_all : State → List Input → State
+after_all s [] = s
+after_all s (i ∷ inputs) = after_all (step s i).after inputs
+
+abbrev pub sent_by_all : State → List Input → List Sent
+sent_by_all s [] = []
+sent_by_all s (i ∷ inputs) = (step s i).sent ++ sent_by_all (step s i).after inputs

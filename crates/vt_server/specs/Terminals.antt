@@ -1,0 +1,161 @@
+-- The terminal as one step for each input (docs/PROFILE.md, "The step").
+use Rattle.std.specs.Prelude.{ℕ, ◌==◌, Bool, true, false, if◌then◌else◌, List, [], ◌∷◌, ◌++◌, map, Option, Some, None, nat_eq}
+use Rattle.std.specs.Option.{option_eq}
+use Rattle.vt_can.specs.declared.frame.Frame.{Frame}
+use Rattle.vt_can.specs.Nodes.{source_of}
+use Rattle.vt_names.specs.Claims.{Claimed, heard, address_of, holder_of, answer}
+use Rattle.vt_names.specs.declared.claims.Heard.{Heard}
+use Rattle.vt_names.specs.declared.claims.Heard.TheVariants as claims
+use Rattle.vt_names.specs.Registry.{Set, set_at, with_set, without}
+use Rattle.vt_objects.specs.Stores.{Contents}
+use Rattle.vt_server.specs.Bus.{said}
+use Rattle.vt_server.specs.Messages.{claim_from}
+use Rattle.vt_server.specs.Parts.{Part, After, Local, Hears, Rebinds, local}
+use Rattle.vt_server.specs.declared.bus.Notice.{Notice}
+use Rattle.vt_server.specs.declared.bus.Notice.TheVariants.{Claim, ClaimRequest}
+
+-- what was heard of the addresses, the sets in order of registration, the pool of each address, and whether
+-- the own address was lost
+pub record State : Type 0 where
+  pub claims : Claimed
+  pub sets : List Set
+  pub pools : ℕ → Option Contents
+  pub lost : Bool
+
+-- a frame that is sent, to one address or to all
+pub record Sent : Type 0 where
+  pub to : Option ℕ
+  pub frame : Frame
+
+-- ---- one address of it
+
+abbrev pub holder : State → ℕ → Option ℕ
+holder s address = holder_of s.claims.addresses address
+
+abbrev pub part : ℕ → State → Part
+part address s = record {
+  own = s.claims.own;
+  lost = s.lost;
+  holder = holder s address;
+  set = set_at address s.sets;
+  pool = s.pools address;
+}
+
+abbrev pub with_set_at : ℕ → Option Set → List Set → List Set
+with_set_at address None sets = without address sets
+with_set_at address (Some set) sets = with_set set sets
+
+abbrev pub with_pool_at : ℕ → Option Contents → (ℕ → Option Contents) → ℕ → Option Contents
+with_pool_at address pool pools other = if other == address then pool else pools other
+
+abbrev pub put : ℕ → After → State → State
+put address after s = record s { sets = with_set_at address after.set s.sets; pools = with_pool_at address after.pool s.pools }
+
+abbrev pub to_one : ℕ → Frame → Sent
+to_one address frame = record { to = Some address; frame = frame }
+
+abbrev pub to_all : Frame → Sent
+to_all frame = record { to = None; frame = frame }
+
+-- ---- what happens at addresses, in turn
+
+unfoldable pub take : State → ℕ → Local → State
+take s address happening = put address (local address (part address s) happening) s
+
+unfoldable pub say : State → ℕ → Local → List Sent
+say s address happening = map (to_one address) (local address (part address s) happening).frames
+
+abbrev pub takes : State → List (ℕ × Local) → State
+takes s [] = s
+takes s (h ∷ happenings) = takes (take s h.0 h.1) happenings
+
+abbrev pub says : State → List (ℕ × Local) → List Sent
+says s [] = []
+says s (h ∷ happenings) = say s h.0 h.1 ++ says (take s h.0 h.1) happenings
+
+-- ---- what a frame makes happen
+
+abbrev pub hear_claim : State → ℕ → Notice → Claimed
+hear_claim s source (Claim name) = heard s.claims source name
+hear_claim s source _ = s.claims
+
+-- with the claim recorded, before anything happens at an address
+abbrev pub before : State → ℕ → Notice → State
+before s source said = record s { claims = hear_claim s source said }
+
+-- the address has another holder than before
+abbrev pub changed : Option ℕ → State → ℕ → List (ℕ × Local)
+changed was s address = if option_eq nat_eq was (holder s address) then [] else (address, Rebinds) ∷ []
+
+-- the address that a NAME leaves by claiming another
+abbrev pub left_by : ℕ → Option ℕ → Option ℕ
+left_by source None = None
+left_by source (Some left) = if left == source then None else Some left
+
+abbrev pub left_holder : State → Option ℕ → Option ℕ
+left_holder s None = None
+left_holder s (Some left) = holder s left
+
+abbrev pub changed_left : Option ℕ → State → Option ℕ → List (ℕ × Local)
+changed_left was s None = []
+changed_left was s (Some left) = changed was s left
+
+-- A claim changes the holders of two addresses at most: of the one that its NAME leaves, and of its source.
+abbrev pub changes_by : State → State → Option ℕ → ℕ → List (ℕ × Local)
+changes_by s t left source = changed_left (left_holder s left) t left ++ changed (holder s source) t source
+
+abbrev pub changes : State → ℕ → Notice → List (ℕ × Local)
+changes s source (Claim name) =
+    changes_by s (before s source (Claim name)) (left_by source (address_of s.claims.addresses name)) source
+changes s source _ = []
+
+-- in order: each change of a holder, and the frame at its source
+abbrev pub acts : State → ℕ → Notice → List ℕ → List (ℕ × Local)
+acts s source said bytes = changes s source said ++ (source, Hears said bytes) ∷ []
+
+abbrev pub answer_to : State → ℕ → Notice → Heard
+answer_to s source (Claim name) = answer s.claims source name
+answer_to s source _ = claims.Nothing
+
+-- a lower NAME claims the own address
+abbrev pub is_lost_by : Heard → Bool
+is_lost_by claims.Lost = true
+is_lost_by _ = false
+
+-- the terminal's claim, where another claims its address or asks for it
+abbrev pub is_defended : Notice → Heard → Bool
+is_defended ClaimRequest _ = true
+is_defended _ claims.Defend = true
+is_defended _ _ = false
+
+abbrev pub defence : State → ℕ → Notice → List Sent
+defence s source said =
+    if is_defended said (answer_to s source said) then to_all (claim_from s.claims.own s.claims.name) ∷ [] else []
+
+-- ---- the step
+
+pub record Step : Type 0 where
+  pub after : State
+  pub sent : List Sent
+
+abbrev pub no_step : State → Step
+no_step s = record { after = s; sent = [] }
+
+-- Cannot Claim goes out, and nothing else happens, now or later.
+abbrev pub losing : State → Step
+losing s = record { after = record s { lost = true }; sent = to_all (claim_from 254 s.claims.name) ∷ [] }
+
+abbrev pub acting : State → ℕ → Notice → List ℕ → Step
+acting s source said bytes = let happenings = acts s source said bytes in record {
+  after = takes (before s source said) happenings;
+  sent = defence s source said ++ says (before s source said) happenings;
+}
+
+abbrev pub step_said : State → ℕ → Notice → List ℕ → Step
+step_said s source said bytes =
+    if s.lost then no_step s
+    else if is_lost_by (answer_to s source said) then losing s
+    else acting s source said bytes
+
+abbrev pub step_frame : State → Frame → Step
+step_frame s frame = step_said s (source_of frame) (said s.claims.own s.claims.name frame) frame.bytes.items

@@ -1,0 +1,102 @@
+//! What a frame says to the terminal (ISO 11783-5, ISO 11783-6).
+
+ghost use Rattle.std.specs.Prelude.{◌≡◌, ◌≤◌, length};
+ghost use Rattle.byteorder.specs.Endian.{little_number};
+ghost use Rattle.vt_server.specs.declared.bus.Notice.TheVariants as declared;
+ghost use Rattle.vt_server.specs.Bus.{said, said_by, unless_echo};
+
+use byteorder::{ByteOrder, LittleEndian};
+use vt_can::Frame;
+use vt_names::Name;
+
+/// The address of every node.
+pub(crate) const GLOBAL_ADDRESS: u8 = 255;
+
+/// The PGN of Address Claimed and Cannot Claim.
+pub(crate) const ADDRESS_CLAIMED: u32 = 0xEE00;
+
+/// The PGN of a Request.
+const REQUEST: u32 = 0xEA00;
+
+/// The PGN of Working Set Master.
+const WORKING_SET_MASTER: u32 = 0xFE0D;
+
+/// The PGN of Working Set Member.
+const WORKING_SET_MEMBER: u32 = 0xFE0C;
+
+/// The PGN of messages from an implement to the terminal.
+const ECU_TO_VT: u32 = 0xE700;
+
+/// What a frame says to the terminal.
+#[derive(Clone, Copy, Debug, PartialEq, Eq)]
+pub(crate) enum Notice {
+    /// A NAME claims the source address.
+    Claim(Name),
+    /// The terminal is asked for its claim.
+    ClaimRequest,
+    /// The source is the master of a working set, with so many members.
+    Master { count: u8 },
+    /// A NAME is a member of the working set of the source.
+    Member(Name),
+    /// The bytes are a message to the terminal.
+    Message,
+    /// Nothing that the terminal looks at.
+    Nothing,
+}
+
+/// What a frame says to the terminal of an address and NAME. docs/PROFILE.md, "Echoes".
+pub(crate) fn said(own: u8, name: Name, frame: &Frame) -> Notice
+    ensures { result ≡ said own name frame.now }
+{
+    let said = said_by(own, frame);
+    if frame.id.source() != own {
+        return said;
+    }
+    unless_echo(name, said)
+}
+
+// Of what comes from the own address, only a claim by another NAME says anything.
+fn unless_echo(name: Name, said: Notice) -> Notice
+    ensures { result ≡ unless_echo name said }
+{
+    match said {
+        Notice::Claim(other) => unless_own(name, other),
+        _ => Notice::Nothing,
+    }
+}
+
+fn unless_own(name: Name, other: Name) -> Notice
+    ensures { result ≡ unless_echo name (declared.Claim other) }
+{
+    if other == name {
+        return Notice::Nothing;
+    }
+    Notice::Claim(other)
+}
+
+fn said_by(own: u8, frame: &Frame) -> Notice
+    ensures { result ≡ said_by own frame.now }
+{
+    let bytes = frame.bytes.as_slice();
+    let destination = frame.id.destination();
+    let to_all = destination == Some(GLOBAL_ADDRESS);
+    let to_terminal = destination == Some(own);
+    match frame.id.pgn() {
+        ADDRESS_CLAIMED if to_all && bytes.len() >= 8 => Notice::Claim(name_in(bytes)),
+        REQUEST if (to_terminal || to_all) && bytes.starts_with(&[0x00, 0xEE, 0x00]) => {
+            Notice::ClaimRequest
+        }
+        WORKING_SET_MASTER if !bytes.is_empty() => Notice::Master { count: bytes[0] },
+        WORKING_SET_MEMBER if bytes.len() >= 8 => Notice::Member(name_in(bytes)),
+        ECU_TO_VT if to_terminal => Notice::Message,
+        _ => Notice::Nothing,
+    }
+}
+
+// The NAME in the first eight bytes.
+fn name_in(bytes: &[u8]) -> Name
+    requires { 8 ≤ length bytes.now }
+    ensures { result ≡ little_number 8 bytes.now }
+{
+    Name::from_raw(LittleEndian::read_u64(bytes))
+}

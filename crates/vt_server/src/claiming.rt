@@ -1,0 +1,138 @@
+//! What the terminal does with an address claim.
+
+ghost use Rattle.std.specs.Prelude.{◌≡◌, ◌++◌, ◌<◌, ℕ, List, false, OnOk, OnErr, vec_len, vec_capacity};
+ghost use Rattle.vt_names.specs.Claims.{address_of};
+ghost use Rattle.vt_server.specs.Parts.{Hears};
+ghost use Rattle.vt_server.specs.States.{state_of, outputs_of};
+ghost use Rattle.vt_server.specs.Terminals as spec;
+ghost use Rattle.vt_server.specs.declared.bus.Notice.TheVariants as said;
+
+use crate::OutOfMemory;
+use crate::hearing::send;
+use crate::messages::claim_from;
+use crate::output::Output;
+use crate::terminal::Terminal;
+use vt_names::{Heard, Name};
+
+/// Cannot Claim is sent from this address.
+const NULL_ADDRESS: u8 = 254;
+
+impl Terminal {
+    /// Hears that a NAME claims the source address. docs/PROFILE.md, "The terminal's claims", "Closing a set".
+    pub(crate) fn hear_claim(
+        &mut self,
+        source: u8,
+        name: Name,
+        outputs: &mut Vec<Output>,
+    ) -> Result<(), OutOfMemory>
+        requires has { (state_of self.old).lost ≡ false }
+        requires room { vec_len outputs.old < vec_capacity outputs.old }
+        ensures ok { OnOk result ((bytes : List ℕ) → state_of self.new
+            ≡ (spec.step_said (state_of self.old) source (said.Claim name) bytes).after) }
+        ensures sent { OnOk result ((bytes : List ℕ) → outputs.new.items
+            ≡ outputs.old.items ++ outputs_of (spec.step_said (state_of self.old) source (said.Claim name) bytes).sent) }
+        ensures err { OnErr result (state_of self.new ≡ state_of self.old) }
+        ensures err_sent { OnErr result (outputs.new.items ≡ outputs.old.items) }
+    {
+        let own = self.claims.own();
+        let own_name = self.claims.name();
+        match self.claims.answer(source, name) {
+            Heard::Lost => {
+                self.lost = true;
+                send(outputs, claim_from(NULL_ADDRESS, own_name));
+                Ok(())
+            }
+            Heard::Defend => {
+                self.record(source, name)?;
+                send(outputs, claim_from(own, own_name));
+                Ok(())
+            }
+            Heard::Nothing => {
+                self.record(source, name)?;
+                Ok(())
+            }
+        }
+    }
+
+    /// Records a claim. The sets of addresses that have another holder then are closed, and a set of the source
+    /// without a NAME takes the holder's.
+    fn record(&mut self, source: u8, name: Name) -> Result<(), OutOfMemory>
+        ensures ok { OnOk result ((bytes : List ℕ) → state_of self.new
+            ≡ (spec.acting (state_of self.old) source (said.Claim name) bytes).after) }
+        ensures err { OnErr result (state_of self.new ≡ state_of self.old) }
+    {
+        let left = self.left_by(source, name);
+        let left_holder = self.left_holder(left);
+        let holder = self.claims.holder(source);
+        self.claims.hear(source, name)?;
+        self.rebind_left(left, left_holder);
+        self.rebind(source, holder);
+        self.bind(source);
+        Ok(())
+    }
+
+    // The address that a NAME leaves by claiming another.
+    fn left_by(&self, source: u8, name: Name) -> Option<u8>
+        ensures { result ≡ spec.left_by source (address_of self.now.claims.addresses name) }
+    {
+        match self.claims.address_of(name) {
+            Some(left) if left != source => Some(left),
+            _ => None,
+        }
+    }
+
+    fn left_holder(&self, left: Option<u8>) -> Option<Name>
+        ensures { result ≡ spec.left_holder (state_of self.now) left }
+    {
+        match left {
+            Some(left) => self.claims.holder(left),
+            None => None,
+        }
+    }
+
+    fn rebind_left(&mut self, left: Option<u8>, was: Option<Name>)
+        ensures { state_of self.new ≡ spec.takes (state_of self.old) (spec.changed_left was (state_of self.old) left) }
+    {
+        match left {
+            Some(left) => self.rebind(left, was),
+            None => {}
+        }
+    }
+
+    // Closes the set of an address whose holder was another, where that is not its NAME.
+    fn rebind(&mut self, address: u8, was: Option<Name>)
+        ensures { state_of self.new ≡ spec.takes (state_of self.old) (spec.changed was (state_of self.old) address) }
+    {
+        let holder = self.claims.holder(address);
+        if was == holder {
+            return;
+        }
+        let name = match self.registry.get(address) {
+            Some(set) => set.name(),
+            None => return,
+        };
+        if name.is_none() || name == holder {
+            return;
+        }
+        self.registry.close(address);
+        self.pools.remove(address);
+    }
+
+    // A set without a NAME takes the holder's.
+    fn bind(&mut self, address: u8)
+        ensures { (name : ℕ) (bytes : List ℕ) → state_of self.new
+            ≡ spec.take (state_of self.old) address (Hears (said.Claim name) bytes) }
+    {
+        let name = match self.registry.get(address) {
+            Some(set) => set.name(),
+            None => return,
+        };
+        if name.is_some() {
+            return;
+        }
+        match self.claims.holder(address) {
+            Some(holder) => self.registry.bind(address, holder),
+            None => {}
+        }
+    }
+}

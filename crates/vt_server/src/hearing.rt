@@ -1,0 +1,121 @@
+//! What the terminal does with a frame.
+
+ghost use Rattle.std.specs.Prelude.{◌≡◌, ◌++◌, ◌<◌, ℕ, List, [], ◌∷◌, OnOk, OnErr, vec_len, vec_capacity};
+ghost use Rattle.std.specs.Option.{option_to_list};
+ghost use Rattle.vt_server.specs.Parts.{Hears, local};
+ghost use Rattle.vt_server.specs.declared.output.Output.TheVariants as declared;
+ghost use Rattle.vt_server.specs.States.{state_of, outputs_of};
+ghost use Rattle.vt_server.specs.Terminals as spec;
+ghost use Rattle.vt_server.specs.declared.bus.Notice.TheVariants as said;
+ghost use Rattle.vt_objects.specs.Commands.{command_at};
+ghost use Rattle.vt_server.specs.Parts.{hide_show_in};
+
+use crate::OutOfMemory;
+use crate::bus::{Notice, said};
+use crate::messages::{claim_from, hide_show_reply, message_to, technical_reply};
+use crate::output::Output;
+use crate::terminal::Terminal;
+use vt_can::Frame;
+use vt_objects::{Command, ObjectId};
+
+/// At most so many outputs come of one input.
+const MOST_OUTPUTS: usize = 1024;
+
+impl Terminal {
+    /// Hears a frame. All growths are made before the first change.
+    pub(crate) fn hear(
+        &mut self,
+        frame: &Frame,
+        outputs: &mut Vec<Output>,
+    ) -> Result<(), OutOfMemory>
+        ensures ok { OnOk result (state_of self.new ≡ (spec.step_frame (state_of self.old) frame.now).after) }
+        ensures sent { OnOk result (outputs.new.items
+            ≡ outputs.old.items ++ outputs_of (spec.step_frame (state_of self.old) frame.now).sent) }
+        ensures err { OnErr result (state_of self.new ≡ state_of self.old) }
+        ensures err_sent { OnErr result (outputs.new.items ≡ outputs.old.items) }
+    {
+        if self.lost {
+            return Ok(());
+        }
+        outputs.reserve(MOST_OUTPUTS)?;
+        let source = frame.id.source();
+        match said(self.claims.own(), self.claims.name(), frame) {
+            Notice::Claim(name) => self.hear_claim(source, name, outputs),
+            Notice::ClaimRequest => {
+                send(outputs, claim_from(self.claims.own(), self.claims.name()));
+                Ok(())
+            }
+            Notice::Master { count } => {
+                self.hear_master(source, count)?;
+                Ok(())
+            }
+            Notice::Member(name) => {
+                let _refused = self.registry.member(source, name);
+                Ok(())
+            }
+            Notice::Message => {
+                match self.answer(source, frame.bytes.as_slice()) {
+                    Some(reply) => send(outputs, reply),
+                    None => {}
+                }
+                Ok(())
+            }
+            Notice::Nothing => Ok(()),
+        }
+    }
+
+    fn hear_master(&mut self, source: u8, count: u8) -> Result<(), OutOfMemory>
+        ensures ok { OnOk result ((bytes : List ℕ) → state_of self.new
+            ≡ spec.take (state_of self.old) source (Hears (said.Master count) bytes)) }
+        ensures err { OnErr result (state_of self.new ≡ state_of self.old) }
+    {
+        self.registry.reserve(source)?;
+        // There is room, so only an address without a holder is refused, and then nothing is registered.
+        let _refused = self
+            .registry
+            .master(source, self.claims.holder(source), count);
+        Ok(())
+    }
+
+    /// The reply to a message from the master of a set, if it has one.
+    fn answer(&mut self, source: u8, bytes: &[u8]) -> Option<Frame>
+        ensures state { state_of self.new ≡ spec.take (state_of self.old) source (Hears said.Message bytes.now) }
+        ensures reply { option_to_list result
+            ≡ (local source (spec.part source (state_of self.old)) (Hears said.Message bytes.now)).frames }
+    {
+        if !self.registered(source) {
+            return None;
+        }
+        let own = self.claims.own();
+        match technical_reply(bytes) {
+            Some(reply) => return Some(message_to(own, source, reply)),
+            None => {}
+        }
+        let (id, state) = match hide_show_asked(bytes) {
+            Some(asked) => asked,
+            None => return None,
+        };
+        match self.pools.hide_show(source, id, state) {
+            Some(error) => Some(message_to(own, source, hide_show_reply(id, state, error))),
+            None => None,
+        }
+    }
+}
+
+/// The object and the state of a Hide/Show command, if the bytes are one.
+fn hide_show_asked(bytes: &[u8]) -> Option<(ObjectId, u8)>
+    ensures { result ≡ hide_show_in (command_at bytes.now) }
+{
+    match Command::read(bytes)? {
+        Command::HideShow { id, state } => Some((id, state)),
+        _ => None,
+    }
+}
+
+/// Appends a frame for which there is room.
+pub(crate) fn send(outputs: &mut Vec<Output>, frame: Frame)
+    requires room { vec_len outputs.old < vec_capacity outputs.old }
+    ensures { outputs.new.items ≡ outputs.old.items ++ declared.Frame frame ∷ [] }
+{
+    let _done = outputs.push(Output::Frame(frame));
+}

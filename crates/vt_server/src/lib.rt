@@ -1,0 +1,21 @@
+//! The terminal: working sets by address, one step for each input (ISO 11783-5, ISO 11783-6).
+//!
+//! docs/PROFILE.md, "The step", has the rules.
+#![tactic(auto)]
+
+mod bus;
+mod claiming;
+mod hearing;
+mod hiding;
+mod input;
+mod messages;
+mod output;
+mod pools;
+mod terminal;
+
+pub use input::Input;
+pub use output::Output;
+pub use terminal::{RunFault, Terminal};
+
+/// A growth that was refused.
+pub use std::alloc::AllocError as OutOfMemory;

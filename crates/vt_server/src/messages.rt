@@ -1,0 +1,79 @@
+//! Messages from the terminal.
+
+ghost use Rattle.std.specs.Prelude.{◌≡◌, [], ◌∷◌};
+ghost use Rattle.vt_server.specs.Hiding.{reply_bytes};
+ghost use Rattle.vt_server.specs.Messages.{message_to, claim_from, memory_status, technical_reply};
+
+use crate::bus::{ADDRESS_CLAIMED, GLOBAL_ADDRESS};
+use arrayvec::ArrayVec;
+use byteorder::{ByteOrder, LittleEndian};
+use vt_can::{CanId, Frame};
+use vt_names::Name;
+use vt_objects::ObjectId;
+
+/// The PGN of messages from the terminal to an implement.
+const VT_TO_ECU: u32 = 0xE600;
+
+/// The priority of the terminal's messages.
+const MESSAGE_PRIORITY: u8 = 5;
+
+/// The priority of address claims.
+const CLAIM_PRIORITY: u8 = 6;
+
+/// The version of the standard that the terminal reports.
+const VERSION: u8 = 3;
+
+/// The memory that the terminal has for pools, in bytes.
+const MEMORY: u32 = 1_048_576;
+
+/// A message to the master of a set.
+pub(crate) fn message_to(own: u8, address: u8, bytes: [u8; 8]) -> Frame
+    ensures { result ≡ message_to own address bytes }
+{
+    Frame {
+        id: CanId::new(MESSAGE_PRIORITY, VT_TO_ECU, address, own),
+        bytes: ArrayVec::from(bytes),
+    }
+}
+
+/// Address Claimed, or Cannot Claim from the null address.
+pub(crate) fn claim_from(address: u8, name: Name) -> Frame
+    ensures { result ≡ claim_from address name }
+{
+    let mut bytes = [0; 8];
+    LittleEndian::write_u64(&mut bytes, name.raw());
+    Frame {
+        id: CanId::new(CLAIM_PRIORITY, ADDRESS_CLAIMED, GLOBAL_ADDRESS, address),
+        bytes: ArrayVec::from(bytes),
+    }
+}
+
+/// The reply to a message that asks what the terminal is, if it is one.
+/// docs/PROFILE.md, "Other messages".
+pub(crate) fn technical_reply(bytes: &[u8]) -> Option<[u8; 8]>
+    ensures { result ≡ technical_reply bytes.now }
+{
+    match *bytes.first()? {
+        0xC0 if bytes.len() >= 6 => Some(memory_reply(LittleEndian::read_u32(&bytes[2..]))),
+        0xC2 => Some([0xC2, 0xFF, 0xFF, 0xFF, 0x40, 0x40, 0x40, 0x06]),
+        0xC3 => Some([0xC3, 0xFF, 0xFF, 0xFF, 0xFF, 0x7F, 0x7F, 0x00]),
+        0xC7 => Some([0xC7, 0x00, 0x02, 0x00, 0xE0, 0x01, 0xE0, 0x01]),
+        _ => None,
+    }
+}
+
+fn memory_reply(asked: u32) -> [u8; 8]
+    ensures { result ≡ 0xC0 ∷ 0x03 ∷ memory_status asked ∷ 0xFF ∷ 0xFF ∷ 0xFF ∷ 0xFF ∷ 0xFF ∷ [] }
+{
+    let status = if asked <= MEMORY { 0 } else { 1 };
+    [0xC0, VERSION, status, 0xFF, 0xFF, 0xFF, 0xFF, 0xFF]
+}
+
+/// The bytes of the reply to Hide/Show Object.
+pub(crate) fn hide_show_reply(id: ObjectId, state: u8, error: u8) -> [u8; 8]
+    ensures { result ≡ reply_bytes id state error }
+{
+    let mut bytes = [0xA0, 0, 0, state, error, 0xFF, 0xFF, 0xFF];
+    LittleEndian::write_u16(&mut bytes[1..3], id.raw());
+    bytes
+}
