@@ -11,3 +11,4 @@ pub mod Commands
 pub mod Rows
 pub mod Decimals
 pub mod Pieces
+pub mod Texts
