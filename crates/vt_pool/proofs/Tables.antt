@@ -4,7 +4,7 @@ use Rattle.std.specs.List.{AllByRecursion}
 use Rattle.std.proofs.lemmas.List.Elements.{recursion_from_All, All-from_get_or}
 use Rattle.byteorder.specs.Endian.{little_bytes}
 use Rattle.std.specs.Int.{cast_unsigned}
-use Rattle.vt_objects.specs.Layout.{Size, Unsigned, Signed, Numeral, natural, integer, bytes_in, number_spelling, Field, Number, Count, Rows, Bytes, ScaleBytes, DecimalPlaces, Value, number, rows, bytes, Counts, counted, count_of, row_spelling, rows_spelling, spelling, RowFits, Shaped}
+use Rattle.vt_objects.specs.Layout.{Size, Unsigned, Signed, Numeral, natural, integer, bytes_in, Field, Number, Count, Rows, Bytes, ScaleBytes, DecimalPlaces, Value, number, rows, bytes, Counts, counted, count_of, row_spelling, rows_spelling, spelling, RowFits, Shaped}
 use Rattle.vt_pool.specs.Reading.{◌>>=◌, bytes_at, number_at, signed_at, row_at, rows_at, values_at}
 use Rattle.vt_pool.proofs.Numbers.{IsBytes, bind_some, some_is, Takes, Takes-nothing, Takes-then, bytes_take, bytes_again, number_takes, number_again, signed_takes, signed_again}
 

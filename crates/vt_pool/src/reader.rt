@@ -1,6 +1,6 @@
 //! Reading numbers and bytes from the front of a slice.
 
-ghost use Rattle.std.specs.Prelude.{◌≡◌, ◌+◌, length, IfOk};
+ghost use Rattle.std.specs.Prelude.{◌≡◌, length, IfOk};
 ghost use Rattle.std.specs.Int.{w16, w32};
 ghost use Rattle.byteorder.specs.Endian.{little_number};
 ghost use Rattle.vt_pool.specs.Reading.{Gives, number_at, signed_at, bytes_at};

@@ -1,7 +1,7 @@
 //! The records of all kinds: what stands behind the ID and the type.
 
 ghost use Rattle.std.specs.Prelude.{◌≡◌, IfOk, OnOk};
-ghost use Rattle.vt_objects.specs.Records.{fields_of, values_of, kind_of, seen};
+ghost use Rattle.vt_objects.specs.Records.{fields_of, values_of, kind_of};
 ghost use Rattle.vt_pool.specs.Heads.{Reads, fields_at};
 ghost use Rattle.vt_pool.specs.Writing.{written};
 

@@ -1,6 +1,6 @@
 //! Writing records.
 
-ghost use Rattle.std.specs.Prelude.{◌≡◌, ◌<◌, ◌++◌, [], ◌∷◌, OnOk, OnErr};
+ghost use Rattle.std.specs.Prelude.{◌≡◌, ◌<◌, ◌++◌, OnOk, OnErr};
 ghost use Rattle.std.specs.Int.{w16, w32, cast_unsigned};
 ghost use Rattle.byteorder.specs.Endian.{little_bytes};
 ghost use Rattle.vt_objects.specs.Records.{HasRecord, record_of, seen};
