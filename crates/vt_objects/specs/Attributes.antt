@@ -1,6 +1,7 @@
 -- The attributes that Change Attribute writes, by their numbers, and of which sort the values of each are
--- (docs/PROFILE.md, "Attribute numbers"; "Values of attributes" has what each sort takes).
-use Rattle.std.specs.Prelude.{ℕ, zero, suc, List, [], ◌∷◌, ◌==◌, if◌then◌else◌, Option, Some, None, slice_get}
+-- (docs/PROFILE.md, "Attribute numbers"), and what each sort takes ("Values of attributes").
+use Rattle.std.specs.Prelude.{◌≡◌, ◌≢◌, ◌≤◌, ◌⊎◌, ℕ, zero, suc, ◌%◌, ◌^◌, List, [], ◌∷◌, ◌==◌, if◌then◌else◌, Option, Some, None, IsTrue, slice_get}
+use Rattle.std.specs.List.{list_any}
 use Rattle.vt_objects.specs.declared.kind.Kind.{Kind}
 use Rattle.vt_objects.specs.declared.kind.Kind.TheVariants as kinds
 use Rattle.vt_objects.specs.declared.place.Place.TheVariants as places
@@ -10,9 +11,50 @@ use Rattle.vt_objects.specs.declared.fields.Field.{Field}
 use Rattle.vt_objects.specs.declared.fields.Field.TheVariants as fields
 use Rattle.vt_objects.specs.declared.fields.Values.{Values}
 use Rattle.vt_objects.specs.declared.fields.Values.TheVariants as values
+use Rattle.vt_objects.specs.Kinds.{kind_number}
+use Rattle.vt_objects.specs.References.{allowed, may_be_null, members}
+use Rattle.vt_objects.specs.Scales.{IsScale}
 
 abbrev pub taking : Field → Values → Attribute
 taking field values = record { field = field; values = values }
+
+-- ---- what the values of each sort are
+
+-- how many bytes a field of a sort has
+abbrev pub width : Values → ℕ
+width values.Byte = 1
+width values.Word = 2
+width values.Long = 4
+width values.SignedLong = 4
+width (values.Reference place) = 2
+width values.Priority = 1
+width values.Scale = 4
+width values.Decimals = 1
+
+-- what a field gets of a value: its lowest bytes
+abbrev pub lowest : Values → ℕ → ℕ
+lowest sort value = value % 256 ^ width sort
+
+-- an object that is there, of a kind among these
+abbrev pub IsAmong : List Kind → Option Kind → Type 0
+IsAmong kinds None = ⊥
+IsAmong kinds (Some kind) = IsTrue (list_any (λ member. kind_number member == kind_number kind) kinds)
+
+-- what may stand at a place of an object of a kind: NULL, where the place allows it, or an object of an allowed kind
+abbrev pub MayStand : Kind → Place → ℕ → Option Kind → Type 0
+MayStand kind place id named =
+    ((id ≡ 0xFFFF) × IsTrue (may_be_null place)) ⊎ ((id ≢ 0xFFFF) × IsAmong (members (allowed kind place)) named)
+
+-- What a field of an object of a kind takes; of a reference, where `named` is the kind of the object that it names.
+-- The value of an object pointer has to meet more (docs/PROFILE.md, "Values of attributes").
+abbrev pub Takes : Kind → Values → ℕ → Option Kind → Type 0
+Takes kind (values.Reference place) n named = MayStand kind place n named
+Takes kind values.Priority n named = n ≤ 2
+Takes kind values.Scale n named = IsScale n
+Takes kind values.Decimals n named = n ≤ 7
+Takes kind _ n named = Unit {0}
+
+-- ---- the attributes of each kind
 
 -- a field of one, two or four bytes that takes every value, and a signed one of four
 abbrev pub byte : Field → Attribute

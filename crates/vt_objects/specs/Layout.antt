@@ -1,6 +1,7 @@
 -- The layout of a record as a table of fields, and how such a table spells its values
 -- (docs/PROFILE.md, "Records").
-use Rattle.std.specs.Prelude.{◌≡◌, ◌<◌, ◌≤◌, ℕ, ◌^◌, List, [], ◌∷◌, ◌++◌, length, map}
+use Rattle.std.specs.Prelude.{◌≡◌, ◌<◌, ◌≤◌, ℕ, ℤ, ◌^◌, List, [], ◌∷◌, ◌++◌, length, map, FitsSigned}
+use Rattle.std.specs.Int.{Width, w8, w16, w32, w64, w128, cast_unsigned}
 use Rattle.std.specs.List.{flat_map, AllByRecursion}
 use Rattle.byteorder.specs.Endian.{little_bytes}
 use Rattle.vt_objects.specs.Scales.{IsScale}
@@ -11,14 +12,18 @@ pub data Counted : Type 0 where
   Macros : Counted
   Others : Counted
 
--- A field of a record. Numbers are little endian.
+-- How a number is written: in so many bytes, or signed, in two's complement. Numbers are little endian.
+pub data Size : Type 0 where
+  Unsigned : (size : ℕ) → Size
+  Signed : (width : Width) → Size
+
+-- A field of a record.
 pub data Field : Type 0 where
-  -- a number of so many bytes
-  Number : (size : ℕ) → Field
+  Number : (size : Size) → Field
   -- how many there are of the rows or bytes of a later field
   Count : (size : ℕ) → (of : Counted) → Field
   -- so many rows as were counted, each of numbers of these sizes
-  Rows : (of : Counted) → (sizes : List ℕ) → Field
+  Rows : (of : Counted) → (sizes : List Size) → Field
   -- so many bytes as were counted
   Bytes : (of : Counted) → Field
   -- the four bytes of a scale
@@ -26,10 +31,15 @@ pub data Field : Type 0 where
   -- a number of decimals, one byte
   DecimalPlaces : Field
 
+-- a number, unsigned or signed
+pub data Numeral : Type 0 where
+  natural : ℕ → Numeral
+  integer : ℤ → Numeral
+
 -- what stands in a field
 pub data Value : Type 0 where
-  number : ℕ → Value
-  rows : List (List ℕ) → Value
+  number : Numeral → Value
+  rows : List (List Numeral) → Value
   bytes : List ℕ → Value
 
 -- a field of the record of an A, and its value in an A
@@ -48,21 +58,27 @@ values t x = map (λ f. f.value x) t
 
 -- ---- how a table is written
 
+abbrev pub unsigned : {A : Type 0} → ℕ → (A → ℕ) → Named A
+unsigned size f = record { field = Number (Unsigned size); value = λ x. number (natural (f x)) }
+
 abbrev pub byte : {A : Type 0} → (A → ℕ) → Named A
-byte f = record { field = Number 1; value = λ x. number (f x) }
+byte f = unsigned 1 f
 
 abbrev pub word : {A : Type 0} → (A → ℕ) → Named A
-word f = record { field = Number 2; value = λ x. number (f x) }
+word f = unsigned 2 f
 
 abbrev pub long : {A : Type 0} → (A → ℕ) → Named A
-long f = record { field = Number 4; value = λ x. number (f x) }
+long f = unsigned 4 f
+
+abbrev pub signed_long : {A : Type 0} → (A → ℤ) → Named A
+signed_long f = record { field = Number (Signed w32); value = λ x. number (integer (f x)) }
 
 -- how many elements a list has
 abbrev pub count : {A X : Type 0} → ℕ → Counted → (A → List X) → Named A
-count size of f = record { field = Count size of; value = λ x. number (length (f x)) }
+count size of f = record { field = Count size of; value = λ x. number (natural (length (f x))) }
 
 -- the elements of a list, each as a row of numbers
-abbrev pub rows_of : {A X : Type 0} → Counted → List ℕ → (X → List ℕ) → (A → List X) → Named A
+abbrev pub rows_of : {A X : Type 0} → Counted → List Size → (X → List Numeral) → (A → List X) → Named A
 rows_of of sizes numbers f = record { field = Rows of sizes; value = λ x. rows (map numbers (f x)) }
 
 abbrev pub bytes_of : {A : Type 0} → Counted → (A → List ℕ) → Named A
@@ -70,21 +86,34 @@ bytes_of of f = record { field = Bytes of; value = λ x. bytes (f x) }
 
 -- ---- the spelling of values
 
-abbrev pub row_spelling : List ℕ → List ℕ → List ℕ
+-- the bytes of a width
+abbrev pub bytes_in : Width → ℕ
+bytes_in w8 = 1
+bytes_in w16 = 2
+bytes_in w32 = 4
+bytes_in w64 = 8
+bytes_in w128 = 16
+
+abbrev pub number_spelling : Size → Numeral → List ℕ
+number_spelling (Unsigned size) (natural n) = little_bytes size n
+number_spelling (Signed width) (integer z) = little_bytes (bytes_in width) (cast_unsigned width z)
+number_spelling _ _ = []
+
+abbrev pub row_spelling : List Size → List Numeral → List ℕ
 row_spelling [] ns = []
 row_spelling (size ∷ sizes) [] = []
-row_spelling (size ∷ sizes) (n ∷ ns) = little_bytes size n ++ row_spelling sizes ns
+row_spelling (size ∷ sizes) (n ∷ ns) = number_spelling size n ++ row_spelling sizes ns
 
-abbrev pub rows_spelling : List ℕ → List (List ℕ) → List ℕ
+abbrev pub rows_spelling : List Size → List (List Numeral) → List ℕ
 rows_spelling sizes rs = flat_map (row_spelling sizes) rs
 
 abbrev pub field_spelling : Field → Value → List ℕ
-field_spelling (Number size) (number n) = little_bytes size n
-field_spelling (Count size of) (number n) = little_bytes size n
+field_spelling (Number size) (number n) = number_spelling size n
+field_spelling (Count size of) (number n) = number_spelling (Unsigned size) n
 field_spelling (Rows of sizes) (rows rs) = rows_spelling sizes rs
 field_spelling (Bytes of) (bytes bs) = bs
-field_spelling ScaleBytes (number n) = little_bytes 4 n
-field_spelling DecimalPlaces (number n) = little_bytes 1 n
+field_spelling ScaleBytes (number n) = number_spelling (Unsigned 4) n
+field_spelling DecimalPlaces (number n) = number_spelling (Unsigned 1) n
 field_spelling _ _ = []
 
 abbrev pub spelling : List Field → List Value → List ℕ
@@ -113,28 +142,34 @@ count_of Objects counts = counts.objects
 count_of Macros counts = counts.macros
 count_of Others counts = counts.others
 
+-- a number fits its size
+abbrev pub Fits : Size → Numeral → Type 0
+Fits (Unsigned size) (natural n) = n < 256 ^ size
+Fits (Signed width) (integer z) = FitsSigned width z
+Fits _ _ = ⊥
+
 -- the numbers of a row fit their sizes
-abbrev pub RowFits : List ℕ → List ℕ → Type 0
+abbrev pub RowFits : List Size → List Numeral → Type 0
 RowFits [] [] = Unit {0}
 RowFits [] (n ∷ ns) = ⊥
 RowFits (size ∷ sizes) [] = ⊥
-RowFits (size ∷ sizes) (n ∷ ns) = (n < 256 ^ size) × RowFits sizes ns
+RowFits (size ∷ sizes) (n ∷ ns) = Fits size n × RowFits sizes ns
 
 -- each value has its field's shape: numbers fit their sizes, and lists are as long as they were counted
 abbrev pub Shaped : List Field → Counts → List Value → Type 0
 Shaped [] counts [] = Unit {0}
-Shaped (Number size ∷ fs) counts (number n ∷ vs) = (n < 256 ^ size) × Shaped fs counts vs
-Shaped (Count size of ∷ fs) counts (number n ∷ vs) = (n < 256 ^ size) × Shaped fs (counted of n counts) vs
+Shaped (Number size ∷ fs) counts (number n ∷ vs) = Fits size n × Shaped fs counts vs
+Shaped (Count size of ∷ fs) counts (number (natural n) ∷ vs) = (n < 256 ^ size) × Shaped fs (counted of n counts) vs
 Shaped (Rows of sizes ∷ fs) counts (rows rs ∷ vs) = (length rs ≡ count_of of counts) × AllByRecursion (RowFits sizes) rs × Shaped fs counts vs
 Shaped (Bytes of ∷ fs) counts (bytes bs ∷ vs) = (length bs ≡ count_of of counts) × AllByRecursion (λ b. b < 256) bs × Shaped fs counts vs
-Shaped (ScaleBytes ∷ fs) counts (number n ∷ vs) = (n < 256 ^ 4) × Shaped fs counts vs
-Shaped (DecimalPlaces ∷ fs) counts (number n ∷ vs) = (n < 256 ^ 1) × Shaped fs counts vs
+Shaped (ScaleBytes ∷ fs) counts (number (natural n) ∷ vs) = (n < 256 ^ 4) × Shaped fs counts vs
+Shaped (DecimalPlaces ∷ fs) counts (number (natural n) ∷ vs) = (n < 256 ^ 1) × Shaped fs counts vs
 Shaped _ _ _ = ⊥
 
 -- a value is one that its field may have: scales are among those that there are, and decimals at most 7
 abbrev pub IsProper : Field → Value → Type 0
-IsProper ScaleBytes (number n) = IsScale n
-IsProper DecimalPlaces (number n) = n ≤ 7
+IsProper ScaleBytes (number (natural n)) = IsScale n
+IsProper DecimalPlaces (number (natural n)) = n ≤ 7
 IsProper _ _ = Unit {0}
 
 abbrev pub Proper : List Field → List Value → Type 0

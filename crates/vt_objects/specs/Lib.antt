@@ -2,7 +2,6 @@ pub mod Scales
 pub mod Layout
 pub mod Kinds
 pub mod Tables
-pub mod FromValues
 pub mod Records
 pub mod References
 pub mod Listing
@@ -12,3 +11,4 @@ pub mod Commands
 pub mod Rows
 pub mod Decimals
 pub mod Pieces
+pub mod Texts

@@ -1,5 +1,5 @@
 -- The record of an object under an ID (docs/PROFILE.md, "Records").
-use Rattle.std.specs.Prelude.{◌≡◌, ◌<◌, ℕ, List, ◌∷◌, ◌++◌, Option, Some, None}
+use Rattle.std.specs.Prelude.{◌<◌, ℕ, List, ◌∷◌, ◌++◌}
 use Rattle.byteorder.specs.Endian.{little_bytes}
 use Rattle.vt_objects.specs.declared.kind.Kind.{Kind}
 use Rattle.vt_objects.specs.declared.kind.Kind.TheVariants as kinds
@@ -14,7 +14,6 @@ use Rattle.vt_objects.specs.declared.object.Object.TheVariants as objects
 use Rattle.vt_objects.specs.Layout.{Field, Value, fields, values, spelling, Shaped, Proper, no_counts}
 use Rattle.vt_objects.specs.Kinds.{kind_number}
 use Rattle.vt_objects.specs.Tables.{working_set, data_mask, alarm_mask, container, soft_key_mask, key, button, input_boolean, input_string, input_number, input_list, output_string, output_number, line, rectangle, ellipse, polygon, meter, linear_bar, arched_bar, picture, number_variable, string_variable, font, line_attributes, fill_attributes, input_attributes, object_pointer, macro_object}
-use Rattle.vt_objects.specs.FromValues.{working_set_from, data_mask_from, alarm_mask_from, container_from, soft_key_mask_from, key_from, button_from, input_boolean_from, input_string_from, input_number_from, input_list_from, output_string_from, output_number_from, line_from, rectangle_from, ellipse_from, polygon_from, meter_from, linear_bar_from, arched_bar_from, picture_from, number_variable_from, string_variable_from, font_from, line_attributes_from, fill_attributes_from, input_attributes_from, object_pointer_from, macro_object_from}
 
 -- ---- objects wherever their bytes lie
 
@@ -201,46 +200,9 @@ values_of (objects.Macro o) = values macro_object o
 abbrev pub record_of : {B : Type 0} → ℕ → Object B → List ℕ
 record_of id o = little_bytes 2 id ++ kind_number (kind_of o) ∷ spelling (fields_of (kind_of o)) (values_of o)
 
-abbrev pub made : {A : Type 0} → (A → Seen) → Option A → Option Seen
-made f None = None
-made f (Some x) = Some (f x)
-
--- the object of a kind with these values
-abbrev pub object_from : Kind → List Value → Option Seen
-object_from kinds.WorkingSet vs = made objects.WorkingSet (working_set_from vs)
-object_from kinds.DataMask vs = made objects.DataMask (data_mask_from vs)
-object_from kinds.AlarmMask vs = made objects.AlarmMask (alarm_mask_from vs)
-object_from kinds.Container vs = made objects.Container (container_from vs)
-object_from kinds.SoftKeyMask vs = made objects.SoftKeyMask (soft_key_mask_from vs)
-object_from kinds.Key vs = made objects.Key (key_from vs)
-object_from kinds.Button vs = made objects.Button (button_from vs)
-object_from kinds.InputBoolean vs = made objects.InputBoolean (input_boolean_from vs)
-object_from kinds.InputString vs = made objects.InputString (input_string_from vs)
-object_from kinds.InputNumber vs = made objects.InputNumber (input_number_from vs)
-object_from kinds.InputList vs = made objects.InputList (input_list_from vs)
-object_from kinds.OutputString vs = made objects.OutputString (output_string_from vs)
-object_from kinds.OutputNumber vs = made objects.OutputNumber (output_number_from vs)
-object_from kinds.Line vs = made objects.Line (line_from vs)
-object_from kinds.Rectangle vs = made objects.Rectangle (rectangle_from vs)
-object_from kinds.Ellipse vs = made objects.Ellipse (ellipse_from vs)
-object_from kinds.Polygon vs = made objects.Polygon (polygon_from vs)
-object_from kinds.Meter vs = made objects.Meter (meter_from vs)
-object_from kinds.LinearBar vs = made objects.LinearBar (linear_bar_from vs)
-object_from kinds.ArchedBar vs = made objects.ArchedBar (arched_bar_from vs)
-object_from kinds.Picture vs = made objects.Picture (picture_from vs)
-object_from kinds.NumberVariable vs = made objects.NumberVariable (number_variable_from vs)
-object_from kinds.StringVariable vs = made objects.StringVariable (string_variable_from vs)
-object_from kinds.Font vs = made objects.Font (font_from vs)
-object_from kinds.LineAttributes vs = made objects.LineAttributes (line_attributes_from vs)
-object_from kinds.FillAttributes vs = made objects.FillAttributes (fill_attributes_from vs)
-object_from kinds.InputAttributes vs = made objects.InputAttributes (input_attributes_from vs)
-object_from kinds.ObjectPointer vs = made objects.ObjectPointer (object_pointer_from vs)
-object_from kinds.Macro vs = made objects.Macro (macro_object_from vs)
-
 -- An object has a record under an ID: the ID is not NULL, its numbers fit their fields and its lists their
--- counts, scales and decimals are those that there are, and its signed numbers are those that their bytes say.
+-- counts, and scales and decimals are those that there are.
 pub record HasRecord (id : ℕ) (o : Seen) : Type 0 where
   pub named : id < 0xFFFF
   pub shaped : Shaped (fields_of (kind_of o)) no_counts (values_of o)
   pub proper : Proper (fields_of (kind_of o)) (values_of o)
-  pub signed : object_from (kind_of o) (values_of o) ≡ Some o

@@ -36,11 +36,3 @@ scale_at n = scale_among scales n
 -- some scale has this number
 abbrev pub IsScale : ℕ → Type 0
 IsScale n = (s : Scale) × (n ≡ scale_number s)
-
-abbrev or_one : Option Scale → Scale
-or_one None = One
-or_one (Some s) = s
-
--- the scale of a number that is some scale's
-abbrev pub scale_from : ℕ → Scale
-scale_from n = or_one (scale_at n)

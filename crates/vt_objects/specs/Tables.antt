@@ -1,7 +1,7 @@
 -- The record of each kind behind its ID and type, as one table of fields (ISO 11783-6; docs/PROFILE.md,
 -- "Records" and the section of each kind).
-use Rattle.std.specs.Prelude.{ℕ, ℤ, List, [], ◌∷◌}
-use Rattle.std.specs.Int.{w16, w32, cast_unsigned}
+use Rattle.std.specs.Prelude.{ℕ, List, [], ◌∷◌}
+use Rattle.std.specs.Int.{w16}
 use Rattle.vt_objects.specs.declared.scale.Scale.{Scale}
 use Rattle.vt_objects.specs.declared.entries.Child.{Child}
 use Rattle.vt_objects.specs.declared.entries.MacroEntry.{MacroEntry}
@@ -36,40 +36,40 @@ use Rattle.vt_objects.specs.declared.attribute_objects.FillAttributes.{FillAttri
 use Rattle.vt_objects.specs.declared.attribute_objects.InputAttributes.{InputAttributes}
 use Rattle.vt_objects.specs.declared.variables.ObjectPointer.{ObjectPointer}
 use Rattle.vt_objects.specs.declared.macros.Macro.{Macro}
-use Rattle.vt_objects.specs.Layout.{number, ScaleBytes, DecimalPlaces, Named, Table, byte, word, long, count, rows_of, bytes_of, Objects, Macros, Others}
+use Rattle.vt_objects.specs.Layout.{Size, Unsigned, Signed, Numeral, natural, integer, number, ScaleBytes, DecimalPlaces, Named, Table, byte, word, long, signed_long, count, rows_of, bytes_of, Objects, Macros, Others}
 use Rattle.vt_objects.specs.Scales.{scale_number}
 
 -- ---- the entries of lists
 
-abbrev pub child_sizes : List ℕ
-child_sizes = 2 ∷ 2 ∷ 2 ∷ []
+abbrev pub child_sizes : List Size
+child_sizes = Unsigned 2 ∷ Signed w16 ∷ Signed w16 ∷ []
 
-abbrev pub child_numbers : Child → List ℕ
-child_numbers c = c.id ∷ cast_unsigned w16 c.x ∷ cast_unsigned w16 c.y ∷ []
+abbrev pub child_numbers : Child → List Numeral
+child_numbers c = natural c.id ∷ integer c.x ∷ integer c.y ∷ []
 
-abbrev pub macro_sizes : List ℕ
-macro_sizes = 1 ∷ 1 ∷ []
+abbrev pub macro_sizes : List Size
+macro_sizes = Unsigned 1 ∷ Unsigned 1 ∷ []
 
-abbrev pub macro_numbers : MacroEntry → List ℕ
-macro_numbers m = m.event ∷ m.macro_id ∷ []
+abbrev pub macro_numbers : MacroEntry → List Numeral
+macro_numbers m = natural m.event ∷ natural m.macro_id ∷ []
 
-abbrev pub language_sizes : List ℕ
-language_sizes = 1 ∷ 1 ∷ []
+abbrev pub language_sizes : List Size
+language_sizes = Unsigned 1 ∷ Unsigned 1 ∷ []
 
-abbrev pub language_numbers : Language → List ℕ
-language_numbers l = l.first ∷ l.second ∷ []
+abbrev pub language_numbers : Language → List Numeral
+language_numbers l = natural l.first ∷ natural l.second ∷ []
 
-abbrev pub id_sizes : List ℕ
-id_sizes = 2 ∷ []
+abbrev pub id_sizes : List Size
+id_sizes = Unsigned 2 ∷ []
 
-abbrev pub id_numbers : ℕ → List ℕ
-id_numbers id = id ∷ []
+abbrev pub id_numbers : ℕ → List Numeral
+id_numbers id = natural id ∷ []
 
-abbrev pub point_sizes : List ℕ
-point_sizes = 2 ∷ 2 ∷ []
+abbrev pub point_sizes : List Size
+point_sizes = Unsigned 2 ∷ Unsigned 2 ∷ []
 
-abbrev pub point_numbers : Point → List ℕ
-point_numbers p = p.x ∷ p.y ∷ []
+abbrev pub point_numbers : Point → List Numeral
+point_numbers p = natural p.x ∷ natural p.y ∷ []
 
 -- ---- the fields of a table
 
@@ -95,14 +95,11 @@ points f = rows_of Others point_sizes point_numbers f
 abbrev pub content : {A : Type 0} → (A → List ℕ) → Named A
 content f = bytes_of Others f
 
-abbrev pub signed_long : {A : Type 0} → (A → ℤ) → Named A
-signed_long f = long (λ x. cast_unsigned w32 (f x))
-
 abbrev pub scale : {A : Type 0} → (A → Scale) → Named A
-scale f = record { field = ScaleBytes; value = λ x. number (scale_number (f x)) }
+scale f = record { field = ScaleBytes; value = λ x. number (natural (scale_number (f x))) }
 
 abbrev pub decimals : {A : Type 0} → (A → ℕ) → Named A
-decimals f = record { field = DecimalPlaces; value = λ x. number (f x) }
+decimals f = record { field = DecimalPlaces; value = λ x. number (natural (f x)) }
 
 -- ---- one table a kind
 

@@ -1,6 +1,6 @@
 //! The lists of a record, and their entries.
 
-ghost use Rattle.std.specs.Prelude.{◌≡◌, ◌≤◌, List, [], length, IfOk, vec_len, ◌↔◌, IsTrue};
+ghost use Rattle.std.specs.Prelude.{◌≡◌, ◌<◌, ◌≤◌, List, [], length, set, IfOk, vec_len, ◌↔◌, IsTrue};
 
 use crate::id::ObjectId;
 use std::alloc::{AllocError, Global};
@@ -84,6 +84,14 @@ impl<T> Entries<T> {
 }
 
 impl<T: Copy> Entries<T> {
+    /// Puts an entry in the place of another one.
+    pub fn set(&mut self, index: u8, entry: T)
+        requires { index < length self.old }
+        ensures { self.new ≡ set self.old index entry }
+    {
+        self.items[usize::from(index)] = entry;
+    }
+
     /// The same entries in memory of their own.
     pub fn copied(&self, alloc: Global) -> Result<Entries<T>, AllocError>
         ensures { IfOk result (λ copy. copy ≡ self.now) }

@@ -1,6 +1,13 @@
 //! What Change Attribute may write.
 
+ghost use Rattle.std.specs.Prelude.{◌≡◌, ◌↔◌, IsTrue};
+ghost use Rattle.vt_objects.specs.Attributes as table;
+ghost use Rattle.vt_objects.specs.Attributes.{Takes};
+ghost use Rattle.vt_objects.specs.Scales.{IsScale};
+
+use crate::kind::Kind;
 use crate::place::Place;
+use crate::scale::Scale;
 
 /// A field of an object that Change Attribute writes.
 #[derive(Clone, Copy, Debug, PartialEq, Eq)]
@@ -69,6 +76,55 @@ pub enum Values {
     Scale,
     /// 0 to 7, one byte.
     Decimals,
+}
+
+impl Values {
+    /// How many bytes the field has.
+    pub fn width(self) -> u8
+        ensures { result ≡ table.width self }
+    {
+        match self {
+            Values::Byte | Values::Priority | Values::Decimals => 1,
+            Values::Word | Values::Reference(_) => 2,
+            Values::Long | Values::SignedLong | Values::Scale => 4,
+        }
+    }
+
+    /// What the field gets of a value: its lowest bytes.
+    pub fn lowest(self, value: u32) -> u32
+        ensures { result ≡ table.lowest self value }
+    {
+        match self {
+            Values::Byte | Values::Priority | Values::Decimals => value % 256,
+            Values::Word | Values::Reference(_) => value % 65_536,
+            Values::Long | Values::SignedLong | Values::Scale => value,
+        }
+    }
+
+    /// Whether the field takes these lowest bytes of a value, in an object of this kind. Of a reference, `named` is
+    /// the kind of the object that it names, if that is there.
+    pub fn takes(self, kind: Kind, lowest: u32, named: Option<Kind>) -> bool
+        ensures { IsTrue result ↔ Takes kind self lowest named }
+    {
+        match self {
+            Values::Byte | Values::Word | Values::Long | Values::SignedLong => true,
+            Values::Reference(place) if lowest == 0xFFFF => place.allows_null(),
+            Values::Reference(place) => match named {
+                Some(named) => place.kinds(kind).contains(named),
+                None => false,
+            },
+            Values::Priority => lowest <= 2,
+            Values::Scale => is_scale(lowest),
+            Values::Decimals => lowest <= 7,
+        }
+    }
+}
+
+/// Whether the number is that of a scale's four bytes.
+fn is_scale(number: u32) -> bool
+    ensures { IsTrue result ↔ IsScale number }
+{
+    Scale::from_bytes(number.to_le_bytes()).is_some()
 }
 
 /// A field that Change Attribute writes, and the values that it takes.

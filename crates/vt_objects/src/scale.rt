@@ -2,7 +2,7 @@
 
 ghost use Rattle.std.specs.Prelude.{◌≡◌, ◌<◌, ◌≤◌, IfSome, IfNone};
 ghost use Rattle.byteorder.specs.Endian.{little_bytes, little_number};
-ghost use Rattle.vt_objects.specs.Scales.{scale_at, scale_bytes, scale_from, scale_number, scale_places};
+ghost use Rattle.vt_objects.specs.Scales.{scale_at, scale_bytes, scale_number, scale_places};
 
 use byteorder::{ByteOrder, LittleEndian};
 use std::marker::Model;
@@ -25,7 +25,6 @@ impl Scale {
     pub fn from_bytes(bytes: [u8; 4]) -> Option<Scale>
         ensures scale { result ≡ scale_at (little_number 4 bytes) }
         ensures number { IfSome result (λ s. scale_number s ≡ little_number 4 bytes) }
-        ensures back { IfSome result (λ s. scale_from (scale_number s) ≡ s) }
     {
         match LittleEndian::read_u32(&bytes) {
             0x3F80_0000 => Some(Scale::One),

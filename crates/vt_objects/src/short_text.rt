@@ -1,6 +1,7 @@
 //! Texts of at most 255 bytes.
 
 ghost use Rattle.std.specs.Prelude.{◌≡◌, ◌≤◌, length, IfOk};
+ghost use Rattle.vt_objects.specs.Texts.{filled_up};
 
 use std::alloc::{AllocError, Global};
 use std::convert::AsSlice;
@@ -46,5 +47,17 @@ impl<B: AsSlice<u8>> ShortText<B> {
     {
         let bytes = Vec::from_slice(alloc, self.as_slice())?;
         Ok(ShortText { bytes })
+    }
+}
+
+impl ShortText<Vec<u8>> {
+    /// Writes a text over this one, and spaces over what is left of it.
+    pub fn overwrite(&mut self, text: &[u8])
+        requires { length text.now ≤ length self.old }
+        ensures { self.new ≡ filled_up (length self.old) text.now }
+    {
+        let (front, rest) = self.bytes.split_at_mut(text.len());
+        front.copy_from_slice(text);
+        rest.fill(b' ');
     }
 }

@@ -1,4 +1,5 @@
 mod attributes;
+mod changes;
 mod commands;
 mod copies;
 mod decimals;
@@ -6,6 +7,7 @@ mod kind_sets;
 mod objects;
 mod pieces;
 mod references;
+mod values;
 
 use super::*;
 use std::alloc::Global;

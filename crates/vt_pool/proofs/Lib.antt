@@ -3,6 +3,8 @@ pub mod Numbers
 pub mod Tables
 pub mod Misfits
 pub mod Heads
+pub mod FromValues
+pub mod Same
 pub mod Taken
 pub mod Causes
 pub mod Returned

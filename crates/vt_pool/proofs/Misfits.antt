@@ -1,11 +1,12 @@
 -- The first value that is not proper for its field.
 use Rattle.std.proofs.Common.{◌≡◌, ℕ, ◌+◌, ◌≤◌, Bool, true, false, cond, eqb, ltb, List, [], ◌∷◌, length, Option, Some, None, Ok, Err, refl, sym, ap, subst, ◌∙◌, arith, inl, inr}
 use Rattle.std.proofs.lemmas.Bool.{eqb-true, ltb-true, ltb-false, le-ltb}
+use Rattle.std.specs.Int.{cast_unsigned}
 use Rattle.byteorder.specs.Numbers.{length-bytes_low_first}
 use Rattle.vt_objects.specs.declared.scale.Scale.{Scale}
 use Rattle.vt_objects.specs.declared.scale.Scale.TheVariants as scale
 use Rattle.vt_objects.specs.Scales.{scale_number, scale_at, scale_among, scales, IsScale}
-use Rattle.vt_objects.specs.Layout.{Field, Number, Count, Rows, Bytes, ScaleBytes, DecimalPlaces, Value, number, rows, bytes, Counts, counted, rows_spelling, field_spelling, IsProper, Proper, Shaped}
+use Rattle.vt_objects.specs.Layout.{Unsigned, Signed, natural, integer, bytes_in, Field, Number, Count, Rows, Bytes, ScaleBytes, DecimalPlaces, Value, number, rows, bytes, Counts, counted, rows_spelling, field_spelling, IsProper, Proper, Shaped}
 use Rattle.vt_pool.specs.declared.stop.Stop.{Stop}
 use Rattle.vt_pool.specs.declared.stop.Stop.TheVariants as stops
 use Rattle.vt_pool.specs.Heads.{if_none, misfit, or_misfit, fitting}
@@ -55,10 +56,12 @@ proper at (Number size ∷ fs) (v ∷ vs) e = (tt, proper _ fs vs e)
 proper at (Count size of ∷ fs) (v ∷ vs) e = (tt, proper _ fs vs e)
 proper at (Rows of sizes ∷ fs) (v ∷ vs) e = (tt, proper _ fs vs e)
 proper at (Bytes of ∷ fs) (v ∷ vs) e = (tt, proper _ fs vs e)
-proper at (ScaleBytes ∷ fs) (number n ∷ vs) e = let c = none_cases (scale_at n) at n (misfit (at + 4) fs vs) refl e in (c.0, proper (at + 4) fs vs c.1)
+proper at (ScaleBytes ∷ fs) (number (natural n) ∷ vs) e = let c = none_cases (scale_at n) at n (misfit (at + 4) fs vs) refl e in (c.0, proper (at + 4) fs vs c.1)
+proper at (ScaleBytes ∷ fs) (number (integer z) ∷ vs) e = (tt, proper _ fs vs e)
 proper at (ScaleBytes ∷ fs) (rows rs ∷ vs) e = (tt, proper _ fs vs e)
 proper at (ScaleBytes ∷ fs) (bytes bs ∷ vs) e = (tt, proper _ fs vs e)
-proper at (DecimalPlaces ∷ fs) (number n ∷ vs) e = let c = few_cases (ltb 7 n) at n (misfit (at + 1) fs vs) refl e in (c.0, proper (at + 1) fs vs c.1)
+proper at (DecimalPlaces ∷ fs) (number (natural n) ∷ vs) e = let c = few_cases (ltb 7 n) at n (misfit (at + 1) fs vs) refl e in (c.0, proper (at + 1) fs vs c.1)
+proper at (DecimalPlaces ∷ fs) (number (integer z) ∷ vs) e = (tt, proper _ fs vs e)
 proper at (DecimalPlaces ∷ fs) (rows rs ∷ vs) e = (tt, proper _ fs vs e)
 proper at (DecimalPlaces ∷ fs) (bytes bs ∷ vs) e = (tt, proper _ fs vs e)
 
@@ -74,12 +77,14 @@ no_misfit at (Number size ∷ fs) (v ∷ vs) is = no_misfit _ fs vs is.1
 no_misfit at (Count size of ∷ fs) (v ∷ vs) is = no_misfit _ fs vs is.1
 no_misfit at (Rows of sizes ∷ fs) (v ∷ vs) is = no_misfit _ fs vs is.1
 no_misfit at (Bytes of ∷ fs) (v ∷ vs) is = no_misfit _ fs vs is.1
-no_misfit at (ScaleBytes ∷ fs) (number n ∷ vs) is =
+no_misfit at (ScaleBytes ∷ fs) (number (natural n) ∷ vs) is =
     ap (λ (f : Option Scale). if_none f (stops.Scale at) (misfit (at + 4) fs vs)) (ap scale_at is.0.1 ∙ scale_again is.0.0) ∙ no_misfit (at + 4) fs vs is.1
+no_misfit at (ScaleBytes ∷ fs) (number (integer z) ∷ vs) is = no_misfit _ fs vs is.1
 no_misfit at (ScaleBytes ∷ fs) (rows rs ∷ vs) is = no_misfit _ fs vs is.1
 no_misfit at (ScaleBytes ∷ fs) (bytes bs ∷ vs) is = no_misfit _ fs vs is.1
-no_misfit at (DecimalPlaces ∷ fs) (number n ∷ vs) is =
+no_misfit at (DecimalPlaces ∷ fs) (number (natural n) ∷ vs) is =
     ap (λ b. cond b (Some (stops.Decimals at)) (misfit (at + 1) fs vs)) (le-ltb 7 n is.0) ∙ no_misfit (at + 1) fs vs is.1
+no_misfit at (DecimalPlaces ∷ fs) (number (integer z) ∷ vs) is = no_misfit _ fs vs is.1
 no_misfit at (DecimalPlaces ∷ fs) (rows rs ∷ vs) is = no_misfit _ fs vs is.1
 no_misfit at (DecimalPlaces ∷ fs) (bytes bs ∷ vs) is = no_misfit _ fs vs is.1
 
@@ -104,33 +109,37 @@ some_stop : (s t : Stop) → ◌≡◌ {A = Option Stop} (Some s) (Some t) → s
 some_stop s t e = cc
 
 scale_stop : (found : Option Scale) (at n : ℕ) (fs : List Field) (vs : List Value) (stop : Stop) → scale_at n ≡ found → if_none found (stops.Scale at) (misfit (at + 4) fs vs) ≡ Some stop
-    → (misfit (at + 4) fs vs ≡ Some stop → IsMisfit (at + 4) fs vs stop) → IsMisfit at (ScaleBytes ∷ fs) (number n ∷ vs) stop
+    → (misfit (at + 4) fs vs ≡ Some stop → IsMisfit (at + 4) fs vs stop) → IsMisfit at (ScaleBytes ∷ fs) (number (natural n) ∷ vs) stop
 scale_stop None at n fs vs stop is e later =
-    subst (IsMisfit at (ScaleBytes ∷ fs) (number n ∷ vs)) (some_stop (stops.Scale at) stop e) (0, omega arith, inl (refl, refl, no_scale n is))
+    subst (IsMisfit at (ScaleBytes ∷ fs) (number (natural n) ∷ vs)) (some_stop (stops.Scale at) stop e) (0, omega arith, inl (refl, refl, no_scale n is))
 scale_stop (Some s) at n fs vs stop is e later =
-    later_is at 4 ScaleBytes (number n) fs vs stop (let len = length-bytes_low_first 0 4 n in omega (arith, len)) (is_scale n s is) (later e)
+    later_is at 4 ScaleBytes (number (natural n)) fs vs stop (let len = length-bytes_low_first 0 4 n in omega (arith, len)) (is_scale n s is) (later e)
 
 many_stop : (many : Bool) (at n : ℕ) (fs : List Field) (vs : List Value) (stop : Stop) → ltb 7 n ≡ many → cond many (Some (stops.Decimals at)) (misfit (at + 1) fs vs) ≡ Some stop
-    → (misfit (at + 1) fs vs ≡ Some stop → IsMisfit (at + 1) fs vs stop) → IsMisfit at (DecimalPlaces ∷ fs) (number n ∷ vs) stop
+    → (misfit (at + 1) fs vs ≡ Some stop → IsMisfit (at + 1) fs vs stop) → IsMisfit at (DecimalPlaces ∷ fs) (number (natural n) ∷ vs) stop
 many_stop true at n fs vs stop is e later =
-    subst (IsMisfit at (DecimalPlaces ∷ fs) (number n ∷ vs)) (some_stop (stops.Decimals at) stop e)
+    subst (IsMisfit at (DecimalPlaces ∷ fs) (number (natural n) ∷ vs)) (some_stop (stops.Decimals at) stop e)
     (0, omega arith, inl (refl, refl, λ le. let more = ltb-true 7 n is in absurd (omega (arith, le))))
 many_stop false at n fs vs stop is e later =
-    later_is at 1 DecimalPlaces (number n) fs vs stop (let len = length-bytes_low_first 0 1 n in omega (arith, len)) (ltb-false 7 n is) (later e)
+    later_is at 1 DecimalPlaces (number (natural n)) fs vs stop (let len = length-bytes_low_first 0 1 n in omega (arith, len)) (ltb-false 7 n is) (later e)
 
 pub misfit_is : (at : ℕ) (fs : List Field) (counts : Counts) (vs : List Value) (stop : Stop) → Shaped fs counts vs → misfit at fs vs ≡ Some stop → IsMisfit at fs vs stop
 misfit_is at [] counts [] stop shaped e = absurd cc
-misfit_is at (Number size ∷ fs) counts (number n ∷ vs) stop shaped e =
-    later_is at size (Number size) (number n) fs vs stop (sym (length-bytes_low_first 0 size n)) tt (misfit_is (at + size) fs counts vs stop shaped.1 e)
-misfit_is at (Count size of ∷ fs) counts (number n ∷ vs) stop shaped e =
-    later_is at size (Count size of) (number n) fs vs stop (sym (length-bytes_low_first 0 size n)) tt (misfit_is (at + size) fs (counted of n counts) vs stop shaped.1 e)
+misfit_is at (Number (Unsigned size) ∷ fs) counts (number (natural n) ∷ vs) stop shaped e =
+    later_is at size (Number (Unsigned size)) (number (natural n)) fs vs stop (sym (length-bytes_low_first 0 size n)) tt (misfit_is (at + size) fs counts vs stop shaped.1 e)
+misfit_is at (Number (Signed w) ∷ fs) counts (number (integer z) ∷ vs) stop shaped e =
+    later_is at (bytes_in w) (Number (Signed w)) (number (integer z)) fs vs stop (sym (length-bytes_low_first 0 (bytes_in w) (cast_unsigned w z))) tt (misfit_is (at + bytes_in w) fs counts vs stop shaped.1 e)
+misfit_is at (Number (Unsigned size) ∷ fs) counts (number (integer z) ∷ vs) stop shaped e = absurd shaped.0
+misfit_is at (Number (Signed w) ∷ fs) counts (number (natural n) ∷ vs) stop shaped e = absurd shaped.0
+misfit_is at (Count size of ∷ fs) counts (number (natural n) ∷ vs) stop shaped e =
+    later_is at size (Count size of) (number (natural n)) fs vs stop (sym (length-bytes_low_first 0 size n)) tt (misfit_is (at + size) fs (counted of n counts) vs stop shaped.1 e)
 misfit_is at (Rows of sizes ∷ fs) counts (rows rs ∷ vs) stop shaped e =
     later_is at (length (rows_spelling sizes rs)) (Rows of sizes) (rows rs) fs vs stop refl tt (misfit_is (at + length (rows_spelling sizes rs)) fs counts vs stop shaped.2 e)
 misfit_is at (Bytes of ∷ fs) counts (bytes bs ∷ vs) stop shaped e =
     later_is at (length bs) (Bytes of) (bytes bs) fs vs stop refl tt (misfit_is (at + length bs) fs counts vs stop shaped.2 e)
-misfit_is at (ScaleBytes ∷ fs) counts (number n ∷ vs) stop shaped e =
+misfit_is at (ScaleBytes ∷ fs) counts (number (natural n) ∷ vs) stop shaped e =
     scale_stop (scale_at n) at n fs vs stop refl e (misfit_is (at + 4) fs counts vs stop shaped.1)
-misfit_is at (DecimalPlaces ∷ fs) counts (number n ∷ vs) stop shaped e =
+misfit_is at (DecimalPlaces ∷ fs) counts (number (natural n) ∷ vs) stop shaped e =
     many_stop (ltb 7 n) at n fs vs stop refl e (misfit_is (at + 1) fs counts vs stop shaped.1)
 misfit_is at fs counts vs stop shaped e = absurd shaped
 

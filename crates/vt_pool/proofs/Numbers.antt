@@ -6,7 +6,12 @@ use Rattle.std.proofs.lemmas.List.{append-nil, take_at, drop_at, take-append-dro
 use Rattle.std.specs.Int.{byte_at, bytes_low_first}
 use Rattle.byteorder.specs.Endian.{little_number, little_bytes}
 use Rattle.byteorder.specs.Numbers.{little_from-cons, little_from-lt, little_number-reads_back, length-bytes_low_first}
-use Rattle.vt_pool.specs.Reading.{◌>>=◌, bytes_at, number_at}
+use mir.Val.{bits}
+use mir.ValLaws.{of_z_fits, to_z-Fits, to_z-of_z, of_z-to_z}
+use Rattle.std.specs.Int.{Width, w8, w16, w32, w64, w128, cast_signed, cast_unsigned}
+use Rattle.std.specs.Prelude.{ℤ, FitsSigned}
+use Rattle.vt_objects.specs.Layout.{bytes_in}
+use Rattle.vt_pool.specs.Reading.{◌>>=◌, bytes_at, number_at, signed_at}
 
 abbrev pub IsBytes : List ℕ → Type 0
 IsBytes bytes = (i : ℕ) → get_or bytes i 0 < 256
@@ -106,3 +111,28 @@ unfolding number_at
 number_again size n rest lt =
     let whole : little_number size (little_bytes size n) ≡ n = subst (λ (bs : List ℕ). little_number size bs ≡ n) (append-nil (little_bytes size n)) (little_number-reads_back size n [] lt) in
     rw (bytes_again (little_bytes size n) rest size (length-bytes_low_first 0 size n), whole) refl
+
+-- ---- signed numbers
+
+width_is : (w : Width) → 256 ^ bytes_in w ≡ 2 ^ bits w
+width_is w8 = refl
+width_is w16 = refl
+width_is w32 = refl
+width_is w64 = refl
+width_is w128 = refl
+
+pub signed_takes : (w : Width) (all : List ℕ) (x : ℤ × List ℕ) → IsBytes all → signed_at w all ≡ Some x
+    → Takes all (little_bytes (bytes_in w) (cast_unsigned w x.0)) x.1 × FitsSigned w x.0
+unfolding signed_at
+signed_takes w all x fits e =
+    let n = bind_some (number_at (bytes_in w) all) (λ n. Some (cast_signed w n.0, n.1)) x e in
+    let t = number_takes (bytes_in w) all n.0 fits n.1 in
+    let below : n.0.0 < 2 ^ bits w = rw (width_is w) at t.1 in
+    subst (λ (y : ℤ × List ℕ). Takes all (little_bytes (bytes_in w) (cast_unsigned w y.0)) y.1 × FitsSigned w y.0) (some_is (cast_signed w n.0.0, n.0.1) x n.2)
+    (rw (of_z-to_z w n.0.0 (record { fits = below })) t.0, to_z-Fits w n.0.0 (record { fits = below }))
+
+pub signed_again : (w : Width) (z : ℤ) (rest : List ℕ) → FitsSigned w z → signed_at w (little_bytes (bytes_in w) (cast_unsigned w z) ++ rest) ≡ Some (z, rest)
+unfolding signed_at
+signed_again w z rest fits =
+    let below : cast_unsigned w z < 256 ^ bytes_in w = rw (width_is w) (of_z_fits w z fits).fits in
+    rw (number_again (bytes_in w) (cast_unsigned w z) rest below, to_z-of_z w z fits) refl

@@ -1,8 +1,8 @@
 -- What a reader of a record returned, clause by clause.
-use Rattle.std.proofs.Common.{◌≡◌, ℕ, ◌<◌, List, ◌++◌, length, Result, Ok, Err, Some}
+use Rattle.std.proofs.Common.{◌≡◌, ℕ, ◌<◌, List, ◌++◌, length, Result, Ok, Err}
 use Rattle.std.specs.Prelude.{IfOk, IfErr}
 use Rattle.vt_objects.specs.declared.object.Object.{Object}
-use Rattle.vt_objects.specs.Records.{seen, kind_of, values_of, object_from, record_of, HasRecord}
+use Rattle.vt_objects.specs.Records.{seen, kind_of, values_of, record_of, HasRecord}
 use Rattle.vt_pool.specs.declared.stop.Stop.{Stop}
 use Rattle.vt_pool.specs.declared.stop.Stop.TheVariants as stops
 use Rattle.vt_pool.specs.Heads.{Held, Reads, record_at}
@@ -16,25 +16,25 @@ module _ {X B : Type 0} (id : X → ℕ) (object : X → Object B) (rest : X →
   abbrev pub view : X → Held
   view x = record { id = id x; kind = kind_of (object x); values = values_of (object x); rest = rest x }
 
-  taken : (all : List ℕ) (x : X) → IsBytes all → record_at all ≡ Ok (view x) → object_from (kind_of (object x)) (values_of (object x)) ≡ Some (seen (object x))
+  taken : (all : List ℕ) (x : X) → IsBytes all → record_at all ≡ Ok (view x)
       → IsTaken all (id x) (seen (object x)) (rest x)
-  taken all x fits e back = is_taken all (id x) (object x) (rest x) fits e back
+  taken all x fits e = is_taken all (id x) (object x) (rest x) fits e
 
   module _ (all : List ℕ) (fits : IsBytes all) where
-    pub has_record : (r : Result X Stop) → Reads view r (record_at all) → IfOk r (λ x. object_from (kind_of (object x)) (values_of (object x)) ≡ Some (seen (object x)))
+    pub has_record : (r : Result X Stop) → Reads view r (record_at all)
         → IfOk r (λ x. HasRecord (id x) (seen (object x)))
-    has_record (Ok x) e back = (taken all x fits e back).has
-    has_record (Err s) e back = tt
+    has_record (Ok x) e = (taken all x fits e).has
+    has_record (Err s) e = tt
 
-    pub has_parts : (r : Result X Stop) → Reads view r (record_at all) → IfOk r (λ x. object_from (kind_of (object x)) (values_of (object x)) ≡ Some (seen (object x)))
+    pub has_parts : (r : Result X Stop) → Reads view r (record_at all)
         → IfOk r (λ x. all ≡ record_of (id x) (seen (object x)) ++ rest x)
-    has_parts (Ok x) e back = (taken all x fits e back).parts
-    has_parts (Err s) e back = tt
+    has_parts (Ok x) e = (taken all x fits e).parts
+    has_parts (Err s) e = tt
 
-    pub is_shorter : (r : Result X Stop) → Reads view r (record_at all) → IfOk r (λ x. object_from (kind_of (object x)) (values_of (object x)) ≡ Some (seen (object x)))
+    pub is_shorter : (r : Result X Stop) → Reads view r (record_at all)
         → IfOk r (λ x. length (rest x) < length all)
-    is_shorter (Ok x) e back = (taken all x fits e back).shorter
-    is_shorter (Err s) e back = tt
+    is_shorter (Ok x) e = (taken all x fits e).shorter
+    is_shorter (Err s) e = tt
 
   pub is_stop : (all : List ℕ) (r : Result X Stop) → IsBytes all → Reads view r (record_at all) → IfErr r (IsStop all)
   is_stop all (Ok x) fits e = tt

@@ -1,20 +1,21 @@
 -- Reading rows one after the other, as a loop does.
 use Rattle.std.proofs.Common.{◌≡◌, ℕ, suc, ◌-◌, ◌+◌, ◌≤◌, ◌<◌, List, [], ◌∷◌, ◌++◌, Option, Some, None, refl, sym, ap, ◌∙◌, append_assoc, arith}
 use Rattle.std.proofs.lemmas.List.{append-nil}
+use Rattle.vt_objects.specs.Layout.{Size, Numeral}
 use Rattle.vt_pool.specs.declared.stop.Stop.{Stop}
 use Rattle.vt_pool.specs.declared.stop.Stop.TheVariants as stops
 use Rattle.vt_pool.specs.Reading.{◌>>=◌, Fails, row_at, rows_at}
 
 -- the rows that were read before, and those that are still read
-abbrev pub with_front : List (List ℕ) → Option (List (List ℕ) × List ℕ) → Option (List (List ℕ) × List ℕ)
+abbrev pub with_front : List (List Numeral) → Option (List (List Numeral) × List ℕ) → Option (List (List Numeral) × List ℕ)
 with_front front read = read >>= λ x. Some (front ++ x.0, x.1)
 
-regroup : (front : List (List ℕ)) (row : List ℕ) (read : Option (List (List ℕ) × List ℕ))
+regroup : (front : List (List Numeral)) (row : List Numeral) (read : Option (List (List Numeral) × List ℕ))
     → with_front front (read >>= λ x. Some (row ∷ x.0, x.1)) ≡ with_front (front ++ row ∷ []) read
-regroup front row (Some x) = ap (λ (rows : List (List ℕ)). Some (rows, x.1)) (simp append_assoc)
+regroup front row (Some x) = ap (λ (rows : List (List Numeral)). Some (rows, x.1)) (simp append_assoc)
 regroup front row None = refl
 
-pub goes_on : (sizes : List ℕ) (front : List (List ℕ)) (count i : ℕ) (all : List ℕ) (row after : List ℕ) (total : Option (List (List ℕ) × List ℕ)) → i < count → row_at sizes all ≡ Some (row, after)
+pub goes_on : (sizes : List Size) (front : List (List Numeral)) (count i : ℕ) (all : List ℕ) (row : List Numeral) (after : List ℕ) (total : Option (List (List Numeral) × List ℕ)) → i < count → row_at sizes all ≡ Some (row, after)
     → with_front front (rows_at sizes (count - i) all) ≡ total → with_front (front ++ row ∷ []) (rows_at sizes (count - (i + 1)) after) ≡ total
 unfolding rows_at
 goes_on sizes front count i all row after total lt h so_far =
@@ -22,7 +23,7 @@ goes_on sizes front count i all row after total lt h so_far =
     let one : with_front front (rows_at sizes (count - i) all) ≡ with_front (front ++ row ∷ []) (rows_at sizes (count - (i + 1)) after) = rw (k, h) (regroup front row (rows_at sizes (count - (i + 1)) after)) in
     sym one ∙ so_far
 
-pub ends : (sizes : List ℕ) (stop : Stop) (front : List (List ℕ)) (count i : ℕ) (all : List ℕ) (total : Option (List (List ℕ) × List ℕ)) → i < count → Fails stop (row_at sizes all)
+pub ends : (sizes : List Size) (stop : Stop) (front : List (List Numeral)) (count i : ℕ) (all : List ℕ) (total : Option (List (List Numeral) × List ℕ)) → i < count → Fails stop (row_at sizes all)
     → with_front front (rows_at sizes (count - i) all) ≡ total → Fails stop total
 unfolding rows_at
 ends sizes stops.Truncated front count i all total lt h so_far =
@@ -36,11 +37,11 @@ ends sizes (stops.Scale at) front count i all total lt h so_far = h
 ends sizes (stops.Decimals at) front count i all total lt h so_far = h
 ends sizes stops.NullId front count i all total lt h so_far = h
 
-pub is_done : (sizes : List ℕ) (front : List (List ℕ)) (count i : ℕ) (all : List ℕ) (total : Option (List (List ℕ) × List ℕ)) → count ≤ i → with_front front (rows_at sizes (count - i) all) ≡ total → total ≡ Some (front, all)
+pub is_done : (sizes : List Size) (front : List (List Numeral)) (count i : ℕ) (all : List ℕ) (total : Option (List (List Numeral) × List ℕ)) → count ≤ i → with_front front (rows_at sizes (count - i) all) ≡ total → total ≡ Some (front, all)
 unfolding rows_at
 is_done sizes front count i all total le so_far =
     let k : count - i ≡ 0 = omega arith in
-    let one : with_front front (rows_at sizes (count - i) all) ≡ Some (front, all) = rw k (ap (λ (rows : List (List ℕ)). Some (rows, all)) (append-nil front)) in
+    let one : with_front front (rows_at sizes (count - i) all) ≡ Some (front, all) = rw k (ap (λ (rows : List (List Numeral)). Some (rows, all)) (append-nil front)) in
     sym so_far ∙ one
 
 -- what fails makes all fail that begins with it

@@ -9,7 +9,7 @@ use Rattle.vt_objects.specs.declared.object.Object.{Object}
 use Rattle.vt_objects.specs.declared.object.Object.TheVariants as objects
 use Rattle.vt_objects.specs.Layout.{Value, spelling, Shaped, Proper, no_counts}
 use Rattle.vt_objects.specs.Kinds.{kind_number, kind_at}
-use Rattle.vt_objects.specs.Records.{Seen, seen, fields_of, kind_of, values_of, object_from, record_of, HasRecord}
+use Rattle.vt_objects.specs.Records.{Seen, seen, fields_of, kind_of, values_of, record_of, HasRecord}
 use Rattle.vt_pool.specs.declared.stop.Stop.{Stop}
 use Rattle.vt_pool.specs.declared.stop.Stop.TheVariants as stops
 use Rattle.vt_pool.specs.Heads.{Held, fields_at, record_at}
@@ -18,6 +18,7 @@ use Rattle.vt_pool.specs.Pools.{RecordsAreWhole}
 use Rattle.vt_pool.proofs.Numbers.{IsBytes, IsBytes-rest, IsBytes-take, number_spelled}
 use Rattle.vt_pool.proofs.Tables.{values_take, values_again}
 use Rattle.vt_pool.proofs.Misfits.{proper, no_misfit, fitting_ok}
+use Rattle.vt_pool.proofs.Same.{object_from, same_object}
 use Rattle.vt_pool.proofs.Heads.{kind_at_is, kind_at-kind_number, held, of_values, of_kind, behind, record_at-short, record_at-long}
 
 -- ---- what is read
@@ -98,14 +99,11 @@ pub record AreSame (a b : ℕ) (o p : Seen) (rest tail : List ℕ) : Type 0 wher
 ok_is : (x y : Held) → ◌≡◌ {A = Result Held Stop} (Ok x) (Ok y) → x ≡ y
 ok_is x y e = cc
 
-seen_is : (o p : Seen) → ◌≡◌ {A = Option Seen} (Some o) (Some p) → o ≡ p
-seen_is o p e = cc
-
 pub same_record : (a b : ℕ) (o p : Seen) (rest tail : List ℕ) → HasRecord a o → HasRecord b p → record_of a o ++ rest ≡ record_of b p ++ tail → AreSame a b o p rest tail
 same_record a b o p rest tail has other parts =
     let same : held_of a o rest ≡ held_of b p tail = ok_is (held_of a o rest) (held_of b p tail) (sym (record_again a o rest has) ∙ ap record_at parts ∙ record_again b p tail other) in
     let one : object_from (kind_of o) (values_of o) ≡ object_from (kind_of p) (values_of p) = ap (λ (h : Held). object_from h.kind h.values) same in
-    record { same_id = ap (λ (h : Held). h.id) same; same_object = seen_is o p (sym has.signed ∙ one ∙ other.signed); same_rest = ap (λ (h : Held). h.rest) same }
+    record { same_id = ap (λ (h : Held). h.id) same; same_object = same_object o p one; same_rest = ap (λ (h : Held). h.rest) same }
 
 pub are_whole : RecordsAreWhole
 are_whole a b o p rest has other parts =
@@ -114,37 +112,36 @@ are_whole a b o p rest has other parts =
 
 -- ---- an object wherever its texts lie
 
-has_record : {B : Type 0} (id : ℕ) (o : Object B) → id < 0xFFFF → Shaped (fields_of (kind_of o)) no_counts (values_of o) → Proper (fields_of (kind_of o)) (values_of o)
-    → object_from (kind_of o) (values_of o) ≡ Some (seen o) → HasRecord id (seen o)
-has_record id (objects.WorkingSet o) named shaped proper signed = record { named = named; shaped = shaped; proper = proper; signed = signed }
-has_record id (objects.DataMask o) named shaped proper signed = record { named = named; shaped = shaped; proper = proper; signed = signed }
-has_record id (objects.AlarmMask o) named shaped proper signed = record { named = named; shaped = shaped; proper = proper; signed = signed }
-has_record id (objects.Container o) named shaped proper signed = record { named = named; shaped = shaped; proper = proper; signed = signed }
-has_record id (objects.SoftKeyMask o) named shaped proper signed = record { named = named; shaped = shaped; proper = proper; signed = signed }
-has_record id (objects.Key o) named shaped proper signed = record { named = named; shaped = shaped; proper = proper; signed = signed }
-has_record id (objects.Button o) named shaped proper signed = record { named = named; shaped = shaped; proper = proper; signed = signed }
-has_record id (objects.InputBoolean o) named shaped proper signed = record { named = named; shaped = shaped; proper = proper; signed = signed }
-has_record id (objects.InputString o) named shaped proper signed = record { named = named; shaped = shaped; proper = proper; signed = signed }
-has_record id (objects.InputNumber o) named shaped proper signed = record { named = named; shaped = shaped; proper = proper; signed = signed }
-has_record id (objects.InputList o) named shaped proper signed = record { named = named; shaped = shaped; proper = proper; signed = signed }
-has_record id (objects.OutputString o) named shaped proper signed = record { named = named; shaped = shaped; proper = proper; signed = signed }
-has_record id (objects.OutputNumber o) named shaped proper signed = record { named = named; shaped = shaped; proper = proper; signed = signed }
-has_record id (objects.Line o) named shaped proper signed = record { named = named; shaped = shaped; proper = proper; signed = signed }
-has_record id (objects.Rectangle o) named shaped proper signed = record { named = named; shaped = shaped; proper = proper; signed = signed }
-has_record id (objects.Ellipse o) named shaped proper signed = record { named = named; shaped = shaped; proper = proper; signed = signed }
-has_record id (objects.Polygon o) named shaped proper signed = record { named = named; shaped = shaped; proper = proper; signed = signed }
-has_record id (objects.Meter o) named shaped proper signed = record { named = named; shaped = shaped; proper = proper; signed = signed }
-has_record id (objects.LinearBar o) named shaped proper signed = record { named = named; shaped = shaped; proper = proper; signed = signed }
-has_record id (objects.ArchedBar o) named shaped proper signed = record { named = named; shaped = shaped; proper = proper; signed = signed }
-has_record id (objects.Picture o) named shaped proper signed = record { named = named; shaped = shaped; proper = proper; signed = signed }
-has_record id (objects.NumberVariable o) named shaped proper signed = record { named = named; shaped = shaped; proper = proper; signed = signed }
-has_record id (objects.StringVariable o) named shaped proper signed = record { named = named; shaped = shaped; proper = proper; signed = signed }
-has_record id (objects.Font o) named shaped proper signed = record { named = named; shaped = shaped; proper = proper; signed = signed }
-has_record id (objects.LineAttributes o) named shaped proper signed = record { named = named; shaped = shaped; proper = proper; signed = signed }
-has_record id (objects.FillAttributes o) named shaped proper signed = record { named = named; shaped = shaped; proper = proper; signed = signed }
-has_record id (objects.InputAttributes o) named shaped proper signed = record { named = named; shaped = shaped; proper = proper; signed = signed }
-has_record id (objects.ObjectPointer o) named shaped proper signed = record { named = named; shaped = shaped; proper = proper; signed = signed }
-has_record id (objects.Macro o) named shaped proper signed = record { named = named; shaped = shaped; proper = proper; signed = signed }
+has_record : {B : Type 0} (id : ℕ) (o : Object B) → id < 0xFFFF → Shaped (fields_of (kind_of o)) no_counts (values_of o) → Proper (fields_of (kind_of o)) (values_of o) → HasRecord id (seen o)
+has_record id (objects.WorkingSet o) named shaped proper = record { named = named; shaped = shaped; proper = proper }
+has_record id (objects.DataMask o) named shaped proper = record { named = named; shaped = shaped; proper = proper }
+has_record id (objects.AlarmMask o) named shaped proper = record { named = named; shaped = shaped; proper = proper }
+has_record id (objects.Container o) named shaped proper = record { named = named; shaped = shaped; proper = proper }
+has_record id (objects.SoftKeyMask o) named shaped proper = record { named = named; shaped = shaped; proper = proper }
+has_record id (objects.Key o) named shaped proper = record { named = named; shaped = shaped; proper = proper }
+has_record id (objects.Button o) named shaped proper = record { named = named; shaped = shaped; proper = proper }
+has_record id (objects.InputBoolean o) named shaped proper = record { named = named; shaped = shaped; proper = proper }
+has_record id (objects.InputString o) named shaped proper = record { named = named; shaped = shaped; proper = proper }
+has_record id (objects.InputNumber o) named shaped proper = record { named = named; shaped = shaped; proper = proper }
+has_record id (objects.InputList o) named shaped proper = record { named = named; shaped = shaped; proper = proper }
+has_record id (objects.OutputString o) named shaped proper = record { named = named; shaped = shaped; proper = proper }
+has_record id (objects.OutputNumber o) named shaped proper = record { named = named; shaped = shaped; proper = proper }
+has_record id (objects.Line o) named shaped proper = record { named = named; shaped = shaped; proper = proper }
+has_record id (objects.Rectangle o) named shaped proper = record { named = named; shaped = shaped; proper = proper }
+has_record id (objects.Ellipse o) named shaped proper = record { named = named; shaped = shaped; proper = proper }
+has_record id (objects.Polygon o) named shaped proper = record { named = named; shaped = shaped; proper = proper }
+has_record id (objects.Meter o) named shaped proper = record { named = named; shaped = shaped; proper = proper }
+has_record id (objects.LinearBar o) named shaped proper = record { named = named; shaped = shaped; proper = proper }
+has_record id (objects.ArchedBar o) named shaped proper = record { named = named; shaped = shaped; proper = proper }
+has_record id (objects.Picture o) named shaped proper = record { named = named; shaped = shaped; proper = proper }
+has_record id (objects.NumberVariable o) named shaped proper = record { named = named; shaped = shaped; proper = proper }
+has_record id (objects.StringVariable o) named shaped proper = record { named = named; shaped = shaped; proper = proper }
+has_record id (objects.Font o) named shaped proper = record { named = named; shaped = shaped; proper = proper }
+has_record id (objects.LineAttributes o) named shaped proper = record { named = named; shaped = shaped; proper = proper }
+has_record id (objects.FillAttributes o) named shaped proper = record { named = named; shaped = shaped; proper = proper }
+has_record id (objects.InputAttributes o) named shaped proper = record { named = named; shaped = shaped; proper = proper }
+has_record id (objects.ObjectPointer o) named shaped proper = record { named = named; shaped = shaped; proper = proper }
+has_record id (objects.Macro o) named shaped proper = record { named = named; shaped = shaped; proper = proper }
 
 record_of-seen : {B : Type 0} (id : ℕ) (o : Object B) → record_of id o ≡ record_of id (seen o)
 record_of-seen id (objects.WorkingSet o) = refl
@@ -183,12 +180,11 @@ pub record IsTaken (all : List ℕ) (id : ℕ) (o : Seen) (rest : List ℕ) : Ty
   pub parts : all ≡ record_of id o ++ rest
   pub shorter : length rest < length all
 
-pub is_taken : {B : Type 0} (all : List ℕ) (id : ℕ) (o : Object B) (rest : List ℕ) → IsBytes all → record_at all ≡ Ok (held id (kind_of o) (values_of o, rest))
-    → object_from (kind_of o) (values_of o) ≡ Some (seen o) → IsTaken all id (seen o) rest
-is_taken all id o rest fits e signed =
+pub is_taken : {B : Type 0} (all : List ℕ) (id : ℕ) (o : Object B) (rest : List ℕ) → IsBytes all → record_at all ≡ Ok (held id (kind_of o) (values_of o, rest)) → IsTaken all id (seen o) rest
+is_taken all id o rest fits e =
     let read = is_read all (held id (kind_of o) (values_of o, rest)) fits e in
     record {
-      has = has_record id o read.named read.shaped read.proper signed;
+      has = has_record id o read.named read.shaped read.proper;
       parts = read.parts ∙ ap (λ (r : List ℕ). r ++ rest) (record_of-seen id o);
       shorter = let len = ap length read.parts ∙ length-append (record_of id o) rest in omega (arith, len);
     }

@@ -3,7 +3,7 @@ use Rattle.std.specs.Prelude.{◌≡◌, ℕ, ◌+◌, List, ◌∷◌, length, 
 use Rattle.vt_objects.specs.declared.kind.Kind.{Kind}
 use Rattle.vt_objects.specs.declared.scale.Scale.{Scale}
 use Rattle.vt_objects.specs.Scales.{scale_at}
-use Rattle.vt_objects.specs.Layout.{Field, Number, Count, ScaleBytes, DecimalPlaces, Value, number, field_spelling, no_counts}
+use Rattle.vt_objects.specs.Layout.{Unsigned, Signed, natural, bytes_in, Field, Number, Count, ScaleBytes, DecimalPlaces, Value, number, field_spelling, no_counts}
 use Rattle.vt_objects.specs.Kinds.{kind_at}
 use Rattle.vt_objects.specs.Records.{fields_of}
 use Rattle.vt_pool.specs.declared.stop.Stop.{Stop}
@@ -38,7 +38,8 @@ other_type n = if nat_le 29 n && nat_le n 33 then stops.LeftOutType else stops.U
 
 -- how many bytes a value takes in its field
 abbrev pub size_in : Field → Value → ℕ
-size_in (Number size) v = size
+size_in (Number (Unsigned size)) v = size
+size_in (Number (Signed width)) v = bytes_in width
 size_in (Count size of) v = size
 size_in ScaleBytes v = 4
 size_in DecimalPlaces v = 1
@@ -50,8 +51,8 @@ if_none (Some s) stop next = next
 
 -- the first field from a place on whose value is no scale's or too many decimals
 abbrev pub misfit : ℕ → List Field → List Value → Option Stop
-misfit at (ScaleBytes ∷ fs) (number n ∷ vs) = if_none (scale_at n) (stops.Scale at) (misfit (at + 4) fs vs)
-misfit at (DecimalPlaces ∷ fs) (number n ∷ vs) = if nat_lt 7 n then Some (stops.Decimals at) else misfit (at + 1) fs vs
+misfit at (ScaleBytes ∷ fs) (number (natural n) ∷ vs) = if_none (scale_at n) (stops.Scale at) (misfit (at + 4) fs vs)
+misfit at (DecimalPlaces ∷ fs) (number (natural n) ∷ vs) = if nat_lt 7 n then Some (stops.Decimals at) else misfit (at + 1) fs vs
 misfit at (f ∷ fs) (v ∷ vs) = misfit (at + size_in f v) fs vs
 misfit at fs vs = None
 

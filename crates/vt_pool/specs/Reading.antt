@@ -1,8 +1,9 @@
 -- How a table of fields is read from the front of some bytes: what it gives and the bytes after it, or
 -- `None` where the bytes end first.
-use Rattle.std.specs.Prelude.{◌≡◌, ℕ, zero, suc, List, [], ◌∷◌, length, take, drop, nat_lt, if◌then◌else◌, Option, Some, None, Result, Ok, Err}
+use Rattle.std.specs.Prelude.{◌≡◌, ℕ, ℤ, zero, suc, List, [], ◌∷◌, length, take, drop, nat_lt, if◌then◌else◌, Option, Some, None, Result, Ok, Err}
+use Rattle.std.specs.Int.{Width, cast_signed}
 use Rattle.byteorder.specs.Endian.{little_number}
-use Rattle.vt_objects.specs.Layout.{Field, Number, Count, Rows, Bytes, ScaleBytes, DecimalPlaces, Value, number, rows, bytes, Counts, counted, count_of}
+use Rattle.vt_objects.specs.Layout.{Size, Unsigned, Signed, Numeral, natural, integer, bytes_in, Field, Number, Count, Rows, Bytes, ScaleBytes, DecimalPlaces, Value, number, rows, bytes, Counts, counted, count_of}
 use Rattle.vt_pool.specs.declared.stop.Stop.{Stop}
 use Rattle.vt_pool.specs.declared.stop.Stop.TheVariants as stops
 
@@ -30,14 +31,23 @@ number_at size all = do
   front ← bytes_at size all
   Some (little_number size front.0, front.1)
 
-unfoldable pub row_at : List ℕ → List ℕ → Option (List ℕ × List ℕ)
+unfoldable pub signed_at : Width → List ℕ → Option (ℤ × List ℕ)
+signed_at width all = do
+  n ← number_at (bytes_in width) all
+  Some (cast_signed width n.0, n.1)
+
+unfoldable pub row_at : List Size → List ℕ → Option (List Numeral × List ℕ)
 row_at [] all = Some ([], all)
-row_at (size ∷ sizes) all = do
+row_at (Unsigned size ∷ sizes) all = do
   n ← number_at size all
   ns ← row_at sizes n.1
-  Some (n.0 ∷ ns.0, ns.1)
+  Some (natural n.0 ∷ ns.0, ns.1)
+row_at (Signed width ∷ sizes) all = do
+  n ← signed_at width all
+  ns ← row_at sizes n.1
+  Some (integer n.0 ∷ ns.0, ns.1)
 
-unfoldable pub rows_at : List ℕ → ℕ → List ℕ → Option (List (List ℕ) × List ℕ)
+unfoldable pub rows_at : List Size → ℕ → List ℕ → Option (List (List Numeral) × List ℕ)
 rows_at sizes zero all = Some ([], all)
 rows_at sizes (suc count) all = do
   first ← row_at sizes all
@@ -46,14 +56,18 @@ rows_at sizes (suc count) all = do
 
 abbrev pub values_at : List Field → Counts → List ℕ → Option (List Value × List ℕ)
 values_at [] counts all = Some ([], all)
-values_at (Number size ∷ fs) counts all = do
+values_at (Number (Unsigned size) ∷ fs) counts all = do
   n ← number_at size all
   vs ← values_at fs counts n.1
-  Some (number n.0 ∷ vs.0, vs.1)
+  Some (number (natural n.0) ∷ vs.0, vs.1)
+values_at (Number (Signed width) ∷ fs) counts all = do
+  n ← signed_at width all
+  vs ← values_at fs counts n.1
+  Some (number (integer n.0) ∷ vs.0, vs.1)
 values_at (Count size of ∷ fs) counts all = do
   n ← number_at size all
   vs ← values_at fs (counted of n.0 counts) n.1
-  Some (number n.0 ∷ vs.0, vs.1)
+  Some (number (natural n.0) ∷ vs.0, vs.1)
 values_at (Rows of sizes ∷ fs) counts all = do
   rs ← rows_at sizes (count_of of counts) all
   vs ← values_at fs counts rs.1
@@ -65,8 +79,8 @@ values_at (Bytes of ∷ fs) counts all = do
 values_at (ScaleBytes ∷ fs) counts all = do
   n ← number_at 4 all
   vs ← values_at fs counts n.1
-  Some (number n.0 ∷ vs.0, vs.1)
+  Some (number (natural n.0) ∷ vs.0, vs.1)
 values_at (DecimalPlaces ∷ fs) counts all = do
   n ← number_at 1 all
   vs ← values_at fs counts n.1
-  Some (number n.0 ∷ vs.0, vs.1)
+  Some (number (natural n.0) ∷ vs.0, vs.1)

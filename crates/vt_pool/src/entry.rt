@@ -1,10 +1,8 @@
 //! The entries of the lists of a record.
 
-ghost use Rattle.std.specs.Prelude.{◌≡◌, ◌++◌, ℕ, List, length, map, IfOk, OnOk};
-ghost use Rattle.std.specs.List.{AllByRecursion};
-ghost use Rattle.vt_objects.specs.Layout.{RowFits, row_spelling, rows_spelling};
+ghost use Rattle.std.specs.Prelude.{◌≡◌, ◌++◌, List, length, map, IfOk, OnOk};
+ghost use Rattle.vt_objects.specs.Layout.{Size, Numeral, row_spelling, rows_spelling};
 ghost use Rattle.vt_objects.specs.Tables.{child_sizes, child_numbers, macro_sizes, macro_numbers, language_sizes, language_numbers, id_sizes, id_numbers, point_sizes, point_numbers};
-ghost use Rattle.vt_objects.specs.FromValues.{child_from, macro_from, language_from, id_from, point_from};
 ghost use Rattle.vt_pool.specs.Reading.{Gives, row_at, rows_at};
 
 use crate::reader::Reader;
@@ -15,30 +13,23 @@ use vt_objects::{Child, Entries, Language, MacroEntry, ObjectId, Point};
 
 /// An entry of a list: a row of numbers of fixed sizes.
 pub trait Entry: Drop {
-    ghost sizes: { List ℕ };
+    ghost sizes: { List Size };
 
-    ghost numbers: { Self → List ℕ };
-
-    ghost from_numbers: { List ℕ → Self };
+    ghost numbers: { Self → List Numeral };
 
     fn read(reader: &mut Reader<'_>) -> Result<Self, Stop>
     where
         Self: Sized,
-        ensures read { Gives (λ x. (numbers x, reader.new)) result (row_at sizes reader.old) }
-        ensures back { IfOk result (λ x. from_numbers (numbers x) ≡ x) };
+        ensures { Gives (λ x. (numbers x, reader.new)) result (row_at sizes reader.old) };
 
     fn write(&self, out: &mut Vec<u8>) -> Result<(), AllocError>
-        ensures written { OnOk result (out.new.items ≡ out.old.items ++ row_spelling sizes (numbers self.now)) }
-        ensures fits { OnOk result (RowFits sizes (numbers self.now)) }
-        ensures back { OnOk result (from_numbers (numbers self.now) ≡ self.now) };
+        ensures { OnOk result (out.new.items ≡ out.old.items ++ row_spelling sizes (numbers self.now)) };
 }
 
 impl Entry for Child {
     ghost sizes = { child_sizes };
 
     ghost numbers = { child_numbers };
-
-    ghost from_numbers = { child_from };
 
     #[tactic(auto, unfolding(crate::specs::Reading::row_at))]
     fn read(reader: &mut Reader<'_>) -> Result<Child, Stop> {
@@ -61,8 +52,6 @@ impl Entry for MacroEntry {
 
     ghost numbers = { macro_numbers };
 
-    ghost from_numbers = { macro_from };
-
     #[tactic(auto, unfolding(crate::specs::Reading::row_at))]
     fn read(reader: &mut Reader<'_>) -> Result<MacroEntry, Stop> {
         let event = reader.u8()?;
@@ -81,8 +70,6 @@ impl Entry for Language {
     ghost sizes = { language_sizes };
 
     ghost numbers = { language_numbers };
-
-    ghost from_numbers = { language_from };
 
     #[tactic(auto, unfolding(crate::specs::Reading::row_at))]
     fn read(reader: &mut Reader<'_>) -> Result<Language, Stop> {
@@ -103,8 +90,6 @@ impl Entry for ObjectId {
 
     ghost numbers = { id_numbers };
 
-    ghost from_numbers = { id_from };
-
     #[tactic(auto, unfolding(crate::specs::Reading::row_at))]
     fn read(reader: &mut Reader<'_>) -> Result<ObjectId, Stop> {
         reader.id()
@@ -120,8 +105,6 @@ impl Entry for Point {
     ghost sizes = { point_sizes };
 
     ghost numbers = { point_numbers };
-
-    ghost from_numbers = { point_from };
 
     #[tactic(auto, unfolding(crate::specs::Reading::row_at))]
     fn read(reader: &mut Reader<'_>) -> Result<Point, Stop> {
@@ -145,7 +128,6 @@ pub fn entries<T: Entry>(
 ) -> Result<Entries<T>, Stop>
     ensures read { Gives (λ x. (map T.numbers x, reader.new)) result (rows_at T.sizes count reader.old) }
     ensures len { IfOk result (λ x. length x ≡ count) }
-    ensures back { IfOk result (λ x. map T.from_numbers (map T.numbers x) ≡ x) }
 {
     let mut items = Vec::new(alloc);
     for _ in 0..count {
@@ -156,10 +138,7 @@ pub fn entries<T: Entry>(
 
 /// Writes entries one after the other.
 pub fn put_entries<T: Entry>(out: &mut Vec<u8>, entries: &Entries<T>) -> Result<(), AllocError>
-    ensures written { OnOk result (out.new.items ≡ out.old.items ++ rows_spelling T.sizes (map T.numbers entries.now)) }
-    ensures len { length (map T.numbers entries.now) ≡ length entries.now }
-    ensures fits { OnOk result (AllByRecursion (RowFits T.sizes) (map T.numbers entries.now)) }
-    ensures back { OnOk result (map T.from_numbers (map T.numbers entries.now) ≡ entries.now) }
+    ensures { OnOk result (out.new.items ≡ out.old.items ++ rows_spelling T.sizes (map T.numbers entries.now)) }
 {
     for entry in entries.as_slice() {
         entry.write(out)?;

@@ -1,9 +1,9 @@
 //! Reading numbers and bytes from the front of a slice.
 
-ghost use Rattle.std.specs.Prelude.{◌≡◌, ◌+◌, length, IfOk};
-ghost use Rattle.std.specs.Int.{w16, w32, cast_signed, cast_unsigned};
+ghost use Rattle.std.specs.Prelude.{◌≡◌, length, IfOk};
+ghost use Rattle.std.specs.Int.{w16, w32};
 ghost use Rattle.byteorder.specs.Endian.{little_number};
-ghost use Rattle.vt_pool.specs.Reading.{Gives, number_at, bytes_at};
+ghost use Rattle.vt_pool.specs.Reading.{Gives, number_at, signed_at, bytes_at};
 
 use crate::stop::Stop;
 use byteorder::{ByteOrder, LittleEndian};
@@ -68,16 +68,16 @@ impl<'a> Reader<'a> {
         Ok(ObjectId::from_raw(self.u16()?))
     }
 
+    #[tactic(auto, unfolding(crate::specs::Reading::signed_at))]
     pub fn i16(&mut self) -> Result<i16, Stop>
-        ensures read { Gives (λ x. (cast_unsigned w16 x, self.new)) result (number_at 2 self.old) }
-        ensures back { IfOk result (λ x. cast_signed w16 (cast_unsigned w16 x) ≡ x) }
+        ensures { Gives (λ x. (x, self.new)) result (signed_at w16 self.old) }
     {
         Ok(self.u16()?.cast_signed())
     }
 
+    #[tactic(auto, unfolding(crate::specs::Reading::signed_at))]
     pub fn i32(&mut self) -> Result<i32, Stop>
-        ensures read { Gives (λ x. (cast_unsigned w32 x, self.new)) result (number_at 4 self.old) }
-        ensures back { IfOk result (λ x. cast_signed w32 (cast_unsigned w32 x) ≡ x) }
+        ensures { Gives (λ x. (x, self.new)) result (signed_at w32 self.old) }
     {
         Ok(self.u32()?.cast_signed())
     }

@@ -1,8 +1,8 @@
 //! The record at the front of some bytes.
 
-ghost use Rattle.std.specs.Prelude.{◌≡◌, ◌<◌, ◌++◌, length, IfOk, IfErr, Some};
+ghost use Rattle.std.specs.Prelude.{◌≡◌, ◌<◌, ◌++◌, length, IfOk, IfErr};
 ghost use Rattle.vt_objects.specs.Kinds.{kind_at};
-ghost use Rattle.vt_objects.specs.Records.{kind_of, values_of, seen, object_from, record_of, HasRecord};
+ghost use Rattle.vt_objects.specs.Records.{kind_of, values_of, seen, record_of, HasRecord};
 ghost use Rattle.vt_pool.specs.Heads.{Reads, record_at, or_stop, other_type};
 ghost use Rattle.vt_pool.specs.Pools.{RecordsAreWhole, WrittenIsRead};
 ghost use Rattle.vt_pool.specs.Stops.{IsStop};
@@ -34,8 +34,7 @@ pub fn read_record<'a>(alloc: Global, bytes: &'a [u8]) -> Result<Record<'a>, Sto
 // What `read_record` promises is proved from the one equation that this one keeps.
 #[tactic(auto, unfolding(crate::specs::Heads::record_at))]
 fn parse_record<'a>(alloc: Global, bytes: &'a [u8]) -> Result<Record<'a>, Stop>
-    ensures exact { Reads (λ r. record { id = r.id; kind = kind_of r.object; values = values_of r.object; rest = r.rest.now }) result (record_at bytes.now) }
-    ensures back { IfOk result (λ r. object_from (kind_of r.object) (values_of r.object) ≡ Some (seen r.object)) }
+    ensures { Reads (λ r. record { id = r.id; kind = kind_of r.object; values = values_of r.object; rest = r.rest.now }) result (record_at bytes.now) }
 {
     let mut reader = Reader::new(bytes);
     let id = ObjectId::from_raw(reader.u16()?);

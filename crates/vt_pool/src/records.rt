@@ -1,8 +1,7 @@
 //! The records of all kinds: what stands behind the ID and the type.
 
-ghost use Rattle.std.specs.Prelude.{◌≡◌, IfOk, OnOk, Some};
-ghost use Rattle.vt_objects.specs.Layout.{Proper, Shaped, no_counts};
-ghost use Rattle.vt_objects.specs.Records.{fields_of, values_of, kind_of, object_from, seen};
+ghost use Rattle.std.specs.Prelude.{◌≡◌, IfOk, OnOk};
+ghost use Rattle.vt_objects.specs.Records.{fields_of, values_of, kind_of};
 ghost use Rattle.vt_pool.specs.Heads.{Reads, fields_at};
 ghost use Rattle.vt_pool.specs.Writing.{written};
 
@@ -62,7 +61,6 @@ pub fn read_fields<'a>(
 ) -> Result<Object<&'a [u8]>, Stop>
     ensures read { Reads (λ o. (values_of o, reader.new)) result (fields_at (fields_of kind) reader.old) }
     ensures kind { IfOk result (λ o. kind_of o ≡ kind) }
-    ensures back { IfOk result (λ o. object_from kind (values_of o) ≡ Some (seen o)) }
 {
     match kind {
         Kind::WorkingSet => Ok(Object::WorkingSet(read_working_set(alloc, reader)?)),
@@ -99,10 +97,7 @@ pub fn read_fields<'a>(
 
 /// Writes the fields of an object.
 pub fn write_fields<B: AsSlice<u8>>(out: &mut Vec<u8>, object: &Object<B>) -> Result<(), AllocError>
-    ensures written { OnOk result (out.new.items ≡ written out.old.items (fields_of (kind_of object.now)) (values_of object.now)) }
-    ensures shaped { OnOk result (Shaped (fields_of (kind_of (seen object.now))) no_counts (values_of (seen object.now))) }
-    ensures proper { OnOk result (Proper (fields_of (kind_of (seen object.now))) (values_of (seen object.now))) }
-    ensures back { OnOk result (object_from (kind_of (seen object.now)) (values_of (seen object.now)) ≡ Some (seen object.now)) }
+    ensures { OnOk result (out.new.items ≡ written out.old.items (fields_of (kind_of object.now)) (values_of object.now)) }
 {
     match object {
         Object::WorkingSet(o) => write_working_set(out, o),

@@ -1,9 +1,8 @@
 //! The records of output graphics.
 
-ghost use Rattle.std.specs.Prelude.{◌≡◌, IfOk, OnOk, Some};
-ghost use Rattle.vt_objects.specs.Layout.{Shaped, Proper, fields, values, no_counts};
+ghost use Rattle.std.specs.Prelude.{◌≡◌, OnOk};
+ghost use Rattle.vt_objects.specs.Layout.{fields, values, no_counts};
 ghost use Rattle.vt_objects.specs.Tables.{meter, linear_bar, arched_bar};
-ghost use Rattle.vt_objects.specs.FromValues.{meter_from, linear_bar_from, arched_bar_from};
 ghost use Rattle.vt_pool.specs.Reading.{Gives, values_at};
 ghost use Rattle.vt_pool.specs.Writing.{written};
 
@@ -15,8 +14,7 @@ use std::alloc::{AllocError, Global};
 use vt_objects::{ArchedBar, LinearBar, Meter};
 
 pub fn read_meter(alloc: Global, reader: &mut Reader<'_>) -> Result<Meter, Stop>
-    ensures read { Gives (λ x. (values meter x, reader.new)) result (values_at (fields meter) no_counts reader.old) }
-    ensures back { IfOk result (λ x. meter_from (values meter x) ≡ Some x) }
+    ensures { Gives (λ x. (values meter x, reader.new)) result (values_at (fields meter) no_counts reader.old) }
 {
     let width = reader.u16()?;
     let needle_colour = reader.u8()?;
@@ -50,10 +48,7 @@ pub fn read_meter(alloc: Global, reader: &mut Reader<'_>) -> Result<Meter, Stop>
 }
 
 pub fn write_meter(out: &mut Vec<u8>, o: &Meter) -> Result<(), AllocError>
-    ensures written { OnOk result (out.new.items ≡ written out.old.items (fields meter) (values meter o.now)) }
-    ensures shaped { OnOk result (Shaped (fields meter) no_counts (values meter o.now)) }
-    ensures proper { OnOk result (Proper (fields meter) (values meter o.now)) }
-    ensures back { OnOk result (meter_from (values meter o.now) ≡ Some o.now) }
+    ensures { OnOk result (out.new.items ≡ written out.old.items (fields meter) (values meter o.now)) }
 {
     put_u16(out, o.width)?;
     put_u8(out, o.needle_colour)?;
@@ -73,8 +68,7 @@ pub fn write_meter(out: &mut Vec<u8>, o: &Meter) -> Result<(), AllocError>
 }
 
 pub fn read_linear_bar(alloc: Global, reader: &mut Reader<'_>) -> Result<LinearBar, Stop>
-    ensures read { Gives (λ x. (values linear_bar x, reader.new)) result (values_at (fields linear_bar) no_counts reader.old) }
-    ensures back { IfOk result (λ x. linear_bar_from (values linear_bar x) ≡ Some x) }
+    ensures { Gives (λ x. (values linear_bar x, reader.new)) result (values_at (fields linear_bar) no_counts reader.old) }
 {
     let width = reader.u16()?;
     let height = reader.u16()?;
@@ -108,10 +102,7 @@ pub fn read_linear_bar(alloc: Global, reader: &mut Reader<'_>) -> Result<LinearB
 }
 
 pub fn write_linear_bar(out: &mut Vec<u8>, o: &LinearBar) -> Result<(), AllocError>
-    ensures written { OnOk result (out.new.items ≡ written out.old.items (fields linear_bar) (values linear_bar o.now)) }
-    ensures shaped { OnOk result (Shaped (fields linear_bar) no_counts (values linear_bar o.now)) }
-    ensures proper { OnOk result (Proper (fields linear_bar) (values linear_bar o.now)) }
-    ensures back { OnOk result (linear_bar_from (values linear_bar o.now) ≡ Some o.now) }
+    ensures { OnOk result (out.new.items ≡ written out.old.items (fields linear_bar) (values linear_bar o.now)) }
 {
     put_u16(out, o.width)?;
     put_u16(out, o.height)?;
@@ -131,8 +122,7 @@ pub fn write_linear_bar(out: &mut Vec<u8>, o: &LinearBar) -> Result<(), AllocErr
 }
 
 pub fn read_arched_bar(alloc: Global, reader: &mut Reader<'_>) -> Result<ArchedBar, Stop>
-    ensures read { Gives (λ x. (values arched_bar x, reader.new)) result (values_at (fields arched_bar) no_counts reader.old) }
-    ensures back { IfOk result (λ x. arched_bar_from (values arched_bar x) ≡ Some x) }
+    ensures { Gives (λ x. (values arched_bar x, reader.new)) result (values_at (fields arched_bar) no_counts reader.old) }
 {
     let width = reader.u16()?;
     let height = reader.u16()?;
@@ -170,10 +160,7 @@ pub fn read_arched_bar(alloc: Global, reader: &mut Reader<'_>) -> Result<ArchedB
 }
 
 pub fn write_arched_bar(out: &mut Vec<u8>, o: &ArchedBar) -> Result<(), AllocError>
-    ensures written { OnOk result (out.new.items ≡ written out.old.items (fields arched_bar) (values arched_bar o.now)) }
-    ensures shaped { OnOk result (Shaped (fields arched_bar) no_counts (values arched_bar o.now)) }
-    ensures proper { OnOk result (Proper (fields arched_bar) (values arched_bar o.now)) }
-    ensures back { OnOk result (arched_bar_from (values arched_bar o.now) ≡ Some o.now) }
+    ensures { OnOk result (out.new.items ≡ written out.old.items (fields arched_bar) (values arched_bar o.now)) }
 {
     put_u16(out, o.width)?;
     put_u16(out, o.height)?;

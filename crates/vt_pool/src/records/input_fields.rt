@@ -1,10 +1,8 @@
 //! The records of input fields.
 
-ghost use Rattle.std.specs.Prelude.{◌≡◌, ℕ, List, IfOk, OnOk, Some};
-ghost use Rattle.vt_objects.specs.Layout.{Shaped, Proper, fields, values, no_counts};
+ghost use Rattle.std.specs.Prelude.{◌≡◌, ℕ, List, OnOk};
+ghost use Rattle.vt_objects.specs.Layout.{fields, values, no_counts};
 ghost use Rattle.vt_objects.specs.Tables.{input_boolean, input_string, input_number, input_list};
-ghost use Rattle.vt_objects.specs.FromValues.{input_boolean_from, input_string_from, input_number_from, input_list_from};
-ghost use Rattle.vt_objects.specs.Records.{seen_input_string};
 ghost use Rattle.vt_pool.specs.Heads.{Reads, fields_at};
 ghost use Rattle.vt_pool.specs.Reading.{Gives, values_at};
 ghost use Rattle.vt_pool.specs.Writing.{written};
@@ -18,8 +16,7 @@ use std::convert::AsSlice;
 use vt_objects::{Decimals, InputBoolean, InputList, InputNumber, InputString, Scale};
 
 pub fn read_input_boolean(alloc: Global, reader: &mut Reader<'_>) -> Result<InputBoolean, Stop>
-    ensures read { Gives (λ x. (values input_boolean x, reader.new)) result (values_at (fields input_boolean) no_counts reader.old) }
-    ensures back { IfOk result (λ x. input_boolean_from (values input_boolean x) ≡ Some x) }
+    ensures { Gives (λ x. (values input_boolean x, reader.new)) result (values_at (fields input_boolean) no_counts reader.old) }
 {
     let colour = reader.u8()?;
     let width = reader.u16()?;
@@ -41,10 +38,7 @@ pub fn read_input_boolean(alloc: Global, reader: &mut Reader<'_>) -> Result<Inpu
 }
 
 pub fn write_input_boolean(out: &mut Vec<u8>, o: &InputBoolean) -> Result<(), AllocError>
-    ensures written { OnOk result (out.new.items ≡ written out.old.items (fields input_boolean) (values input_boolean o.now)) }
-    ensures shaped { OnOk result (Shaped (fields input_boolean) no_counts (values input_boolean o.now)) }
-    ensures proper { OnOk result (Proper (fields input_boolean) (values input_boolean o.now)) }
-    ensures back { OnOk result (input_boolean_from (values input_boolean o.now) ≡ Some o.now) }
+    ensures { OnOk result (out.new.items ≡ written out.old.items (fields input_boolean) (values input_boolean o.now)) }
 {
     put_u8(out, o.colour)?;
     put_u16(out, o.width)?;
@@ -61,8 +55,7 @@ pub fn read_input_string<'a>(
     alloc: Global,
     reader: &mut Reader<'a>,
 ) -> Result<InputString<&'a [u8]>, Stop>
-    ensures read { Gives (λ x. (values input_string x, reader.new)) result (values_at (fields (input_string {B = List ℕ})) no_counts reader.old) }
-    ensures back { IfOk result (λ x. input_string_from (values input_string x) ≡ Some (seen_input_string x)) }
+    ensures { Gives (λ x. (values input_string x, reader.new)) result (values_at (fields (input_string {B = List ℕ})) no_counts reader.old) }
 {
     let width = reader.u16()?;
     let height = reader.u16()?;
@@ -96,10 +89,7 @@ pub fn write_input_string<B: AsSlice<u8>>(
     out: &mut Vec<u8>,
     o: &InputString<B>,
 ) -> Result<(), AllocError>
-    ensures written { OnOk result (out.new.items ≡ written out.old.items (fields (input_string {B = List ℕ})) (values input_string o.now)) }
-    ensures shaped { OnOk result (Shaped (fields (input_string {B = List ℕ})) no_counts (values input_string o.now)) }
-    ensures proper { OnOk result (Proper (fields (input_string {B = List ℕ})) (values input_string o.now)) }
-    ensures back { OnOk result (input_string_from (values input_string o.now) ≡ Some (seen_input_string o.now)) }
+    ensures { OnOk result (out.new.items ≡ written out.old.items (fields (input_string {B = List ℕ})) (values input_string o.now)) }
 {
     put_u16(out, o.width)?;
     put_u16(out, o.height)?;
@@ -119,8 +109,7 @@ pub fn write_input_string<B: AsSlice<u8>>(
 }
 
 pub fn read_input_number(alloc: Global, reader: &mut Reader<'_>) -> Result<InputNumber, Stop>
-    ensures read { Reads (λ x. (values input_number x, reader.new)) result (fields_at (fields input_number) reader.old) }
-    ensures back { IfOk result (λ x. input_number_from (values input_number x) ≡ Some x) }
+    ensures { Reads (λ x. (values input_number x, reader.new)) result (fields_at (fields input_number) reader.old) }
 {
     let width = reader.u16()?;
     let height = reader.u16()?;
@@ -166,10 +155,7 @@ pub fn read_input_number(alloc: Global, reader: &mut Reader<'_>) -> Result<Input
 }
 
 pub fn write_input_number(out: &mut Vec<u8>, o: &InputNumber) -> Result<(), AllocError>
-    ensures written { OnOk result (out.new.items ≡ written out.old.items (fields input_number) (values input_number o.now)) }
-    ensures shaped { OnOk result (Shaped (fields input_number) no_counts (values input_number o.now)) }
-    ensures proper { OnOk result (Proper (fields input_number) (values input_number o.now)) }
-    ensures back { OnOk result (input_number_from (values input_number o.now) ≡ Some o.now) }
+    ensures { OnOk result (out.new.items ≡ written out.old.items (fields input_number) (values input_number o.now)) }
 {
     put_u16(out, o.width)?;
     put_u16(out, o.height)?;
@@ -192,8 +178,7 @@ pub fn write_input_number(out: &mut Vec<u8>, o: &InputNumber) -> Result<(), Allo
 }
 
 pub fn read_input_list(alloc: Global, reader: &mut Reader<'_>) -> Result<InputList, Stop>
-    ensures read { Gives (λ x. (values input_list x, reader.new)) result (values_at (fields input_list) no_counts reader.old) }
-    ensures back { IfOk result (λ x. input_list_from (values input_list x) ≡ Some x) }
+    ensures { Gives (λ x. (values input_list x, reader.new)) result (values_at (fields input_list) no_counts reader.old) }
 {
     let width = reader.u16()?;
     let height = reader.u16()?;
@@ -216,10 +201,7 @@ pub fn read_input_list(alloc: Global, reader: &mut Reader<'_>) -> Result<InputLi
 }
 
 pub fn write_input_list(out: &mut Vec<u8>, o: &InputList) -> Result<(), AllocError>
-    ensures written { OnOk result (out.new.items ≡ written out.old.items (fields input_list) (values input_list o.now)) }
-    ensures shaped { OnOk result (Shaped (fields input_list) no_counts (values input_list o.now)) }
-    ensures proper { OnOk result (Proper (fields input_list) (values input_list o.now)) }
-    ensures back { OnOk result (input_list_from (values input_list o.now) ≡ Some o.now) }
+    ensures { OnOk result (out.new.items ≡ written out.old.items (fields input_list) (values input_list o.now)) }
 {
     put_u16(out, o.width)?;
     put_u16(out, o.height)?;

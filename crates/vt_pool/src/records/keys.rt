@@ -1,9 +1,8 @@
 //! The records of soft key masks, keys and buttons.
 
-ghost use Rattle.std.specs.Prelude.{◌≡◌, IfOk, OnOk, Some};
-ghost use Rattle.vt_objects.specs.Layout.{Shaped, Proper, fields, values, no_counts};
+ghost use Rattle.std.specs.Prelude.{◌≡◌, OnOk};
+ghost use Rattle.vt_objects.specs.Layout.{fields, values, no_counts};
 ghost use Rattle.vt_objects.specs.Tables.{soft_key_mask, key, button};
-ghost use Rattle.vt_objects.specs.FromValues.{soft_key_mask_from, key_from, button_from};
 ghost use Rattle.vt_pool.specs.Reading.{Gives, values_at};
 ghost use Rattle.vt_pool.specs.Writing.{written};
 
@@ -15,8 +14,7 @@ use std::alloc::{AllocError, Global};
 use vt_objects::{Button, Key, SoftKeyMask};
 
 pub fn read_soft_key_mask(alloc: Global, reader: &mut Reader<'_>) -> Result<SoftKeyMask, Stop>
-    ensures read { Gives (λ x. (values soft_key_mask x, reader.new)) result (values_at (fields soft_key_mask) no_counts reader.old) }
-    ensures back { IfOk result (λ x. soft_key_mask_from (values soft_key_mask x) ≡ Some x) }
+    ensures { Gives (λ x. (values soft_key_mask x, reader.new)) result (values_at (fields soft_key_mask) no_counts reader.old) }
 {
     let colour = reader.u8()?;
     let key_count = reader.u8()?;
@@ -31,10 +29,7 @@ pub fn read_soft_key_mask(alloc: Global, reader: &mut Reader<'_>) -> Result<Soft
 }
 
 pub fn write_soft_key_mask(out: &mut Vec<u8>, o: &SoftKeyMask) -> Result<(), AllocError>
-    ensures written { OnOk result (out.new.items ≡ written out.old.items (fields soft_key_mask) (values soft_key_mask o.now)) }
-    ensures shaped { OnOk result (Shaped (fields soft_key_mask) no_counts (values soft_key_mask o.now)) }
-    ensures proper { OnOk result (Proper (fields soft_key_mask) (values soft_key_mask o.now)) }
-    ensures back { OnOk result (soft_key_mask_from (values soft_key_mask o.now) ≡ Some o.now) }
+    ensures { OnOk result (out.new.items ≡ written out.old.items (fields soft_key_mask) (values soft_key_mask o.now)) }
 {
     put_u8(out, o.colour)?;
     put_u8(out, o.keys.len())?;
@@ -45,8 +40,7 @@ pub fn write_soft_key_mask(out: &mut Vec<u8>, o: &SoftKeyMask) -> Result<(), All
 }
 
 pub fn read_key(alloc: Global, reader: &mut Reader<'_>) -> Result<Key, Stop>
-    ensures read { Gives (λ x. (values key x, reader.new)) result (values_at (fields key) no_counts reader.old) }
-    ensures back { IfOk result (λ x. key_from (values key x) ≡ Some x) }
+    ensures { Gives (λ x. (values key x, reader.new)) result (values_at (fields key) no_counts reader.old) }
 {
     let colour = reader.u8()?;
     let key_code = reader.u8()?;
@@ -63,10 +57,7 @@ pub fn read_key(alloc: Global, reader: &mut Reader<'_>) -> Result<Key, Stop>
 }
 
 pub fn write_key(out: &mut Vec<u8>, o: &Key) -> Result<(), AllocError>
-    ensures written { OnOk result (out.new.items ≡ written out.old.items (fields key) (values key o.now)) }
-    ensures shaped { OnOk result (Shaped (fields key) no_counts (values key o.now)) }
-    ensures proper { OnOk result (Proper (fields key) (values key o.now)) }
-    ensures back { OnOk result (key_from (values key o.now) ≡ Some o.now) }
+    ensures { OnOk result (out.new.items ≡ written out.old.items (fields key) (values key o.now)) }
 {
     put_u8(out, o.colour)?;
     put_u8(out, o.key_code)?;
@@ -78,8 +69,7 @@ pub fn write_key(out: &mut Vec<u8>, o: &Key) -> Result<(), AllocError>
 }
 
 pub fn read_button(alloc: Global, reader: &mut Reader<'_>) -> Result<Button, Stop>
-    ensures read { Gives (λ x. (values button x, reader.new)) result (values_at (fields button) no_counts reader.old) }
-    ensures back { IfOk result (λ x. button_from (values button x) ≡ Some x) }
+    ensures { Gives (λ x. (values button x, reader.new)) result (values_at (fields button) no_counts reader.old) }
 {
     let width = reader.u16()?;
     let height = reader.u16()?;
@@ -104,10 +94,7 @@ pub fn read_button(alloc: Global, reader: &mut Reader<'_>) -> Result<Button, Sto
 }
 
 pub fn write_button(out: &mut Vec<u8>, o: &Button) -> Result<(), AllocError>
-    ensures written { OnOk result (out.new.items ≡ written out.old.items (fields button) (values button o.now)) }
-    ensures shaped { OnOk result (Shaped (fields button) no_counts (values button o.now)) }
-    ensures proper { OnOk result (Proper (fields button) (values button o.now)) }
-    ensures back { OnOk result (button_from (values button o.now) ≡ Some o.now) }
+    ensures { OnOk result (out.new.items ≡ written out.old.items (fields button) (values button o.now)) }
 {
     put_u16(out, o.width)?;
     put_u16(out, o.height)?;

@@ -1,9 +1,8 @@
 //! The records of the working set, masks and containers.
 
-ghost use Rattle.std.specs.Prelude.{◌≡◌, IfOk, OnOk, Some};
-ghost use Rattle.vt_objects.specs.Layout.{Shaped, Proper, fields, values, no_counts};
+ghost use Rattle.std.specs.Prelude.{◌≡◌, OnOk};
+ghost use Rattle.vt_objects.specs.Layout.{fields, values, no_counts};
 ghost use Rattle.vt_objects.specs.Tables.{working_set, data_mask, alarm_mask, container};
-ghost use Rattle.vt_objects.specs.FromValues.{working_set_from, data_mask_from, alarm_mask_from, container_from};
 ghost use Rattle.vt_pool.specs.Reading.{Gives, values_at};
 ghost use Rattle.vt_pool.specs.Writing.{written};
 
@@ -15,8 +14,7 @@ use std::alloc::{AllocError, Global};
 use vt_objects::{AlarmMask, Container, DataMask, WorkingSet};
 
 pub fn read_working_set(alloc: Global, reader: &mut Reader<'_>) -> Result<WorkingSet, Stop>
-    ensures read { Gives (λ x. (values working_set x, reader.new)) result (values_at (fields working_set) no_counts reader.old) }
-    ensures back { IfOk result (λ x. working_set_from (values working_set x) ≡ Some x) }
+    ensures { Gives (λ x. (values working_set x, reader.new)) result (values_at (fields working_set) no_counts reader.old) }
 {
     let colour = reader.u8()?;
     let selectable = reader.u8()?;
@@ -38,10 +36,7 @@ pub fn read_working_set(alloc: Global, reader: &mut Reader<'_>) -> Result<Workin
 }
 
 pub fn write_working_set(out: &mut Vec<u8>, o: &WorkingSet) -> Result<(), AllocError>
-    ensures written { OnOk result (out.new.items ≡ written out.old.items (fields working_set) (values working_set o.now)) }
-    ensures shaped { OnOk result (Shaped (fields working_set) no_counts (values working_set o.now)) }
-    ensures proper { OnOk result (Proper (fields working_set) (values working_set o.now)) }
-    ensures back { OnOk result (working_set_from (values working_set o.now) ≡ Some o.now) }
+    ensures { OnOk result (out.new.items ≡ written out.old.items (fields working_set) (values working_set o.now)) }
 {
     put_u8(out, o.colour)?;
     put_u8(out, o.selectable)?;
@@ -56,8 +51,7 @@ pub fn write_working_set(out: &mut Vec<u8>, o: &WorkingSet) -> Result<(), AllocE
 }
 
 pub fn read_data_mask(alloc: Global, reader: &mut Reader<'_>) -> Result<DataMask, Stop>
-    ensures read { Gives (λ x. (values data_mask x, reader.new)) result (values_at (fields data_mask) no_counts reader.old) }
-    ensures back { IfOk result (λ x. data_mask_from (values data_mask x) ≡ Some x) }
+    ensures { Gives (λ x. (values data_mask x, reader.new)) result (values_at (fields data_mask) no_counts reader.old) }
 {
     let colour = reader.u8()?;
     let soft_key_mask = reader.id()?;
@@ -74,10 +68,7 @@ pub fn read_data_mask(alloc: Global, reader: &mut Reader<'_>) -> Result<DataMask
 }
 
 pub fn write_data_mask(out: &mut Vec<u8>, o: &DataMask) -> Result<(), AllocError>
-    ensures written { OnOk result (out.new.items ≡ written out.old.items (fields data_mask) (values data_mask o.now)) }
-    ensures shaped { OnOk result (Shaped (fields data_mask) no_counts (values data_mask o.now)) }
-    ensures proper { OnOk result (Proper (fields data_mask) (values data_mask o.now)) }
-    ensures back { OnOk result (data_mask_from (values data_mask o.now) ≡ Some o.now) }
+    ensures { OnOk result (out.new.items ≡ written out.old.items (fields data_mask) (values data_mask o.now)) }
 {
     put_u8(out, o.colour)?;
     put_id(out, o.soft_key_mask)?;
@@ -89,8 +80,7 @@ pub fn write_data_mask(out: &mut Vec<u8>, o: &DataMask) -> Result<(), AllocError
 }
 
 pub fn read_alarm_mask(alloc: Global, reader: &mut Reader<'_>) -> Result<AlarmMask, Stop>
-    ensures read { Gives (λ x. (values alarm_mask x, reader.new)) result (values_at (fields alarm_mask) no_counts reader.old) }
-    ensures back { IfOk result (λ x. alarm_mask_from (values alarm_mask x) ≡ Some x) }
+    ensures { Gives (λ x. (values alarm_mask x, reader.new)) result (values_at (fields alarm_mask) no_counts reader.old) }
 {
     let colour = reader.u8()?;
     let soft_key_mask = reader.id()?;
@@ -111,10 +101,7 @@ pub fn read_alarm_mask(alloc: Global, reader: &mut Reader<'_>) -> Result<AlarmMa
 }
 
 pub fn write_alarm_mask(out: &mut Vec<u8>, o: &AlarmMask) -> Result<(), AllocError>
-    ensures written { OnOk result (out.new.items ≡ written out.old.items (fields alarm_mask) (values alarm_mask o.now)) }
-    ensures shaped { OnOk result (Shaped (fields alarm_mask) no_counts (values alarm_mask o.now)) }
-    ensures proper { OnOk result (Proper (fields alarm_mask) (values alarm_mask o.now)) }
-    ensures back { OnOk result (alarm_mask_from (values alarm_mask o.now) ≡ Some o.now) }
+    ensures { OnOk result (out.new.items ≡ written out.old.items (fields alarm_mask) (values alarm_mask o.now)) }
 {
     put_u8(out, o.colour)?;
     put_id(out, o.soft_key_mask)?;
@@ -128,8 +115,7 @@ pub fn write_alarm_mask(out: &mut Vec<u8>, o: &AlarmMask) -> Result<(), AllocErr
 }
 
 pub fn read_container(alloc: Global, reader: &mut Reader<'_>) -> Result<Container, Stop>
-    ensures read { Gives (λ x. (values container x, reader.new)) result (values_at (fields container) no_counts reader.old) }
-    ensures back { IfOk result (λ x. container_from (values container x) ≡ Some x) }
+    ensures { Gives (λ x. (values container x, reader.new)) result (values_at (fields container) no_counts reader.old) }
 {
     let width = reader.u16()?;
     let height = reader.u16()?;
@@ -148,10 +134,7 @@ pub fn read_container(alloc: Global, reader: &mut Reader<'_>) -> Result<Containe
 }
 
 pub fn write_container(out: &mut Vec<u8>, o: &Container) -> Result<(), AllocError>
-    ensures written { OnOk result (out.new.items ≡ written out.old.items (fields container) (values container o.now)) }
-    ensures shaped { OnOk result (Shaped (fields container) no_counts (values container o.now)) }
-    ensures proper { OnOk result (Proper (fields container) (values container o.now)) }
-    ensures back { OnOk result (container_from (values container o.now) ≡ Some o.now) }
+    ensures { OnOk result (out.new.items ≡ written out.old.items (fields container) (values container o.now)) }
 {
     put_u16(out, o.width)?;
     put_u16(out, o.height)?;

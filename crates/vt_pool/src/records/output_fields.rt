@@ -1,10 +1,8 @@
 //! The records of output fields.
 
-ghost use Rattle.std.specs.Prelude.{◌≡◌, ℕ, List, IfOk, OnOk, Some};
-ghost use Rattle.vt_objects.specs.Layout.{Shaped, Proper, fields, values, no_counts};
+ghost use Rattle.std.specs.Prelude.{◌≡◌, ℕ, List, OnOk};
+ghost use Rattle.vt_objects.specs.Layout.{fields, values, no_counts};
 ghost use Rattle.vt_objects.specs.Tables.{output_string, output_number};
-ghost use Rattle.vt_objects.specs.FromValues.{output_string_from, output_number_from};
-ghost use Rattle.vt_objects.specs.Records.{seen_output_string};
 ghost use Rattle.vt_pool.specs.Heads.{Reads, fields_at};
 ghost use Rattle.vt_pool.specs.Reading.{Gives, values_at};
 ghost use Rattle.vt_pool.specs.Writing.{written};
@@ -21,8 +19,7 @@ pub fn read_output_string<'a>(
     alloc: Global,
     reader: &mut Reader<'a>,
 ) -> Result<OutputString<&'a [u8]>, Stop>
-    ensures read { Gives (λ x. (values output_string x, reader.new)) result (values_at (fields (output_string {B = List ℕ})) no_counts reader.old) }
-    ensures back { IfOk result (λ x. output_string_from (values output_string x) ≡ Some (seen_output_string x)) }
+    ensures { Gives (λ x. (values output_string x, reader.new)) result (values_at (fields (output_string {B = List ℕ})) no_counts reader.old) }
 {
     let width = reader.u16()?;
     let height = reader.u16()?;
@@ -52,10 +49,7 @@ pub fn write_output_string<B: AsSlice<u8>>(
     out: &mut Vec<u8>,
     o: &OutputString<B>,
 ) -> Result<(), AllocError>
-    ensures written { OnOk result (out.new.items ≡ written out.old.items (fields (output_string {B = List ℕ})) (values output_string o.now)) }
-    ensures shaped { OnOk result (Shaped (fields (output_string {B = List ℕ})) no_counts (values output_string o.now)) }
-    ensures proper { OnOk result (Proper (fields (output_string {B = List ℕ})) (values output_string o.now)) }
-    ensures back { OnOk result (output_string_from (values output_string o.now) ≡ Some (seen_output_string o.now)) }
+    ensures { OnOk result (out.new.items ≡ written out.old.items (fields (output_string {B = List ℕ})) (values output_string o.now)) }
 {
     put_u16(out, o.width)?;
     put_u16(out, o.height)?;
@@ -73,8 +67,7 @@ pub fn write_output_string<B: AsSlice<u8>>(
 }
 
 pub fn read_output_number(alloc: Global, reader: &mut Reader<'_>) -> Result<OutputNumber, Stop>
-    ensures read { Reads (λ x. (values output_number x, reader.new)) result (fields_at (fields output_number) reader.old) }
-    ensures back { IfOk result (λ x. output_number_from (values output_number x) ≡ Some x) }
+    ensures { Reads (λ x. (values output_number x, reader.new)) result (fields_at (fields output_number) reader.old) }
 {
     let width = reader.u16()?;
     let height = reader.u16()?;
@@ -114,10 +107,7 @@ pub fn read_output_number(alloc: Global, reader: &mut Reader<'_>) -> Result<Outp
 }
 
 pub fn write_output_number(out: &mut Vec<u8>, o: &OutputNumber) -> Result<(), AllocError>
-    ensures written { OnOk result (out.new.items ≡ written out.old.items (fields output_number) (values output_number o.now)) }
-    ensures shaped { OnOk result (Shaped (fields output_number) no_counts (values output_number o.now)) }
-    ensures proper { OnOk result (Proper (fields output_number) (values output_number o.now)) }
-    ensures back { OnOk result (output_number_from (values output_number o.now) ≡ Some o.now) }
+    ensures { OnOk result (out.new.items ≡ written out.old.items (fields output_number) (values output_number o.now)) }
 {
     put_u16(out, o.width)?;
     put_u16(out, o.height)?;

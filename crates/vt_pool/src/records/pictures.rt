@@ -1,10 +1,8 @@
 //! The records of pictures.
 
-ghost use Rattle.std.specs.Prelude.{◌≡◌, ℕ, List, IfOk, OnOk, Some};
-ghost use Rattle.vt_objects.specs.Layout.{Shaped, Proper, fields, values, no_counts};
+ghost use Rattle.std.specs.Prelude.{◌≡◌, ℕ, List, OnOk};
+ghost use Rattle.vt_objects.specs.Layout.{fields, values, no_counts};
 ghost use Rattle.vt_objects.specs.Tables.{picture};
-ghost use Rattle.vt_objects.specs.FromValues.{picture_from};
-ghost use Rattle.vt_objects.specs.Records.{seen_picture};
 ghost use Rattle.vt_pool.specs.Reading.{Gives, values_at};
 ghost use Rattle.vt_pool.specs.Writing.{written};
 
@@ -17,8 +15,7 @@ use std::convert::AsSlice;
 use vt_objects::Picture;
 
 pub fn read_picture<'a>(alloc: Global, reader: &mut Reader<'a>) -> Result<Picture<&'a [u8]>, Stop>
-    ensures read { Gives (λ x. (values picture x, reader.new)) result (values_at (fields (picture {B = List ℕ})) no_counts reader.old) }
-    ensures back { IfOk result (λ x. picture_from (values picture x) ≡ Some (seen_picture x)) }
+    ensures { Gives (λ x. (values picture x, reader.new)) result (values_at (fields (picture {B = List ℕ})) no_counts reader.old) }
 {
     let width = reader.u16()?;
     let actual_width = reader.u16()?;
@@ -43,10 +40,7 @@ pub fn read_picture<'a>(alloc: Global, reader: &mut Reader<'a>) -> Result<Pictur
 }
 
 pub fn write_picture<B: AsSlice<u8>>(out: &mut Vec<u8>, o: &Picture<B>) -> Result<(), AllocError>
-    ensures written { OnOk result (out.new.items ≡ written out.old.items (fields (picture {B = List ℕ})) (values picture o.now)) }
-    ensures shaped { OnOk result (Shaped (fields (picture {B = List ℕ})) no_counts (values picture o.now)) }
-    ensures proper { OnOk result (Proper (fields (picture {B = List ℕ})) (values picture o.now)) }
-    ensures back { OnOk result (picture_from (values picture o.now) ≡ Some (seen_picture o.now)) }
+    ensures { OnOk result (out.new.items ≡ written out.old.items (fields (picture {B = List ℕ})) (values picture o.now)) }
 {
     put_u16(out, o.width)?;
     put_u16(out, o.actual_width)?;

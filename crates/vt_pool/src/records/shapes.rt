@@ -1,9 +1,8 @@
 //! The records of output shapes.
 
-ghost use Rattle.std.specs.Prelude.{◌≡◌, IfOk, OnOk, Some};
-ghost use Rattle.vt_objects.specs.Layout.{Shaped, Proper, fields, values, no_counts};
+ghost use Rattle.std.specs.Prelude.{◌≡◌, OnOk};
+ghost use Rattle.vt_objects.specs.Layout.{fields, values, no_counts};
 ghost use Rattle.vt_objects.specs.Tables.{line, rectangle, ellipse, polygon};
-ghost use Rattle.vt_objects.specs.FromValues.{line_from, rectangle_from, ellipse_from, polygon_from};
 ghost use Rattle.vt_pool.specs.Reading.{Gives, values_at};
 ghost use Rattle.vt_pool.specs.Writing.{written};
 
@@ -15,8 +14,7 @@ use std::alloc::{AllocError, Global};
 use vt_objects::{Ellipse, Line, Polygon, Rectangle};
 
 pub fn read_line(alloc: Global, reader: &mut Reader<'_>) -> Result<Line, Stop>
-    ensures read { Gives (λ x. (values line x, reader.new)) result (values_at (fields line) no_counts reader.old) }
-    ensures back { IfOk result (λ x. line_from (values line x) ≡ Some x) }
+    ensures { Gives (λ x. (values line x, reader.new)) result (values_at (fields line) no_counts reader.old) }
 {
     let line_attributes = reader.id()?;
     let width = reader.u16()?;
@@ -34,10 +32,7 @@ pub fn read_line(alloc: Global, reader: &mut Reader<'_>) -> Result<Line, Stop>
 }
 
 pub fn write_line(out: &mut Vec<u8>, o: &Line) -> Result<(), AllocError>
-    ensures written { OnOk result (out.new.items ≡ written out.old.items (fields line) (values line o.now)) }
-    ensures shaped { OnOk result (Shaped (fields line) no_counts (values line o.now)) }
-    ensures proper { OnOk result (Proper (fields line) (values line o.now)) }
-    ensures back { OnOk result (line_from (values line o.now) ≡ Some o.now) }
+    ensures { OnOk result (out.new.items ≡ written out.old.items (fields line) (values line o.now)) }
 {
     put_id(out, o.line_attributes)?;
     put_u16(out, o.width)?;
@@ -49,8 +44,7 @@ pub fn write_line(out: &mut Vec<u8>, o: &Line) -> Result<(), AllocError>
 }
 
 pub fn read_rectangle(alloc: Global, reader: &mut Reader<'_>) -> Result<Rectangle, Stop>
-    ensures read { Gives (λ x. (values rectangle x, reader.new)) result (values_at (fields rectangle) no_counts reader.old) }
-    ensures back { IfOk result (λ x. rectangle_from (values rectangle x) ≡ Some x) }
+    ensures { Gives (λ x. (values rectangle x, reader.new)) result (values_at (fields rectangle) no_counts reader.old) }
 {
     let line_attributes = reader.id()?;
     let width = reader.u16()?;
@@ -70,10 +64,7 @@ pub fn read_rectangle(alloc: Global, reader: &mut Reader<'_>) -> Result<Rectangl
 }
 
 pub fn write_rectangle(out: &mut Vec<u8>, o: &Rectangle) -> Result<(), AllocError>
-    ensures written { OnOk result (out.new.items ≡ written out.old.items (fields rectangle) (values rectangle o.now)) }
-    ensures shaped { OnOk result (Shaped (fields rectangle) no_counts (values rectangle o.now)) }
-    ensures proper { OnOk result (Proper (fields rectangle) (values rectangle o.now)) }
-    ensures back { OnOk result (rectangle_from (values rectangle o.now) ≡ Some o.now) }
+    ensures { OnOk result (out.new.items ≡ written out.old.items (fields rectangle) (values rectangle o.now)) }
 {
     put_id(out, o.line_attributes)?;
     put_u16(out, o.width)?;
@@ -86,8 +77,7 @@ pub fn write_rectangle(out: &mut Vec<u8>, o: &Rectangle) -> Result<(), AllocErro
 }
 
 pub fn read_ellipse(alloc: Global, reader: &mut Reader<'_>) -> Result<Ellipse, Stop>
-    ensures read { Gives (λ x. (values ellipse x, reader.new)) result (values_at (fields ellipse) no_counts reader.old) }
-    ensures back { IfOk result (λ x. ellipse_from (values ellipse x) ≡ Some x) }
+    ensures { Gives (λ x. (values ellipse x, reader.new)) result (values_at (fields ellipse) no_counts reader.old) }
 {
     let line_attributes = reader.id()?;
     let width = reader.u16()?;
@@ -111,10 +101,7 @@ pub fn read_ellipse(alloc: Global, reader: &mut Reader<'_>) -> Result<Ellipse, S
 }
 
 pub fn write_ellipse(out: &mut Vec<u8>, o: &Ellipse) -> Result<(), AllocError>
-    ensures written { OnOk result (out.new.items ≡ written out.old.items (fields ellipse) (values ellipse o.now)) }
-    ensures shaped { OnOk result (Shaped (fields ellipse) no_counts (values ellipse o.now)) }
-    ensures proper { OnOk result (Proper (fields ellipse) (values ellipse o.now)) }
-    ensures back { OnOk result (ellipse_from (values ellipse o.now) ≡ Some o.now) }
+    ensures { OnOk result (out.new.items ≡ written out.old.items (fields ellipse) (values ellipse o.now)) }
 {
     put_id(out, o.line_attributes)?;
     put_u16(out, o.width)?;
@@ -129,8 +116,7 @@ pub fn write_ellipse(out: &mut Vec<u8>, o: &Ellipse) -> Result<(), AllocError>
 }
 
 pub fn read_polygon(alloc: Global, reader: &mut Reader<'_>) -> Result<Polygon, Stop>
-    ensures read { Gives (λ x. (values polygon x, reader.new)) result (values_at (fields polygon) no_counts reader.old) }
-    ensures back { IfOk result (λ x. polygon_from (values polygon x) ≡ Some x) }
+    ensures { Gives (λ x. (values polygon x, reader.new)) result (values_at (fields polygon) no_counts reader.old) }
 {
     let width = reader.u16()?;
     let height = reader.u16()?;
@@ -153,10 +139,7 @@ pub fn read_polygon(alloc: Global, reader: &mut Reader<'_>) -> Result<Polygon, S
 }
 
 pub fn write_polygon(out: &mut Vec<u8>, o: &Polygon) -> Result<(), AllocError>
-    ensures written { OnOk result (out.new.items ≡ written out.old.items (fields polygon) (values polygon o.now)) }
-    ensures shaped { OnOk result (Shaped (fields polygon) no_counts (values polygon o.now)) }
-    ensures proper { OnOk result (Proper (fields polygon) (values polygon o.now)) }
-    ensures back { OnOk result (polygon_from (values polygon o.now) ≡ Some o.now) }
+    ensures { OnOk result (out.new.items ≡ written out.old.items (fields polygon) (values polygon o.now)) }
 {
     put_u16(out, o.width)?;
     put_u16(out, o.height)?;

@@ -7,5 +7,4 @@ abbrev pub invariant-loop : goal.invariant-loop
 invariant-loop g l = record {
   read : with_front (map g.T.Entry.numbers l.items.items) (rows_at g.T.Entry.sizes (l.count - l.counter) l.reader) ≡ rows_at g.T.Entry.sizes l.count l.fn.reader;
   len : vec_len l.items ≡ l.counter;
-  back : map g.T.Entry.from_numbers (map g.T.Entry.numbers l.items.items) ≡ l.items.items;
 }

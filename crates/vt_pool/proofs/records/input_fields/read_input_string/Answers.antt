@@ -3,8 +3,8 @@ use Rattle.std.proofs.lemmas.Result.{err_from_is_err_and}
 use Rattle.vt_pool.proofs.Rows.{fails_by}
 use Rattle.vt_pool.proofs.records.input_fields.read_input_string.Goals as goal
 
-pub returns-in_err-macros-clause-read : goal.returns-in_err-macros-clause-read
-returns-in_err-macros-clause-read c =
+pub returns-in_err-macros : goal.returns-in_err-macros
+returns-in_err-macros c =
     let p = err_from_is_err_and c.from_residual-in_err-macros.result c.from_residual-in_err-macros.ensures.1 in
     rw (p.1, p.2)
     (fails_by c.in_err-macros.field-0.0 _ _ c.in_err-macros.ensures.read (λ none.
@@ -22,8 +22,8 @@ returns-in_err-macros-clause-read c =
     )
     (rw (c.in_ok-enabled.ensures, c.in_ok-macro_count.ensures, none) refl)))
 
-pub returns-clause-read : goal.returns-clause-read
-returns-clause-read c =
+pub returns : goal.returns
+returns c =
     rw (
       c.in_ok-width.ensures,
       c.in_ok-height.ensures,

@@ -1,6 +1,5 @@
--- Objects again from the values of their records.
-use Rattle.std.specs.Prelude.{ℕ, List, [], ◌∷◌, map, Option, Some, None}
-use Rattle.std.specs.Int.{w16, w32, cast_signed}
+-- Objects again from the values of their records: so no two objects of a kind have the same values.
+use Rattle.std.specs.Prelude.{ℕ, pos, List, [], ◌∷◌, map, Option, Some, None}
 use Rattle.vt_objects.specs.declared.entries.Child.{Child}
 use Rattle.vt_objects.specs.declared.entries.MacroEntry.{MacroEntry}
 use Rattle.vt_objects.specs.declared.entries.Language.{Language}
@@ -34,31 +33,41 @@ use Rattle.vt_objects.specs.declared.attribute_objects.FillAttributes.{FillAttri
 use Rattle.vt_objects.specs.declared.attribute_objects.InputAttributes.{InputAttributes}
 use Rattle.vt_objects.specs.declared.variables.ObjectPointer.{ObjectPointer}
 use Rattle.vt_objects.specs.declared.macros.Macro.{Macro}
-use Rattle.vt_objects.specs.Layout.{Value, number, rows, bytes}
-use Rattle.vt_objects.specs.Scales.{scale_from}
+use Rattle.vt_objects.specs.declared.scale.Scale.{Scale}
+use Rattle.vt_objects.specs.declared.scale.Scale.TheVariants.{One}
+use Rattle.vt_objects.specs.Layout.{Numeral, natural, integer, Value, number, rows, bytes}
+use Rattle.vt_objects.specs.Scales.{scale_at}
 
-abbrev pub child_from : List ℕ → Child
-child_from (id ∷ x ∷ y ∷ []) = record { id = id; x = cast_signed w16 x; y = cast_signed w16 y }
-child_from _ = record { id = 0; x = cast_signed w16 0; y = cast_signed w16 0 }
+abbrev or_one : Option Scale → Scale
+or_one None = One
+or_one (Some s) = s
 
-abbrev pub macro_from : List ℕ → MacroEntry
-macro_from (event ∷ macro_id ∷ []) = record { event = event; macro_id = macro_id }
+-- the scale of a number that is some scale's
+abbrev pub scale_from : ℕ → Scale
+scale_from n = or_one (scale_at n)
+
+abbrev pub child_from : List Numeral → Child
+child_from (natural id ∷ integer x ∷ integer y ∷ []) = record { id = id; x = x; y = y }
+child_from _ = record { id = 0; x = pos 0; y = pos 0 }
+
+abbrev pub macro_from : List Numeral → MacroEntry
+macro_from (natural event ∷ natural macro_id ∷ []) = record { event = event; macro_id = macro_id }
 macro_from _ = record { event = 0; macro_id = 0 }
 
-abbrev pub language_from : List ℕ → Language
-language_from (first ∷ second ∷ []) = record { first = first; second = second }
+abbrev pub language_from : List Numeral → Language
+language_from (natural first ∷ natural second ∷ []) = record { first = first; second = second }
 language_from _ = record { first = 0; second = 0 }
 
-abbrev pub id_from : List ℕ → ℕ
-id_from (id ∷ []) = id
+abbrev pub id_from : List Numeral → ℕ
+id_from (natural id ∷ []) = id
 id_from _ = 0
 
-abbrev pub point_from : List ℕ → Point
-point_from (x ∷ y ∷ []) = record { x = x; y = y }
+abbrev pub point_from : List Numeral → Point
+point_from (natural x ∷ natural y ∷ []) = record { x = x; y = y }
 point_from _ = record { x = 0; y = 0 }
 
 abbrev pub working_set_from : List Value → Option WorkingSet
-working_set_from (number colour ∷ number selectable ∷ number active_mask ∷ _ ∷ _ ∷ _ ∷ rows children ∷ rows macros ∷ rows languages ∷ []) = Some (record {
+working_set_from (number (natural colour) ∷ number (natural selectable) ∷ number (natural active_mask) ∷ _ ∷ _ ∷ _ ∷ rows children ∷ rows macros ∷ rows languages ∷ []) = Some (record {
   colour = colour;
   selectable = selectable;
   active_mask = active_mask;
@@ -69,7 +78,7 @@ working_set_from (number colour ∷ number selectable ∷ number active_mask ∷
 working_set_from _ = None
 
 abbrev pub data_mask_from : List Value → Option DataMask
-data_mask_from (number colour ∷ number soft_key_mask ∷ _ ∷ _ ∷ rows children ∷ rows macros ∷ []) = Some (record {
+data_mask_from (number (natural colour) ∷ number (natural soft_key_mask) ∷ _ ∷ _ ∷ rows children ∷ rows macros ∷ []) = Some (record {
   colour = colour;
   soft_key_mask = soft_key_mask;
   children = map child_from children;
@@ -78,7 +87,7 @@ data_mask_from (number colour ∷ number soft_key_mask ∷ _ ∷ _ ∷ rows chil
 data_mask_from _ = None
 
 abbrev pub alarm_mask_from : List Value → Option AlarmMask
-alarm_mask_from (number colour ∷ number soft_key_mask ∷ number priority ∷ number acoustic ∷ _ ∷ _ ∷ rows children ∷ rows macros ∷ []) = Some (record {
+alarm_mask_from (number (natural colour) ∷ number (natural soft_key_mask) ∷ number (natural priority) ∷ number (natural acoustic) ∷ _ ∷ _ ∷ rows children ∷ rows macros ∷ []) = Some (record {
   colour = colour;
   soft_key_mask = soft_key_mask;
   priority = priority;
@@ -89,7 +98,7 @@ alarm_mask_from (number colour ∷ number soft_key_mask ∷ number priority ∷ 
 alarm_mask_from _ = None
 
 abbrev pub container_from : List Value → Option Container
-container_from (number width ∷ number height ∷ number hidden ∷ _ ∷ _ ∷ rows children ∷ rows macros ∷ []) = Some (record {
+container_from (number (natural width) ∷ number (natural height) ∷ number (natural hidden) ∷ _ ∷ _ ∷ rows children ∷ rows macros ∷ []) = Some (record {
   width = width;
   height = height;
   hidden = hidden;
@@ -99,7 +108,7 @@ container_from (number width ∷ number height ∷ number hidden ∷ _ ∷ _ ∷
 container_from _ = None
 
 abbrev pub soft_key_mask_from : List Value → Option SoftKeyMask
-soft_key_mask_from (number colour ∷ _ ∷ _ ∷ rows keys ∷ rows macros ∷ []) = Some (record {
+soft_key_mask_from (number (natural colour) ∷ _ ∷ _ ∷ rows keys ∷ rows macros ∷ []) = Some (record {
   colour = colour;
   keys = map id_from keys;
   macros = map macro_from macros;
@@ -107,7 +116,7 @@ soft_key_mask_from (number colour ∷ _ ∷ _ ∷ rows keys ∷ rows macros ∷ 
 soft_key_mask_from _ = None
 
 abbrev pub key_from : List Value → Option Key
-key_from (number colour ∷ number key_code ∷ _ ∷ _ ∷ rows children ∷ rows macros ∷ []) = Some (record {
+key_from (number (natural colour) ∷ number (natural key_code) ∷ _ ∷ _ ∷ rows children ∷ rows macros ∷ []) = Some (record {
   colour = colour;
   key_code = key_code;
   children = map child_from children;
@@ -116,7 +125,7 @@ key_from (number colour ∷ number key_code ∷ _ ∷ _ ∷ rows children ∷ ro
 key_from _ = None
 
 abbrev pub button_from : List Value → Option Button
-button_from (number width ∷ number height ∷ number colour ∷ number border ∷ number key_code ∷ number options ∷ _ ∷ _ ∷ rows children ∷ rows macros ∷ []) = Some (record {
+button_from (number (natural width) ∷ number (natural height) ∷ number (natural colour) ∷ number (natural border) ∷ number (natural key_code) ∷ number (natural options) ∷ _ ∷ _ ∷ rows children ∷ rows macros ∷ []) = Some (record {
   width = width;
   height = height;
   colour = colour;
@@ -129,7 +138,7 @@ button_from (number width ∷ number height ∷ number colour ∷ number border 
 button_from _ = None
 
 abbrev pub input_boolean_from : List Value → Option InputBoolean
-input_boolean_from (number colour ∷ number width ∷ number font ∷ number variable ∷ number value ∷ number enabled ∷ _ ∷ rows macros ∷ []) = Some (record {
+input_boolean_from (number (natural colour) ∷ number (natural width) ∷ number (natural font) ∷ number (natural variable) ∷ number (natural value) ∷ number (natural enabled) ∷ _ ∷ rows macros ∷ []) = Some (record {
   colour = colour;
   width = width;
   font = font;
@@ -141,7 +150,7 @@ input_boolean_from (number colour ∷ number width ∷ number font ∷ number va
 input_boolean_from _ = None
 
 abbrev pub input_string_from : List Value → Option (InputString (List ℕ))
-input_string_from (number width ∷ number height ∷ number colour ∷ number font ∷ number input_attributes ∷ number options ∷ number variable ∷ number justification ∷ _ ∷ bytes the_text ∷ number enabled ∷ _ ∷ rows macros ∷ []) = Some (record {
+input_string_from (number (natural width) ∷ number (natural height) ∷ number (natural colour) ∷ number (natural font) ∷ number (natural input_attributes) ∷ number (natural options) ∷ number (natural variable) ∷ number (natural justification) ∷ _ ∷ bytes the_text ∷ number (natural enabled) ∷ _ ∷ rows macros ∷ []) = Some (record {
   width = width;
   height = height;
   colour = colour;
@@ -157,7 +166,7 @@ input_string_from (number width ∷ number height ∷ number colour ∷ number f
 input_string_from _ = None
 
 abbrev pub input_number_from : List Value → Option InputNumber
-input_number_from (number width ∷ number height ∷ number colour ∷ number font ∷ number options ∷ number variable ∷ number value ∷ number the_min ∷ number the_max ∷ number offset ∷ number scale ∷ number decimals ∷ number format ∷ number justification ∷ number options_two ∷ _ ∷ rows macros ∷ []) = Some (record {
+input_number_from (number (natural width) ∷ number (natural height) ∷ number (natural colour) ∷ number (natural font) ∷ number (natural options) ∷ number (natural variable) ∷ number (natural value) ∷ number (natural the_min) ∷ number (natural the_max) ∷ number (integer offset) ∷ number (natural scale) ∷ number (natural decimals) ∷ number (natural format) ∷ number (natural justification) ∷ number (natural options_two) ∷ _ ∷ rows macros ∷ []) = Some (record {
   width = width;
   height = height;
   colour = colour;
@@ -167,7 +176,7 @@ input_number_from (number width ∷ number height ∷ number colour ∷ number f
   value = value;
   min = the_min;
   max = the_max;
-  offset = cast_signed w32 offset;
+  offset = offset;
   scale = scale_from scale;
   decimals = decimals;
   format = format;
@@ -178,7 +187,7 @@ input_number_from (number width ∷ number height ∷ number colour ∷ number f
 input_number_from _ = None
 
 abbrev pub input_list_from : List Value → Option InputList
-input_list_from (number width ∷ number height ∷ number variable ∷ number value ∷ _ ∷ number options ∷ _ ∷ rows items ∷ rows macros ∷ []) = Some (record {
+input_list_from (number (natural width) ∷ number (natural height) ∷ number (natural variable) ∷ number (natural value) ∷ _ ∷ number (natural options) ∷ _ ∷ rows items ∷ rows macros ∷ []) = Some (record {
   width = width;
   height = height;
   variable = variable;
@@ -190,7 +199,7 @@ input_list_from (number width ∷ number height ∷ number variable ∷ number v
 input_list_from _ = None
 
 abbrev pub output_string_from : List Value → Option (OutputString (List ℕ))
-output_string_from (number width ∷ number height ∷ number colour ∷ number font ∷ number options ∷ number variable ∷ number justification ∷ _ ∷ bytes the_text ∷ _ ∷ rows macros ∷ []) = Some (record {
+output_string_from (number (natural width) ∷ number (natural height) ∷ number (natural colour) ∷ number (natural font) ∷ number (natural options) ∷ number (natural variable) ∷ number (natural justification) ∷ _ ∷ bytes the_text ∷ _ ∷ rows macros ∷ []) = Some (record {
   width = width;
   height = height;
   colour = colour;
@@ -204,7 +213,7 @@ output_string_from (number width ∷ number height ∷ number colour ∷ number 
 output_string_from _ = None
 
 abbrev pub output_number_from : List Value → Option OutputNumber
-output_number_from (number width ∷ number height ∷ number colour ∷ number font ∷ number options ∷ number variable ∷ number value ∷ number offset ∷ number scale ∷ number decimals ∷ number format ∷ number justification ∷ _ ∷ rows macros ∷ []) = Some (record {
+output_number_from (number (natural width) ∷ number (natural height) ∷ number (natural colour) ∷ number (natural font) ∷ number (natural options) ∷ number (natural variable) ∷ number (natural value) ∷ number (integer offset) ∷ number (natural scale) ∷ number (natural decimals) ∷ number (natural format) ∷ number (natural justification) ∷ _ ∷ rows macros ∷ []) = Some (record {
   width = width;
   height = height;
   colour = colour;
@@ -212,7 +221,7 @@ output_number_from (number width ∷ number height ∷ number colour ∷ number 
   options = options;
   variable = variable;
   value = value;
-  offset = cast_signed w32 offset;
+  offset = offset;
   scale = scale_from scale;
   decimals = decimals;
   format = format;
@@ -222,7 +231,7 @@ output_number_from (number width ∷ number height ∷ number colour ∷ number 
 output_number_from _ = None
 
 abbrev pub line_from : List Value → Option Line
-line_from (number line_attributes ∷ number width ∷ number height ∷ number direction ∷ _ ∷ rows macros ∷ []) = Some (record {
+line_from (number (natural line_attributes) ∷ number (natural width) ∷ number (natural height) ∷ number (natural direction) ∷ _ ∷ rows macros ∷ []) = Some (record {
   line_attributes = line_attributes;
   width = width;
   height = height;
@@ -232,7 +241,7 @@ line_from (number line_attributes ∷ number width ∷ number height ∷ number 
 line_from _ = None
 
 abbrev pub rectangle_from : List Value → Option Rectangle
-rectangle_from (number line_attributes ∷ number width ∷ number height ∷ number suppression ∷ number fill ∷ _ ∷ rows macros ∷ []) = Some (record {
+rectangle_from (number (natural line_attributes) ∷ number (natural width) ∷ number (natural height) ∷ number (natural suppression) ∷ number (natural fill) ∷ _ ∷ rows macros ∷ []) = Some (record {
   line_attributes = line_attributes;
   width = width;
   height = height;
@@ -243,7 +252,7 @@ rectangle_from (number line_attributes ∷ number width ∷ number height ∷ nu
 rectangle_from _ = None
 
 abbrev pub ellipse_from : List Value → Option Ellipse
-ellipse_from (number line_attributes ∷ number width ∷ number height ∷ number ellipse_type ∷ number start ∷ number the_end ∷ number fill ∷ _ ∷ rows macros ∷ []) = Some (record {
+ellipse_from (number (natural line_attributes) ∷ number (natural width) ∷ number (natural height) ∷ number (natural ellipse_type) ∷ number (natural start) ∷ number (natural the_end) ∷ number (natural fill) ∷ _ ∷ rows macros ∷ []) = Some (record {
   line_attributes = line_attributes;
   width = width;
   height = height;
@@ -256,7 +265,7 @@ ellipse_from (number line_attributes ∷ number width ∷ number height ∷ numb
 ellipse_from _ = None
 
 abbrev pub polygon_from : List Value → Option Polygon
-polygon_from (number width ∷ number height ∷ number line_attributes ∷ number fill ∷ number polygon_type ∷ _ ∷ _ ∷ rows points ∷ rows macros ∷ []) = Some (record {
+polygon_from (number (natural width) ∷ number (natural height) ∷ number (natural line_attributes) ∷ number (natural fill) ∷ number (natural polygon_type) ∷ _ ∷ _ ∷ rows points ∷ rows macros ∷ []) = Some (record {
   width = width;
   height = height;
   line_attributes = line_attributes;
@@ -268,7 +277,7 @@ polygon_from (number width ∷ number height ∷ number line_attributes ∷ numb
 polygon_from _ = None
 
 abbrev pub meter_from : List Value → Option Meter
-meter_from (number width ∷ number needle_colour ∷ number border_colour ∷ number arc_colour ∷ number options ∷ number ticks ∷ number start ∷ number the_end ∷ number the_min ∷ number the_max ∷ number variable ∷ number value ∷ _ ∷ rows macros ∷ []) = Some (record {
+meter_from (number (natural width) ∷ number (natural needle_colour) ∷ number (natural border_colour) ∷ number (natural arc_colour) ∷ number (natural options) ∷ number (natural ticks) ∷ number (natural start) ∷ number (natural the_end) ∷ number (natural the_min) ∷ number (natural the_max) ∷ number (natural variable) ∷ number (natural value) ∷ _ ∷ rows macros ∷ []) = Some (record {
   width = width;
   needle_colour = needle_colour;
   border_colour = border_colour;
@@ -286,7 +295,7 @@ meter_from (number width ∷ number needle_colour ∷ number border_colour ∷ n
 meter_from _ = None
 
 abbrev pub linear_bar_from : List Value → Option LinearBar
-linear_bar_from (number width ∷ number height ∷ number colour ∷ number target_colour ∷ number options ∷ number ticks ∷ number the_min ∷ number the_max ∷ number variable ∷ number value ∷ number target_variable ∷ number target ∷ _ ∷ rows macros ∷ []) = Some (record {
+linear_bar_from (number (natural width) ∷ number (natural height) ∷ number (natural colour) ∷ number (natural target_colour) ∷ number (natural options) ∷ number (natural ticks) ∷ number (natural the_min) ∷ number (natural the_max) ∷ number (natural variable) ∷ number (natural value) ∷ number (natural target_variable) ∷ number (natural target) ∷ _ ∷ rows macros ∷ []) = Some (record {
   width = width;
   height = height;
   colour = colour;
@@ -304,7 +313,7 @@ linear_bar_from (number width ∷ number height ∷ number colour ∷ number tar
 linear_bar_from _ = None
 
 abbrev pub arched_bar_from : List Value → Option ArchedBar
-arched_bar_from (number width ∷ number height ∷ number colour ∷ number target_colour ∷ number options ∷ number start ∷ number the_end ∷ number bar_width ∷ number the_min ∷ number the_max ∷ number variable ∷ number value ∷ number target_variable ∷ number target ∷ _ ∷ rows macros ∷ []) = Some (record {
+arched_bar_from (number (natural width) ∷ number (natural height) ∷ number (natural colour) ∷ number (natural target_colour) ∷ number (natural options) ∷ number (natural start) ∷ number (natural the_end) ∷ number (natural bar_width) ∷ number (natural the_min) ∷ number (natural the_max) ∷ number (natural variable) ∷ number (natural value) ∷ number (natural target_variable) ∷ number (natural target) ∷ _ ∷ rows macros ∷ []) = Some (record {
   width = width;
   height = height;
   colour = colour;
@@ -324,7 +333,7 @@ arched_bar_from (number width ∷ number height ∷ number colour ∷ number tar
 arched_bar_from _ = None
 
 abbrev pub picture_from : List Value → Option (Picture (List ℕ))
-picture_from (number width ∷ number actual_width ∷ number actual_height ∷ number format ∷ number options ∷ number transparency ∷ _ ∷ _ ∷ bytes the_bytes ∷ rows macros ∷ []) = Some (record {
+picture_from (number (natural width) ∷ number (natural actual_width) ∷ number (natural actual_height) ∷ number (natural format) ∷ number (natural options) ∷ number (natural transparency) ∷ _ ∷ _ ∷ bytes the_bytes ∷ rows macros ∷ []) = Some (record {
   width = width;
   actual_width = actual_width;
   actual_height = actual_height;
@@ -337,19 +346,15 @@ picture_from (number width ∷ number actual_width ∷ number actual_height ∷ 
 picture_from _ = None
 
 abbrev pub number_variable_from : List Value → Option NumberVariable
-number_variable_from (number value ∷ []) = Some (record {
-  value = value;
-})
+number_variable_from (number (natural value) ∷ []) = Some (record { value = value })
 number_variable_from _ = None
 
 abbrev pub string_variable_from : List Value → Option (StringVariable (List ℕ))
-string_variable_from (_ ∷ bytes the_text ∷ []) = Some (record {
-  text = the_text;
-})
+string_variable_from (_ ∷ bytes the_text ∷ []) = Some (record { text = the_text })
 string_variable_from _ = None
 
 abbrev pub font_from : List Value → Option Font
-font_from (number colour ∷ number size ∷ number font_type ∷ number style ∷ _ ∷ rows macros ∷ []) = Some (record {
+font_from (number (natural colour) ∷ number (natural size) ∷ number (natural font_type) ∷ number (natural style) ∷ _ ∷ rows macros ∷ []) = Some (record {
   colour = colour;
   size = size;
   font_type = font_type;
@@ -359,7 +364,7 @@ font_from (number colour ∷ number size ∷ number font_type ∷ number style �
 font_from _ = None
 
 abbrev pub line_attributes_from : List Value → Option LineAttributes
-line_attributes_from (number colour ∷ number width ∷ number line_art ∷ _ ∷ rows macros ∷ []) = Some (record {
+line_attributes_from (number (natural colour) ∷ number (natural width) ∷ number (natural line_art) ∷ _ ∷ rows macros ∷ []) = Some (record {
   colour = colour;
   width = width;
   line_art = line_art;
@@ -368,7 +373,7 @@ line_attributes_from (number colour ∷ number width ∷ number line_art ∷ _ �
 line_attributes_from _ = None
 
 abbrev pub fill_attributes_from : List Value → Option FillAttributes
-fill_attributes_from (number fill_type ∷ number colour ∷ number pattern ∷ _ ∷ rows macros ∷ []) = Some (record {
+fill_attributes_from (number (natural fill_type) ∷ number (natural colour) ∷ number (natural pattern) ∷ _ ∷ rows macros ∷ []) = Some (record {
   fill_type = fill_type;
   colour = colour;
   pattern = pattern;
@@ -377,7 +382,7 @@ fill_attributes_from (number fill_type ∷ number colour ∷ number pattern ∷ 
 fill_attributes_from _ = None
 
 abbrev pub input_attributes_from : List Value → Option (InputAttributes (List ℕ))
-input_attributes_from (number validation_type ∷ _ ∷ bytes the_text ∷ _ ∷ rows macros ∷ []) = Some (record {
+input_attributes_from (number (natural validation_type) ∷ _ ∷ bytes the_text ∷ _ ∷ rows macros ∷ []) = Some (record {
   validation_type = validation_type;
   text = the_text;
   macros = map macro_from macros;
@@ -385,13 +390,9 @@ input_attributes_from (number validation_type ∷ _ ∷ bytes the_text ∷ _ ∷
 input_attributes_from _ = None
 
 abbrev pub object_pointer_from : List Value → Option ObjectPointer
-object_pointer_from (number value ∷ []) = Some (record {
-  value = value;
-})
+object_pointer_from (number (natural value) ∷ []) = Some (record { value = value })
 object_pointer_from _ = None
 
 abbrev pub macro_object_from : List Value → Option (Macro (List ℕ))
-macro_object_from (_ ∷ bytes the_bytes ∷ []) = Some (record {
-  bytes = the_bytes;
-})
+macro_object_from (_ ∷ bytes the_bytes ∷ []) = Some (record { bytes = the_bytes })
 macro_object_from _ = None

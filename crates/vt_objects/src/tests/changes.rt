@@ -1,0 +1,90 @@
+//! Changes of an object where it lies.
+
+use super::{child, object_id, two_children};
+use crate::{
+    Child, Container, Entries, ListStore, LongText, Object, ObjectId, OutOfMemory, ShortText, Store,
+};
+use std::alloc::Global;
+use std::test::Fail;
+
+#[test]
+fn entries_in_the_place_of_others(rt: HostRuntime) -> Result<(), Fail> {
+    let mut children = two_children(rt.alloc())?;
+    for (index, entry) in [(1, child(101, 7, -8)), (0, child(3, i16::MAX, 0))] {
+        if index < children.len() {
+            children.set(index, entry);
+        }
+    }
+    let wanted = [child(3, i16::MAX, 0), child(101, 7, -8)];
+    assert_eq!(rt; children.as_slice(), wanted.as_slice());
+    Ok(())
+}
+
+// The texts that are written over "8 km/h", and what is then there.
+const OVER: [(&[u8], &[u8]); 4] = [
+    (b"", b"      "),
+    (b"9", b"9     "),
+    (b"10 mph", b"10 mph"),
+    (b"\xFF\x00 ", b"\xFF\x00    "),
+];
+
+#[test]
+fn texts_over_others(rt: HostRuntime) -> Result<(), Fail> {
+    for (text, wanted) in OVER {
+        let bytes = Vec::from_slice(rt.alloc(), b"8 km/h")?;
+        let mut short = ShortText::new(bytes);
+        if text.len() <= short.as_slice().len() {
+            short.overwrite(text);
+        }
+        assert_eq!(rt; short.as_slice(), wanted);
+        let bytes = Vec::from_slice(rt.alloc(), b"8 km/h")?;
+        let mut long = LongText::new(bytes);
+        if text.len() <= long.as_slice().len() {
+            long.overwrite(text);
+        }
+        assert_eq!(rt; long.as_slice(), wanted);
+    }
+    Ok(())
+}
+
+/// Moves the first entry of a container's list.
+fn move_first<S: Store>(store: &mut S, parent: ObjectId, x: i16, y: i16) {
+    if let Some(object) = store.get_mut(parent) {
+        if let Object::Container(container) = object {
+            if let Some(first) = container.children.as_slice().first() {
+                let id = first.id;
+                container.children.set(0, Child { id, x, y });
+            }
+        }
+    }
+}
+
+fn container(alloc: Global) -> Result<Object<Vec<u8>>, OutOfMemory> {
+    Ok(Object::Container(Container {
+        width: 50,
+        height: 20,
+        hidden: 0,
+        children: two_children(alloc)?,
+        macros: Entries::from_vec(Vec::new(alloc)),
+    }))
+}
+
+#[test]
+fn an_entry_of_an_object_in_a_store(rt: HostRuntime) -> Result<(), Fail> {
+    let alloc = rt.alloc();
+    let mut objects = Vec::new(alloc);
+    objects.push((object_id(7), container(alloc)?))?;
+    objects.push((object_id(8), container(alloc)?))?;
+    let mut store = ListStore::from_objects(alloc, &objects)?;
+    move_first(&mut store, object_id(8), -1, 6);
+    for (id, wanted) in [(7, child(100, 10, 5)), (8, child(100, -1, 6))] {
+        match store.get(object_id(id)) {
+            Some(Object::Container(container)) => {
+                assert_eq!(rt; container.children.as_slice().first(), Some(&wanted));
+                assert_eq!(rt; container.children.len(), 2);
+            }
+            _ => assert!(rt; false, "no container {id}"),
+        }
+    }
+    Ok(())
+}
