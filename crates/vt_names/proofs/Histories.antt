@@ -46,7 +46,9 @@ claims-other address q true ne = λ e. none-some e
 claims-other address q false ne = λ e. ne (sym (some-is address q e))
 
 pub stay : OtherHoldersStay
-stay claims address name other ne not =
-    let es = after_claims claims in
-    stays-with es name (claimed_address address) other (claims-other address other (eqb address 254) ne)
-    (λ h. not (holder-address other name es (Rising-claims claims) h))
+stay = record {
+  rising = λ es address name. Rising-with es name (claimed_address address);
+  others = λ es address name other rising ne not.
+      stays-with es name (claimed_address address) other (claims-other address other (eqb address 254) ne)
+      (λ h. not (holder-address other name es rising h));
+}

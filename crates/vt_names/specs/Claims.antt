@@ -94,11 +94,11 @@ HoldersAreLeast = (claims : List Claim) (address : ℕ) → IsHolder claims addr
 
 -- ---- A claim changes the holders of two addresses at most: the one that the NAME had, and the one that it claims.
 
-abbrev pub OtherHoldersStay : Type 0
-OtherHoldersStay =
-    (claims : List Claim) (address name other : ℕ) → let addresses = after_claims claims in
-    other ≢ address → address_of addresses name ≢ Some other
-    → holder_of (after_claim addresses address name) other ≡ holder_of addresses other
+pub record OtherHoldersStay : Type 0 where
+  pub rising : (addresses : Addresses) (address name : ℕ) → IsRising addresses → IsRising (after_claim addresses address name)
+  pub others : (addresses : Addresses) (address name other : ℕ) → IsRising addresses
+      → other ≢ address → address_of addresses name ≢ Some other
+      → holder_of (after_claim addresses address name) other ≡ holder_of addresses other
 
 -- ---- the holder of each address, kept beside
 
