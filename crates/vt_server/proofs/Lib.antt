@@ -1,5 +1,8 @@
 mod Answering
 mod Effects
+mod Happened
+mod Held
+mod Own
 mod Puts
 mod Registering
 mod Running

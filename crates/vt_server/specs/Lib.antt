@@ -1,5 +1,6 @@
 -- What the contracts of this crate cite.
 pub mod Bus
+pub mod Happenings
 pub mod Hiding
 pub mod Messages
 pub mod Parts

@@ -8,12 +8,14 @@ mod claiming;
 mod hearing;
 mod hiding;
 mod input;
+mod law;
 mod messages;
 mod output;
 mod pools;
 mod terminal;
 
 pub use input::Input;
+pub use law::{each_takes_its_own, own_happenings_decide, sets_hold_their_address};
 pub use output::Output;
 pub use terminal::{RunFault, Terminal};
 

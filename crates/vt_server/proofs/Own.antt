@@ -1,0 +1,225 @@
+-- What happens at one address changes the part of that address, and no other.
+use Rattle.std.proofs.Common.{◌≡◌, ◌≢◌, ℕ, Bool, true, false, cond, ◌||◌, eqb, List, [], ◌∷◌, ◌++◌, map, Option, Some, None, refl, sym, ap, ◌∙◌, eq-eqb, ne_eqb, nat_eq}
+use Rattle.std.specs.Option.{option_eq}
+use Rattle.vt_can.specs.declared.frame.Frame.{Frame}
+use Rattle.vt_names.specs.Registry.{Set, set_at, with_set, without, has_place, joined}
+use Rattle.vt_objects.specs.Stores.{Contents}
+use Rattle.vt_objects.specs.Commands.{command_at}
+use Rattle.vt_server.specs.Messages.{technical_reply}
+use Rattle.vt_server.specs.Parts.{Part, Local, Hears, Rebinds, Preloads, kept, closed, local, local_said, rebound, named, bound_at_claim, registered, with_member, hide_show_in, commanded, answered_or, answered}
+use Rattle.vt_server.specs.Terminals.{State, Sent, part, take, takes, say, says, to_one, with_set_at}
+use Rattle.vt_server.specs.Happenings.{turned, frames_to}
+use Rattle.vt_server.specs.declared.bus.Notice.{Notice}
+use Rattle.vt_server.specs.declared.bus.Notice.TheVariants.{Claim, ClaimRequest, Master, Member, Message, Nothing}
+use Rattle.vt_server.proofs.Puts.{by_eq, set_at-first, set_at-later, set_at-address, with_set-first, with_set-later, without-first, without-later, take-is, say-is}
+
+-- ---- the address of the set stays
+
+abbrev pub HasAddress : ℕ → Option Set → Type 0
+HasAddress a None = Unit {0}
+HasAddress a (Some s) = s.address ≡ a
+
+pub part-address : (a : ℕ) (s : State) → HasAddress a (set_at a s.sets)
+part-address a s = cases (set_at a s.sets) refl
+  where
+    cases : (o : Option Set) → set_at a s.sets ≡ o → HasAddress a o
+    cases None e = tt
+    cases (Some x) e = set_at-address a x s.sets e
+
+kept-address : (a : ℕ) (p : Part) (b : Bool) → HasAddress a p.set → HasAddress a (cond b (kept p) closed).set
+kept-address a p true has = has
+kept-address a p false has = tt
+
+rebound-address : (a : ℕ) (p : Part) (o : Option Set) → HasAddress a p.set → HasAddress a (rebound p o).set
+rebound-address a p None has = has
+rebound-address a p (Some set) has = kept-address a p (option_eq nat_eq set.name None || option_eq nat_eq set.name p.holder) has
+
+named-address : (set : Set) (x y : Option ℕ) → (named set x y).address ≡ set.address
+named-address set None None = refl
+named-address set None (Some h) = refl
+named-address set (Some n) None = refl
+named-address set (Some n) (Some h) = refl
+
+claim-address : (a : ℕ) (p : Part) (o : Option Set) → HasAddress a p.set → HasAddress a o → HasAddress a (bound_at_claim p o).set
+claim-address a p None has its = has
+claim-address a p (Some set) has its = named-address set set.name p.holder ∙ its
+
+master-address : (a : ℕ) (p : Part) (o : Option ℕ) (count : ℕ) → HasAddress a p.set → HasAddress a (registered a p o count).set
+master-address a p None count has = has
+master-address a p (Some h) count has = refl
+
+join-address : (b : Bool) (set : Set) (name : ℕ) → (cond b (joined set name) set).address ≡ set.address
+join-address true set name = refl
+join-address false set name = refl
+
+member-address : (a : ℕ) (p : Part) (o : Option Set) (name : ℕ) → HasAddress a p.set → HasAddress a o → HasAddress a (with_member p o name).set
+member-address a p None name has its = has
+member-address a p (Some set) name has its = join-address (has_place set) set name ∙ its
+
+commanded-address : (a : ℕ) (p : Part) (asked : Option (ℕ × ℕ)) (o : Option Contents) → HasAddress a p.set → HasAddress a (commanded a p asked o).set
+commanded-address a p None None has = has
+commanded-address a p None (Some c) has = has
+commanded-address a p (Some x) None has = has
+commanded-address a p (Some x) (Some c) has = has
+
+technical-address : (a : ℕ) (p : Part) (bytes : List ℕ) (o : Option (List ℕ)) → HasAddress a p.set → HasAddress a (answered_or a p bytes o).set
+technical-address a p bytes None has = commanded-address a p (hide_show_in (command_at bytes)) p.pool has
+technical-address a p bytes (Some reply) has = has
+
+message-address : (a : ℕ) (p : Part) (bytes : List ℕ) (o : Option Set) → HasAddress a p.set → HasAddress a (answered a p bytes o).set
+message-address a p bytes None has = has
+message-address a p bytes (Some set) has = technical-address a p bytes (technical_reply bytes) has
+
+said-address : (a : ℕ) (p : Part) (said : Notice) (bytes : List ℕ) → HasAddress a p.set → HasAddress a (local_said a p said bytes).set
+said-address a p (Claim name) bytes has = claim-address a p p.set has has
+said-address a p ClaimRequest bytes has = has
+said-address a p (Master count) bytes has = master-address a p p.holder count has
+said-address a p (Member name) bytes has = member-address a p p.set name has has
+said-address a p Message bytes has = message-address a p bytes p.set has
+said-address a p Nothing bytes has = has
+
+pub local-address : (a : ℕ) (p : Part) (h : Local) → HasAddress a p.set → HasAddress a (local a p h).set
+local-address a p (Hears said bytes) has = said-address a p said bytes has
+local-address a p Rebinds has = rebound-address a p p.set has
+local-address a p (Preloads contents) has = refl
+
+-- ---- a set that was written, there and elsewhere
+
+at-with : (a : ℕ) (x : Set) (sets : List Set) → x.address ≡ a → set_at a (with_set x sets) ≡ Some x
+at-with a x [] its = set_at-first a x [] its
+at-with a x (t ∷ sets) its =
+    let rest = at-with a x sets its in
+    by_eq t.address x.address
+    (λ is. ap (set_at a) (with_set-first x t sets is) ∙ set_at-first a x sets its)
+    (λ ne. ap (set_at a) (with_set-later x t sets ne) ∙ set_at-later a t (with_set x sets) (λ h. ne (h ∙ sym its)) ∙ rest)
+
+at-with_other : (a : ℕ) (x : Set) (sets : List Set) → x.address ≢ a → set_at a (with_set x sets) ≡ set_at a sets
+at-with_other a x [] other = set_at-later a x [] other
+at-with_other a x (t ∷ sets) other =
+    let rest = at-with_other a x sets other in
+    by_eq t.address x.address
+    (λ is. ap (set_at a) (with_set-first x t sets is) ∙ set_at-later a x sets other ∙ sym (set_at-later a t sets (λ h. other (sym is ∙ h))))
+    (λ ne. ap (set_at a) (with_set-later x t sets ne) ∙ by_eq t.address a
+    (λ h. set_at-first a t (with_set x sets) h ∙ sym (set_at-first a t sets h))
+    (λ h. set_at-later a t (with_set x sets) h ∙ rest ∙ sym (set_at-later a t sets h)))
+
+at-without : (a : ℕ) (sets : List Set) → set_at a (without a sets) ≡ None
+at-without a [] = refl
+at-without a (t ∷ sets) =
+    let rest = at-without a sets in
+    by_eq t.address a
+    (λ is. ap (set_at a) (without-first a t sets is) ∙ rest)
+    (λ ne. ap (set_at a) (without-later a t sets ne) ∙ set_at-later a t (without a sets) ne ∙ rest)
+
+at-without_other : (a b : ℕ) (sets : List Set) → a ≢ b → set_at a (without b sets) ≡ set_at a sets
+at-without_other a b [] ne = refl
+at-without_other a b (t ∷ sets) ne =
+    let rest = at-without_other a b sets ne in
+    by_eq t.address b
+    (λ is. ap (set_at a) (without-first b t sets is) ∙ rest ∙ sym (set_at-later a t sets (λ h. ne (sym h ∙ is))))
+    (λ other. ap (set_at a) (without-later b t sets other) ∙ by_eq t.address a
+    (λ h. set_at-first a t (without b sets) h ∙ sym (set_at-first a t sets h))
+    (λ h. set_at-later a t (without b sets) h ∙ rest ∙ sym (set_at-later a t sets h)))
+
+at-put : (a : ℕ) (o : Option Set) (sets : List Set) → HasAddress a o → set_at a (with_set_at a o sets) ≡ o
+at-put a None sets has = at-without a sets
+at-put a (Some x) sets has = at-with a x sets has
+
+at-put_other : (a b : ℕ) (o : Option Set) (sets : List Set) → HasAddress b o → a ≢ b → set_at a (with_set_at b o sets) ≡ set_at a sets
+at-put_other a b None sets has ne = at-without_other a b sets ne
+at-put_other a b (Some x) sets has ne = at-with_other a x sets (λ h. ne (sym h ∙ has))
+
+-- ---- the part
+
+pub part-take : (a : ℕ) (s : State) (h : Local) → part a (take s a h) ≡ (turned (part a s) (local a (part a s) h)).part
+part-take a s h =
+    let after = local a (part a s) h in
+    ap (part a) (take-is s a h)
+    ∙ (λ i. record (part a s) {
+      set = at-put a after.set s.sets (local-address a (part a s) h (part-address a s)) i;
+      pool = ap (λ b. cond b after.pool (s.pools a)) (eq-eqb a a refl) i;
+    })
+
+pub part-take_other : (a b : ℕ) (s : State) (h : Local) → a ≢ b → part a (take s b h) ≡ part a s
+part-take_other a b s h ne =
+    let after = local b (part b s) h in
+    ap (part a) (take-is s b h)
+    ∙ (λ i. record (part a s) {
+      set = at-put_other a b after.set s.sets (local-address b (part b s) h (part-address b s)) ne i;
+      pool = ap (λ c. cond c after.pool (s.pools a)) (ne_eqb a b ne) i;
+    })
+
+-- ---- frames
+
+pub frames-append : (a : ℕ) (xs ys : List Sent) → frames_to a (xs ++ ys) ≡ frames_to a xs ++ frames_to a ys
+frames-append a [] ys = refl
+frames-append a (x ∷ xs) ys = cases (option_eq nat_eq x.to (Some a)) (frames-append a xs ys)
+  where
+    cases : (b : Bool) → frames_to a (xs ++ ys) ≡ frames_to a xs ++ frames_to a ys
+        → cond b (x.frame ∷ frames_to a (xs ++ ys)) (frames_to a (xs ++ ys)) ≡ cond b (x.frame ∷ frames_to a xs) (frames_to a xs) ++ frames_to a ys
+    cases true rest = ap (λ l. x.frame ∷ l) rest
+    cases false rest = rest
+
+frames-own : (a : ℕ) (frames : List Frame) → frames_to a (map (to_one a) frames) ≡ frames
+frames-own a [] = refl
+frames-own a (f ∷ frames) =
+    ap (λ b. cond b (f ∷ frames_to a (map (to_one a) frames)) (frames_to a (map (to_one a) frames))) (eq-eqb a a refl)
+    ∙ ap (λ l. f ∷ l) (frames-own a frames)
+
+frames-other : (a b : ℕ) (frames : List Frame) → a ≢ b → frames_to a (map (to_one b) frames) ≡ []
+frames-other a b [] ne = refl
+frames-other a b (f ∷ frames) ne =
+    ap (λ c. cond c (f ∷ frames_to a (map (to_one b) frames)) (frames_to a (map (to_one b) frames))) (ne_eqb b a (λ h. ne (sym h)))
+    ∙ frames-other a b frames ne
+
+-- ---- what happens there among all that happens
+
+abbrev pub of : ℕ → List (ℕ × Local) → List Local
+of a [] = []
+of a (h ∷ hs) = cond (eqb h.0 a) (h.1 ∷ of a hs) (of a hs)
+
+abbrev pub turns : ℕ → Part → List Local → Part
+turns a p [] = p
+turns a p (h ∷ hs) = turns a (turned p (local a p h)).part hs
+
+abbrev pub turns_frames : ℕ → Part → List Local → List Frame
+turns_frames a p [] = []
+turns_frames a p (h ∷ hs) = (local a p h).frames ++ turns_frames a (turned p (local a p h)).part hs
+
+pub of-append : (a : ℕ) (xs ys : List (ℕ × Local)) → of a (xs ++ ys) ≡ of a xs ++ of a ys
+of-append a [] ys = refl
+of-append a (x ∷ xs) ys = cases (eqb x.0 a) (of-append a xs ys)
+  where
+    cases : (b : Bool) → of a (xs ++ ys) ≡ of a xs ++ of a ys → cond b (x.1 ∷ of a (xs ++ ys)) (of a (xs ++ ys)) ≡ cond b (x.1 ∷ of a xs) (of a xs) ++ of a ys
+    cases true rest = ap (λ l. x.1 ∷ l) rest
+    cases false rest = rest
+
+pub part-takes : (a : ℕ) (s : State) (hs : List (ℕ × Local)) → part a (takes s hs) ≡ turns a (part a s) (of a hs)
+part-takes a s [] = refl
+part-takes a s (h ∷ hs) =
+    let rest = part-takes a (take s h.0 h.1) hs in
+    by_eq h.0 a
+    (λ is.
+    rest ∙ ap (λ p. turns a p (of a hs)) (ap (λ b. part a (take s b h.1)) is ∙ part-take a s h.1)
+    ∙ sym (ap (λ b. turns a (part a s) (cond b (h.1 ∷ of a hs) (of a hs))) (eq-eqb h.0 a is)))
+    (λ ne.
+    rest ∙ ap (λ p. turns a p (of a hs)) (part-take_other a h.0 s h.1 (λ e. ne (sym e)))
+    ∙ sym (ap (λ b. turns a (part a s) (cond b (h.1 ∷ of a hs) (of a hs))) (ne_eqb h.0 a ne)))
+
+pub frames-says : (a : ℕ) (s : State) (hs : List (ℕ × Local)) → frames_to a (says s hs) ≡ turns_frames a (part a s) (of a hs)
+frames-says a s [] = refl
+frames-says a s (h ∷ hs) =
+    let rest = frames-says a (take s h.0 h.1) hs in
+    let first = local h.0 (part h.0 s) h.1 in
+    frames-append a (say s h.0 h.1) (says (take s h.0 h.1) hs)
+    ∙ by_eq h.0 a
+    (λ is.
+    (λ i. frames_to a (say s (is i) h.1) ++ frames_to a (says (take s h.0 h.1) hs))
+    ∙ ap (λ l. l ++ frames_to a (says (take s h.0 h.1) hs)) (ap (frames_to a) (say-is s a h.1) ∙ frames-own a (local a (part a s) h.1).frames)
+    ∙ ap (λ l. (local a (part a s) h.1).frames ++ l)
+    (rest ∙ ap (λ p. turns_frames a p (of a hs)) (ap (λ b. part a (take s b h.1)) is ∙ part-take a s h.1))
+    ∙ sym (ap (λ b. turns_frames a (part a s) (cond b (h.1 ∷ of a hs) (of a hs))) (eq-eqb h.0 a is)))
+    (λ ne.
+    ap (λ l. l ++ frames_to a (says (take s h.0 h.1) hs)) (ap (frames_to a) (say-is s h.0 h.1) ∙ frames-other a h.0 first.frames (λ e. ne (sym e)))
+    ∙ rest ∙ ap (λ p. turns_frames a p (of a hs)) (part-take_other a h.0 s h.1 (λ e. ne (sym e)))
+    ∙ sym (ap (λ b. turns_frames a (part a s) (cond b (h.1 ∷ of a hs) (of a hs))) (ne_eqb h.0 a ne)))
