@@ -74,7 +74,7 @@ abbrev pub holder_of : Addresses → ℕ → Option ℕ
 holder_of [] address = None
 holder_of (e ∷ addresses) address = if e.1 == address then Some e.0 else holder_of addresses address
 
--- A claim of the own address by a lower NAME means its loss, and is to be answered by a greater one's.
+-- A claim of the own address by a lower NAME means its loss; by a greater one it is to be claimed again.
 abbrev pub answer : Claimed → ℕ → ℕ → Heard
 answer c address name =
     if address == c.own then (if nat_lt name c.name then Lost else if nat_lt c.name name then Defend else Nothing)

@@ -1,7 +1,7 @@
 //! Address claims (ISO 11783-5).
 
 ghost use Rattle.std.specs.Prelude.{◌≡◌, None, Some, [], IfOk, OnOk, OnErr};
-ghost use Rattle.vt_names.specs.Claims.{answer, heard, address_of, holder_of, claimed_address};
+ghost use Rattle.vt_names.specs.Claims.{IsRising, answer, heard, address_of, holder_of, claimed_address};
 
 use crate::OutOfMemory;
 use crate::holders::Holders;
@@ -95,14 +95,16 @@ impl Claims {
         self.name
     }
 
-    /// The address of a NAME, that of its last claim.
+    /// The address of a NAME, that of its last claim. docs/PROFILE.md, "The holder of an address".
     pub fn address_of(&self, name: Name) -> Option<u8>
-        ensures { result ≡ address_of self.now.addresses name }
+        ensures address { result ≡ address_of self.now.addresses name }
+        ensures rising { IsRising self.now.addresses }
     {
         self.addresses.get(&name.raw()).copied()
     }
 
     /// The holder of an address: the least NAME among those whose last claim was of it.
+    /// docs/PROFILE.md, "The holder of an address".
     pub fn holder(&self, address: u8) -> Option<Name>
         ensures { result ≡ holder_of self.now.addresses address }
     {

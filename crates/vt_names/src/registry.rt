@@ -25,7 +25,7 @@ pub enum RegistryFault {
     /// The set has its count less one members already.
     #[error("fault 3 TooManyMembers")]
     TooManyMembers,
-    /// The memory for a new set was refused.
+    /// The memory for a new set was refused. A member message never is: it takes none.
     #[error("fault 4 OutOfMemory")]
     OutOfMemory,
 }
@@ -105,6 +105,7 @@ impl Registry {
     }
 
     /// Takes the set of an address out, and tells whether there was one. The others keep their order.
+    /// It takes no memory. docs/PROFILE.md, "Closing a set".
     pub fn close(&mut self, address: u8) -> bool
         ensures found { result ≡ is_some (set_at address self.old.sets) }
         ensures sets { self.new.sets ≡ without address self.old.sets }
@@ -140,6 +141,7 @@ impl Registry {
     }
 
     /// Adds a set without a NAME. There is none of that address. After a refusal the sets are as they were.
+    /// docs/PROFILE.md, "Preloaded sets".
     pub fn preload(&mut self, address: u8) -> Result<(), OutOfMemory>
         requires none { set_at address self.old.sets ≡ None }
         ensures ok { OnOk result (self.new.sets ≡ with_set (preloaded address) self.old.sets) }
@@ -149,6 +151,7 @@ impl Registry {
     }
 
     /// Gives the set of an address a NAME. There is one, and it has none. It takes no memory.
+    /// docs/PROFILE.md, "Preloaded sets".
     pub fn bind(&mut self, address: u8, name: Name)
         requires unnamed { IsUnnamed (set_at address self.old.sets) }
         ensures sets { self.new.sets ≡ binding (set_at address self.old.sets) name self.old.sets }

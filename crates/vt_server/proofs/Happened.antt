@@ -4,13 +4,13 @@ use Rattle.std.proofs.lemmas.Bool.{eqb-true, false≢true}
 use Rattle.std.specs.Option.{option_eq}
 use Rattle.vt_can.specs.declared.frame.Frame.{Frame}
 use Rattle.vt_can.specs.Nodes.{source_of}
-use Rattle.vt_names.specs.Claims.{IsRising, OtherHoldersStay, address_of}
-use Rattle.vt_server.specs.Bus.{said}
+use Rattle.vt_names.specs.Claims.{Claimed, IsRising, OtherHoldersStay, address_of}
+use Rattle.vt_server.specs.Bus.{said, said_by, unless_echo}
 use Rattle.vt_server.specs.Messages.{claim_from}
-use Rattle.vt_server.specs.Parts.{Part, Local, Hears, Rebinds, Preloads}
-use Rattle.vt_server.specs.Terminals.{State, holder, part, takes, says, to_all, before, changed, left_by, changes, changes_by, acts, no_step, losing, acting, is_lost_by, is_defended, answer_to, defence}
+use Rattle.vt_server.specs.Parts.{Part, Local, Hears, Rebinds, Preloads, local}
+use Rattle.vt_server.specs.Terminals.{State, Step, holder, part, takes, says, to_all, before, hear_claim, changed, left_by, changes, changes_by, acts, no_step, losing, acting, step_frame, is_lost_by, is_defended, answer_to, defence}
 use Rattle.vt_server.specs.States.{step, after_all, sent_by_all}
-use Rattle.vt_server.specs.Happenings.{Happening, Heard, HolderIs, Lost, held_by, own, owns, owns_frames, holder_change, heard_from, happenings, happenings_all, frames_to, IsOrderly, EachTakesItsOwn, OwnHappeningsDecide}
+use Rattle.vt_server.specs.Happenings.{Happening, Heard, HolderIs, Lost, Preloaded, Own, unmoved, turned, held_by, own, own_while, owns, owns_frames, loses, holder_change, heard_from, happenings, happenings_all, frames_to, IsOrderly, EachTakesItsOwn, OwnHappeningsDecide}
 use Rattle.vt_server.specs.declared.bus.Notice.{Notice}
 use Rattle.vt_server.specs.declared.bus.Notice.TheVariants.{Claim, ClaimRequest, Master, Member, Message, Nothing}
 use Rattle.vt_server.specs.declared.input.Input.{Input}
@@ -92,147 +92,229 @@ module _ (law : OtherHoldersStay) (s : State) (orderly : IsOrderly s) (a source 
   pub of-changes : of a (changes s source (Claim name)) ≡ change (holder s a) (holder t a)
   of-changes = of-left (address_of s.claims.addresses name) refl
 
--- ---- the frame at its source, and a change before it
+-- ---- a happening while the terminal has its address, and after the loss
 
-heard-turns : (b : Bool) (a : ℕ) (p : Part) (said : Notice) (bytes : List ℕ) → turns a p (cond b (Hears said bytes ∷ []) []) ≡ owns a p (cond b (Heard said bytes ∷ []) [])
-heard-turns true a p said bytes = refl
-heard-turns false a p said bytes = refl
+own-has : (a : ℕ) (p : Part) (h : Happening) → p.lost ≡ false → own a p h ≡ own_while a p h
+own-has a p h has = ap (λ b. cond b (unmoved p) (own_while a p h)) has
 
-heard-frames : (b : Bool) (a : ℕ) (p : Part) (said : Notice) (bytes : List ℕ)
-    → turns_frames a p (cond b (Hears said bytes ∷ []) []) ≡ owns_frames a p (cond b (Heard said bytes ∷ []) [])
-heard-frames true a p said bytes = refl
-heard-frames false a p said bytes = refl
+own-lost : (a : ℕ) (p : Part) (h : Happening) → p.lost ≡ true → own a p h ≡ unmoved p
+own-lost a p h lost = ap (λ b. cond b (unmoved p) (own_while a p h)) lost
 
-of-heard : (a source : ℕ) (said : Notice) (bytes : List ℕ) → of a ((source, Hears said bytes) ∷ []) ≡ cond (eqb source a) (Hears said bytes ∷ []) []
-of-heard a source said bytes = refl
+lost-part : (a : ℕ) (p : Part) (hs : List Happening) → p.lost ≡ true → owns a p hs ≡ p
+lost-part a p [] lost = refl
+lost-part a p (h ∷ hs) lost = ap (λ (o : Own). owns a o.part hs) (own-lost a p h lost) ∙ lost-part a p hs lost
 
-changed-turns : (same : Bool) (a : ℕ) (p : Part) (name : Option ℕ) (b : Bool) (said : Notice) (bytes : List ℕ) → (same ≡ true → held_by p name ≡ p)
-    → turns a (held_by p name) (cond same [] (Rebinds ∷ []) ++ cond b (Hears said bytes ∷ []) [])
-    ≡ owns a p (cond same [] (HolderIs name ∷ []) ++ cond b (Heard said bytes ∷ []) [])
-changed-turns true a p name b said bytes stays = ap (λ q. turns a q (cond b (Hears said bytes ∷ []) [])) (stays refl) ∙ heard-turns b a p said bytes
-changed-turns false a p name b said bytes stays = heard-turns b a (own a p (HolderIs name)).part said bytes
-
-changed-frames : (same : Bool) (a : ℕ) (p : Part) (name : Option ℕ) (b : Bool) (said : Notice) (bytes : List ℕ) → (same ≡ true → held_by p name ≡ p)
-    → turns_frames a (held_by p name) (cond same [] (Rebinds ∷ []) ++ cond b (Hears said bytes ∷ []) [])
-    ≡ owns_frames a p (cond same [] (HolderIs name ∷ []) ++ cond b (Heard said bytes ∷ []) [])
-changed-frames true a p name b said bytes stays = ap (λ q. turns_frames a q (cond b (Hears said bytes ∷ []) [])) (stays refl) ∙ heard-frames b a p said bytes
-changed-frames false a p name b said bytes stays =
-    ap (λ l. (own a p (HolderIs name)).frames ++ l) (heard-frames b a (own a p (HolderIs name)).part said bytes)
+lost-frames : (a : ℕ) (p : Part) (hs : List Happening) → p.lost ≡ true → owns_frames a p hs ≡ []
+lost-frames a p [] lost = refl
+lost-frames a p (h ∷ hs) lost = ap (λ (o : Own). o.frames ++ owns_frames a o.part hs) (own-lost a p h lost) ∙ lost-frames a p hs lost
 
 defended : (b : Bool) (a : ℕ) (frame : Frame) → frames_to a (cond b (to_all frame ∷ []) []) ≡ []
 defended true a frame = refl
 defended false a frame = refl
 
--- ---- what is heard, claim or not
+-- ---- one frame, for an address that isn't the terminal's own
 
-module _ (law : OtherHoldersStay) (a : ℕ) (s : State) (source : ℕ) (bytes : List ℕ) where
-  stays : (name : ℕ) → let t = before s source (Claim name) in option_eq nat_eq (holder s a) (holder t a) ≡ true → held_by (part a s) (holder t a) ≡ part a s
-  stays name same = ap (held_by (part a s)) (sym (option-true (holder s a) (holder (before s source (Claim name)) a) same))
+module _ (law : OtherHoldersStay) (a : ℕ) (s : State) (f : Frame) (orderly : IsOrderly s) (apart : a ≢ s.claims.own) where
+  abbrev m : Notice
+  m = said s.claims.own s.claims.name f
 
-  of-claim : IsOrderly s → (name : ℕ) → let t = before s source (Claim name) in
-      of a (acts s source (Claim name) bytes) ≡ change (holder s a) (holder t a) ++ cond (eqb source a) (Hears (Claim name) bytes ∷ []) []
-  of-claim orderly name =
-      of-append a (changes s source (Claim name)) ((source, Hears (Claim name) bytes) ∷ [])
-      ∙ ap (λ l. l ++ cond (eqb source a) (Hears (Claim name) bytes ∷ []) []) (of-changes law s orderly a source name)
+  abbrev bytes : List ℕ
+  bytes = f.bytes.items
 
-  acting-claim : IsOrderly s → (name : ℕ) → let said = Claim name in
-      (part a (acting s source said bytes).after ≡ owns a (part a s) (holder_change a s (before s source said) ++ heard_from a source said bytes))
-      × (frames_to a (acting s source said bytes).sent ≡ owns_frames a (part a s) (holder_change a s (before s source said) ++ heard_from a source said bytes))
-  acting-claim orderly name =
-      let t = before s source (Claim name) in
-      let happened = of-claim orderly name in (
-        part-takes a t (acts s source (Claim name) bytes) ∙ ap (turns a (part a t)) happened
-            ∙ changed-turns (option_eq nat_eq (holder s a) (holder t a)) a (part a s) (holder t a) (eqb source a) (Claim name) bytes (stays name),
-        frames-append a (defence s source (Claim name)) (says t (acts s source (Claim name) bytes))
-            ∙ ap (λ l. l ++ frames_to a (says t (acts s source (Claim name) bytes))) (defended (is_defended (Claim name) (answer_to s source (Claim name))) a (claim_from s.claims.own s.claims.name))
-            ∙ frames-says a t (acts s source (Claim name) bytes) ∙ ap (turns_frames a (part a t)) happened
-            ∙ changed-frames (option_eq nat_eq (holder s a) (holder t a)) a (part a s) (holder t a) (eqb source a) (Claim name) bytes (stays name),
-      )
+  abbrev source : ℕ
+  source = source_of f
 
-  -- where nothing changes the holders
-  quiet : (said : Notice) → before s source said ≡ s → changes s source said ≡ []
-      → (part a (acting s source said bytes).after ≡ owns a (part a s) (holder_change a s (before s source said) ++ heard_from a source said bytes))
-      × (frames_to a (acting s source said bytes).sent ≡ owns_frames a (part a s) (holder_change a s (before s source said) ++ heard_from a source said bytes))
-  quiet said same none =
-      let happened : holder_change a s (before s source said) ++ heard_from a source said bytes ≡ heard_from a source said bytes =
-      ap (λ t. holder_change a s t ++ heard_from a source said bytes) same
-      ∙ ap (λ b. cond b [] (HolderIs (holder s a) ∷ []) ++ heard_from a source said bytes) (option-same (holder s a)) in
-      let happens : List (ℕ × Local) = (source, Hears said bytes) ∷ [] in (
-        (λ i. part a (takes (same i) (none i ++ happens))) ∙ part-takes a s happens ∙ heard-turns (eqb source a) a (part a s) said bytes ∙ sym (ap (owns a (part a s)) happened),
-        (λ i. frames_to a (defence s source said ++ says (same i) (none i ++ happens)))
-            ∙ frames-append a (defence s source said) (says s happens)
-            ∙ ap (λ l. l ++ frames_to a (says s happens)) (defended (is_defended said (answer_to s source said)) a (claim_from s.claims.own s.claims.name))
-            ∙ frames-says a s happens ∙ heard-frames (eqb source a) a (part a s) said bytes ∙ sym (ap (owns_frames a (part a s)) happened),
-      )
+  said-there : source ≡ a → m ≡ said_by s.claims.own f
+  said-there is = ap (λ b. cond b (unless_echo s.claims.name (said_by s.claims.own f)) (said_by s.claims.own f)) (ne_eqb source s.claims.own (λ h. apart (sym is ∙ h)))
 
-  acting-own : IsOrderly s → (said : Notice)
-      → (part a (acting s source said bytes).after ≡ owns a (part a s) (holder_change a s (before s source said) ++ heard_from a source said bytes))
-      × (frames_to a (acting s source said bytes).sent ≡ owns_frames a (part a s) (holder_change a s (before s source said) ++ heard_from a source said bytes))
-  acting-own orderly (Claim name) = acting-claim orderly name
-  acting-own orderly ClaimRequest = quiet ClaimRequest refl refl
-  acting-own orderly (Master count) = quiet (Master count) refl refl
-  acting-own orderly (Member name) = quiet (Member name) refl refl
-  acting-own orderly Message = quiet Message refl refl
-  acting-own orderly Nothing = quiet Nothing refl refl
+  -- the frame alone, from the address or from another
 
-  -- ---- the step
+  module _ (p : Part) (has : p.lost ≡ false) (own-is : p.own ≡ s.claims.own) where
+    heard-own : source ≡ a → own a p (Heard f) ≡ turned p (local a p (Hears m bytes))
+    heard-own is = own-has a p (Heard f) has ∙ ap (λ (n : Notice). turned p (local a p (Hears n bytes))) (ap (λ o. said_by o f) own-is ∙ sym (said-there is))
 
-  part-cases : IsOrderly s → (said : Notice) (lost loses : Bool)
-      → part a (cond lost (no_step s) (cond loses (losing s) (acting s source said bytes))).after
-      ≡ owns a (part a s) (cond lost [] (cond loses (Lost ∷ []) (holder_change a s (before s source said) ++ heard_from a source said bytes)))
-  part-cases orderly said true loses = refl
-  part-cases orderly said false true = refl
-  part-cases orderly said false false = (acting-own orderly said).0
+    heard-part : (b : Bool) → eqb source a ≡ b → turns a p (cond b (Hears m bytes ∷ []) []) ≡ owns a p (cond b (Heard f ∷ []) [])
+    heard-part true e = sym (ap (λ (o : Own). o.part) (heard-own (eqb-true source a e)))
+    heard-part false e = refl
 
-  frames-cases : IsOrderly s → (said : Notice) (lost loses : Bool)
-      → frames_to a (cond lost (no_step s) (cond loses (losing s) (acting s source said bytes))).sent
-      ≡ owns_frames a (part a s) (cond lost [] (cond loses (Lost ∷ []) (holder_change a s (before s source said) ++ heard_from a source said bytes)))
-  frames-cases orderly said true loses = refl
-  frames-cases orderly said false true = refl
-  frames-cases orderly said false false = (acting-own orderly said).1
+    heard-frames : (b : Bool) → eqb source a ≡ b → turns_frames a p (cond b (Hears m bytes ∷ []) []) ≡ owns_frames a p (cond b (Heard f ∷ []) [])
+    heard-frames true e = sym (ap (λ (o : Own). o.frames ++ []) (heard-own (eqb-true source a e)))
+    heard-frames false e = refl
 
-pub part-step : OtherHoldersStay → (a : ℕ) (s : State) (i : Input) → IsOrderly s → part a (step s i).after ≡ owns a (part a s) (happenings a s i)
-part-step law a s (inputs.Frame time f) orderly =
-    let m = said s.claims.own s.claims.name f in
-    part-cases law a s (source_of f) f.bytes.items orderly m s.lost (is_lost_by (answer_to s (source_of f) m))
-part-step law a s (inputs.Operator action) orderly = refl
+  module _ (has : s.lost ≡ false) where
+    -- a change of the holder before it
 
-pub frames-step : OtherHoldersStay → (a : ℕ) (s : State) (i : Input) → IsOrderly s → frames_to a (step s i).sent ≡ owns_frames a (part a s) (happenings a s i)
-frames-step law a s (inputs.Frame time f) orderly =
-    let m = said s.claims.own s.claims.name f in
-    frames-cases law a s (source_of f) f.bytes.items orderly m s.lost (is_lost_by (answer_to s (source_of f) m))
-frames-step law a s (inputs.Operator action) orderly = refl
+    changed-part : (same : Bool) (name : Option ℕ) → (same ≡ true → held_by (part a s) name ≡ part a s)
+        → turns a (held_by (part a s) name) (cond same [] (Rebinds ∷ []) ++ cond (eqb source a) (Hears m bytes ∷ []) [])
+        ≡ owns a (part a s) (cond same [] (HolderIs name ∷ []) ++ heard_from a f)
+    changed-part true name stays =
+        ap (λ q. turns a q (cond (eqb source a) (Hears m bytes ∷ []) [])) (stays refl) ∙ heard-part (part a s) has refl (eqb source a) refl
+    changed-part false name stays =
+        heard-part (own_while a (part a s) (HolderIs name)).part has refl (eqb source a) refl
+        ∙ sym (ap (λ (o : Own). owns a o.part (heard_from a f)) (own-has a (part a s) (HolderIs name) has))
+
+    changed-frames : (same : Bool) (name : Option ℕ) → (same ≡ true → held_by (part a s) name ≡ part a s)
+        → turns_frames a (held_by (part a s) name) (cond same [] (Rebinds ∷ []) ++ cond (eqb source a) (Hears m bytes ∷ []) [])
+        ≡ owns_frames a (part a s) (cond same [] (HolderIs name ∷ []) ++ heard_from a f)
+    changed-frames true name stays =
+        ap (λ q. turns_frames a q (cond (eqb source a) (Hears m bytes ∷ []) [])) (stays refl) ∙ heard-frames (part a s) has refl (eqb source a) refl
+    changed-frames false name stays =
+        ap (λ l. (own_while a (part a s) (HolderIs name)).frames ++ l) (heard-frames (own_while a (part a s) (HolderIs name)).part has refl (eqb source a) refl)
+        ∙ sym (ap (λ (o : Own). o.frames ++ owns_frames a o.part (heard_from a f)) (own-has a (part a s) (HolderIs name) has))
+
+    stays-held : (t : State) → option_eq nat_eq (holder s a) (holder t a) ≡ true → held_by (part a s) (holder t a) ≡ part a s
+    stays-held t same = ap (held_by (part a s)) (sym (option-true (holder s a) (holder t a) same))
+
+    -- what happens by a notice, a claim or not
+
+    abbrev by_notice : Notice → List Happening
+    by_notice n = holder_change a s.claims (hear_claim s source n) ++ heard_from a f
+
+    of-claim : (name : ℕ) → m ≡ Claim name → let t = before s source (Claim name) in
+        of a (acts s source (Claim name) bytes) ≡ change (holder s a) (holder t a) ++ cond (eqb source a) (Hears m bytes ∷ []) []
+    of-claim name is =
+        of-append a (changes s source (Claim name)) ((source, Hears (Claim name) bytes) ∷ [])
+        ∙ (λ i. of-changes law s orderly a source name i ++ cond (eqb source a) (Hears (sym is i) bytes ∷ []) [])
+
+    acting-claim : (name : ℕ) → m ≡ Claim name
+        → (part a (acting s source (Claim name) bytes).after ≡ owns a (part a s) (by_notice (Claim name)))
+        × (frames_to a (acting s source (Claim name) bytes).sent ≡ owns_frames a (part a s) (by_notice (Claim name)))
+    acting-claim name is =
+        let t = before s source (Claim name) in
+        let happened = of-claim name is in (
+          part-takes a t (acts s source (Claim name) bytes) ∙ ap (turns a (part a t)) happened
+              ∙ changed-part (option_eq nat_eq (holder s a) (holder t a)) (holder t a) (stays-held t),
+          frames-append a (defence s source (Claim name)) (says t (acts s source (Claim name) bytes))
+              ∙ ap (λ l. l ++ frames_to a (says t (acts s source (Claim name) bytes))) (defended (is_defended (Claim name) (answer_to s source (Claim name))) a (claim_from s.claims.own s.claims.name))
+              ∙ frames-says a t (acts s source (Claim name) bytes) ∙ ap (turns_frames a (part a t)) happened
+              ∙ changed-frames (option_eq nat_eq (holder s a) (holder t a)) (holder t a) (stays-held t),
+        )
+
+    quiet : (n : Notice) → m ≡ n → before s source n ≡ s → changes s source n ≡ []
+        → (part a (acting s source n bytes).after ≡ owns a (part a s) (by_notice n))
+        × (frames_to a (acting s source n bytes).sent ≡ owns_frames a (part a s) (by_notice n))
+    quiet n is same none =
+        let happened : by_notice n ≡ heard_from a f =
+        ap (λ (t : State). holder_change a s.claims t.claims ++ heard_from a f) same
+        ∙ ap (λ b. cond b [] (HolderIs (holder s a) ∷ []) ++ heard_from a f) (option-same (holder s a)) in
+        let happens : List (ℕ × Local) = (source, Hears n bytes) ∷ [] in
+        let alike : of a happens ≡ cond (eqb source a) (Hears m bytes ∷ []) [] = (λ i. cond (eqb source a) (Hears (sym is i) bytes ∷ []) []) in (
+          (λ i. part a (takes (same i) (none i ++ happens))) ∙ part-takes a s happens ∙ ap (turns a (part a s)) alike
+              ∙ heard-part (part a s) has refl (eqb source a) refl ∙ sym (ap (owns a (part a s)) happened),
+          (λ i. frames_to a (defence s source n ++ says (same i) (none i ++ happens)))
+              ∙ frames-append a (defence s source n) (says s happens)
+              ∙ ap (λ l. l ++ frames_to a (says s happens)) (defended (is_defended n (answer_to s source n)) a (claim_from s.claims.own s.claims.name))
+              ∙ frames-says a s happens ∙ ap (turns_frames a (part a s)) alike
+              ∙ heard-frames (part a s) has refl (eqb source a) refl ∙ sym (ap (owns_frames a (part a s)) happened),
+        )
+
+    acting-notice : (n : Notice) → m ≡ n
+        → (part a (acting s source n bytes).after ≡ owns a (part a s) (by_notice n))
+        × (frames_to a (acting s source n bytes).sent ≡ owns_frames a (part a s) (by_notice n))
+    acting-notice (Claim name) is = acting-claim name is
+    acting-notice ClaimRequest is = quiet ClaimRequest is refl refl
+    acting-notice (Master count) is = quiet (Master count) is refl refl
+    acting-notice (Member name) is = quiet (Member name) is refl refl
+    acting-notice Message is = quiet Message is refl refl
+    acting-notice Nothing is = quiet Nothing is refl refl
+
+  -- the loss, before it and after it
+
+  abbrev result : Bool → Bool → Step
+  result lost gone = cond lost (no_step s) (cond gone (losing s) (acting s source m bytes))
+
+  abbrev later : Bool → Bool → List Happening
+  later lost gone = holder_change a s.claims (cond lost s.claims (cond gone s.claims (hear_claim s source m)))
+
+  abbrev happened : Bool → Bool → List Happening
+  happened lost gone = cond lost [] (cond gone (Lost ∷ []) []) ++ later lost gone ++ heard_from a f
+
+  gone-part : s.lost ≡ false → owns a (part a s) (happened false true) ≡ record (part a s) { lost = true }
+  gone-part has =
+      ap (λ (o : Own). owns a o.part (later false true ++ heard_from a f)) (own-has a (part a s) Lost has)
+      ∙ lost-part a (record (part a s) { lost = true }) (later false true ++ heard_from a f) refl
+
+  gone-frames : s.lost ≡ false → owns_frames a (part a s) (happened false true) ≡ []
+  gone-frames has =
+      ap (λ (o : Own). o.frames ++ owns_frames a o.part (later false true ++ heard_from a f)) (own-has a (part a s) Lost has)
+      ∙ lost-frames a (record (part a s) { lost = true }) (later false true ++ heard_from a f) refl
+
+  part-cases : (lost gone : Bool) → s.lost ≡ lost → part a (result lost gone).after ≡ owns a (part a s) (happened lost gone)
+  part-cases true gone is = sym (lost-part a (part a s) (happened true gone) is)
+  part-cases false true is = sym (gone-part is)
+  part-cases false false is = (acting-notice is m refl).0
+
+  frames-cases : (lost gone : Bool) → s.lost ≡ lost → frames_to a (result lost gone).sent ≡ owns_frames a (part a s) (happened lost gone)
+  frames-cases true gone is = sym (lost-frames a (part a s) (happened true gone) is)
+  frames-cases false true is = sym (gone-frames is)
+  frames-cases false false is = (acting-notice is m refl).1
+
+  pub part-frame : part a (step_frame s f).after ≡ owns a (part a s) (happened s.lost (loses s f))
+  part-frame = part-cases s.lost (loses s f) refl
+
+  pub frames-frame : frames_to a (step_frame s f).sent ≡ owns_frames a (part a s) (happened s.lost (loses s f))
+  frames-frame = frames-cases s.lost (loses s f) refl
+
+pub part-step : OtherHoldersStay → (a : ℕ) (s : State) (i : Input) → IsOrderly s → a ≢ s.claims.own → part a (step s i).after ≡ owns a (part a s) (happenings a s i)
+part-step law a s (inputs.Frame time f) orderly apart = part-frame law a s f orderly apart
+part-step law a s (inputs.Operator action) orderly apart = refl
+
+pub frames-step : OtherHoldersStay → (a : ℕ) (s : State) (i : Input) → IsOrderly s → a ≢ s.claims.own
+    → frames_to a (step s i).sent ≡ owns_frames a (part a s) (happenings a s i)
+frames-step law a s (inputs.Frame time f) orderly apart = frames-frame law a s f orderly apart
+frames-step law a s (inputs.Operator action) orderly apart = refl
 
 pub each : OtherHoldersStay → EachTakesItsOwn
 each law = record {
   part_after = part-step law;
   frames_after = frames-step law;
-  preloaded = λ a s contents. part-take a s (Preloads contents);
+  preloaded = λ a s contents has. part-take a s (Preloads contents) ∙ sym (ap (λ (o : Own). o.part) (own-has a (part a s) (Preloaded contents) has));
   preloaded_elsewhere = λ a b s contents ne. part-take_other b a s (Preloads contents) ne;
 }
 
 -- ---- runs
 
-orderly-before : OtherHoldersStay → (s : State) (source : ℕ) (said : Notice) → IsOrderly s → IsOrderly (before s source said)
-orderly-before law s source (Claim name) orderly = law.rising s.claims.addresses source name orderly
-orderly-before law s source ClaimRequest orderly = orderly
-orderly-before law s source (Master count) orderly = orderly
-orderly-before law s source (Member name) orderly = orderly
-orderly-before law s source Message orderly = orderly
-orderly-before law s source Nothing orderly = orderly
+orderly-before : OtherHoldersStay → (s : State) (from : ℕ) (said : Notice) → IsOrderly s → IsOrderly (before s from said)
+orderly-before law s from (Claim name) orderly = law.rising s.claims.addresses from name orderly
+orderly-before law s from ClaimRequest orderly = orderly
+orderly-before law s from (Master count) orderly = orderly
+orderly-before law s from (Member name) orderly = orderly
+orderly-before law s from Message orderly = orderly
+orderly-before law s from Nothing orderly = orderly
 
-orderly-cases : OtherHoldersStay → (s : State) (source : ℕ) (said : Notice) (bytes : List ℕ) (lost loses : Bool) → IsOrderly s
-    → IsOrderly (cond lost (no_step s) (cond loses (losing s) (acting s source said bytes))).after
-orderly-cases law s source said bytes true loses orderly = orderly
-orderly-cases law s source said bytes false true orderly = orderly
-orderly-cases law s source said bytes false false orderly =
-    subst (λ c. IsRising c.addresses) (sym (claims-takes (before s source said) (acts s source said bytes))) (orderly-before law s source said orderly)
+orderly-cases : OtherHoldersStay → (s : State) (from : ℕ) (said : Notice) (carried : List ℕ) (lost gone : Bool) → IsOrderly s
+    → IsOrderly (cond lost (no_step s) (cond gone (losing s) (acting s from said carried))).after
+orderly-cases law s from said carried true gone orderly = orderly
+orderly-cases law s from said carried false true orderly = orderly
+orderly-cases law s from said carried false false orderly =
+    subst (λ c. IsRising c.addresses) (sym (claims-takes (before s from said) (acts s from said carried))) (orderly-before law s from said orderly)
 
 pub orderly-step : OtherHoldersStay → (s : State) (i : Input) → IsOrderly s → IsOrderly (step s i).after
 orderly-step law s (inputs.Frame time f) orderly =
     let m = said s.claims.own s.claims.name f in
     orderly-cases law s (source_of f) m f.bytes.items s.lost (is_lost_by (answer_to s (source_of f) m)) orderly
 orderly-step law s (inputs.Operator action) orderly = orderly
+
+-- the own address stays
+own-before : (s : State) (from : ℕ) (n : Notice) → (before s from n).claims.own ≡ s.claims.own
+own-before s from (Claim name) = refl
+own-before s from ClaimRequest = refl
+own-before s from (Master count) = refl
+own-before s from (Member name) = refl
+own-before s from Message = refl
+own-before s from Nothing = refl
+
+own-cases : (s : State) (from : ℕ) (n : Notice) (carried : List ℕ) (lost gone : Bool)
+    → (cond lost (no_step s) (cond gone (losing s) (acting s from n carried))).after.claims.own ≡ s.claims.own
+own-cases s from n carried true gone = refl
+own-cases s from n carried false true = refl
+own-cases s from n carried false false = ap (λ (c : Claimed). c.own) (claims-takes (before s from n) (acts s from n carried)) ∙ own-before s from n
+
+pub own-step : (s : State) (i : Input) → (step s i).after.claims.own ≡ s.claims.own
+own-step s (inputs.Frame time f) =
+    let m = said s.claims.own s.claims.name f in
+    own-cases s (source_of f) m f.bytes.items s.lost (is_lost_by (answer_to s (source_of f) m))
+own-step s (inputs.Operator action) = refl
 
 owns-append : (a : ℕ) (p : Part) (xs ys : List Happening) → owns a p (xs ++ ys) ≡ owns a (owns a p xs) ys
 owns-append a p [] ys = refl
@@ -244,24 +326,25 @@ frames-owns a p (x ∷ xs) ys =
     ap (λ l. (own a p x).frames ++ l) (frames-owns a (own a p x).part xs ys)
     ∙ sym (append_assoc (own a p x).frames (owns_frames a (own a p x).part xs) (owns_frames a (owns a (own a p x).part xs) ys))
 
-part-all : OtherHoldersStay → (a : ℕ) (s : State) (xs : List Input) → IsOrderly s → part a (after_all s xs) ≡ owns a (part a s) (happenings_all a s xs)
-part-all law a s [] orderly = refl
-part-all law a s (i ∷ xs) orderly =
-    part-all law a (step s i).after xs (orderly-step law s i orderly)
-    ∙ ap (λ p. owns a p (happenings_all a (step s i).after xs)) (part-step law a s i orderly)
+part-all : OtherHoldersStay → (a : ℕ) (s : State) (xs : List Input) → IsOrderly s → a ≢ s.claims.own → part a (after_all s xs) ≡ owns a (part a s) (happenings_all a s xs)
+part-all law a s [] orderly apart = refl
+part-all law a s (i ∷ xs) orderly apart =
+    part-all law a (step s i).after xs (orderly-step law s i orderly) (λ h. apart (h ∙ own-step s i))
+    ∙ ap (λ p. owns a p (happenings_all a (step s i).after xs)) (part-step law a s i orderly apart)
     ∙ sym (owns-append a (part a s) (happenings a s i) (happenings_all a (step s i).after xs))
 
-frames-all : OtherHoldersStay → (a : ℕ) (s : State) (xs : List Input) → IsOrderly s → frames_to a (sent_by_all s xs) ≡ owns_frames a (part a s) (happenings_all a s xs)
-frames-all law a s [] orderly = refl
-frames-all law a s (i ∷ xs) orderly =
+frames-all : OtherHoldersStay → (a : ℕ) (s : State) (xs : List Input) → IsOrderly s → a ≢ s.claims.own
+    → frames_to a (sent_by_all s xs) ≡ owns_frames a (part a s) (happenings_all a s xs)
+frames-all law a s [] orderly apart = refl
+frames-all law a s (i ∷ xs) orderly apart =
     let later = happenings_all a (step s i).after xs in
     frames-append a (step s i).sent (sent_by_all (step s i).after xs)
-    ∙ (λ j. frames-step law a s i orderly j ++ frames-all law a (step s i).after xs (orderly-step law s i orderly) j)
-    ∙ ap (λ p. owns_frames a (part a s) (happenings a s i) ++ owns_frames a p later) (part-step law a s i orderly)
+    ∙ (λ j. frames-step law a s i orderly apart j ++ frames-all law a (step s i).after xs (orderly-step law s i orderly) (λ h. apart (h ∙ own-step s i)) j)
+    ∙ ap (λ p. owns_frames a (part a s) (happenings a s i) ++ owns_frames a p later) (part-step law a s i orderly apart)
     ∙ sym (frames-owns a (part a s) (happenings a s i) later)
 
 pub decide : OtherHoldersStay → OwnHappeningsDecide
-decide law a s t xs ys here there same happened = (
-  part-all law a s xs here ∙ (λ i. owns a (same i) (happened i)) ∙ sym (part-all law a t ys there),
-  frames-all law a s xs here ∙ (λ i. owns_frames a (same i) (happened i)) ∙ sym (frames-all law a t ys there),
+decide law a s t xs ys here there apart other same happened = (
+  part-all law a s xs here apart ∙ (λ i. owns a (same i) (happened i)) ∙ sym (part-all law a t ys there other),
+  frames-all law a s xs here apart ∙ (λ i. owns_frames a (same i) (happened i)) ∙ sym (frames-all law a t ys there other),
 )

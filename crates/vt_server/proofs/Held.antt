@@ -1,17 +1,20 @@
 -- A set with a NAME keeps that of its address's holder.
-use Rattle.std.proofs.Common.{◌≡◌, ℕ, Bool, true, false, cond, ◌||◌, List, [], ◌∷◌, Option, Some, None, refl, sym, subst, nat_eq}
+use Rattle.std.proofs.Common.{ap, ◌∙◌, ◌≡◌, ℕ, Bool, true, false, cond, ◌||◌, List, [], ◌∷◌, Option, Some, None, refl, sym, subst, nat_eq}
 use Rattle.std.specs.Option.{option_eq}
 use Rattle.vt_names.specs.Claims.{OtherHoldersStay}
-use Rattle.vt_names.specs.Registry.{Set, has_place, joined}
+use Rattle.vt_names.specs.Registry.{Set, set_at, has_place, joined}
 use Rattle.vt_objects.specs.Stores.{Contents}
 use Rattle.vt_objects.specs.Commands.{command_at}
 use Rattle.vt_server.specs.Messages.{technical_reply}
-use Rattle.vt_server.specs.Parts.{Part, kept, closed, local_said, rebound, named, bound_at_claim, registered, with_member, hide_show_in, commanded, answered_or, answered}
-use Rattle.vt_server.specs.Terminals.{part}
-use Rattle.vt_server.specs.Happenings.{Happening, Heard, HolderIs, Lost, Preloaded, held_by, own, owns, happenings, NameIsHeld, SetIsHeld, SetsHoldTheirAddress}
+use Rattle.vt_server.specs.Parts.{Part, Preloads, kept, closed, local_said, rebound, named, bound_at_claim, registered, with_member, hide_show_in, commanded, answered_or, answered}
+use Rattle.vt_server.specs.Terminals.{State, holder, part, take}
+use Rattle.vt_server.specs.Happenings.{Happening, Heard, HolderIs, Lost, Preloaded, Own, unmoved, held_by, own, own_while, owns, happenings, NameIsHeld, SetIsHeld, SetsHoldTheirAddress}
 use Rattle.vt_server.specs.declared.bus.Notice.{Notice}
 use Rattle.vt_server.specs.declared.bus.Notice.TheVariants.{Claim, ClaimRequest, Master, Member, Message, Nothing}
-use Rattle.vt_server.proofs.Happened.{option-true, part-step, orderly-step}
+use Rattle.vt_server.proofs.Happened.{option-true, part-step, orderly-step, own-step}
+use Rattle.vt_server.proofs.Own.{part-take, part-take_other}
+use Rattle.vt_server.proofs.Puts.{by_eq, take-is}
+use Rattle.vt_server.specs.Bus.{said_by}
 
 -- ---- a frame from the address
 
@@ -76,19 +79,37 @@ rebound-held p (Some set) is = kept-held p set (option_eq nat_eq set.name None |
 
 -- ---- every happening, and every step
 
+while-held : (a : ℕ) (p : Part) (h : Happening) → SetIsHeld p.set p.holder → SetIsHeld (own_while a p h).part.set (own_while a p h).part.holder
+while-held a p (Heard f) has = said-held a p (said_by p.own f) f.bytes.items has
+while-held a p (HolderIs name) has = rebound-held (held_by p name) p.set refl
+while-held a p Lost has = has
+while-held a p (Preloaded contents) has = tt
+
+lost-held : (b : Bool) (p : Part) (o : Own) → SetIsHeld p.set p.holder → SetIsHeld o.part.set o.part.holder
+    → SetIsHeld (cond b (unmoved p) o).part.set (cond b (unmoved p) o).part.holder
+lost-held true p o has its = has
+lost-held false p o has its = its
+
 own-held : (a : ℕ) (p : Part) (h : Happening) → SetIsHeld p.set p.holder → SetIsHeld (own a p h).part.set (own a p h).part.holder
-own-held a p (Heard said bytes) has = said-held a p said bytes has
-own-held a p (HolderIs name) has = rebound-held (held_by p name) p.set refl
-own-held a p Lost has = has
-own-held a p (Preloaded contents) has = tt
+own-held a p h has = lost-held p.lost p (own_while a p h) has (while-held a p h has)
 
 owns-held : (a : ℕ) (p : Part) (hs : List Happening) → SetIsHeld p.set p.holder → SetIsHeld (owns a p hs).set (owns a p hs).holder
 owns-held a p [] has = has
 owns-held a p (h ∷ hs) has = owns-held a (own a p h).part hs (own-held a p h has)
 
+none-held : (o : Option Set) (holder : Option ℕ) → o ≡ None → SetIsHeld o holder
+none-held o holder none = subst (λ p. SetIsHeld p holder) (sym none) tt
+
 pub held : OtherHoldersStay → SetsHoldTheirAddress
 held law = record {
-  kept = λ s i orderly has a.
-      subst (λ (p : Part). SetIsHeld p.set p.holder) (sym (part-step law a s i orderly)) (owns-held a (part a s) (happenings a s i) (has a));
+  first = λ s none a _. none-held (set_at a s.sets) (holder s a) (ap (set_at a) none);
+  preloaded = λ a s contents has b apart. by_eq b a
+      (λ is. subst (λ x. SetIsHeld (part x (take s a (Preloads contents))).set (part x (take s a (Preloads contents))).holder) (sym is)
+      (subst (λ (p : Part). SetIsHeld p.set p.holder) (sym (part-take a s (Preloads contents))) tt))
+      (λ ne. subst (λ (p : Part). SetIsHeld p.set p.holder) (sym (part-take_other b a s (Preloads contents) ne))
+      (has b (λ h. apart (h ∙ sym (ap (λ (x : State). x.claims.own) (take-is s a (Preloads contents)))))));
+  kept = λ s i orderly has a apart.
+      let there = λ (h : a ≡ s.claims.own). apart (h ∙ sym (own-step s i)) in
+      subst (λ (p : Part). SetIsHeld p.set p.holder) (sym (part-step law a s i orderly there)) (owns-held a (part a s) (happenings a s i) (has a there));
   orderly = orderly-step law;
 }

@@ -1,4 +1,5 @@
 mod Answering
+mod ClaimsHeard
 mod Effects
 mod Happened
 mod Held
@@ -6,4 +7,5 @@ mod Own
 mod Puts
 mod Registering
 mod Running
+mod Sending
 mod Steps

@@ -170,3 +170,12 @@ pub hear-take : (s : State) (f : Frame) (source own name : ℕ) (m : Notice) →
 hear-take s f source own name m source-is own-is name-is m-is has keeps same none =
     sym (λ i. takes (same i) (none i ++ (source, Hears m f.bytes.items) ∷ []))
     ∙ ap (λ (t : Step). t.after) (hear-acts s f source own name m source-is own-is name-is m-is has keeps)
+
+-- ---- nothing at an address is the loss
+
+lost-take : (s : State) (a : ℕ) (h : Local) → (take s a h).lost ≡ s.lost
+lost-take s a h = ap (λ (x : State). x.lost) (take-is s a h)
+
+pub lost-takes : (s : State) (hs : List (ℕ × Local)) → (takes s hs).lost ≡ s.lost
+lost-takes s [] = refl
+lost-takes s (h ∷ hs) = lost-takes (take s h.0 h.1) hs ∙ lost-take s h.0 h.1

@@ -1,23 +1,22 @@
 -- One address among all: what happens there, and what it makes of that (docs/PROFILE.md, "One address").
-use Rattle.std.specs.Prelude.{◌≡◌, ℕ, ◌==◌, true, if◌then◌else◌, List, [], ◌∷◌, ◌++◌, Option, Some, None, nat_eq}
+use Rattle.std.specs.Prelude.{◌≡◌, ◌≢◌, ℕ, ◌==◌, Bool, true, false, if◌then◌else◌, List, [], ◌∷◌, ◌++◌, Option, Some, None, nat_eq}
 use Rattle.std.specs.Option.{option_eq}
 use Rattle.vt_can.specs.declared.frame.Frame.{Frame}
 use Rattle.vt_can.specs.Nodes.{source_of}
-use Rattle.vt_names.specs.Claims.{IsRising}
+use Rattle.vt_names.specs.Claims.{Claimed, IsRising, holder_of}
 use Rattle.vt_names.specs.Registry.{Set, set_at}
 use Rattle.vt_objects.specs.Stores.{Contents}
-use Rattle.vt_server.specs.Bus.{said}
+use Rattle.vt_server.specs.Bus.{said, said_by}
 use Rattle.vt_server.specs.Parts.{Part, After, Hears, Rebinds, Preloads, local}
-use Rattle.vt_server.specs.Terminals.{State, Sent, holder, part, take, before, answer_to, is_lost_by}
+use Rattle.vt_server.specs.Terminals.{State, Sent, holder, part, take, hear_claim, answer_to, is_lost_by}
 use Rattle.vt_server.specs.States.{step, after_all, sent_by_all}
-use Rattle.vt_server.specs.declared.bus.Notice.{Notice}
 use Rattle.vt_server.specs.declared.input.Input.{Input}
 use Rattle.vt_server.specs.declared.input.Input.TheVariants as inputs
 
--- A frame from the address says something, with its bytes; the address has another holder; the terminal loses
--- its own address; a pool is preloaded.
+-- A frame comes from the address; the address has another holder; the terminal loses its own address; a pool is
+-- preloaded.
 pub data Happening : Type 0 where
-  Heard : Notice → List ℕ → Happening
+  Heard : Frame → Happening
   HolderIs : Option ℕ → Happening
   Lost : Happening
   Preloaded : Contents → Happening
@@ -29,17 +28,25 @@ pub record Own : Type 0 where
   pub part : Part
   pub frames : List Frame
 
+abbrev pub unmoved : Part → Own
+unmoved p = record { part = p; frames = [] }
+
 abbrev pub turned : Part → After → Own
 turned p after = record { part = record p { set = after.set; pool = after.pool }; frames = after.frames }
 
 abbrev pub held_by : Part → Option ℕ → Part
 held_by p name = record p { holder = name }
 
+-- while the terminal has its own address
+abbrev pub own_while : ℕ → Part → Happening → Own
+own_while address p (Heard frame) = turned p (local address p (Hears (said_by p.own frame) frame.bytes.items))
+own_while address p (HolderIs name) = turned (held_by p name) (local address (held_by p name) Rebinds)
+own_while address p Lost = unmoved (record p { lost = true })
+own_while address p (Preloaded contents) = turned p (local address p (Preloads contents))
+
+-- After the loss nothing has effect.
 abbrev pub own : ℕ → Part → Happening → Own
-own address p (Heard said bytes) = turned p (local address p (Hears said bytes))
-own address p (HolderIs name) = turned (held_by p name) (local address (held_by p name) Rebinds)
-own address p Lost = record { part = record p { lost = true }; frames = [] }
-own address p (Preloaded contents) = turned p (local address p (Preloads contents))
+own address p happening = if p.lost then unmoved p else own_while address p happening
 
 abbrev pub owns : ℕ → Part → List Happening → Part
 owns address p [] = p
@@ -49,26 +56,33 @@ abbrev pub owns_frames : ℕ → Part → List Happening → List Frame
 owns_frames address p [] = []
 owns_frames address p (h ∷ happenings) = (own address p h).frames ++ owns_frames address (own address p h).part happenings
 
--- ---- the happenings of an address
+-- ---- the happenings of an address, which is not the terminal's own
 
--- its holder after an input is another than before
-abbrev pub holder_change : ℕ → State → State → List Happening
-holder_change address s t =
-    if option_eq nat_eq (holder s address) (holder t address) then [] else HolderIs (holder t address) ∷ []
+-- the terminal loses its address by a frame
+abbrev pub loses : State → Frame → Bool
+loses s frame = is_lost_by (answer_to s (source_of frame) (said s.claims.own s.claims.name frame))
 
-abbrev pub heard_from : ℕ → ℕ → Notice → List ℕ → List Happening
-heard_from address source said bytes = if source == address then Heard said bytes ∷ [] else []
+-- what is heard of addresses after a frame; nothing after the loss
+abbrev pub claims_after : State → Frame → Claimed
+claims_after s frame =
+    if s.lost then s.claims else if loses s frame then s.claims
+    else hear_claim s (source_of frame) (said s.claims.own s.claims.name frame)
 
--- In one frame: the loss alone, or the change of the holder and then the frame.
-abbrev pub happenings_said : ℕ → State → ℕ → Notice → List ℕ → List Happening
-happenings_said address s source said bytes =
-    if s.lost then []
-    else if is_lost_by (answer_to s source said) then Lost ∷ []
-    else holder_change address s (before s source said) ++ heard_from address source said bytes
+abbrev pub loss : State → Frame → List Happening
+loss s frame = if s.lost then [] else if loses s frame then Lost ∷ [] else []
 
+abbrev pub holder_change : ℕ → Claimed → Claimed → List Happening
+holder_change address old new =
+    if option_eq nat_eq (holder_of old.addresses address) (holder_of new.addresses address) then []
+    else HolderIs (holder_of new.addresses address) ∷ []
+
+abbrev pub heard_from : ℕ → Frame → List Happening
+heard_from address frame = if source_of frame == address then Heard frame ∷ [] else []
+
+-- In one input the loss stands first, then the change of the holder, and then the frame.
 abbrev pub happenings : ℕ → State → Input → List Happening
 happenings address s (inputs.Frame time frame) =
-    happenings_said address s (source_of frame) (said s.claims.own s.claims.name frame) frame.bytes.items
+    loss s frame ++ holder_change address s.claims (claims_after s frame) ++ heard_from address frame
 happenings address s (inputs.Operator action) = []
 
 abbrev pub happenings_all : ℕ → State → List Input → List Happening
@@ -89,14 +103,14 @@ IsOrderly s = IsRising s.claims.addresses
 
 pub record EachTakesItsOwn : Type 0 where
   -- a step, and the sets and pools that it leaves at an address, with the frames to it
-  pub part_after : (address : ℕ) (s : State) (i : Input) → IsOrderly s
+  pub part_after : (address : ℕ) (s : State) (i : Input) → IsOrderly s → address ≢ s.claims.own
       → part address (step s i).after ≡ owns address (part address s) (happenings address s i)
-  pub frames_after : (address : ℕ) (s : State) (i : Input) → IsOrderly s
+  pub frames_after : (address : ℕ) (s : State) (i : Input) → IsOrderly s → address ≢ s.claims.own
       → frames_to address (step s i).sent ≡ owns_frames address (part address s) (happenings address s i)
   -- a pool that is preloaded, at its address and elsewhere
-  pub preloaded : (address : ℕ) (s : State) (contents : Contents)
+  pub preloaded : (address : ℕ) (s : State) (contents : Contents) → s.lost ≡ false
       → part address (take s address (Preloads contents)) ≡ owns address (part address s) (Preloaded contents ∷ [])
-  pub preloaded_elsewhere : (address other : ℕ) (s : State) (contents : Contents) → (other ≡ address → ⊥)
+  pub preloaded_elsewhere : (address other : ℕ) (s : State) (contents : Contents) → other ≢ address
       → part other (take s address (Preloads contents)) ≡ part other s
 
 -- Two runs with the same happenings of an address, from the same part of it, leave the same part and send it
@@ -104,11 +118,12 @@ pub record EachTakesItsOwn : Type 0 where
 abbrev pub OwnHappeningsDecide : Type 0
 OwnHappeningsDecide =
     (address : ℕ) (s t : State) (xs ys : List Input) → IsOrderly s → IsOrderly t
+    → address ≢ s.claims.own → address ≢ t.claims.own
     → part address s ≡ part address t → happenings_all address s xs ≡ happenings_all address t ys
     → (part address (after_all s xs) ≡ part address (after_all t ys))
     × (frames_to address (sent_by_all s xs) ≡ frames_to address (sent_by_all t ys))
 
--- ---- A set with a NAME has that of its address's holder, after every input.
+-- ---- A set with a NAME has that of its address's holder, after every input. (None stands at the own address.)
 
 abbrev pub NameIsHeld : Option ℕ → Option ℕ → Type 0
 NameIsHeld None holder = Unit {0}
@@ -119,8 +134,10 @@ SetIsHeld None holder = Unit {0}
 SetIsHeld (Some set) holder = NameIsHeld set.name holder
 
 abbrev pub SetsAreHeld : State → Type 0
-SetsAreHeld s = (address : ℕ) → SetIsHeld (set_at address s.sets) (holder s address)
+SetsAreHeld s = (address : ℕ) → address ≢ s.claims.own → SetIsHeld (set_at address s.sets) (holder s address)
 
 pub record SetsHoldTheirAddress : Type 0 where
+  pub first : (s : State) → s.sets ≡ [] → SetsAreHeld s
+  pub preloaded : (address : ℕ) (s : State) (contents : Contents) → SetsAreHeld s → SetsAreHeld (take s address (Preloads contents))
   pub kept : (s : State) (i : Input) → IsOrderly s → SetsAreHeld s → SetsAreHeld (step s i).after
   pub orderly : (s : State) (i : Input) → IsOrderly s → IsOrderly (step s i).after

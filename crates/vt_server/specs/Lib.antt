@@ -1,8 +1,10 @@
 -- What the contracts of this crate cite.
 pub mod Bus
+pub mod ClaimsHeard
 pub mod Happenings
 pub mod Hiding
 pub mod Messages
 pub mod Parts
+pub mod Sending
 pub mod States
 pub mod Terminals

@@ -1,6 +1,12 @@
 //! What the definitions of the step come to.
 
-ghost use Rattle.vt_server.specs.Happenings.{EachTakesItsOwn, OwnHappeningsDecide, SetsHoldTheirAddress};
+ghost use Rattle.vt_server.specs.ClaimsHeard.{HoldersOfRuns};
+ghost use Rattle.vt_server.specs.Sending.{SentAreAddressed};
+ghost use Rattle.vt_server.specs.Happenings.{EachTakesItsOwn, OwnHappeningsDecide, SetsHoldTheirAddress, IsOrderly};
+ghost use Rattle.vt_server.specs.States.{state_of};
+
+use crate::terminal::Terminal;
+use vt_names::Name;
 
 /// The law that a step takes the part of each address through what happens there and no more, and sends the
 /// address just the frames of that.
@@ -24,4 +30,26 @@ pub fn sets_hold_their_address()
     ensures { SetsHoldTheirAddress }
 {
     vt_names::other_holders_stay();
+}
+
+/// The law that the holder of each address after a run is the least NAME among those whose last claim in it was of
+/// the address, over all claims but the one by which the terminal loses its own, and those after.
+pub fn holders_are_of_runs()
+    ensures { HoldersOfRuns }
+{
+    vt_names::holders_are_least();
+}
+
+/// The law that a step sends at most one frame: a message to one address, or a claim to all.
+pub fn sent_are_addressed()
+    ensures { SentAreAddressed }
+{
+    vt_can::parts_are_identifiers();
+}
+
+/// What a terminal has heard of addresses stands by rising NAME, as the laws on its steps want.
+pub fn terminals_are_orderly(terminal: &Terminal)
+    ensures { IsOrderly (state_of terminal.now) }
+{
+    let _address = terminal.claims.address_of(Name::default());
 }
