@@ -1,11 +1,10 @@
 -- Where a replay ends before its end, the terminal has taken the first lines.
-use Rattle.std.proofs.Common.{◌≡◌, ℕ, List, [], ◌∷◌, ◌++◌, Option, Some, None, refl, sym, ap, subst, ◌∙◌, append_assoc}
-use Rattle.std.specs.Prelude.{IfSome, Result, Ok, Err, OnErr}
+use Rattle.std.proofs.Common.{◌≡◌, ℕ, List, [], ◌∷◌, ◌++◌, ◌⊎◌, inl, inr, Option, Some, None, refl, sym, ap, subst, ◌∙◌, append_assoc}
+use Rattle.std.specs.Prelude.{IfSome, Result, Ok, Err, OnOk, OnErr}
 use Rattle.std.proofs.lemmas.List.{append-nil}
 use Rattle.std.specs.Io.KnownBytes.{Consumes, IsAtEnd}
 use Rattle.std.proofs.KnownBytes.{Consumes-trans, Consumes-whole}
 use Rattle.vt_can.specs.Line.{Reads}
-use Rattle.vt_replay.specs.Terminals.{State}
 use Rattle.vt_replay.specs.Lines.{lines_of}
 use Rattle.vt_replay.specs.Texts.{Reading, after_line, after_lines}
 use Rattle.vt_replay.specs.Replays.{TakesSome}
@@ -13,12 +12,15 @@ use Rattle.vt_replay.specs.Progress.{Stand, Takes, HasNoNewline, TakesBytes}
 use Rattle.vt_replay.proofs.Taking.{AllZip-append, after_lines-append, lines_of-line, HasNoNewline-append}
 use Rattle.vt_replay.proofs.Midway.{IsMidway, IsUnderWay}
 use Rattle.vt_replay.proofs.LongLines.{begun}
+use Rattle.vt_server.specs.Terminals.{State}
 
 pub some_none : (s : State) (lines : List (List ℕ)) → TakesSome s lines s
 some_none s lines = record { front = []; back = lines; readings = []; whole = refl; read = tt; state = refl }
 
-pub some_one : (s t : State) (line : List ℕ) (r : Reading) → Reads line r → t ≡ after_line s r → TakesSome s (line ∷ []) t
-some_one s t line r reads state = record { front = line ∷ []; back = []; readings = r ∷ []; whole = refl; read = (reads, tt); state = state }
+-- a line of which nothing came, or all
+pub some_one : (s t : State) (line : List ℕ) (r : Reading) → Reads line r → (t ≡ s) ⊎ (t ≡ after_line s r) → TakesSome s (line ∷ []) t
+some_one s t line r reads (inl same) = record { front = []; back = line ∷ []; readings = []; whole = refl; read = tt; state = same }
+some_one s t line r reads (inr state) = record { front = line ∷ []; back = []; readings = r ∷ []; whole = refl; read = (reads, tt); state = state }
 
 pub some_all : (a b : Stand) (lines : List (List ℕ)) → Takes a lines b → TakesSome a.state lines b.state
 some_all a b lines takes = record { front = lines; back = []; readings = takes.readings; whole = sym (append-nil lines); read = takes.read; state = takes.state }
@@ -106,3 +108,7 @@ way_last a b t given left after pending chunk reads way consumed empty end some 
 pub on_any_err : {T E P : Type 0} (r : Result T E) → P → OnErr r P
 on_any_err (Ok x) p = tt
 on_any_err (Err e) p = p
+
+pub on_ok_both : {T E P Q S : Type 0} (r : Result T E) → (P → Q → S) → OnOk r P → OnOk r Q → OnOk r S
+on_ok_both (Ok x) both p q = both p q
+on_ok_both (Err e) both p q = tt

@@ -1,4 +1,3 @@
-pub mod Effects
 pub mod Appending
 pub mod Taking
 pub mod Midway

@@ -1,5 +1,5 @@
 -- From a pool's file to the terminal that a replay begins with, and from its log to what is written.
-use Rattle.std.proofs.Common.{◌≡◌, ◌∙◌, ℕ, List, Option, Some, None, IfSome, sym, refl, subst}
+use Rattle.std.proofs.Common.{◌≡◌, ◌∙◌, ℕ, false, List, [], Option, Some, None, IfSome, sym, subst}
 use Rattle.std.specs.Io.KnownBytes.{Appends, Keeps}
 use Rattle.vt_pool.specs.Pools.{Entry, AreRecords, IsInForce, IsFault, contents, joined}
 use Rattle.vt_pool.specs.declared.fault.PoolFault.{PoolFault}
@@ -7,8 +7,8 @@ use Rattle.vt_replay.specs.declared.counts.Counts.{Counts}
 use Rattle.vt_replay.specs.declared.options.Options.{Options}
 use Rattle.vt_replay.specs.declared.options.Preload.{Preload}
 use Rattle.vt_replay.specs.Replays.{IsReplay}
-use Rattle.vt_replay.specs.Runs.{Files, IsPoolOf, IsSetOf, IsStart, WritesReplay}
-use Rattle.vt_replay.specs.Terminals.{State, SetState}
+use Rattle.vt_replay.specs.Runs.{Files, IsLoaded, IsPoolOf, IsStart, WritesReplay, new_state}
+use Rattle.vt_server.specs.Terminals.{State}
 
 pub pool_read : (file : Option (List ℕ)) (read : List ℕ) (objects : List Entry) → IfSome file (λ bytes. read ≡ bytes)
     → (records : List Entry) × AreRecords records × (read ≡ joined records) × IsInForce records objects
@@ -21,19 +21,19 @@ pub fault_read : (file : Option (List ℕ)) (read : List ℕ) (why : PoolFault) 
 fault_read None read why same is = tt
 fault_read (Some bytes) read why same is = subst (λ (b : List ℕ). IsFault b why) same is
 
-pub start_alone : (files : Files) (options : Options) (s : State) → options.preload ≡ None
-    → s ≡ record { own = options.own; set = None } → IsStart files options s
-start_alone files options s none same = record {
-  own = rw same refl;
-  set = rw (none, same) tt;
-}
+pub new_is : (s : State) (own name : ℕ) → s.claims ≡ record { own = own; name = name; addresses = [] } → s.sets ≡ []
+    → ((address : ℕ) → s.pools address ≡ None) → s.lost ≡ false → s ≡ new_state own name
+new_is s own name claims sets pools lost =
+    λ i. record { claims = claims i; sets = sets i; pools = λ address. pools address i; lost = lost i }
 
-pub start_with_set : (files : Files) (options : Options) (s : State) (p : Preload) (set : SetState) → options.preload ≡ Some p
-    → IsSetOf p.owner (files p.pool.now) set → s ≡ record { own = options.own; set = Some set } → IsStart files options s
-start_with_set files options s p set some loaded same = record {
-  own = rw same refl;
-  set = rw (some, same) loaded;
-}
+pub start_alone : (files : Files) (options : Options) (s : State) → options.preload ≡ None
+    → s ≡ new_state options.own options.name → IsStart files options s
+start_alone files options s none same = rw none same
+
+pub start_with_set : (files : Files) (options : Options) (before s : State) (p : Preload) → options.preload ≡ Some p
+    → IsLoaded files p before s → before ≡ new_state options.own options.name → IsStart files options s
+start_with_set files options before s p some loaded same =
+    rw some (subst (λ (b : State). IsLoaded files p b s) same loaded)
 
 kept : (old mid new : Option (List ℕ)) (text : List ℕ) → Appends old mid text → Keeps mid new → Appends old new text
 kept None mid new text appends keeps = tt

@@ -7,12 +7,12 @@ use Rattle.std.specs.Io.KnownBytes.{Appends, Consumes, IsAtEnd}
 use Rattle.std.proofs.KnownBytes.{Appends-trans, Consumes-nil, Consumes-trans, Consumes-whole}
 use Rattle.vt_can.specs.Line.{Reads}
 use Rattle.vt_replay.specs.declared.counts.Counts.{Counts}
-use Rattle.vt_replay.specs.Terminals.{State}
 use Rattle.vt_replay.specs.Lines.{lines_of}
 use Rattle.vt_replay.specs.Texts.{no_counts, lines_text, with_lines, counts_text}
 use Rattle.vt_replay.specs.Replays.{IsReplay}
 use Rattle.vt_replay.specs.Progress.{AtMost, Stand, Takes, HasNoNewline, TakesBytes}
 use Rattle.vt_replay.proofs.Taking.{bytes_none, bytes_kept, bytes_line, bytes_more, bytes-AtMost, lines_of-last, HasNoNewline-append, AtMost-more, takes_more}
+use Rattle.vt_server.specs.Terminals.{State}
 
 -- ---- between two lines of a chunk
 

@@ -9,10 +9,10 @@ use Rattle.std.proofs.KnownBytes.{Appends-trans, Appends-nil}
 use Rattle.vt_can.specs.Line.{Reads}
 use Rattle.vt_can.specs.Readings.{FrameAt, Does, IsSkipped, Comments}
 use Rattle.vt_replay.specs.declared.counts.Counts.{Counts}
-use Rattle.vt_replay.specs.Terminals.{State}
 use Rattle.vt_replay.specs.Lines.{lines_of}
 use Rattle.vt_replay.specs.Texts.{Reading, after_line, line_text, with_line, after_lines, lines_text, with_lines}
 use Rattle.vt_replay.specs.Progress.{AtMost, Stand, Takes, HasNoNewline, TakesBytes}
+use Rattle.vt_server.specs.Terminals.{State}
 
 -- ---- readings, one list after another
 

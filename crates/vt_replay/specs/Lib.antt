@@ -1,6 +1,3 @@
-pub mod Hiding
-pub mod Terminals
-pub mod States
 pub mod Lines
 pub mod Texts
 pub mod Replays

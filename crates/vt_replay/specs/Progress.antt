@@ -5,12 +5,12 @@ use Rattle.std.specs.Io.KnownBytes.{Appends}
 use Rattle.vt_can.specs.Line.{Reads}
 use Rattle.vt_replay.specs.declared.counts.Counts.{Counts}
 use Rattle.vt_replay.specs.declared.fault.ReplayFault.{ReplayFault}
-use Rattle.vt_replay.specs.declared.fault.ReplayFault.TheVariants.{TooLong, Write}
-use Rattle.vt_replay.specs.declared.terminal.Terminal.{Terminal}
-use Rattle.vt_replay.specs.Terminals.{State}
-use Rattle.vt_replay.specs.States.{state_of}
+use Rattle.vt_replay.specs.declared.fault.ReplayFault.TheVariants.{Memory, TooLong, Write}
 use Rattle.vt_replay.specs.Lines.{lines_of}
 use Rattle.vt_replay.specs.Texts.{Reading, after_lines, lines_text, with_lines}
+use Rattle.vt_server.specs.declared.terminal.Terminal.{Terminal}
+use Rattle.vt_server.specs.States.{state_of}
+use Rattle.vt_server.specs.Terminals.{State}
 
 -- no count is above this number
 pub record AtMost (most : ℕ) (c : Counts) : Type 0 where
@@ -39,9 +39,13 @@ pub record Takes (from : Stand) (lines : List (List ℕ)) (to : Stand) : Type 0 
   pub counts : to.counts ≡ with_lines from.counts readings
   pub text : Appends from.held to.held (lines_text from.state from.counts.lines readings)
 
--- why a line is not taken
+-- why what a line says is not taken to its end
+abbrev pub IsStepFault : ReplayFault → Type 0
+IsStepFault fault = (fault ≡ Memory) ⊎ (fault ≡ Write)
+
+-- why a line is not taken to its end
 abbrev pub IsLineFault : ReplayFault → Type 0
-IsLineFault fault = (fault ≡ TooLong) ⊎ (fault ≡ Write)
+IsLineFault fault = (fault ≡ TooLong) ⊎ IsStepFault fault
 
 abbrev pub HasNoNewline : List ℕ → Type 0
 HasNoNewline text = AllPass (λ byte. not (byte == 10)) text

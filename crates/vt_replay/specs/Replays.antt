@@ -3,9 +3,9 @@ use Rattle.std.specs.Prelude.{◌≡◌, ◌≤◌, ◌<◌, ℕ, List, ◌∷�
 use Rattle.std.specs.List.{AllZip, AllByRecursion}
 use Rattle.vt_can.specs.Line.{Reads}
 use Rattle.vt_replay.specs.declared.counts.Counts.{Counts}
-use Rattle.vt_replay.specs.Terminals.{State}
 use Rattle.vt_replay.specs.Lines.{lines_of}
 use Rattle.vt_replay.specs.Texts.{Reading, after_lines, lines_text, with_lines, no_counts, counts_text}
+use Rattle.vt_server.specs.Terminals.{State}
 
 -- The text and the counts of a replay of these bytes by a terminal, and the terminal after it. A line is at most
 -- 4,096 bytes long.

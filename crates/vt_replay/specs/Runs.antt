@@ -1,5 +1,5 @@
 -- A run of the program: its statuses, and what it writes (docs/PROFILE.md, "The program").
-use Rattle.std.specs.Prelude.{◌≡◌, ◌⊎◌, ℕ, List, reverse, Option, Some, None, IfSome, IsSomeAnd, codes}
+use Rattle.std.specs.Prelude.{◌≡◌, ◌⊎◌, ℕ, List, [], reverse, false, Option, Some, None, IfSome, IsSomeAnd, codes}
 use Rattle.std.specs.Borrow.{Bor}
 use Rattle.std.specs.Io.KnownBytes.{Appends, Keeps}
 use Rattle.clap.specs.Words.{Text, kind_of}
@@ -13,14 +13,15 @@ use Rattle.vt_replay.specs.declared.fault.ReplayFault.TheVariants as replay_faul
 use Rattle.vt_replay.specs.declared.options.Options.{Options}
 use Rattle.vt_replay.specs.declared.options.Preload.{Preload}
 use Rattle.vt_replay.specs.declared.options.Refusal.{Refusal}
-use Rattle.vt_replay.specs.declared.options.Refusal.TheVariants.{Words, Address, OwnerIsOwn, Alone, Memory}
+use Rattle.vt_replay.specs.declared.options.Refusal.TheVariants.{Words, Address, Name, OwnerIsOwn, Alone, Memory}
 use Rattle.vt_replay.specs.declared.program.Fault.{Fault}
 use Rattle.vt_replay.specs.declared.program.Fault.TheVariants as fault
 use Rattle.vt_replay.specs.declared.program.Status.{Status}
 use Rattle.vt_replay.specs.declared.program.Status.TheVariants as status
 use Rattle.vt_replay.specs.Replays.{IsReplay, HasLongLine}
-use Rattle.vt_replay.specs.Terminals.{State, SetState}
 use Rattle.vt_replay.specs.Words.{IsRefusalOf, WordsGive}
+use Rattle.vt_server.specs.Parts.{Preloads}
+use Rattle.vt_server.specs.Terminals.{State, take}
 
 -- the bytes of the file under each path, where they are known
 abbrev pub Files : Type 0
@@ -35,21 +36,28 @@ pub record IsPoolOf (bytes : List ℕ) (objects : Contents) : Type 0 where
   pub spelled : bytes ≡ joined records
   pub in_force : objects ≡ contents (reverse records)
 
--- the working set of an owner and of a pool's file
-pub record IsSetOf (owner : ℕ) (file : Option (List ℕ)) (set : SetState) : Type 0 where
-  pub address : set.address ≡ owner
-  pub objects : IfSome file (λ bytes. IsPoolOf bytes set.contents)
+-- a terminal that has heard nothing, with its address and NAME
+abbrev pub new_state : ℕ → ℕ → State
+new_state own name = record {
+  claims = record { own = own; name = name; addresses = [] };
+  sets = [];
+  pools = λ address. None;
+  lost = false;
+}
 
-abbrev pub IsPreloaded : Files → Option Preload → Option SetState → Type 0
-IsPreloaded files None None = Unit {0}
-IsPreloaded files (Some p) (Some set) = IsSetOf p.owner (files p.pool.now) set
-IsPreloaded files None (Some set) = ⊥
-IsPreloaded files (Some p) None = ⊥
+-- A set with the pool of the file is preloaded at the owner.
+pub record IsLoaded (files : Files) (p : Preload) (before after : State) : Type 0 where
+  pub objects : Contents
+  pub pool : IfSome (files p.pool.now) (λ bytes. IsPoolOf bytes objects)
+  pub state : after ≡ take before p.owner (Preloads objects)
+
+abbrev pub IsPreloaded : Files → Option Preload → State → State → Type 0
+IsPreloaded files None before after = after ≡ before
+IsPreloaded files (Some p) before after = IsLoaded files p before after
 
 -- the terminal that the options give
-pub record IsStart (files : Files) (options : Options) (s : State) : Type 0 where
-  pub own : s.own ≡ options.own
-  pub set : IsPreloaded files options.preload s.set
+abbrev pub IsStart : Files → Options → State → Type 0
+IsStart files options s = IsPreloaded files options.preload (new_state options.own options.name) s
 
 -- ---- what a run writes
 
@@ -104,6 +112,7 @@ EndsBy (Words error) status.Done = IsHelp (kind_of error)
 EndsBy (Words error) status.Usage = IsHelp (kind_of error) → ⊥
 EndsBy (Words error) status.Fault = ⊥
 EndsBy (Address option) end = end ≡ status.Usage
+EndsBy Name end = end ≡ status.Usage
 EndsBy OwnerIsOwn end = end ≡ status.Usage
 EndsBy Alone end = end ≡ status.Usage
 EndsBy Memory end = end ≡ status.Fault

@@ -2,13 +2,16 @@
 use Rattle.std.specs.Prelude.{ℕ, ◌+◌, List, [], ◌∷◌, ◌++◌, codes, Result, Ok, Err}
 use Rattle.std.specs.List.{flat_map}
 use Rattle.std.specs.Fmt.{decimal}
-use Rattle.vt_can.specs.declared.frame.Frame.{Frame}
 use Rattle.vt_can.specs.declared.line.LineFault.{LineFault}
 use Rattle.vt_can.specs.declared.line.LineFault.TheVariants.{Time, Shape, Hex, Length, Operator}
 use Rattle.vt_can.specs.Frame.{frame_text}
 use Rattle.vt_can.specs.Readings.{Said, FrameAt, Does, IsSkipped, Comments}
 use Rattle.vt_replay.specs.declared.counts.Counts.{Counts}
-use Rattle.vt_replay.specs.Terminals.{State, step}
+use Rattle.vt_server.specs.declared.input.Input.TheVariants as inputs
+use Rattle.vt_server.specs.declared.output.Output.{Output}
+use Rattle.vt_server.specs.declared.output.Output.TheVariants as outputs
+use Rattle.vt_server.specs.States.{outputs_of, step}
+use Rattle.vt_server.specs.Terminals.{State}
 
 -- how a line was read
 abbrev pub Reading : Type 0
@@ -19,7 +22,7 @@ newline = 10 ∷ []
 
 -- the terminal after a line: only a frame is an input yet
 abbrev pub after_line : State → Reading → State
-after_line s (Ok (FrameAt time frame)) = (step s frame).after
+after_line s (Ok (FrameAt time frame)) = (step s (inputs.Frame time frame)).after
 after_line s (Ok (Does deed)) = s
 after_line s (Ok (IsSkipped why)) = s
 after_line s (Ok Comments) = s
@@ -32,8 +35,8 @@ fault_name Hex = codes "Hex"
 fault_name Length = codes "Length"
 fault_name Operator = codes "Operator"
 
-abbrev pub reply_text : Frame → List ℕ
-reply_text frame = frame_text frame ++ newline
+abbrev pub output_text : Output → List ℕ
+output_text (outputs.Frame frame) = frame_text frame ++ newline
 
 -- that line n is faulty
 abbrev pub fault_text : ℕ → LineFault → List ℕ
@@ -41,7 +44,7 @@ fault_text n fault = codes "line " ++ decimal n ++ codes " " ++ fault_name fault
 
 -- what line n prints
 abbrev pub line_text : State → ℕ → Reading → List ℕ
-line_text s n (Ok (FrameAt time frame)) = flat_map reply_text (step s frame).replies
+line_text s n (Ok (FrameAt time frame)) = flat_map output_text (outputs_of (step s (inputs.Frame time frame)).sent)
 line_text s n (Ok (Does deed)) = []
 line_text s n (Ok (IsSkipped why)) = []
 line_text s n (Ok Comments) = []

@@ -1,5 +1,6 @@
 -- The words of the command line and the statuses (docs/PROFILE.md, "Words", "Faults and statuses").
-use Rattle.std.specs.Prelude.{◌≡◌, ◌≢◌, ◌≤◌, ◌⊎◌, ◌∷◌, ◌++◌, [], ℕ, List, Option, Some, None, Ok, IfSome, IsSome, IsSomeAnd, codes, is_some, true}
+use Rattle.std.specs.Prelude.{◌≡◌, ◌≢◌, ◌≤◌, ◌⊎◌, ◌∷◌, ◌++◌, [], ℕ, List, length, Option, Some, None, Ok, IfSome, IsSome, IsSomeAnd, codes, is_some, true}
+use Rattle.byteorder.specs.Endian.{big_number}
 use Rattle.clap.specs.Words.{App, Kinds, IsAmong, Rule, Text, fault_of, first_of, kind_of, matches_of, new_app, new_rule}
 use Rattle.clap.specs.declared.builder.action.ArgAction.TheVariants.{Set}
 use Rattle.clap.specs.declared.error.Error.{Error}
@@ -8,7 +9,7 @@ use Rattle.hex.specs.Hex.{decode_of}
 use Rattle.vt_replay.specs.declared.options.Options.{Options}
 use Rattle.vt_replay.specs.declared.options.Preload.{Preload}
 use Rattle.vt_replay.specs.declared.options.Refusal.{Refusal}
-use Rattle.vt_replay.specs.declared.options.Refusal.TheVariants.{Words, Address, OwnerIsOwn, Alone, Memory}
+use Rattle.vt_replay.specs.declared.options.Refusal.TheVariants.{Words, Address, Name, OwnerIsOwn, Alone, Memory}
 use Rattle.vt_replay.specs.declared.program.Status.{Status}
 use Rattle.vt_replay.specs.declared.program.Status.TheVariants.{Done, Fault, Usage}
 
@@ -26,7 +27,7 @@ abbrev pub app : App
 app = record (new_app (codes "vt_replay")) {
   top = record (new_app (codes "vt_replay")).top {
     has_version = true;
-    rules = file_word ∷ valued_option (codes "own") ∷ valued_option (codes "pool") ∷ valued_option (codes "owner") ∷ [];
+    rules = file_word ∷ valued_option (codes "own") ∷ valued_option (codes "name") ∷ valued_option (codes "pool") ∷ valued_option (codes "owner") ∷ [];
   };
 }
 
@@ -36,6 +37,7 @@ app = record (new_app (codes "vt_replay")) {
 pub record Given : Type 0 where
   pub log : Option Text
   pub own : Option Text
+  pub name : Option Text
   pub pool : Option Text
   pub owner : Option Text
 
@@ -43,6 +45,7 @@ abbrev pub given_in : (Text → Option Text) → Given
 given_in value = record {
   log = value (codes "FILE");
   own = value (codes "own");
+  name = value (codes "name");
   pool = value (codes "pool");
   owner = value (codes "owner");
 }
@@ -75,6 +78,24 @@ abbrev pub IsOwn : Option Text → ℕ → Type 0
 IsOwn None n = n ≡ 0x26
 IsOwn (Some text) n = IsAddress text n
 
+-- ---- NAMEs
+
+-- 16 hex digits write the NAME n, the highest byte first
+pub record IsName (text : Text) (n : ℕ) : Type 0 where
+  pub bytes : List ℕ
+  pub digits : decode_of text ≡ Ok bytes
+  pub long : length bytes ≡ 8
+  pub number : n ≡ big_number 8 bytes
+
+-- there is a text, and it is no NAME
+abbrev pub GivesNoName : Option Text → Type 0
+GivesNoName value = IsSomeAnd value (λ text. (n : ℕ) → IsName text n → ⊥)
+
+-- the terminal's NAME: 20001D0000000001 where none is given
+abbrev pub IsOwnName : Option Text → ℕ → Type 0
+IsOwnName None n = n ≡ 0x20001D0000000001
+IsOwnName (Some text) n = IsName text n
+
 -- ---- which words give which options
 
 -- a pool and its owner, or neither
@@ -87,6 +108,7 @@ GivesPreload (Some pool) None preload = ⊥
 pub record Gives (given : Given) (options : Options) : Type 0 where
   pub log : given.log ≡ Some options.log.now
   pub own : IsOwn given.own options.own
+  pub name : IsOwnName given.name options.name
   pub preload : GivesPreload given.pool given.owner options.preload
 
 -- the addresses are a node's, and the owner is not the terminal
@@ -117,6 +139,7 @@ pub record HasOwnOwner (given : Given) : Type 0 where
 -- what is wrong with words in which clap finds no fault
 abbrev pub IsMistake : Given → Refusal → Type 0
 IsMistake given (Address option) = IsMisgiven given option.now
+IsMistake given Name = GivesNoName given.name
 IsMistake given OwnerIsOwn = HasOwnOwner given
 IsMistake given Alone = is_some given.pool ≢ is_some given.owner
 IsMistake given (Words error) = ⊥
@@ -130,6 +153,7 @@ IsMistakeIn words refusal = (faults_in words ≡ []) × IsMistake (given_by word
 abbrev pub IsRefusalOf : List Text → Refusal → Type 0
 IsRefusalOf words (Words error) = IsAmong (kind_of error) (faults_in words)
 IsRefusalOf words (Address option) = IsMistakeIn words (Address option)
+IsRefusalOf words Name = IsMistakeIn words Name
 IsRefusalOf words OwnerIsOwn = IsMistakeIn words OwnerIsOwn
 IsRefusalOf words Alone = IsMistakeIn words Alone
 IsRefusalOf words Memory = Unit {0}
@@ -139,6 +163,7 @@ abbrev pub IsRefusalFor : Error → Refusal → Type 0
 IsRefusalFor error Memory = kind_of error ≡ OutOfMemory
 IsRefusalFor error (Words other) = (other ≡ error) × (kind_of error ≢ OutOfMemory)
 IsRefusalFor error (Address option) = ⊥
+IsRefusalFor error Name = ⊥
 IsRefusalFor error OwnerIsOwn = ⊥
 IsRefusalFor error Alone = ⊥
 
@@ -146,6 +171,7 @@ IsRefusalFor error Alone = ⊥
 abbrev pub refusal_text : Refusal → Option Text
 refusal_text (Words error) = None
 refusal_text (Address option) = Some (codes "error: the value of --" ++ option.now ++ codes " is not two hex digits up to FD\n")
+refusal_text Name = Some (codes "error: the value of --name is not 16 hex digits\n")
 refusal_text OwnerIsOwn = Some (codes "error: the owner is the terminal itself\n")
 refusal_text Alone = Some (codes "error: --pool and --owner are given together or not at all\n")
 refusal_text Memory = Some (codes "vt_replay: out of memory\n")

@@ -1,20 +1,21 @@
 //! One line of a log.
 
-ghost use Rattle.std.specs.Prelude.{◌≡◌, ◌^◌, ◌+◌, ◌++◌, [], ◌∷◌, ◌≤◌, ◌<◌, length, OnOk, OnErr, IfErr, IsErrOf};
+ghost use Rattle.std.specs.Prelude.{◌≡◌, ◌^◌, ◌+◌, ◌++◌, ◌⊎◌, [], ◌∷◌, ◌≤◌, ◌<◌, length, OnOk, OnErr, IfErr, IsErrOf};
+ghost use Rattle.std.specs.List.{flat_map};
 ghost use Rattle.std.specs.Io.KnownBytes.{Appends};
 ghost use Rattle.vt_can.specs.Readings.{reading_of};
-ghost use Rattle.vt_replay.specs.States.{state_of};
-ghost use Rattle.vt_replay.specs.Texts.{after_line, with_line, line_text};
-ghost use Rattle.vt_replay.specs.Progress.{AtMost, IsLineFault, Takes, stand};
+ghost use Rattle.vt_replay.specs.Texts.{after_line, with_line, line_text, output_text};
+ghost use Rattle.vt_replay.specs.Progress.{AtMost, IsLineFault, IsStepFault, Takes, stand};
 ghost use Rattle.vt_replay.specs.Replays.{TakesSome};
+ghost use Rattle.vt_server.specs.States.{outputs_of, state_of, step};
 
 use crate::counts::Counts;
 use crate::fault::ReplayFault;
-use crate::output::{put_fault, put_reply};
-use crate::terminal::Terminal;
+use crate::output::{put_fault, put_outputs};
 use arrayvec::ArrayVec;
 use std::io::Write;
 use vt_can::{Line, LineFault, parse_line};
+use vt_server::{Input, Output, Terminal};
 
 /// The longest line, without its newline.
 const LONGEST: usize = 4096;
@@ -39,6 +40,7 @@ pub fn end_line<W: Write>(
     part: &[u8],
     pending: &mut Pending,
     terminal: &mut Terminal,
+    outputs: &mut Vec<Output>,
     counts: &mut Counts,
     writer: &mut W,
 ) -> Result<(), ReplayFault>
@@ -53,19 +55,20 @@ pub fn end_line<W: Write>(
 {
     if !pending.is_empty() {
         keep(part, pending)?;
-        take_line(pending.as_slice(), terminal, counts, writer)?;
+        take_line(pending.as_slice(), terminal, outputs, counts, writer)?;
         pending.clear();
         return Ok(());
     }
     if part.len() > LONGEST {
         return Err(ReplayFault::TooLong);
     }
-    take_line(part, terminal, counts, writer)
+    take_line(part, terminal, outputs, counts, writer)
 }
 
 fn take_line<W: Write>(
     line: &[u8],
     terminal: &mut Terminal,
+    outputs: &mut Vec<Output>,
     counts: &mut Counts,
     writer: &mut W,
 ) -> Result<(), ReplayFault>
@@ -74,34 +77,35 @@ fn take_line<W: Write>(
     ensures takes { OnOk result (Takes (stand terminal.old counts.old (W.contents writer.old))
         (line.now ∷ [])
         (stand terminal.new counts.new (W.contents writer.new))) }
-    ensures stopped { TakesSome (state_of terminal.old) (line.now ∷ []) (state_of terminal.new) }
-    ensures fault { IfErr result (λ fault. fault ≡ ReplayFault.Write) }
+    ensures stopped { OnErr result (TakesSome (state_of terminal.old) (line.now ∷ []) (state_of terminal.new)) }
+    ensures fault { IfErr result IsStepFault }
 {
     let reading = parse_line(line);
-    take_reading(reading, terminal, counts, writer)
+    take_reading(reading, terminal, outputs, counts, writer)
 }
 
-/// What a line does: a frame is heard and its reply written, a fault is written, and other lines are counted.
+/// What a line does: the terminal takes a frame and what it sends is written, a fault is written, and other
+/// lines are counted.
 fn take_reading<W: Write>(
     reading: Result<Line<'_>, LineFault>,
     terminal: &mut Terminal,
+    outputs: &mut Vec<Output>,
     counts: &mut Counts,
     writer: &mut W,
 ) -> Result<(), ReplayFault>
     requires few { AtMost (2 ^ 62) counts.old }
-    ensures state { state_of terminal.new ≡ after_line (state_of terminal.old) (reading_of reading.entry) }
+    ensures state { OnOk result (state_of terminal.new ≡ after_line (state_of terminal.old) (reading_of reading.entry)) }
+    ensures stopped { OnErr result ((state_of terminal.new ≡ state_of terminal.old)
+        ⊎ (state_of terminal.new ≡ after_line (state_of terminal.old) (reading_of reading.entry))) }
     ensures counts { counts.new ≡ with_line counts.old (reading_of reading.entry) }
     ensures text { OnOk result (Appends (W.contents writer.old) (W.contents writer.new) (line_text (state_of terminal.old) (counts.old.lines + 1) (reading_of reading.entry))) }
-    ensures fault { IfErr result (λ fault. fault ≡ ReplayFault.Write) }
+    ensures fault { IfErr result IsStepFault }
 {
     counts.lines += 1;
     match reading {
-        Ok(Line::Frame { frame, .. }) => {
+        Ok(Line::Frame { time, frame }) => {
             counts.frames += 1;
-            match terminal.hear(&frame) {
-                Some(reply) => put_reply(&reply, writer),
-                None => Ok(()),
-            }
+            take_input(&Input::Frame { time, frame }, terminal, outputs, writer)
         }
         Ok(Line::Operator(_)) => {
             counts.operator += 1;
@@ -120,4 +124,23 @@ fn take_reading<W: Write>(
             put_fault(counts.lines, fault, writer)
         }
     }
+}
+
+/// The terminal takes an input, and what it sends is written.
+fn take_input<W: Write>(
+    input: &Input<'_>,
+    terminal: &mut Terminal,
+    outputs: &mut Vec<Output>,
+    writer: &mut W,
+) -> Result<(), ReplayFault>
+    ensures state { OnOk result (state_of terminal.new ≡ (step (state_of terminal.old) input.now).after) }
+    ensures stopped { OnErr result ((state_of terminal.new ≡ state_of terminal.old)
+        ⊎ (state_of terminal.new ≡ (step (state_of terminal.old) input.now).after)) }
+    ensures text { OnOk result (Appends (W.contents writer.old) (W.contents writer.new)
+        (flat_map output_text (outputs_of (step (state_of terminal.old) input.now).sent))) }
+    ensures fault { IfErr result IsStepFault }
+{
+    outputs.clear();
+    terminal.step(input, outputs)?;
+    put_outputs(outputs, writer)
 }

@@ -5,13 +5,11 @@
 
 mod counts;
 mod fault;
-mod hiding;
 mod line;
 mod options;
 mod output;
 mod program;
 mod replay;
-mod terminal;
 
 use program::{Open, Status, run};
 use std::fs::{self, File};

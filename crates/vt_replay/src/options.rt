@@ -5,17 +5,22 @@ ghost use Rattle.clap.specs.Words.{IsParsedFrom, IsPlainArg, app_of, first_value
 ghost use Rattle.clap.specs.Built.{TakesValue};
 ghost use Rattle.clap.specs.declared.parser.matches.ArgMatches.{ArgMatches};
 ghost use Rattle.vt_replay.specs.declared.options.Refusal.TheVariants.{Memory};
-ghost use Rattle.vt_replay.specs.Words.{AreApart, GivesAddress, GivesNoAddress, Gives, IsAddress, IsMistake, IsRefusalFor, IsRefusalOf, WordsGive, app, file_word, given_in, refusal_text, valued_option};
+ghost use Rattle.vt_replay.specs.Words.{AreApart, GivesAddress, GivesNoAddress, GivesNoName, Gives, IsAddress, IsMistake, IsName, IsOwnName, IsRefusalFor, IsRefusalOf, WordsGive, app, file_word, given_in, refusal_text, valued_option};
 
+use byteorder::{BigEndian, ByteOrder};
 use clap::error::ErrorKind;
 use clap::{Arg, ArgAction, ArgMatches, Command, Error};
 use hex::FromHex;
 use std::alloc::{AllocError, Global};
 use std::convert::AsStr;
 use std::fmt;
+use vt_names::Name;
 
 /// The terminal's address where no other is given.
 const OWN_ADDRESS: u8 = 0x26;
+
+/// The terminal's NAME where no other is given.
+const OWN_NAME: u64 = 0x2000_1D00_0000_0001;
 
 /// What the words ask for.
 #[derive(Drop)]
@@ -24,6 +29,8 @@ pub struct Options<'a> {
     pub log: &'a str,
     /// The terminal's own address, at most 253.
     pub own: u8,
+    /// The terminal's NAME.
+    pub name: Name,
     /// The working set that is there from the start.
     pub preload: Option<Preload<'a>>,
 }
@@ -44,6 +51,8 @@ pub enum Refusal {
     Words(Error),
     /// The value of this option is no address: two hex digits up to FD.
     Address(&'static str),
+    /// The value of `--name` is no NAME: 16 hex digits.
+    Name,
     /// The owner's address is the terminal's own.
     OwnerIsOwn,
     /// A pool is given without its owner, or an owner without a pool.
@@ -64,6 +73,7 @@ impl fmt::Display for Refusal {
                     "error: the value of --{option} is not two hex digits up to FD"
                 )
             }
+            Refusal::Name => writeln!(f, "error: the value of --name is not 16 hex digits"),
             Refusal::OwnerIsOwn => writeln!(f, "error: the owner is the terminal itself"),
             Refusal::Alone => {
                 writeln!(
@@ -120,6 +130,12 @@ fn command<'a>(alloc: Global) -> Result<Command<'a>, AllocError>
         "AA",
         "The terminal's own address, two hex digits up to FD [default: 26]",
     );
+    let name = valued_option(
+        alloc,
+        "name",
+        "N",
+        "The terminal's NAME, 16 hex digits [default: 20001D0000000001]",
+    );
     let pool = valued_option(
         alloc,
         "pool",
@@ -132,6 +148,7 @@ fn command<'a>(alloc: Global) -> Result<Command<'a>, AllocError>
         .about("Replays a CAN log to a virtual terminal and prints what it answers")
         .arg(log)?
         .arg(own)?
+        .arg(name)?
         .arg(pool)?
         .arg(owner)
 }
@@ -168,6 +185,7 @@ fn options_of<'a>(matches: &ArgMatches<'a>) -> Result<Options<'a>, Refusal>
     ensures refused { IfErr result (IsMistake (given_in (first_value (found_of matches.now)))) }
 {
     let own = address_given(matches, "own")?.unwrap_or(OWN_ADDRESS);
+    let name = name_given(matches)?;
     let owner = address_given(matches, "owner")?;
     let preload = match (matches.get_str("pool"), owner) {
         (Some(_), Some(owner)) if owner == own => return Err(Refusal::OwnerIsOwn),
@@ -176,7 +194,12 @@ fn options_of<'a>(matches: &ArgMatches<'a>) -> Result<Options<'a>, Refusal>
         _ => return Err(Refusal::Alone),
     };
     let log = matches.get_str("FILE").unwrap_or("");
-    Ok(Options { log, own, preload })
+    Ok(Options {
+        log,
+        own,
+        name,
+        preload,
+    })
 }
 
 /// The address that an option gives, if it is there.
@@ -200,4 +223,27 @@ pub fn address(text: &str) -> Option<u8>
 {
     let [address] = <[u8; 1]>::from_hex(text).ok()?;
     if address <= 0xFD { Some(address) } else { None }
+}
+
+/// The terminal's NAME.
+fn name_given(matches: &ArgMatches<'_>) -> Result<Name, Refusal>
+    ensures given { IfOk result (IsOwnName (first_value (found_of matches.now) (codes "name"))) }
+    ensures refusal { IfErr result (λ refusal. refusal ≡ Refusal.Name) }
+    ensures refused { IfErr result (λ _. GivesNoName (first_value (found_of matches.now) (codes "name"))) }
+{
+    let Some(text) = matches.get_str("name") else {
+        return Ok(Name::from_raw(OWN_NAME));
+    };
+    match name(text) {
+        Some(name) => Ok(name),
+        None => Err(Refusal::Name),
+    }
+}
+
+/// The NAME that 16 hex digits write.
+pub fn name(text: &str) -> Option<Name>
+    ensures { MatchOption result ((n : ℕ) → IsName text.now n → ⊥) (IsName text.now) }
+{
+    let bytes = <[u8; 8]>::from_hex(text).ok()?;
+    Some(Name::from_raw(BigEndian::read_u64(&bytes)))
 }

@@ -2,21 +2,38 @@
 
 ghost use Rattle.std.specs.Prelude.{◌≡◌, ◌++◌, OnOk, IfErr};
 ghost use Rattle.std.specs.Fmt.{decimal};
+ghost use Rattle.std.specs.List.{flat_map};
 ghost use Rattle.std.specs.Io.KnownBytes.{Appends};
-ghost use Rattle.vt_replay.specs.Texts.{reply_text, fault_text, fault_name, counts_text};
+ghost use Rattle.vt_replay.specs.Texts.{output_text, fault_text, fault_name, counts_text};
 
 use crate::counts::Counts;
 use crate::fault::ReplayFault;
 use std::io::Write;
-use vt_can::{Frame, LineFault, write_frame};
+use vt_can::{LineFault, write_frame};
+use vt_server::Output;
 
-/// Writes a frame on a line of its own.
-pub fn put_reply<W: Write>(reply: &Frame, writer: &mut W) -> Result<(), ReplayFault>
-    ensures text { OnOk result (Appends (W.contents writer.old) (W.contents writer.new) (reply_text reply.now)) }
+/// Writes what the terminal sends, in its order.
+pub fn put_outputs<W: Write>(outputs: &[Output], writer: &mut W) -> Result<(), ReplayFault>
+    ensures text { OnOk result (Appends (W.contents writer.old) (W.contents writer.new) (flat_map output_text outputs.now)) }
     ensures fault { IfErr result (λ fault. fault ≡ ReplayFault.Write) }
 {
-    put(&write_frame(reply), writer)?;
-    put(b"\n", writer)
+    for output in outputs {
+        put_output(output, writer)?;
+    }
+    Ok(())
+}
+
+/// Writes a frame on a line of its own.
+fn put_output<W: Write>(output: &Output, writer: &mut W) -> Result<(), ReplayFault>
+    ensures text { OnOk result (Appends (W.contents writer.old) (W.contents writer.new) (output_text output.now)) }
+    ensures fault { IfErr result (λ fault. fault ≡ ReplayFault.Write) }
+{
+    match output {
+        Output::Frame(frame) => {
+            put(&write_frame(frame), writer)?;
+            put(b"\n", writer)
+        }
+    }
 }
 
 /// Writes that line `number` is faulty.

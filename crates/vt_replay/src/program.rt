@@ -1,22 +1,22 @@
 //! The program, over words, files and writers.
 
 ghost use Rattle.std.specs.Prelude.{◌≡◌, ◌≢◌, ◌≤◌, ℕ, List, Option, Some, None, IfOk, IfErr, IfSome, OnOk, OnErr, map};
+ghost use Rattle.vt_names.specs.Registry.{set_at};
 ghost use Rattle.std.specs.Io.KnownBytes.{Keeps};
 ghost use Rattle.vt_replay.specs.declared.program.Fault.TheVariants.{Memory};
-ghost use Rattle.vt_replay.specs.Terminals.{SetState};
-ghost use Rattle.vt_replay.specs.States.{state_of};
 ghost use Rattle.vt_replay.specs.Words.{AreApart, status_code};
-ghost use Rattle.vt_replay.specs.Runs.{Ends, EndsBy, HasReplayed, HasToPrint, IsFaultOf, IsFileFault, IsLoadFault, IsSetOf, fault_line};
+ghost use Rattle.vt_replay.specs.Runs.{Ends, EndsBy, HasReplayed, HasToPrint, IsFaultOf, IsFileFault, IsLoadFault, IsLoaded, fault_line};
+ghost use Rattle.vt_server.specs.States.{state_of};
 
 use crate::fault::ReplayFault;
 use crate::options::{Options, Preload, Refusal};
 use crate::replay::replay;
-use crate::terminal::Terminal;
 use std::alloc::{AllocError, Global};
 use std::convert::AsStr;
 use std::fmt;
 use std::io::{self, Read, Write};
 use vt_pool::{PoolFault, read_pool};
+use vt_server::Terminal;
 
 /// What opens files by their paths.
 pub trait Open {
@@ -144,7 +144,7 @@ fn replay_log<'a, F: Open, W: Write>(
     ensures replayed { OnOk result (HasReplayed (F.file files.old) options.now (W.contents out.old) (W.contents out.new)) }
     ensures fault { IfErr result (IsFaultOf (F.file files.old) options.now) }
 {
-    let mut terminal = Terminal::new(alloc, options.own);
+    let mut terminal = Terminal::new(alloc, options.own, options.name);
     if let Some(preload) = &options.preload {
         load(alloc, preload, files, &mut terminal)?;
     }
@@ -170,11 +170,10 @@ fn load<'a, F: Open>(
     files: &mut F,
     terminal: &mut Terminal,
 ) -> Result<(), Fault<'a>>
-    requires none { (state_of terminal.old).set ≡ None }
+    requires none { set_at preload.now.owner (state_of terminal.old).sets ≡ None }
     requires claimed { preload.now.owner ≤ 253 }
-    requires other { preload.now.owner ≢ (state_of terminal.old).own }
-    ensures set { OnOk result ((set : SetState) × IsSetOf preload.now.owner (F.file files.old preload.now.pool.now) set
-        × (state_of terminal.new ≡ record (state_of terminal.old) { set = Some set })) }
+    requires other { preload.now.owner ≢ (state_of terminal.old).claims.own }
+    ensures set { OnOk result (IsLoaded (F.file files.old) preload.now (state_of terminal.old) (state_of terminal.new)) }
     ensures fault { IfErr result (IsLoadFault (F.file files.old) preload.now) }
     ensures stay { F.file files.new ≡ F.file files.old }
 {

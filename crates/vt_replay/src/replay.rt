@@ -2,18 +2,18 @@
 
 ghost use Rattle.std.specs.Prelude.{◌≡◌, ◌≤◌, ◌<◌, ◌^◌, ◌++◌, ◌∷◌, length, IfErr, IfOk, IfSome, OnOk, OnErr, IsErrOf, MatchOption, List, ℕ};
 ghost use Rattle.std.specs.Io.KnownBytes.{Appends, IsAtEnd};
-ghost use Rattle.vt_replay.specs.States.{state_of};
 ghost use Rattle.vt_replay.specs.Lines.{lines_of};
 ghost use Rattle.vt_replay.specs.Replays.{IsReplay, TakesSome, HasLongLine};
 ghost use Rattle.vt_replay.specs.Progress.{AtMost, IsLineFault, Takes, TakesBytes, HasNoNewline, stand};
+ghost use Rattle.vt_server.specs.States.{state_of};
 
 use crate::counts::Counts;
 use crate::fault::ReplayFault;
 use crate::line::{Pending, end_line, keep};
 use crate::output::put_counts;
-use crate::terminal::Terminal;
 use std::alloc::{AllocError, Global};
 use std::io::{Read, Write};
+use vt_server::{Output, Terminal};
 
 /// How many bytes one read may give.
 const CHUNK: usize = 65_536;
@@ -21,9 +21,9 @@ const CHUNK: usize = 65_536;
 /// After how many reads a reader that has not ended is given up.
 const READS: u32 = 1_000_000_000;
 
-/// Replays a log: reads it to its end, line by line, and writes the replies of the terminal, the faulty lines
-/// and at last the counts. After an error the terminal has taken the lines before, and the reader and the
-/// writer are where they stopped.
+/// Replays a log: reads it to its end, line by line, and writes what the terminal sends, the faulty lines and
+/// at last the counts. After an error the terminal has taken the lines before, and the reader and the writer
+/// are where they stopped.
 pub fn replay<R: Read, W: Write>(
     alloc: Global,
     reader: &mut R,
@@ -41,17 +41,25 @@ pub fn replay<R: Read, W: Write>(
 {
     let mut counts = Counts::new();
     let mut pending = Pending::new();
+    let mut outputs = Vec::new(alloc);
     let mut chunk = zeros(alloc, CHUNK)?;
     for _ in 0..READS {
         let Ok(count) = reader.read(&mut chunk) else {
             return Err(ReplayFault::Read);
         };
         if count == 0 {
-            end_log(&mut pending, terminal, &mut counts, writer)?;
+            end_log(&mut pending, terminal, &mut outputs, &mut counts, writer)?;
             put_counts(&counts, writer)?;
             return Ok(counts);
         }
-        take_chunk(&chunk[..count], &mut pending, terminal, &mut counts, writer)?;
+        take_chunk(
+            &chunk[..count],
+            &mut pending,
+            terminal,
+            &mut outputs,
+            &mut counts,
+            writer,
+        )?;
     }
     Err(ReplayFault::Read)
 }
@@ -67,6 +75,7 @@ fn take_chunk<W: Write>(
     chunk: &[u8],
     pending: &mut Pending,
     terminal: &mut Terminal,
+    outputs: &mut Vec<Output>,
     counts: &mut Counts,
     writer: &mut W,
 ) -> Result<(), ReplayFault>
@@ -83,7 +92,7 @@ fn take_chunk<W: Write>(
 {
     let mut rest = chunk;
     while let Some((line, after)) = cut_line(rest) {
-        end_line(line, pending, terminal, counts, writer)?;
+        end_line(line, pending, terminal, outputs, counts, writer)?;
         rest = after;
     }
     keep(rest, pending)
@@ -101,6 +110,7 @@ fn cut_line(text: &[u8]) -> Option<(&[u8], &[u8])>
 fn end_log<W: Write>(
     pending: &mut Pending,
     terminal: &mut Terminal,
+    outputs: &mut Vec<Output>,
     counts: &mut Counts,
     writer: &mut W,
 ) -> Result<(), ReplayFault>
@@ -116,5 +126,5 @@ fn end_log<W: Write>(
     if pending.is_empty() {
         return Ok(());
     }
-    end_line(&[], pending, terminal, counts, writer)
+    end_line(&[], pending, terminal, outputs, counts, writer)
 }

@@ -5,10 +5,11 @@ use crate::counts::Counts;
 use crate::fault::ReplayFault;
 use crate::program::{Open, Status, run};
 use crate::replay::replay;
-use crate::terminal::Terminal;
 use std::io::{self, Error, ErrorKind, Read, Write};
 use std::process::Abort;
 use std::test::Fail;
+use vt_names::Name;
+use vt_server::Terminal;
 
 /// Working Set 0, Data Mask 1000 and Container 100.
 const POOL: &[u8] = b"\x00\x00\x00\x00\x01\xE8\x03\x00\x00\x00\
@@ -108,9 +109,46 @@ fn other_addresses(rt: HostRuntime) -> Result<(), Fail> {
     expect_run(&rt, words, (log, POOL), (Status::Done, text, false))
 }
 
+/// A request for the terminal's claim, a claim of its address by a lower NAME, and a command.
+const CLAIMED: &[u8] = b"(1.000000) can0 18EA2680#00EE00\n\
+    (1.000000) can0 18EEFF26#0000000000000000\n\
+    (1.000000) can0 14E72680#A0640000FFFFFFFF\n";
+
+#[test]
+fn names_of_the_terminal(rt: HostRuntime) -> Result<(), Fail> {
+    let words = ["vt_replay", "log", "--pool", "pool", "--owner", "80"].as_slice();
+    let text = "18EEFF26#01000000001D0020\n18EEFFFE#01000000001D0020\n\
+        lines 3 frames 3 operator 0 skipped 0 comments 0 faults 0\n";
+    expect_run(&rt, words, (CLAIMED, POOL), (Status::Done, text, false))?;
+    let words = ["vt_replay", "log", "--name", "a00084ffFEdcba98"].as_slice();
+    let text = "18EEFF26#98BADCFEFF8400A0\n18EEFFFE#98BADCFEFF8400A0\n\
+        lines 3 frames 3 operator 0 skipped 0 comments 0 faults 0\n";
+    expect_run(&rt, words, (CLAIMED, POOL), (Status::Done, text, false))?;
+    let words = ["vt_replay", "--name=0000000000000000", "log"].as_slice();
+    let text = "18EEFF26#0000000000000000\n\
+        lines 3 frames 3 operator 0 skipped 0 comments 0 faults 0\n";
+    expect_run(&rt, words, (CLAIMED, POOL), (Status::Done, text, false))
+}
+
+#[test]
+fn a_set_registers(rt: HostRuntime) -> Result<(), Fail> {
+    let words = ["vt_replay", "log"].as_slice();
+    let claim = "(1.000000) can0 18EEFF80#0100000000800020\n";
+    let rest = "(1.000000) can0 18FE0D80#01FFFFFFFFFFFFFF\n\
+        (1.000000) can0 14E72680#C0FF00100000FFFF\n";
+    let log = format!(in rt.alloc(); "{claim}{rest}")?;
+    let text = "14E68026#C00300FFFFFFFFFF\n\
+        lines 3 frames 3 operator 0 skipped 0 comments 0 faults 0\n";
+    let wanted = (Status::Done, text, false);
+    expect_run(&rt, words, (log.as_bytes(), POOL), wanted)?;
+    let text = "lines 2 frames 2 operator 0 skipped 0 comments 0 faults 0\n";
+    let wanted = (Status::Done, text, false);
+    expect_run(&rt, words, (rest.as_bytes(), POOL), wanted)
+}
+
 #[test]
 fn words_that_are_refused(rt: HostRuntime) -> Result<(), Fail> {
-    let cases: [&[&str]; 12] = [
+    let cases: [&[&str]; 17] = [
         &["vt_replay"],
         &["vt_replay", "log", "pool"],
         &["vt_replay", "log", "--speed", "2"],
@@ -120,6 +158,11 @@ fn words_that_are_refused(rt: HostRuntime) -> Result<(), Fail> {
         &["vt_replay", "log", "--own", "1"],
         &["vt_replay", "log", "--own", "FE"],
         &["vt_replay", "log", "--own", "26", "--own", "26"],
+        &["vt_replay", "log", "--name", ""],
+        &["vt_replay", "log", "--name", "1"],
+        &["vt_replay", "log", "--name", "20001D000000001"],
+        &["vt_replay", "log", "--name", "20001D00000000011"],
+        &["vt_replay", "log", "--name", "20001D000000000G"],
         &["vt_replay", "log", "--pool", "pool", "--owner", "FF"],
         &["vt_replay", "log", "--pool", "pool", "--owner", "26"],
         &[
@@ -286,7 +329,7 @@ fn pieces_make_no_difference(rt: HostRuntime) -> Result<(), Fail> {
             fails: false,
         };
         let mut out = Vec::new(rt.alloc());
-        let mut terminal = Terminal::new(rt.alloc(), 0x26);
+        let mut terminal = Terminal::new(rt.alloc(), 0x26, Name::from_raw(1));
         let counts = replay(rt.alloc(), &mut reader, &mut out, &mut terminal)
             .ok()
             .ok_or("it ends")?;
@@ -314,7 +357,7 @@ fn readers_and_writers_that_fail(rt: HostRuntime) -> Result<(), Fail> {
         most: 4,
         fails: true,
     };
-    let mut terminal = Terminal::new(rt.alloc(), 0x26);
+    let mut terminal = Terminal::new(rt.alloc(), 0x26, Name::from_raw(1));
     let mut out = Vec::new(rt.alloc());
     let end = replay(rt.alloc(), &mut reader, &mut out, &mut terminal);
     assert!(&rt; matches!(end, Err(ReplayFault::Read)));
@@ -324,7 +367,7 @@ fn readers_and_writers_that_fail(rt: HostRuntime) -> Result<(), Fail> {
         let mut reader: &[u8] = log;
         let taken = Vec::new(rt.alloc());
         let mut writer = Narrow { taken, room };
-        let mut terminal = Terminal::new(rt.alloc(), 0x26);
+        let mut terminal = Terminal::new(rt.alloc(), 0x26, Name::from_raw(1));
         let end = replay(rt.alloc(), &mut reader, &mut writer, &mut terminal);
         assert!(&rt; matches!(end, Err(ReplayFault::Write)), "{room}");
         assert_eq!(&rt; writer.taken.as_slice(), &whole[..room], "{room}");

@@ -1,5 +1,5 @@
 use Rattle.std.proofs.Common.{◌++◌, ◌∷◌, []}
-use Rattle.vt_replay.specs.States.{state_of}
+use Rattle.vt_server.specs.States.{state_of}
 use Rattle.vt_replay.proofs.Begun.{on_any_err, some_none}
 use Rattle.vt_replay.proofs.line.end_line.Goals as goal
 

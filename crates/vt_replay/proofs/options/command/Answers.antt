@@ -3,7 +3,7 @@ use Rattle.std.proofs.lemmas.Result.{IfOk-weaker}
 use Rattle.clap.specs.Words.{AddsArg, AddsInTurn, App, Rule, app_of, with_rule, new_app}
 use Rattle.clap.specs.Simple.{app_of_fields}
 use Rattle.clap.proofs.CallerLemmas.{required_in_chain}
-use Rattle.vt_replay.proofs.Chains.{fits_chain, four_fit, four_ids}
+use Rattle.vt_replay.proofs.Chains.{fits_chain, five_fit, five_ids}
 use Rattle.vt_replay.proofs.options.command.Goals as goal
 
 abbrev with_version : App → App
@@ -16,37 +16,42 @@ returns-clause-app c =
     let named : app_of c.about.result ≡ with_version (new_app (codes "vt_replay")) = ap app_of_fields c.about.ensures ∙ versioned in
     let one = c.in_ok-arg.ensures.shape c.file_word-log.ensures.local ∙ ap₂ with_rule named c.file_word-log.ensures.rule in
     let two = c.in_ok-arg-2.ensures.shape c.valued_option-own.ensures.local ∙ ap₂ with_rule one c.valued_option-own.ensures.rule in
-    let three = c.in_ok-arg-3.ensures.shape c.valued_option-pool.ensures.local ∙ ap₂ with_rule two c.valued_option-pool.ensures.rule in
-    IfOk-weaker c.arg-4.result _ _
-    (λ command adds. adds.shape c.valued_option-owner.ensures.local ∙ ap₂ with_rule three c.valued_option-owner.ensures.rule) c.arg-4.ensures
+    let three = c.in_ok-arg-3.ensures.shape c.valued_option-name.ensures.local ∙ ap₂ with_rule two c.valued_option-name.ensures.rule in
+    let four = c.in_ok-arg-4.ensures.shape c.valued_option-pool.ensures.local ∙ ap₂ with_rule three c.valued_option-pool.ensures.rule in
+    IfOk-weaker c.arg-5.result _ _
+    (λ command adds. adds.shape c.valued_option-owner.ensures.local ∙ ap₂ with_rule four c.valued_option-owner.ensures.rule) c.arg-5.ensures
 
 pub returns-clause-file : goal.returns-clause-file
 returns-clause-file c =
     let log = c.file_word-log.result in
     let own = c.valued_option-own.result in
+    let name = c.valued_option-name.result in
     let pool = c.valued_option-pool.result in
     let owner = c.valued_option-owner.result in
     let id = λ (r : Rule). r.id in
     let is_log : log.id.now ≡ codes "FILE" = ap id c.file_word-log.ensures.rule in
     let is_own : own.id.now ≡ codes "own" = ap id c.valued_option-own.ensures.rule in
+    let is_name : name.id.now ≡ codes "name" = ap id c.valued_option-name.ensures.rule in
     let is_pool : pool.id.now ≡ codes "pool" = ap id c.valued_option-pool.ensures.rule in
     let is_owner : owner.id.now ≡ codes "owner" = ap id c.valued_option-owner.ensures.rule in
-    let fit = four_fit log own pool owner is_log is_own is_pool is_owner
+    let fit = five_fit log own name pool owner is_log is_own is_name is_pool is_owner
     (fits_chain log _ is_log c.file_word-log.ensures.plain c.file_word-log.ensures.local
     (λ e. absurd (omega arith)) (λ e. absurd (omega arith)) (λ e. absurd (omega arith)))
     (fits_chain own _ is_own c.valued_option-own.ensures.plain c.valued_option-own.ensures.local
+    (λ e. absurd (omega arith)) (λ e. absurd (omega arith)) (λ e. absurd (omega arith)))
+    (fits_chain name _ is_name c.valued_option-name.ensures.plain c.valued_option-name.ensures.local
     (λ e. absurd (omega arith)) (λ e. absurd (omega arith)) (λ e. absurd (omega arith)))
     (fits_chain pool _ is_pool c.valued_option-pool.ensures.plain c.valued_option-pool.ensures.local
     (λ e. absurd (omega arith)) (λ e. absurd (omega arith)) (λ e. absurd (omega arith)))
     (fits_chain owner _ is_owner c.valued_option-owner.ensures.plain c.valued_option-owner.ensures.local
     (λ e. absurd (omega arith)) (λ e. absurd (omega arith)) (λ e. absurd (omega arith))) in
-    IfOk-weaker c.arg-4.result _ _ (λ command adds matches parsed.
-    let chain : AddsInTurn AddsArg c.about.result (log ∷ own ∷ pool ∷ owner ∷ []) command = (
+    IfOk-weaker c.arg-5.result _ _ (λ command adds matches parsed.
+    let chain : AddsInTurn AddsArg c.about.result (log ∷ own ∷ name ∷ pool ∷ owner ∷ []) command = (
       c.in_ok-arg.field-0,
       c.in_ok-arg.ensures,
-      (c.in_ok-arg-2.field-0, c.in_ok-arg-2.ensures, (c.in_ok-arg-3.field-0, c.in_ok-arg-3.ensures, (command, adds, refl))),
+      (c.in_ok-arg-2.field-0, c.in_ok-arg-2.ensures, (c.in_ok-arg-3.field-0, c.in_ok-arg-3.ensures, (c.in_ok-arg-4.field-0, c.in_ok-arg-4.ensures, (command, adds, refl)))),
     ) in
-    let has = required_in_chain c.about.result command (log ∷ own ∷ pool ∷ owner ∷ []) 0 log matches chain
+    let has = required_in_chain c.about.result command (log ∷ own ∷ name ∷ pool ∷ owner ∷ []) 0 log matches chain
     (search rules) (search rules) (search rules) (search rules) fit
-    (four_ids log own pool owner is_log is_own is_pool is_owner) (omega arith) c.file_word-log.ensures.value parsed in
-    rw is_log at has) c.arg-4.ensures
+    (five_ids log own name pool owner is_log is_own is_name is_pool is_owner) (omega arith) c.file_word-log.ensures.value parsed in
+    rw is_log at has) c.arg-5.ensures

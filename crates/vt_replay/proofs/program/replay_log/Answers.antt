@@ -1,8 +1,8 @@
-use Rattle.std.proofs.Common.{◌≡◌, ◌∙◌, ℕ, Some, ap, rules}
+use Rattle.std.proofs.Common.{◌≡◌, ◌∙◌, ap, rules}
 use Rattle.vt_replay.specs.Runs.{IsStart}
-use Rattle.vt_replay.specs.States.{state_of}
-use Rattle.vt_replay.specs.Terminals.{State}
-use Rattle.vt_replay.proofs.Loading.{replay_written, start_alone, start_with_set}
+use Rattle.vt_server.specs.States.{state_of}
+use Rattle.vt_replay.specs.Runs.{new_state}
+use Rattle.vt_replay.proofs.Loading.{new_is, replay_written, start_alone, start_with_set}
 use Rattle.vt_replay.proofs.program.replay_log.Goals.{in-Some+in_ok-load, in_default}
 use Rattle.vt_replay.proofs.program.replay_log.Goals as goal
 
@@ -12,14 +12,15 @@ returns-in-Ok-flush-clause-replayed g c =
     let options = c.args.options.now in
     let held = g.W.Write.contents in
     let terminal = c.match-options.terminal in
-    let own = ap (λ (s : State). s.own) c.new-terminal.ensures in
+    let new = c.new-terminal.ensures in
+    let fresh : state_of c.new-terminal.result ≡ new_state options.own options.name =
+    new_is (state_of c.new-terminal.result) options.own options.name new.claims new.sets new.pools new.lost in
     let begun : IsStart files options (state_of terminal) = elim c.match-options.branch [
       | in-Some+in_ok-load w ↦
-          let set = w.in_ok-load.ensures.set in
-          start_with_set files options (state_of terminal) w.in-Some.preload set.0 w.in-Some.is set.1
-          (ap state_of w.terminal-is ∙ set.2 ∙ ap (λ (n : ℕ). record (state_of terminal) { own = n; set = Some set.0 }) own)
+          start_with_set files options (state_of c.new-terminal.result) (state_of terminal) w.in-Some.preload w.in-Some.is
+          (rw (ap state_of w.terminal-is) w.in_ok-load.ensures.set) fresh
       | in_default w ↦
-          start_alone files options (state_of terminal) (search rules) (ap state_of w.terminal-is ∙ c.new-terminal.ensures)
+          start_alone files options (state_of terminal) (search rules) (ap state_of w.terminal-is ∙ fresh)
     ] in
     let same : g.F.Open.file c.match-options.files ≡ files = elim c.match-options.branch [
       | in-Some+in_ok-load w ↦ ap g.F.Open.file w.files-is ∙ w.load.ensures.stay

@@ -1,11 +1,11 @@
 use Rattle.std.proofs.Common.{List, ℕ, subst}
 use Rattle.std.specs.Prelude.{OnOk, OnErr}
-use Rattle.vt_replay.specs.Terminals.{State}
-use Rattle.vt_replay.specs.States.{state_of}
+use Rattle.vt_server.specs.States.{state_of}
 use Rattle.vt_replay.specs.Replays.{TakesSome}
 use Rattle.vt_replay.specs.Progress.{stand, Stand, Takes}
 use Rattle.vt_replay.proofs.Midway.{last_line}
 use Rattle.vt_replay.proofs.replay.end_log.Goals as goal
+use Rattle.vt_server.specs.Terminals.{State}
 
 pub returns-clause-takes : goal.returns-clause-takes
 returns-clause-takes g c =

@@ -1,13 +1,13 @@
 use Rattle.std.proofs.Common.{◌≡◌, ◌≤◌, ◌<◌, ℕ, length, length-take, take, refl, sym, ap, subst, ◌∙◌, arith}
 use Rattle.std.proofs.lemmas.Result.{err_from_is_err_and}
 use Rattle.std.specs.Io.KnownBytes.{Consumes}
-use Rattle.vt_replay.specs.States.{state_of}
+use Rattle.vt_server.specs.States.{state_of}
 use Rattle.vt_replay.specs.Lines.{lines_of}
 use Rattle.vt_replay.specs.Texts.{no_counts}
 use Rattle.vt_replay.specs.Progress.{stand, Stand}
 use Rattle.vt_replay.proofs.Midway.{way_start, way_more, way_end, read_front}
 use Rattle.vt_replay.proofs.LongLines.{way_long, end_long}
-use Rattle.vt_replay.proofs.Begun.{on_any_err, some_given, some_all, way_some, way_last}
+use Rattle.vt_replay.proofs.Begun.{on_any_err, some_given, some_all, way_stop, way_some, way_last}
 use Rattle.vt_replay.proofs.replay.replay.Goals as goal
 
 pub loop-init : goal.loop-init
@@ -102,3 +102,15 @@ returns-in_err-take_chunk-clause-stopped g c =
     on_any_err c.from_residual-in_err-take_chunk.result
     (way_some start now to (g.R.Read.remaining c.args.reader.now) (g.R.Read.remaining c.loop.reader) (g.R.Read.remaining c.read.new.self) c.loop.pending.items (take c.in-Ok.count c.deref.result.now)
     c.loop.counter c.loop.invariant.way consumed c.in_err-take_chunk.ensures.stopped)
+
+pub returns-in_default-clause-stopped : goal.returns-in_default-clause-stopped
+returns-in_default-clause-stopped g c =
+    let start : Stand = stand c.args.terminal.now no_counts (g.W.Write.contents c.args.writer.now) in
+    let now : Stand = stand c.loop.terminal c.loop.counts (g.W.Write.contents c.loop.writer) in
+    way_stop start now (g.R.Read.remaining c.args.reader.now) (g.R.Read.remaining c.loop.reader) c.loop.pending.items c.loop.counter c.loop.invariant.way
+
+pub returns-clause-stopped : goal.returns-clause-stopped
+returns-clause-stopped g c =
+    let start : Stand = stand c.args.terminal.now no_counts (g.W.Write.contents c.args.writer.now) in
+    let now : Stand = stand c.loop.terminal c.loop.counts (g.W.Write.contents c.loop.writer) in
+    way_stop start now (g.R.Read.remaining c.args.reader.now) (g.R.Read.remaining c.loop.reader) c.loop.pending.items c.loop.counter c.loop.invariant.way

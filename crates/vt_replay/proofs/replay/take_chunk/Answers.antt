@@ -3,7 +3,7 @@ use Rattle.std.proofs.lemmas.List.{append-nil}
 use Rattle.std.proofs.lemmas.Result.{err_from_is_err_and, IfErr-at_err}
 use Rattle.vt_replay.specs.Progress.{stand, Stand}
 use Rattle.vt_replay.proofs.Midway.{midway_few, midway_line}
-use Rattle.vt_replay.specs.States.{state_of}
+use Rattle.vt_server.specs.States.{state_of}
 use Rattle.vt_replay.proofs.LongLines.{midway_long}
 use Rattle.vt_replay.proofs.Begun.{on_any_err, midway_some, midway_stop}
 use Rattle.vt_replay.proofs.replay.take_chunk.Goals as goal

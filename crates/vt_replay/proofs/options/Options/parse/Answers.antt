@@ -7,7 +7,7 @@ use Rattle.clap.specs.declared.parser.matches.ArgMatches.{ArgMatches}
 use Rattle.clap.proofs.WalkLemmas.{first_value-rows}
 use Rattle.vt_replay.specs.declared.options.Options.{Options}
 use Rattle.vt_replay.specs.declared.options.Refusal.{Refusal}
-use Rattle.vt_replay.specs.declared.options.Refusal.TheVariants.{Words, Address, OwnerIsOwn, Alone, Memory}
+use Rattle.vt_replay.specs.declared.options.Refusal.TheVariants.{Words, Address, Name, OwnerIsOwn, Alone, Memory}
 use Rattle.vt_replay.specs.Words.{AreApart, Given, Gives, IsMistake, IsRefusalFor, IsRefusalOf, WordsGive, app, faults_in, given_by, given_in}
 use Rattle.vt_replay.proofs.options.Options.parse.Goals as goal
 
@@ -18,7 +18,7 @@ given_same m words matches =
     let rows : rows_of (found_of m) ≡ matches_of app words = (matches refl).0 in
     let same : (id : Text) → first_value (found_of m) id ≡ first_of id (matches_of app words) =
     λ id. rw (first_value-rows (found_of m) id, rows) refl in
-    rw (same (codes "FILE"), same (codes "own"), same (codes "pool"), same (codes "owner")) refl
+    rw (same (codes "FILE"), same (codes "own"), same (codes "name"), same (codes "pool"), same (codes "owner")) refl
 
 faults_of_app : (command : Command) (words : List Text) (r : Result ArgMatches Error) → app_of command ≡ app
     → (is_simple_and_free (app_of command) ≡ true → FailsBy (fault_of (app_of command) words) r) → FailsBy (faults_in words) r
@@ -30,6 +30,7 @@ refused_by_clap : (words : List Text) (e : Error) (r : Refusal) → IsRefusalFor
 refused_by_clap words e (Words other) for (inl memory) = absurd (for.1 memory)
 refused_by_clap words e (Words other) for (inr among) = rw for.0 among
 refused_by_clap words e (Address option) for kind = absurd for
+refused_by_clap words e Name for kind = absurd for
 refused_by_clap words e OwnerIsOwn for kind = absurd for
 refused_by_clap words e Alone for kind = absurd for
 refused_by_clap words e Memory for kind = tt
@@ -46,6 +47,7 @@ words_are_refused words given (Ok options) same none mistake = tt
 words_are_refused words given (Err (Words error)) same none mistake = absurd mistake
 words_are_refused words given (Err (Address option)) same none mistake =
     (none, subst (λ (g : Given). IsMistake g (Address option)) same mistake)
+words_are_refused words given (Err Name) same none mistake = (none, subst (λ (g : Given). IsMistake g Name) same mistake)
 words_are_refused words given (Err OwnerIsOwn) same none mistake = (none, subst (λ (g : Given). IsMistake g OwnerIsOwn) same mistake)
 words_are_refused words given (Err Alone) same none mistake = (none, subst (λ (g : Given). IsMistake g Alone) same mistake)
 words_are_refused words given (Err Memory) same none mistake = absurd mistake
