@@ -90,4 +90,5 @@ fn laws_change_nothing() {
     addresses_are_last();
     holders_are_least();
     other_holders_stay();
+    sets_are_registered();
 }
