@@ -9,22 +9,22 @@ use Rattle.vt_names.proofs.Holding.{by_eq, some-is, none-some}
 
 -- ---- the first set, and those after it
 
-set_at-first : (a : ℕ) (s : Set) (sets : List Set) → s.address ≡ a → set_at a (s ∷ sets) ≡ Some s
+pub set_at-first : (a : ℕ) (s : Set) (sets : List Set) → s.address ≡ a → set_at a (s ∷ sets) ≡ Some s
 set_at-first a s sets h = ap (λ b. cond b (Some s) (set_at a sets)) (eq-eqb s.address a h)
 
-set_at-later : (a : ℕ) (s : Set) (sets : List Set) → s.address ≢ a → set_at a (s ∷ sets) ≡ set_at a sets
+pub set_at-later : (a : ℕ) (s : Set) (sets : List Set) → s.address ≢ a → set_at a (s ∷ sets) ≡ set_at a sets
 set_at-later a s sets h = ap (λ b. cond b (Some s) (set_at a sets)) (ne_eqb s.address a h)
 
-with_set-first : (new s : Set) (sets : List Set) → s.address ≡ new.address → with_set new (s ∷ sets) ≡ new ∷ sets
+pub with_set-first : (new s : Set) (sets : List Set) → s.address ≡ new.address → with_set new (s ∷ sets) ≡ new ∷ sets
 with_set-first new s sets h = ap (λ b. cond b (new ∷ sets) (s ∷ with_set new sets)) (eq-eqb s.address new.address h)
 
-with_set-later : (new s : Set) (sets : List Set) → s.address ≢ new.address → with_set new (s ∷ sets) ≡ s ∷ with_set new sets
+pub with_set-later : (new s : Set) (sets : List Set) → s.address ≢ new.address → with_set new (s ∷ sets) ≡ s ∷ with_set new sets
 with_set-later new s sets h = ap (λ b. cond b (new ∷ sets) (s ∷ with_set new sets)) (ne_eqb s.address new.address h)
 
-without-first : (a : ℕ) (s : Set) (sets : List Set) → s.address ≡ a → without a (s ∷ sets) ≡ without a sets
+pub without-first : (a : ℕ) (s : Set) (sets : List Set) → s.address ≡ a → without a (s ∷ sets) ≡ without a sets
 without-first a s sets h = ap (λ b. cond (not b) (s ∷ without a sets) (without a sets)) (eq-eqb s.address a h)
 
-without-later : (a : ℕ) (s : Set) (sets : List Set) → s.address ≢ a → without a (s ∷ sets) ≡ s ∷ without a sets
+pub without-later : (a : ℕ) (s : Set) (sets : List Set) → s.address ≢ a → without a (s ∷ sets) ≡ s ∷ without a sets
 without-later a s sets h = ap (λ b. cond (not b) (s ∷ without a sets) (without a sets)) (ne_eqb s.address a h)
 
 -- ---- entries
@@ -120,7 +120,7 @@ set_at-address a s (t ∷ sets) there =
     (λ is. ap (λ (x : Set). x.address) (sym (some-is t s (sym (set_at-first a t sets is) ∙ there))) ∙ is)
     (λ ne. rest (sym (set_at-later a t sets ne) ∙ there))
 
-with_set-same : (a : ℕ) (s : Set) (sets : List Set) → set_at a sets ≡ Some s → with_set s sets ≡ sets
+pub with_set-same : (a : ℕ) (s : Set) (sets : List Set) → set_at a sets ≡ Some s → with_set s sets ≡ sets
 with_set-same a s [] there = none-some there
 with_set-same a s (t ∷ sets) there =
     let rest = with_set-same a s sets in

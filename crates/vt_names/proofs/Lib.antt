@@ -2,3 +2,4 @@ mod Filing
 mod Holding
 mod Histories
 mod Hearing
+mod Registering

@@ -2,3 +2,4 @@
 pub mod Claims
 pub mod Names
 pub mod Registry
+pub mod Registrations

@@ -2,6 +2,7 @@
 
 ghost use Rattle.vt_names.specs.Claims.{AddressesAreLast, HoldersAreLeast, OtherHoldersStay};
 ghost use Rattle.vt_names.specs.Names.{FieldsAreNames};
+ghost use Rattle.vt_names.specs.Registrations.{SetsAreRegistered};
 
 /// The law that the ten fields of a NAME and the NAME determine each other.
 pub fn fields_are_names()
@@ -23,4 +24,10 @@ pub fn holders_are_least()
 /// of the one that it claims.
 pub fn other_holders_stay()
     ensures { OtherHoldersStay }
+{}
+
+/// The law that the sets are those that were registered and not closed since, one for each address, in the
+/// order of their registration, each with fewer members than its count, over all that changes the sets.
+pub fn sets_are_registered()
+    ensures { SetsAreRegistered }
 {}

@@ -24,3 +24,6 @@ pub use terminal::{RunFault, Terminal};
 
 /// A growth that was refused.
 pub use std::alloc::AllocError as OutOfMemory;
+
+#[cfg(test)]
+mod tests;

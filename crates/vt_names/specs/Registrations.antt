@@ -1,0 +1,71 @@
+-- The working sets over all that was registered, and their order (ISO 11783-6; docs/PROFILE.md, "Working sets").
+use Rattle.std.specs.Prelude.{◌≡◌, ◌<◌, ◌≤◌, ℕ, suc, ◌==◌, Bool, false, if◌then◌else◌, List, [], ◌∷◌, length, map, Option, Some, None, is_some}
+use Rattle.vt_names.specs.Registry.{Set, set_at, with_set, without, registering, joining, binding, preloaded}
+
+-- What may change the sets: a master message, with the holder of its address and its count; a member message, with
+-- its NAME; a closing; a preloading; and a NAME for the set of an address.
+pub data Event : Type 0 where
+  Masters : ℕ → Option ℕ → ℕ → Event
+  Joins : ℕ → ℕ → Event
+  Closes : ℕ → Event
+  Preloads : ℕ → Event
+  Binds : ℕ → ℕ → Event
+
+-- ---- by all that happened; lists of events have the latest first
+
+-- there is a set of the address after the event, whatever was before
+abbrev pub registers : ℕ → Event → Bool
+registers address (Masters other (Some holder) count) = other == address
+registers address (Preloads other) = other == address
+registers address _ = false
+
+abbrev pub closes : ℕ → Event → Bool
+closes address (Closes other) = other == address
+closes address _ = false
+
+abbrev pub since : Option ℕ → ℕ → ℕ
+since (Some time) now = time
+since None now = now
+
+-- When the set of an address was registered, as the number of events before, if there is one. A set that is there
+-- keeps its time.
+abbrev pub registered_at : List Event → ℕ → Option ℕ
+registered_at [] address = None
+registered_at (event ∷ earlier) address =
+    if registers address event then Some (since (registered_at earlier address) (length earlier))
+    else if closes address event then None
+    else registered_at earlier address
+
+-- the times rise
+abbrev pub AreRising : ℕ → List (Option ℕ) → Type 0
+AreRising least [] = Unit {0}
+AreRising least (None ∷ times) = ⊥
+AreRising least (Some time ∷ times) = (least ≤ time) × AreRising (suc time) times
+
+-- ---- what is kept of it
+
+abbrev pub after_event : Event → List Set → List Set
+after_event (Masters address holder count) sets = registering address holder count sets
+after_event (Joins address name) sets = joining (set_at address sets) name sets
+after_event (Closes address) sets = without address sets
+after_event (Preloads address) sets = with_set (preloaded address) sets
+after_event (Binds address name) sets = binding (set_at address sets) name sets
+
+abbrev pub after_events : List Event → List Set
+after_events [] = []
+after_events (event ∷ earlier) = after_event event (after_events earlier)
+
+abbrev pub times_of : (ℕ → Option ℕ) → List Set → List (Option ℕ)
+times_of at sets = map (λ set. at set.address) sets
+
+-- each set has fewer members than its count
+abbrev pub AreWithin : List Set → Type 0
+AreWithin [] = Unit {0}
+AreWithin (set ∷ sets) = (length set.members < set.count) × AreWithin sets
+
+-- The sets are those that were registered and not closed since, one for each address, in the order of their
+-- registration, each with fewer members than its count.
+pub record SetsAreRegistered : Type 0 where
+  pub there : (events : List Event) (address : ℕ) → is_some (set_at address (after_events events)) ≡ is_some (registered_at events address)
+  pub order : (events : List Event) → AreRising 0 (times_of (registered_at events) (after_events events))
+  pub within : (events : List Event) → AreWithin (after_events events)

@@ -1,0 +1,94 @@
+mod heard_claims;
+mod working_sets;
+
+use super::*;
+
+// The NAME of a terminal, the first of the table.
+const NAME: u64 = 0x2000_1D00_0000_0001;
+
+// Each NAME, and its numbers from the lowest bits to the highest.
+const NAMES: [(u64, u32, u16, [u8; 3], bool, [u8; 3], bool); 5] = [
+    (NAME, 1, 0, [0, 0, 29], false, [0, 0, 2], false),
+    (
+        0x2000_8000_0000_0001,
+        1,
+        0,
+        [0, 0, 128],
+        false,
+        [0, 0, 2],
+        false,
+    ),
+    (
+        0xA03C_8200_1A20_01C2,
+        450,
+        209,
+        [0, 0, 130],
+        false,
+        [30, 0, 2],
+        true,
+    ),
+    (
+        0x5AA9_C3B7_5AB5_5AA5,
+        0x15_5AA5,
+        0x2D5,
+        [7, 22, 0xC3],
+        true,
+        [84, 10, 5],
+        false,
+    ),
+    (
+        u64::MAX,
+        0x1F_FFFF,
+        0x7FF,
+        [7, 31, 0xFF],
+        true,
+        [0x7F, 15, 7],
+        true,
+    ),
+];
+
+#[test]
+fn numbers_of_names(rt: HostRuntime) {
+    for (raw, identity, manufacturer, low, reserved, high, is_self_configurable) in NAMES {
+        let name = Name::from_raw(raw);
+        assert_eq!(rt; name.raw(), raw);
+        assert_eq!(rt; name.identity(), identity, "{raw:X}");
+        assert_eq!(rt; name.manufacturer(), manufacturer, "{raw:X}");
+        assert_eq!(rt;
+            [
+                name.ecu_instance(),
+                name.function_instance(),
+                name.function()
+            ],
+            low,
+            "{raw:X}"
+        );
+        assert_eq!(rt; name.reserved(), reserved, "{raw:X}");
+        let rest = [
+            name.device_class(),
+            name.device_class_instance(),
+            name.industry_group(),
+        ];
+        assert_eq!(rt; rest, high, "{raw:X}");
+        assert_eq!(rt;
+            name.is_self_configurable(),
+            is_self_configurable,
+            "{raw:X}"
+        );
+    }
+}
+
+#[test]
+fn the_lower_name(rt: HostRuntime) {
+    assert!(rt; Name::from_raw(0x0000_0001_0000_0000) < Name::from_raw(0x0100_0000_0000_0000));
+    assert!(rt; Name::from_raw(1) < Name::from_raw(u64::MAX));
+}
+
+#[test]
+fn laws_change_nothing() {
+    fields_are_names();
+    addresses_are_last();
+    holders_are_least();
+    other_holders_stay();
+    sets_are_registered();
+}

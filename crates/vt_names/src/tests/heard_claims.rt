@@ -1,0 +1,80 @@
+use super::*;
+use std::test::Fail;
+
+const OWN: u8 = 0x26;
+
+// A claim, and what it means for the node of `OWN` and `NAME`.
+const ANSWERS: [(u8, u64, Heard); 9] = [
+    (OWN, 0, Heard::Lost),
+    (OWN, 0x2000_1D00_0000_0000, Heard::Lost),
+    (OWN, NAME, Heard::Nothing),
+    (OWN, 0x2000_1D00_0000_0002, Heard::Defend),
+    (OWN, u64::MAX, Heard::Defend),
+    (0x80, 0, Heard::Nothing),
+    (0x80, NAME, Heard::Nothing),
+    (254, 0, Heard::Nothing),
+    (255, u64::MAX, Heard::Nothing),
+];
+
+#[test]
+fn claims_of_the_own_address(rt: HostRuntime) -> Result<(), Fail> {
+    for (address, raw, wanted) in ANSWERS {
+        let mut claims = Claims::new(rt.alloc(), OWN, Name::from_raw(NAME));
+        let name = Name::from_raw(raw);
+        assert_eq!(rt; claims.answer(address, name), wanted, "{address} {raw:X}");
+        assert_eq!(rt; claims.address_of(name), None, "{address} {raw:X}");
+        assert_eq!(rt; claims.hear(address, name)?, wanted, "{address} {raw:X}");
+        let taken = (address != 254).then_some(address);
+        assert_eq!(rt; claims.address_of(name), taken, "{address} {raw:X}");
+        assert_eq!(rt; claims.own(), OWN);
+        assert_eq!(rt; claims.name(), Name::from_raw(NAME));
+    }
+    Ok(())
+}
+
+// Claims in their order, and who holds 80 and 81 after each.
+const CLAIMS: [(u8, u64, Option<u64>, Option<u64>); 12] = [
+    (0x80, 5, Some(5), None),
+    (0x80, 7, Some(5), None),
+    (0x80, 3, Some(3), None),
+    // The holder leaves for another address, and the next holds the one that it left.
+    (0x81, 3, Some(5), Some(3)),
+    // A claim from the null address frees the NAME's place.
+    (254, 5, Some(7), Some(3)),
+    (254, 5, Some(7), Some(3)),
+    (0x81, 2, Some(7), Some(2)),
+    (0x81, 7, None, Some(2)),
+    (254, 2, None, Some(3)),
+    (0x80, u64::MAX, Some(u64::MAX), Some(3)),
+    (0x80, 0, Some(0), Some(3)),
+    (254, 3, Some(0), Some(7)),
+];
+
+#[test]
+fn holders_of_addresses(rt: HostRuntime) -> Result<(), Fail> {
+    let mut claims = Claims::new(rt.alloc(), OWN, Name::from_raw(NAME));
+    assert_eq!(rt; claims.holder(0x80), None);
+    for (address, raw, first, second) in CLAIMS {
+        let before = claims.holder(0x80);
+        match claims.hear(address, Name::from_raw(raw)) {
+            Ok(_) => {}
+            // Once the memory is there, the same claim is heard.
+            Err(_) => {
+                assert_eq!(rt; claims.holder(0x80), before);
+                claims.hear(address, Name::from_raw(raw))?;
+            }
+        }
+        assert_eq!(rt;
+            claims.holder(0x80).map(Name::raw),
+            first,
+            "{address} {raw:X}"
+        );
+        assert_eq!(rt;
+            claims.holder(0x81).map(Name::raw),
+            second,
+            "{address} {raw:X}"
+        );
+        assert_eq!(rt; claims.holder(254), None, "{address} {raw:X}");
+    }
+    Ok(())
+}

@@ -1,0 +1,125 @@
+mod addresses;
+mod messages_of_sets;
+mod sets;
+
+use super::*;
+use std::process::Abort;
+use std::test::Fail;
+use vt_can::{Action, Line, parse_line, write_frame};
+use vt_names::Name;
+use vt_pool::read_pool;
+
+const OWN: u8 = 0x26;
+
+const NAME: u64 = 0x2000_1D00_0000_0001;
+
+// Working Set 0, Data Mask 1000 and Container 100.
+const POOL: &[u8] = b"\x00\x00\x00\x00\x01\xE8\x03\x00\x00\x00\
+    \xE8\x03\x01\x00\xFF\xFF\x01\x00\x64\x00\x0A\x00\x05\x00\
+    \x64\x00\x03\x32\x00\x14\x00\x00\x00\x00";
+
+// What a terminal hears, what it sends, and which addresses have a set then. Where `preloaded` is, the pool
+// is there from the start, at 80.
+#[derive(Clone, Copy)]
+struct Case {
+    preloaded: bool,
+    heard: &'static [&'static str],
+    sent: &'static [&'static str],
+    sets: &'static [u8],
+}
+
+fn started(rt: &(impl Abort + AllocGlobal), preloaded: bool) -> Result<Terminal, Fail> {
+    let mut terminal = Terminal::new(rt.alloc(), OWN, Name::from_raw(NAME));
+    if preloaded {
+        let pool = read_pool(rt.alloc(), POOL)?;
+        terminal.preload(0x80, &pool)?;
+    }
+    Ok(terminal)
+}
+
+fn inputs_of<'a>(rt: &(impl Abort + AllocGlobal), frames: &[&str]) -> Result<Vec<Input<'a>>, Fail> {
+    let mut inputs = Vec::new(rt.alloc());
+    for text in frames {
+        let line = format!(in rt.alloc(); "(1.000000) can0 {text}")?;
+        let Ok(Line::Frame { time, frame }) = parse_line(line.as_bytes()) else {
+            panic!(rt; "no frame: {text}");
+        };
+        inputs.push(Input::Frame { time, frame })?;
+    }
+    Ok(inputs)
+}
+
+// Runs a terminal. After a fault it takes the inputs from that of the fault on: the memory is there then.
+fn run_all(
+    rt: &(impl Abort + AllocGlobal),
+    terminal: &mut Terminal,
+    inputs: &[Input<'_>],
+    outputs: &mut Vec<Output>,
+) {
+    match terminal.run(inputs, outputs) {
+        Ok(()) => {}
+        Err(fault) => {
+            let rest = terminal.run(&inputs[fault.at..], outputs);
+            assert_eq!(rt; rest, Ok(()));
+        }
+    }
+}
+
+fn expect_sent(rt: &(impl Abort + AllocGlobal), case: &Case, outputs: &[Output]) {
+    assert_eq!(rt; outputs.len(), case.sent.len(), "{:?}", case.heard);
+    for (output, text) in outputs.iter().zip(case.sent) {
+        let Output::Frame(frame) = output;
+        assert_eq!(rt;
+            write_frame(frame).as_slice(),
+            text.as_bytes(),
+            "{:?}",
+            case.heard
+        );
+    }
+}
+
+fn expect_case(rt: &(impl Abort + AllocGlobal), case: &Case) -> Result<(), Fail> {
+    let mut terminal = started(rt, case.preloaded)?;
+    let inputs = inputs_of(rt, case.heard)?;
+    let mut outputs = Vec::new(rt.alloc());
+    run_all(rt, &mut terminal, &inputs, &mut outputs);
+    expect_sent(rt, case, &outputs);
+    for address in [0x80, 0x81, OWN, 254, 255] {
+        let wanted = case.sets.contains(&address);
+        assert_eq!(rt;
+            terminal.registered(address),
+            wanted,
+            "{address} {:?}",
+            case.heard
+        );
+    }
+    Ok(())
+}
+
+// The steps one after the other are the run.
+#[test]
+fn inputs_one_by_one(rt: HostRuntime) -> Result<(), Fail> {
+    let mut terminal = started(&rt, true)?;
+    let mut inputs = inputs_of(&rt, &["14E72680#A0640000FFFFFFFF", "18EA2680#00EE00"])?;
+    inputs.push(Input::Operator(Action::Press(100)))?;
+    let mut outputs = Vec::new(rt.alloc());
+    for (input, count) in inputs.iter().zip([1, 2, 2]) {
+        match terminal.step(input, &mut outputs) {
+            Ok(()) => {}
+            Err(_) => terminal.step(input, &mut outputs)?,
+        }
+        assert_eq!(rt; outputs.len(), count);
+    }
+    Ok(())
+}
+
+// Each input has room for 1,024 outputs, also where many were sent already.
+#[test]
+fn many_inputs(rt: HostRuntime) -> Result<(), Fail> {
+    let mut terminal = started(&rt, false)?;
+    let inputs = inputs_of(&rt, &["18EA2680#00EE00"; 2_000])?;
+    let mut outputs = Vec::new(rt.alloc());
+    run_all(&rt, &mut terminal, &inputs, &mut outputs);
+    assert_eq!(rt; outputs.len(), 2_000);
+    Ok(())
+}

@@ -1,0 +1,70 @@
+//! Claims of the terminal's address, Requests, echoes and the loss.
+
+use super::*;
+
+const CLAIM: &str = "18EEFF26#01000000001D0020";
+
+const CANNOT_CLAIM: &str = "18EEFFFE#01000000001D0020";
+
+// What is heard, and what is sent; there is no set.
+type Said = (&'static [&'static str], &'static [&'static str]);
+
+const CASES: [Said; 10] = [
+    // Requests to the terminal and to all, from any source, of three bytes at least.
+    (&["18EA2680#00EE00"], &[CLAIM]),
+    (&["18EAFF80#00EE00"], &[CLAIM]),
+    (&["1CEA26FE#00EE00FFFF"], &[CLAIM]),
+    (
+        &[
+            "18EA2680#00EE",
+            "18EA2680#00EF00",
+            "18EA2780#00EE00",
+            "19EA2680#00EE00",
+        ],
+        &[],
+    ),
+    // Claims of its address.
+    (&["18EEFF26#0200000000001D20"], &[CLAIM]),
+    (
+        &["18EEFF26#02000000001D0020", "18EEFF26#FFFFFFFFFFFFFFFF"],
+        &[CLAIM, CLAIM],
+    ),
+    (
+        &[
+            "18EEFF26#01000000001D0020",
+            "18EEFF26#00000000000000",
+            "18EE2626#0000000000000000",
+        ],
+        &[],
+    ),
+    (&["18EA2626#00EE00", "18EAFF26#00EE00"], &[]),
+    (
+        &["18EEFF80#0000000000000000", "18EEFFFE#0000000000000000"],
+        &[],
+    ),
+    // After the loss nothing is answered.
+    (
+        &[
+            "18EA2680#00EE00",
+            "18EEFF26#0000000000000000",
+            "18EA2680#00EE00",
+            "18EEFF26#FFFFFFFFFFFFFFFF",
+            "18EEFF26#0000000000000000",
+        ],
+        &[CLAIM, CANNOT_CLAIM],
+    ),
+];
+
+#[test]
+fn claims_and_requests(rt: HostRuntime) -> Result<(), Fail> {
+    for (heard, sent) in CASES {
+        let case = Case {
+            preloaded: false,
+            heard,
+            sent,
+            sets: &[],
+        };
+        expect_case(&rt, &case)?;
+    }
+    Ok(())
+}

@@ -1,0 +1,123 @@
+//! Messages of the masters of sets to the terminal.
+
+use super::*;
+
+const CLAIM_80: &str = "18EEFF80#0100000000800020";
+
+const MASTER_80: &str = "18FE0D80#01FFFFFFFFFFFFFF";
+
+const ASKS_MEMORY: &str = "14E72680#C0FF00100000FFFF";
+
+const MEMORY: &str = "14E68026#C00300FFFFFFFFFF";
+
+const KEYS: &str = "14E68026#C2FFFFFF40404006";
+
+// What is heard, and what is sent.
+type Said = (&'static [&'static str], &'static [&'static str]);
+
+// The messages of a set with a pool, and of others.
+const CASES: [Said; 12] = [
+    // Hide and show, an absent object, one that is no container, and another state.
+    (
+        &["14E72680#A0640000FFFFFFFF"],
+        &["14E68026#A064000000FFFFFF"],
+    ),
+    (
+        &["14E72680#A0640001FFFFFFFF"],
+        &["14E68026#A064000100FFFFFF"],
+    ),
+    (
+        &["14E72680#A0650000FFFFFFFF"],
+        &["14E68026#A065000002FFFFFF"],
+    ),
+    (
+        &["00E72680#A0E80300FFFFFFFF"],
+        &["14E68026#A0E8030002FFFFFF"],
+    ),
+    (
+        &["14E72680#A0640002FFFFFFFF"],
+        &["14E68026#A064000204FFFFFF"],
+    ),
+    (
+        &[
+            "14E72680#A0640000FFFFFF",
+            "14E7FF80#A0640000FFFFFFFF",
+            "15E72680#A0640000FFFFFFFF",
+        ],
+        &[],
+    ),
+    // Get Memory, at the bound of the memory that there is, and too short.
+    (&[ASKS_MEMORY, "14E72680#C0FF00001000"], &[MEMORY, MEMORY]),
+    (&["14E72680#C0FF01001000"], &["14E68026#C00301FFFFFFFFFF"]),
+    (&["14E72680#C0FF000010", "14E72680#"], &[]),
+    // Get Number of Soft Keys, Get Text Font Data, Get Hardware.
+    (
+        &["14E72680#C2", "14E72680#C3FFFFFFFFFFFFFF", "14E72680#C7"],
+        &[
+            KEYS,
+            "14E68026#C3FFFFFFFF7F7F00",
+            "14E68026#C7000200E001E001",
+        ],
+    ),
+    // Maintenance, the functions that the terminal sends, and those that it does not know.
+    (
+        &[
+            "14E72680#FFFFFFFFFFFFFFFF",
+            "14E72680#0001F401E80307FF",
+            "14E72680#01FFFFFFFFFFFFFF",
+            "14E72680#055802FF0A000000",
+            "14E72680#08FFFFFFFFFFFFFF",
+            "14E72680#C1FFFFFFFFFFFFFF",
+            "14E72680#FEFFFFFFFFFFFFFF",
+        ],
+        &[],
+    ),
+    // Of an address without a set nothing is heard, nor of the terminal's own.
+    (
+        &["14E72681#C2", "14E72681#A0640000FFFFFFFF", "14E72626#C2"],
+        &[],
+    ),
+];
+
+#[test]
+fn messages_and_replies(rt: HostRuntime) -> Result<(), Fail> {
+    for (heard, sent) in CASES {
+        let case = Case {
+            preloaded: true,
+            heard,
+            sent,
+            sets: &[0x80],
+        };
+        expect_case(&rt, &case)?;
+    }
+    Ok(())
+}
+
+// The questions of a set without a pool are answered, and its commands are not.
+#[test]
+fn a_set_without_a_pool(rt: HostRuntime) -> Result<(), Fail> {
+    let case = Case {
+        preloaded: false,
+        heard: &[
+            CLAIM_80,
+            MASTER_80,
+            ASKS_MEMORY,
+            "14E72680#A0640000FFFFFFFF",
+        ],
+        sent: &[MEMORY],
+        sets: &[0x80],
+    };
+    expect_case(&rt, &case)
+}
+
+// Without a claim there is no set.
+#[test]
+fn a_master_without_a_claim(rt: HostRuntime) -> Result<(), Fail> {
+    let case = Case {
+        preloaded: false,
+        heard: &[MASTER_80, ASKS_MEMORY],
+        sent: &[],
+        sets: &[],
+    };
+    expect_case(&rt, &case)
+}

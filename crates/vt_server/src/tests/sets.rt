@@ -1,0 +1,222 @@
+//! Sets that are registered, bound and closed.
+
+use super::*;
+
+const CLAIM_80: &str = "18EEFF80#0100000000800020";
+
+const MASTER_80: &str = "18FE0D80#01FFFFFFFFFFFFFF";
+
+const CLAIM_81: &str = "18EEFF81#0200000000800020";
+
+const MASTER_81: &str = "18FE0D81#03FFFFFFFFFFFFFF";
+
+const HIDE_80: &str = "14E72680#A0640000FFFFFFFF";
+
+const HIDDEN_80: &str = "14E68026#A064000000FFFFFF";
+
+// Whether a pool is there from the start, at 80; what is heard, what is sent, and which sets there are then.
+type Registers = (
+    bool,
+    &'static [&'static str],
+    &'static [&'static str],
+    &'static [u8],
+);
+
+const CASES: [Registers; 18] = [
+    (false, &[CLAIM_80, MASTER_80], &[], &[0x80]),
+    (false, &["18EEFF80#01000000008000", MASTER_80], &[], &[]),
+    (false, &["18EE2680#0100000000800020", MASTER_80], &[], &[]),
+    (false, &[CLAIM_80, "18FE0D80#"], &[], &[]),
+    (false, &[CLAIM_80, "18FE0D80#00"], &[], &[0x80]),
+    // A greater NAME leaves the set, and a lower one closes it.
+    (
+        false,
+        &[CLAIM_80, MASTER_80, "18EEFF80#0200000000800020"],
+        &[],
+        &[0x80],
+    ),
+    (
+        false,
+        &[CLAIM_80, MASTER_80, "18EEFF80#0000000000800020"],
+        &[],
+        &[],
+    ),
+    // Its NAME claims no address, and another one.
+    (
+        false,
+        &[CLAIM_80, MASTER_80, "18EEFFFE#0100000000800020"],
+        &[],
+        &[],
+    ),
+    (
+        false,
+        &[
+            CLAIM_80,
+            CLAIM_81,
+            MASTER_80,
+            MASTER_81,
+            "18EEFF90#0100000000800020",
+        ],
+        &[],
+        &[0x81],
+    ),
+    (
+        false,
+        &[
+            CLAIM_80,
+            CLAIM_81,
+            MASTER_80,
+            MASTER_81,
+            "18EEFF82#0900000000800020",
+        ],
+        &[],
+        &[0x80, 0x81],
+    ),
+    // The terminal's NAME at 80; its claim of its own address is an echo, and is not recorded.
+    (
+        false,
+        &[
+            "18EEFF80#01000000001D0020",
+            MASTER_80,
+            "18EEFF26#01000000001D0020",
+        ],
+        &[],
+        &[0x80],
+    ),
+    // A frame from the terminal's address registers nothing.
+    (
+        false,
+        &["18EEFF26#FFFFFFFFFFFFFFFF", "18FE0D26#01FFFFFFFFFFFFFF"],
+        &["18EEFF26#01000000001D0020"],
+        &[],
+    ),
+    // A greater NAME claims the terminal's address, and leaves its own with the set there.
+    (
+        false,
+        &[CLAIM_80, MASTER_80, "18EEFF26#0100000000800020"],
+        &["18EEFF26#01000000001D0020"],
+        &[],
+    ),
+    // A lower one is not recorded, and its set stays.
+    (
+        false,
+        &[
+            "18EEFF80#0100000000000000",
+            MASTER_80,
+            "18EEFF26#0100000000000000",
+            "14E72680#C2",
+        ],
+        &["18EEFFFE#01000000001D0020"],
+        &[0x80],
+    ),
+    // A set that was preloaded takes the NAME of the holder at a claim from there, and then it is closed as others.
+    (true, &[MASTER_80, HIDE_80], &[HIDDEN_80], &[0x80]),
+    (
+        true,
+        &[CLAIM_81, "18EEFF80#0200000000800020", HIDE_80],
+        &[HIDDEN_80],
+        &[0x80],
+    ),
+    (
+        true,
+        &[CLAIM_80, MASTER_80, MASTER_80, HIDE_80],
+        &[HIDDEN_80],
+        &[0x80],
+    ),
+    (
+        true,
+        &[CLAIM_80, "18EEFF80#0000000000800020", HIDE_80],
+        &[],
+        &[],
+    ),
+];
+
+#[test]
+fn sets_of_addresses(rt: HostRuntime) -> Result<(), Fail> {
+    for (preloaded, heard, sent, sets) in CASES {
+        let case = Case {
+            preloaded,
+            heard,
+            sent,
+            sets,
+        };
+        expect_case(&rt, &case)?;
+    }
+    Ok(())
+}
+
+// An address without a rule of its own is like others.
+#[test]
+fn a_set_of_the_global_address(rt: HostRuntime) -> Result<(), Fail> {
+    let case = Case {
+        preloaded: false,
+        heard: &["18EEFFFF#0100000000800020", "18FE0DFF#01", "14E726FF#C2"],
+        sent: &["14E6FF26#C2FFFFFF40404006"],
+        sets: &[0xFF],
+    };
+    expect_case(&rt, &case)
+}
+
+// The frames of two sets in turn: each gets its own replies, and the claim that closes one leaves the other.
+#[test]
+fn two_sets_in_turn(rt: HostRuntime) -> Result<(), Fail> {
+    let case = Case {
+        preloaded: true,
+        heard: &[
+            CLAIM_81,
+            HIDE_80,
+            MASTER_81,
+            CLAIM_80,
+            "14E72681#C2",
+            "14E72680#A0640001FFFFFFFF",
+            "14E72681#A0640000FFFFFFFF",
+            "18EEFF81#0000000000800020",
+            "14E72681#C2",
+            HIDE_80,
+        ],
+        sent: &[
+            HIDDEN_80,
+            "14E68126#C2FFFFFF40404006",
+            "14E68026#A064000100FFFFFF",
+            HIDDEN_80,
+        ],
+        sets: &[0x80],
+    };
+    expect_case(&rt, &case)
+}
+
+// How many members a set has, and at which place it stands.
+fn members_at(terminal: &Terminal, index: usize) -> Option<(u8, usize)> {
+    let set = terminal.registry.at(index)?;
+    Some((set.address(), set.members().len()))
+}
+
+#[test]
+fn members_and_order(rt: HostRuntime) -> Result<(), Fail> {
+    let mut terminal = started(&rt, false)?;
+    let inputs = inputs_of(
+        &rt,
+        &[
+            CLAIM_80,
+            CLAIM_81,
+            MASTER_81,
+            MASTER_80,
+            "18FE0C81#0300000000800020",
+            "18FE0C81#04000000008000",
+            "18FE0C81#0400000000800020",
+            "18FE0C81#0500000000800020",
+            "18FE0C80#0600000000800020",
+            "18FE0C82#0600000000800020",
+        ],
+    )?;
+    let mut outputs = Vec::new(rt.alloc());
+    run_all(&rt, &mut terminal, &inputs, &mut outputs);
+    assert!(rt; outputs.is_empty());
+    assert_eq!(rt; members_at(&terminal, 0), Some((0x81, 2)));
+    assert_eq!(rt; members_at(&terminal, 1), Some((0x80, 0)));
+    assert_eq!(rt; members_at(&terminal, 2), None);
+    let again = inputs_of(&rt, &[MASTER_81])?;
+    run_all(&rt, &mut terminal, &again, &mut outputs);
+    assert_eq!(rt; members_at(&terminal, 0), Some((0x81, 0)));
+    Ok(())
+}
