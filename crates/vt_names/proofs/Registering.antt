@@ -1,9 +1,9 @@
 -- The sets after all that was registered.
-use Rattle.std.proofs.Common.{◌≡◌, ◌≢◌, ℕ, zero, suc, ◌<◌, ◌≤◌, Bool, true, false, cond, eqb, ltb, List, [], ◌∷◌, ◌++◌, ◌+◌, length, map, Option, Some, None, is_some, true≢false, refl, sym, ap, subst, ◌∙◌, arith, eq-eqb, ne_eqb}
+use Rattle.std.proofs.Common.{◌≡◌, ◌≢◌, ℕ, zero, suc, ◌<◌, ◌≤◌, Bool, true, false, cond, eqb, List, [], ◌∷◌, ◌++◌, ◌+◌, length, Option, Some, None, is_some, true≢false, refl, sym, ap, subst, ◌∙◌, arith, eq-eqb, ne_eqb}
 use Rattle.std.proofs.lemmas.Bool.{ltb-true}
 use Rattle.std.proofs.lemmas.List.{length-append}
-use Rattle.vt_names.specs.Registry.{Set, set_at, with_set, without, registering, joining, binding, preloaded, mastered, counted, joined, bound, has_place}
-use Rattle.vt_names.specs.Registrations.{Event, Masters, Joins, Closes, Preloads, Binds, registers, closes, since, registered_at, AreRising, after_event, after_events, times_of, AreWithin, SetsAreRegistered}
+use Rattle.vt_names.specs.Registry.{Set, set_at, with_set, without, joining, binding, preloaded, mastered, joined, bound, has_place}
+use Rattle.vt_names.specs.Registrations.{Event, Masters, Joins, Closes, Preloads, Binds, registers, closes, since, registered_at, AreRising, after_events, times_of, AreWithin, SetsAreRegistered}
 use Rattle.vt_names.proofs.Holding.{by_eq, some-is, none-some}
 use Rattle.vt_names.proofs.Filing.{set_at-first, set_at-later, with_set-first, with_set-later, without-first, without-later, set_at-address}
 
