@@ -66,8 +66,8 @@ kind_name InputAttributes = codes "Input Attributes"
 kind_name ObjectPointer = codes "Object Pointer"
 kind_name Macro = codes "Macro"
 
-abbrev pub kinds : List Kind
-kinds =
+abbrev pub every_kind : List Kind
+every_kind =
     WorkingSet ∷ DataMask ∷ AlarmMask ∷ Container ∷ SoftKeyMask ∷ Key ∷ Button ∷ InputBoolean ∷ InputString
     ∷ InputNumber ∷ InputList ∷ OutputString ∷ OutputNumber ∷ Line ∷ Rectangle ∷ Ellipse ∷ Polygon ∷ Meter ∷ LinearBar
     ∷ ArchedBar ∷ Picture ∷ NumberVariable ∷ StringVariable ∷ Font ∷ LineAttributes ∷ FillAttributes ∷ InputAttributes
@@ -79,4 +79,4 @@ kind_among (k ∷ ks) n = if n == kind_number k then Some k else kind_among ks n
 
 -- the kind of a number
 abbrev pub kind_at : ℕ → Option Kind
-kind_at n = kind_among kinds n
+kind_at n = kind_among every_kind n

@@ -6,6 +6,7 @@ pub mod Records
 pub mod References
 pub mod Listing
 pub mod Attributes
+pub mod Writing
 pub mod Stores
 pub mod Commands
 pub mod Rows

@@ -1,8 +1,9 @@
 -- What the places of an object name: the kinds that may stand there, and whether NULL may
 -- (docs/PROFILE.md, "Places and their kinds").
-use Rattle.std.specs.Prelude.{ℕ, suc, Bool, true, false, List, [], ◌∷◌, map}
+use Rattle.std.specs.Prelude.{ℕ, suc, Bool, true, false, not, List, [], ◌∷◌, map, filter}
 use Rattle.vt_objects.specs.declared.kind.Kind.{Kind}
 use Rattle.vt_objects.specs.declared.kind.Kind.TheVariants as kinds
+use Rattle.vt_objects.specs.Kinds.{every_kind}
 use Rattle.vt_objects.specs.declared.kinds.Kinds.{Kinds}
 use Rattle.vt_objects.specs.declared.kinds.Kinds.TheVariants as sets
 use Rattle.vt_objects.specs.declared.place.Place.{Place}
@@ -24,13 +25,12 @@ drawn_in_working_set =
 abbrev pub drawn : List Kind
 drawn = kinds.WorkingSet ∷ drawn_in_working_set
 
+abbrev pub is_pointer : Kind → Bool
+is_pointer kinds.ObjectPointer = true
+is_pointer kind = false
+
 abbrev pub all_but_pointers : List Kind
-all_but_pointers =
-    kinds.WorkingSet ∷ kinds.DataMask ∷ kinds.AlarmMask ∷ kinds.Container ∷ kinds.SoftKeyMask ∷ kinds.Key
-    ∷ kinds.Button ∷ kinds.InputBoolean ∷ kinds.InputString ∷ kinds.InputNumber ∷ kinds.InputList
-    ∷ kinds.OutputString ∷ kinds.OutputNumber ∷ kinds.Line ∷ kinds.Rectangle ∷ kinds.Ellipse ∷ kinds.Polygon
-    ∷ kinds.Meter ∷ kinds.LinearBar ∷ kinds.ArchedBar ∷ kinds.Picture ∷ kinds.NumberVariable ∷ kinds.StringVariable
-    ∷ kinds.Font ∷ kinds.LineAttributes ∷ kinds.FillAttributes ∷ kinds.InputAttributes ∷ kinds.Macro ∷ []
+all_but_pointers = filter (λ kind. not (is_pointer kind)) every_kind
 
 abbrev pub members : Kinds → List Kind
 members sets.Masks = kinds.DataMask ∷ kinds.AlarmMask ∷ []

@@ -26,7 +26,7 @@ pub struct Font {
 
 impl Font {
     /// The same object in memory of its own.
-    pub fn copied(&self, alloc: Global) -> Result<Font, AllocError>
+    pub(crate) fn copied(&self, alloc: Global) -> Result<Font, AllocError>
         ensures { IfOk result (λ copy. copy ≡ self.now) }
     {
         Ok(Font {
@@ -54,7 +54,7 @@ pub struct LineAttributes {
 
 impl LineAttributes {
     /// The same object in memory of its own.
-    pub fn copied(&self, alloc: Global) -> Result<LineAttributes, AllocError>
+    pub(crate) fn copied(&self, alloc: Global) -> Result<LineAttributes, AllocError>
         ensures { IfOk result (λ copy. copy ≡ self.now) }
     {
         Ok(LineAttributes {
@@ -81,7 +81,7 @@ pub struct FillAttributes {
 
 impl FillAttributes {
     /// The same object in memory of its own.
-    pub fn copied(&self, alloc: Global) -> Result<FillAttributes, AllocError>
+    pub(crate) fn copied(&self, alloc: Global) -> Result<FillAttributes, AllocError>
         ensures { IfOk result (λ copy. copy ≡ self.now) }
     {
         Ok(FillAttributes {
@@ -106,7 +106,7 @@ pub struct InputAttributes<B: AsSlice<u8>> {
 
 impl<B: AsSlice<u8>> InputAttributes<B> {
     /// The same object in memory of its own.
-    pub fn copied(&self, alloc: Global) -> Result<InputAttributes<Vec<u8>>, AllocError>
+    pub(crate) fn copied(&self, alloc: Global) -> Result<InputAttributes<Vec<u8>>, AllocError>
         ensures { IfOk result (λ copy. seen_input_attributes copy ≡ seen_input_attributes self.now) }
     {
         Ok(InputAttributes {

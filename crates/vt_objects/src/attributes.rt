@@ -3,6 +3,7 @@
 ghost use Rattle.std.specs.Prelude.{◌≡◌};
 ghost use Rattle.vt_objects.specs.Attributes as table;
 ghost use Rattle.vt_objects.specs.Attributes.{attribute_at};
+ghost use Rattle.vt_objects.specs.Writing.{AttributesAreFields};
 
 use crate::fields::{Attribute, Field, Values};
 use crate::kind::Kind;
@@ -252,3 +253,9 @@ fn reference(field: Field, place: Place) -> Attribute
 {
     taking(field, Values::Reference(place))
 }
+
+/// The law that the attributes of each kind stand in fields of its record, in order, and that such a field gets the
+/// lowest bytes of the value as they are.
+pub fn attributes_are_fields()
+    ensures { AttributesAreFields }
+{}

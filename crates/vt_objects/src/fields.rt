@@ -101,11 +101,12 @@ impl Values {
         }
     }
 
-    /// Whether the field takes these lowest bytes of a value, in an object of this kind. Of a reference, `named` is
-    /// the kind of the object that it names, if that is there.
-    pub fn takes(self, kind: Kind, lowest: u32, named: Option<Kind>) -> bool
-        ensures { IsTrue result ↔ Takes kind self lowest named }
+    /// Whether the field takes the lowest bytes of a value, in an object of this kind. Of a reference, `named` is
+    /// the kind of the object that they name, if that is there.
+    pub fn takes(self, kind: Kind, value: u32, named: Option<Kind>) -> bool
+        ensures { IsTrue result ↔ Takes kind self (table.lowest self value) named }
     {
+        let lowest = self.lowest(value);
         match self {
             Values::Byte | Values::Word | Values::Long | Values::SignedLong => true,
             Values::Reference(place) if lowest == 0xFFFF => place.allows_null(),

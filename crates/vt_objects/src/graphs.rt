@@ -39,7 +39,7 @@ pub struct Meter {
 
 impl Meter {
     /// The same object in memory of its own.
-    pub fn copied(&self, alloc: Global) -> Result<Meter, AllocError>
+    pub(crate) fn copied(&self, alloc: Global) -> Result<Meter, AllocError>
         ensures { IfOk result (λ copy. copy ≡ self.now) }
     {
         Ok(Meter {
@@ -93,7 +93,7 @@ pub struct LinearBar {
 
 impl LinearBar {
     /// The same object in memory of its own.
-    pub fn copied(&self, alloc: Global) -> Result<LinearBar, AllocError>
+    pub(crate) fn copied(&self, alloc: Global) -> Result<LinearBar, AllocError>
         ensures { IfOk result (λ copy. copy ≡ self.now) }
     {
         Ok(LinearBar {
@@ -151,7 +151,7 @@ pub struct ArchedBar {
 
 impl ArchedBar {
     /// The same object in memory of its own.
-    pub fn copied(&self, alloc: Global) -> Result<ArchedBar, AllocError>
+    pub(crate) fn copied(&self, alloc: Global) -> Result<ArchedBar, AllocError>
         ensures { IfOk result (λ copy. copy ≡ self.now) }
     {
         Ok(ArchedBar {

@@ -31,7 +31,7 @@ pub struct InputBoolean {
 
 impl InputBoolean {
     /// The same object in memory of its own.
-    pub fn copied(&self, alloc: Global) -> Result<InputBoolean, AllocError>
+    pub(crate) fn copied(&self, alloc: Global) -> Result<InputBoolean, AllocError>
         ensures { IfOk result (λ copy. copy ≡ self.now) }
     {
         Ok(InputBoolean {
@@ -75,7 +75,7 @@ pub struct InputString<B: AsSlice<u8>> {
 
 impl<B: AsSlice<u8>> InputString<B> {
     /// The same object in memory of its own.
-    pub fn copied(&self, alloc: Global) -> Result<InputString<Vec<u8>>, AllocError>
+    pub(crate) fn copied(&self, alloc: Global) -> Result<InputString<Vec<u8>>, AllocError>
         ensures { IfOk result (λ copy. seen_input_string copy ≡ seen_input_string self.now) }
     {
         Ok(InputString {
@@ -133,7 +133,7 @@ pub struct InputNumber {
 
 impl InputNumber {
     /// The same object in memory of its own.
-    pub fn copied(&self, alloc: Global) -> Result<InputNumber, AllocError>
+    pub(crate) fn copied(&self, alloc: Global) -> Result<InputNumber, AllocError>
         ensures { IfOk result (λ copy. copy ≡ self.now) }
     {
         Ok(InputNumber {
@@ -178,7 +178,7 @@ pub struct InputList {
 
 impl InputList {
     /// The same object in memory of its own.
-    pub fn copied(&self, alloc: Global) -> Result<InputList, AllocError>
+    pub(crate) fn copied(&self, alloc: Global) -> Result<InputList, AllocError>
         ensures { IfOk result (λ copy. copy ≡ self.now) }
     {
         Ok(InputList {

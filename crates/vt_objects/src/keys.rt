@@ -19,7 +19,7 @@ pub struct SoftKeyMask {
 
 impl SoftKeyMask {
     /// The same object in memory of its own.
-    pub fn copied(&self, alloc: Global) -> Result<SoftKeyMask, AllocError>
+    pub(crate) fn copied(&self, alloc: Global) -> Result<SoftKeyMask, AllocError>
         ensures { IfOk result (λ copy. copy ≡ self.now) }
     {
         Ok(SoftKeyMask {
@@ -45,7 +45,7 @@ pub struct Key {
 
 impl Key {
     /// The same object in memory of its own.
-    pub fn copied(&self, alloc: Global) -> Result<Key, AllocError>
+    pub(crate) fn copied(&self, alloc: Global) -> Result<Key, AllocError>
         ensures { IfOk result (λ copy. copy ≡ self.now) }
     {
         Ok(Key {
@@ -80,7 +80,7 @@ pub struct Button {
 
 impl Button {
     /// The same object in memory of its own.
-    pub fn copied(&self, alloc: Global) -> Result<Button, AllocError>
+    pub(crate) fn copied(&self, alloc: Global) -> Result<Button, AllocError>
         ensures { IfOk result (λ copy. copy ≡ self.now) }
     {
         Ok(Button {

@@ -38,7 +38,7 @@ mod store;
 mod variables;
 
 pub use attribute_objects::{FillAttributes, Font, InputAttributes, LineAttributes};
-pub use attributes::attribute;
+pub use attributes::{attribute, attributes_are_fields};
 pub use command::Command;
 pub use decimal::{Decimal, shown_is_one};
 pub use entries::{Child, Entries, Language, MacroEntry, Point};

@@ -16,7 +16,7 @@ pub struct Macro<B: AsSlice<u8>> {
 
 impl<B: AsSlice<u8>> Macro<B> {
     /// The same object in memory of its own.
-    pub fn copied(&self, alloc: Global) -> Result<Macro<Vec<u8>>, AllocError>
+    pub(crate) fn copied(&self, alloc: Global) -> Result<Macro<Vec<u8>>, AllocError>
         ensures { IfOk result (λ copy. seen_macro_object copy ≡ seen_macro_object self.now) }
     {
         Ok(Macro {

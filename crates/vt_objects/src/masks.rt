@@ -25,7 +25,7 @@ pub struct WorkingSet {
 
 impl WorkingSet {
     /// The same object in memory of its own.
-    pub fn copied(&self, alloc: Global) -> Result<WorkingSet, AllocError>
+    pub(crate) fn copied(&self, alloc: Global) -> Result<WorkingSet, AllocError>
         ensures { IfOk result (λ copy. copy ≡ self.now) }
     {
         Ok(WorkingSet {
@@ -54,7 +54,7 @@ pub struct DataMask {
 
 impl DataMask {
     /// The same object in memory of its own.
-    pub fn copied(&self, alloc: Global) -> Result<DataMask, AllocError>
+    pub(crate) fn copied(&self, alloc: Global) -> Result<DataMask, AllocError>
         ensures { IfOk result (λ copy. copy ≡ self.now) }
     {
         Ok(DataMask {
@@ -85,7 +85,7 @@ pub struct AlarmMask {
 
 impl AlarmMask {
     /// The same object in memory of its own.
-    pub fn copied(&self, alloc: Global) -> Result<AlarmMask, AllocError>
+    pub(crate) fn copied(&self, alloc: Global) -> Result<AlarmMask, AllocError>
         ensures { IfOk result (λ copy. copy ≡ self.now) }
     {
         Ok(AlarmMask {
@@ -116,7 +116,7 @@ pub struct Container {
 
 impl Container {
     /// The same object in memory of its own.
-    pub fn copied(&self, alloc: Global) -> Result<Container, AllocError>
+    pub(crate) fn copied(&self, alloc: Global) -> Result<Container, AllocError>
         ensures { IfOk result (λ copy. copy ≡ self.now) }
     {
         Ok(Container {

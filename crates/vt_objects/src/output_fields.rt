@@ -35,7 +35,7 @@ pub struct OutputString<B: AsSlice<u8>> {
 
 impl<B: AsSlice<u8>> OutputString<B> {
     /// The same object in memory of its own.
-    pub fn copied(&self, alloc: Global) -> Result<OutputString<Vec<u8>>, AllocError>
+    pub(crate) fn copied(&self, alloc: Global) -> Result<OutputString<Vec<u8>>, AllocError>
         ensures { IfOk result (λ copy. seen_output_string copy ≡ seen_output_string self.now) }
     {
         Ok(OutputString {
@@ -85,7 +85,7 @@ pub struct OutputNumber {
 
 impl OutputNumber {
     /// The same object in memory of its own.
-    pub fn copied(&self, alloc: Global) -> Result<OutputNumber, AllocError>
+    pub(crate) fn copied(&self, alloc: Global) -> Result<OutputNumber, AllocError>
         ensures { IfOk result (λ copy. copy ≡ self.now) }
     {
         Ok(OutputNumber {

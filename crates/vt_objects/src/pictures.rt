@@ -31,7 +31,7 @@ pub struct Picture<B: AsSlice<u8>> {
 
 impl<B: AsSlice<u8>> Picture<B> {
     /// The same object in memory of its own.
-    pub fn copied(&self, alloc: Global) -> Result<Picture<Vec<u8>>, AllocError>
+    pub(crate) fn copied(&self, alloc: Global) -> Result<Picture<Vec<u8>>, AllocError>
         ensures { IfOk result (λ copy. seen_picture copy ≡ seen_picture self.now) }
     {
         Ok(Picture {

@@ -23,7 +23,7 @@ pub struct Line {
 
 impl Line {
     /// The same object in memory of its own.
-    pub fn copied(&self, alloc: Global) -> Result<Line, AllocError>
+    pub(crate) fn copied(&self, alloc: Global) -> Result<Line, AllocError>
         ensures { IfOk result (λ copy. copy ≡ self.now) }
     {
         Ok(Line {
@@ -55,7 +55,7 @@ pub struct Rectangle {
 
 impl Rectangle {
     /// The same object in memory of its own.
-    pub fn copied(&self, alloc: Global) -> Result<Rectangle, AllocError>
+    pub(crate) fn copied(&self, alloc: Global) -> Result<Rectangle, AllocError>
         ensures { IfOk result (λ copy. copy ≡ self.now) }
     {
         Ok(Rectangle {
@@ -92,7 +92,7 @@ pub struct Ellipse {
 
 impl Ellipse {
     /// The same object in memory of its own.
-    pub fn copied(&self, alloc: Global) -> Result<Ellipse, AllocError>
+    pub(crate) fn copied(&self, alloc: Global) -> Result<Ellipse, AllocError>
         ensures { IfOk result (λ copy. copy ≡ self.now) }
     {
         Ok(Ellipse {
@@ -129,7 +129,7 @@ pub struct Polygon {
 
 impl Polygon {
     /// The same object in memory of its own.
-    pub fn copied(&self, alloc: Global) -> Result<Polygon, AllocError>
+    pub(crate) fn copied(&self, alloc: Global) -> Result<Polygon, AllocError>
         ensures { IfOk result (λ copy. copy ≡ self.now) }
     {
         Ok(Polygon {

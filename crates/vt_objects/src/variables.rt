@@ -24,7 +24,7 @@ pub struct StringVariable<B: AsSlice<u8>> {
 
 impl<B: AsSlice<u8>> StringVariable<B> {
     /// The same object in memory of its own.
-    pub fn copied(&self, alloc: Global) -> Result<StringVariable<Vec<u8>>, AllocError>
+    pub(crate) fn copied(&self, alloc: Global) -> Result<StringVariable<Vec<u8>>, AllocError>
         ensures { IfOk result (λ copy. seen_string_variable copy ≡ seen_string_variable self.now) }
     {
         Ok(StringVariable {

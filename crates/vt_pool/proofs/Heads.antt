@@ -5,7 +5,7 @@ use Rattle.byteorder.specs.Endian.{little_number}
 use Rattle.vt_objects.specs.declared.kind.Kind.{Kind}
 use Rattle.vt_objects.specs.declared.kind.Kind.TheVariants as kinds
 use Rattle.vt_objects.specs.Layout.{Value}
-use Rattle.vt_objects.specs.Kinds.{kind_number, kind_at, kind_among, kinds}
+use Rattle.vt_objects.specs.Kinds.{kind_number, kind_at, kind_among, every_kind}
 use Rattle.vt_objects.specs.Records.{fields_of}
 use Rattle.vt_pool.specs.declared.stop.Stop.{Stop}
 use Rattle.vt_pool.specs.declared.stop.Stop.TheVariants as stops
@@ -24,7 +24,7 @@ kind_among_is (k0 ∷ ks) n k e = among_cases (eqb n (kind_number k0)) k0 (kind_
 
 -- the number of a kind is no other kind's
 pub kind_at_is : (n : ℕ) (k : Kind) → kind_at n ≡ Some k → n ≡ kind_number k
-kind_at_is n k e = kind_among_is kinds n k e
+kind_at_is n k e = kind_among_is every_kind n k e
 
 pub kind_at-kind_number : (k : Kind) → kind_at (kind_number k) ≡ Some k
 kind_at-kind_number kinds.WorkingSet = refl

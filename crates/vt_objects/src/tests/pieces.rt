@@ -25,11 +25,7 @@ const FIRST_COMMANDS: [(&[u8], Option<usize>); 13] = [
 #[test]
 fn first_command_of_a_macro(rt: HostRuntime) {
     for (bytes, wanted) in FIRST_COMMANDS {
-        let length = match split_command(bytes) {
-            Some((piece, rest)) if piece.len() + rest.len() == bytes.len() => Some(piece.len()),
-            Some(_) => Some(0),
-            None => None,
-        };
-        assert_eq!(rt; length, wanted);
+        let parts = split_command(bytes);
+        assert_eq!(rt; parts, wanted.map(|length| bytes.split_at(length)));
     }
 }

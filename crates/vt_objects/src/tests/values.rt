@@ -23,8 +23,8 @@ fn lowest_bytes(rt: HostRuntime) {
     }
 }
 
-// Numbers, and whether a field of this sort takes them.
-const NUMBERS: [(Values, u32, bool); 23] = [
+// Values, and whether a field of this sort takes their lowest bytes.
+const NUMBERS: [(Values, u32, bool); 26] = [
     (Values::Byte, 0, true),
     (Values::Byte, 255, true),
     (Values::Word, 0, true),
@@ -48,6 +48,9 @@ const NUMBERS: [(Values, u32, bool); 23] = [
     (Values::Decimals, 7, true),
     (Values::Decimals, 8, false),
     (Values::Decimals, 255, false),
+    (Values::Decimals, 0xFFFF_FF07, true),
+    (Values::Priority, 0x0100, true),
+    (Values::Priority, 0x0103, false),
 ];
 
 #[test]
