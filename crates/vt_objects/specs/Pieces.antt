@@ -1,5 +1,6 @@
 -- The bytes of a macro, cut into its commands (docs/PROFILE.md, "A macro's bytes").
-use Rattle.std.specs.Prelude.{◌≡◌, ℕ, ◌+◌, max, List, ◌++◌, length, ◌==◌, if◌then◌else◌}
+use Rattle.std.specs.Prelude.{◌≡◌, ◌<◌, ◌↔◌, ℕ, zero, suc, ◌+◌, max, nat_le, List, [], ◌∷◌, ◌++◌, length, take, drop, ◌==◌, if◌then◌else◌, Option, Some, None}
+use Rattle.std.specs.Option.{option_map}
 use Rattle.std.specs.List.{AllByRecursion, flat_map}
 use Rattle.vt_objects.specs.Commands.{byte, word}
 
@@ -25,6 +26,24 @@ pub record IsSplit (bytes piece rest : List ℕ) : Type 0 where
   pub whole : IsPiece piece
   pub parts : bytes ≡ piece ++ rest
 
+-- the pieces of bytes, where they are cut into that many at most
+unfoldable pub cut_within : ℕ → List ℕ → Option (List (List ℕ))
+cut_within most [] = Some []
+cut_within zero (b ∷ bytes) = None
+cut_within (suc most) (b ∷ bytes) =
+    let n = command_length (b ∷ bytes) in
+    if nat_le n (length (b ∷ bytes))
+    then option_map (λ pieces. take n (b ∷ bytes) ∷ pieces) (cut_within most (drop n (b ∷ bytes)))
+    else None
+
+-- the pieces of bytes that are cut, of which each has at least one
+abbrev pub cut : List ℕ → Option (List (List ℕ))
+cut bytes = cut_within (length bytes) bytes
+
 -- Bytes are cut in one way alone.
-abbrev pub CutIsOne : Type 0
-CutIsOne = (bytes : List ℕ) (a b : List (List ℕ)) → IsCut bytes a → IsCut bytes b → a ≡ b
+pub record CutIsOne : Type 0 where
+  pub one : (bytes : List ℕ) (a b : List (List ℕ)) → IsCut bytes a → IsCut bytes b → a ≡ b
+  pub found : (bytes : List ℕ) (pieces : List (List ℕ)) → IsCut bytes pieces ↔ (cut bytes ≡ Some pieces)
+  -- a piece after the other
+  pub first : (bytes piece rest : List ℕ) → IsSplit bytes piece rest → cut bytes ≡ option_map (λ pieces. piece ∷ pieces) (cut rest)
+  pub none : (bytes : List ℕ) → 0 < length bytes → ((piece rest : List ℕ) → IsSplit bytes piece rest → ⊥) → cut bytes ≡ None

@@ -1,7 +1,8 @@
 -- The record of an object under an ID (docs/PROFILE.md, "Records").
-use Rattle.std.specs.Prelude.{◌<◌, ℕ, List, ◌∷◌, ◌++◌}
+use Rattle.std.specs.Prelude.{◌<◌, ℕ, List, [], ◌∷◌, ◌++◌}
 use Rattle.byteorder.specs.Endian.{little_bytes}
 use Rattle.vt_objects.specs.declared.kind.Kind.{Kind}
+use Rattle.vt_objects.specs.declared.entries.MacroEntry.{MacroEntry}
 use Rattle.vt_objects.specs.declared.kind.Kind.TheVariants as kinds
 use Rattle.vt_objects.specs.declared.input_fields.InputString.{InputString}
 use Rattle.vt_objects.specs.declared.output_fields.OutputString.{OutputString}
@@ -131,6 +132,39 @@ kind_of (objects.FillAttributes o) = kinds.FillAttributes
 kind_of (objects.InputAttributes o) = kinds.InputAttributes
 kind_of (objects.ObjectPointer o) = kinds.ObjectPointer
 kind_of (objects.Macro o) = kinds.Macro
+
+-- ---- the macros of its events
+
+abbrev pub macros_of : {B : Type 0} → Object B → List MacroEntry
+macros_of (objects.WorkingSet o) = o.macros
+macros_of (objects.DataMask o) = o.macros
+macros_of (objects.AlarmMask o) = o.macros
+macros_of (objects.Container o) = o.macros
+macros_of (objects.SoftKeyMask o) = o.macros
+macros_of (objects.Key o) = o.macros
+macros_of (objects.Button o) = o.macros
+macros_of (objects.InputBoolean o) = o.macros
+macros_of (objects.InputString o) = o.macros
+macros_of (objects.InputNumber o) = o.macros
+macros_of (objects.InputList o) = o.macros
+macros_of (objects.OutputString o) = o.macros
+macros_of (objects.OutputNumber o) = o.macros
+macros_of (objects.Line o) = o.macros
+macros_of (objects.Rectangle o) = o.macros
+macros_of (objects.Ellipse o) = o.macros
+macros_of (objects.Polygon o) = o.macros
+macros_of (objects.Meter o) = o.macros
+macros_of (objects.LinearBar o) = o.macros
+macros_of (objects.ArchedBar o) = o.macros
+macros_of (objects.Picture o) = o.macros
+macros_of (objects.Font o) = o.macros
+macros_of (objects.LineAttributes o) = o.macros
+macros_of (objects.FillAttributes o) = o.macros
+macros_of (objects.InputAttributes o) = o.macros
+macros_of (objects.NumberVariable o) = []
+macros_of (objects.StringVariable o) = []
+macros_of (objects.ObjectPointer o) = []
+macros_of (objects.Macro o) = []
 
 -- ---- the table of each kind
 

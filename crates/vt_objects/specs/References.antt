@@ -32,6 +32,46 @@ is_pointer kind = false
 abbrev pub all_but_pointers : List Kind
 all_but_pointers = filter (λ kind. not (is_pointer kind)) every_kind
 
+-- what has children with places
+abbrev pub parents : List Kind
+parents =
+    kinds.WorkingSet ∷ kinds.DataMask ∷ kinds.AlarmMask ∷ kinds.Container ∷ kinds.Key ∷ kinds.Button ∷ []
+
+-- what has a size, a background colour, an input that may be enabled, a numeric value and a text that commands change
+abbrev pub sized : List Kind
+sized =
+    kinds.Container ∷ kinds.Button ∷ kinds.InputBoolean ∷ kinds.InputString ∷ kinds.InputNumber ∷ kinds.InputList
+    ∷ kinds.OutputString ∷ kinds.OutputNumber ∷ kinds.Rectangle ∷ kinds.Ellipse ∷ kinds.Polygon ∷ kinds.Meter
+    ∷ kinds.LinearBar ∷ kinds.ArchedBar ∷ kinds.Picture ∷ []
+
+abbrev pub coloured : List Kind
+coloured =
+    kinds.WorkingSet ∷ kinds.DataMask ∷ kinds.AlarmMask ∷ kinds.SoftKeyMask ∷ kinds.Key ∷ kinds.Button
+    ∷ kinds.InputBoolean ∷ kinds.InputString ∷ kinds.InputNumber ∷ kinds.OutputString ∷ kinds.OutputNumber ∷ []
+
+abbrev pub inputs : List Kind
+inputs =
+    kinds.InputBoolean ∷ kinds.InputString ∷ kinds.InputNumber ∷ kinds.InputList ∷ []
+
+abbrev pub numeric : List Kind
+numeric =
+    kinds.InputBoolean ∷ kinds.InputNumber ∷ kinds.InputList ∷ kinds.OutputNumber ∷ kinds.Meter ∷ kinds.LinearBar
+    ∷ kinds.ArchedBar ∷ kinds.NumberVariable ∷ kinds.ObjectPointer ∷ []
+
+abbrev pub texts : List Kind
+texts =
+    kinds.InputString ∷ kinds.OutputString ∷ kinds.StringVariable ∷ []
+
+-- what has attributes that Change Attribute writes: all but variables and macros
+abbrev pub has_none : Kind → Bool
+has_none kinds.NumberVariable = true
+has_none kinds.StringVariable = true
+has_none kinds.Macro = true
+has_none kind = false
+
+abbrev pub with_attributes : List Kind
+with_attributes = filter (λ kind. not (has_none kind)) every_kind
+
 abbrev pub members : Kinds → List Kind
 members sets.Masks = kinds.DataMask ∷ kinds.AlarmMask ∷ []
 members sets.SoftKeyMasks = kinds.SoftKeyMask ∷ []
@@ -46,6 +86,19 @@ members sets.LineAttributes = kinds.LineAttributes ∷ []
 members sets.FillAttributes = kinds.FillAttributes ∷ []
 members sets.Pictures = kinds.Picture ∷ []
 members sets.AllButPointers = all_but_pointers
+members sets.WorkingSets = kinds.WorkingSet ∷ []
+members sets.AlarmMasks = kinds.AlarmMask ∷ []
+members sets.Containers = kinds.Container ∷ []
+members sets.Parents = parents
+members sets.Sized = sized
+members sets.Coloured = coloured
+members sets.Inputs = inputs
+members sets.InputLists = kinds.InputList ∷ []
+members sets.Numeric = numeric
+members sets.Texts = texts
+members sets.Lines = kinds.Line ∷ []
+members sets.WithAttributes = with_attributes
+members sets.Macros = kinds.Macro ∷ []
 
 -- ---- the kinds and NULL at the places of an object of a kind
 

@@ -3,11 +3,22 @@
 ghost use Rattle.std.specs.Prelude.{◌≡◌, ◌==◌};
 ghost use Rattle.std.specs.List.{list_any};
 ghost use Rattle.vt_objects.specs.Kinds.{kind_number};
-ghost use Rattle.vt_objects.specs.References.{drawn_in_working_set, members};
+ghost use Rattle.vt_objects.specs.References.{
+  drawn_in_working_set,
+  parents,
+  sized,
+  coloured,
+  inputs,
+  numeric,
+  texts,
+  with_attributes,
+  members,
+};
 
 use crate::kind::Kind;
 
-/// A set of kinds: what a place allows.
+/// A set of kinds: what a place allows, or what a command changes (docs/PROFILE.md, "Places and their kinds" and
+/// "Commands").
 #[derive(Clone, Copy, Debug, PartialEq, Eq)]
 pub enum Kinds {
     Masks,
@@ -27,6 +38,26 @@ pub enum Kinds {
     FillAttributes,
     Pictures,
     AllButPointers,
+    WorkingSets,
+    AlarmMasks,
+    Containers,
+    /// What has children with places: working sets, masks, containers, keys and buttons.
+    Parents,
+    /// What has a size that a command changes.
+    Sized,
+    /// What has a background colour that a command changes.
+    Coloured,
+    /// What may be enabled and disabled.
+    Inputs,
+    InputLists,
+    /// What has a numeric value that a command changes, pointers too.
+    Numeric,
+    /// What has a text that a command changes.
+    Texts,
+    Lines,
+    /// What has attributes that a command changes.
+    WithAttributes,
+    Macros,
 }
 
 impl Kinds {
@@ -48,6 +79,19 @@ impl Kinds {
             Kinds::FillAttributes => matches!(kind, Kind::FillAttributes),
             Kinds::Pictures => matches!(kind, Kind::Picture),
             Kinds::AllButPointers => !matches!(kind, Kind::ObjectPointer),
+            Kinds::WorkingSets => matches!(kind, Kind::WorkingSet),
+            Kinds::AlarmMasks => matches!(kind, Kind::AlarmMask),
+            Kinds::Containers => matches!(kind, Kind::Container),
+            Kinds::Parents => is_parent(kind),
+            Kinds::Sized => is_sized(kind),
+            Kinds::Coloured => is_coloured(kind),
+            Kinds::Inputs => is_input(kind),
+            Kinds::InputLists => matches!(kind, Kind::InputList),
+            Kinds::Numeric => is_numeric(kind),
+            Kinds::Texts => is_text(kind),
+            Kinds::Lines => matches!(kind, Kind::Line),
+            Kinds::WithAttributes => has_attributes(kind),
+            Kinds::Macros => matches!(kind, Kind::Macro),
         }
     }
 }
@@ -74,5 +118,105 @@ fn is_drawn_in_working_set(kind: Kind) -> bool
             | Kind::ArchedBar
             | Kind::Picture
             | Kind::ObjectPointer
+    )
+}
+
+fn is_parent(kind: Kind) -> bool
+    ensures { result ≡ list_any (λ member. kind_number member == kind_number kind) parents }
+{
+    matches!(
+        kind,
+        Kind::WorkingSet
+            | Kind::DataMask
+            | Kind::AlarmMask
+            | Kind::Container
+            | Kind::Key
+            | Kind::Button
+    )
+}
+
+fn is_sized(kind: Kind) -> bool
+    ensures { result ≡ list_any (λ member. kind_number member == kind_number kind) sized }
+{
+    matches!(
+        kind,
+        Kind::Container
+            | Kind::Button
+            | Kind::InputBoolean
+            | Kind::InputString
+            | Kind::InputNumber
+            | Kind::InputList
+            | Kind::OutputString
+            | Kind::OutputNumber
+            | Kind::Rectangle
+            | Kind::Ellipse
+            | Kind::Polygon
+            | Kind::Meter
+            | Kind::LinearBar
+            | Kind::ArchedBar
+            | Kind::Picture
+    )
+}
+
+fn is_coloured(kind: Kind) -> bool
+    ensures { result ≡ list_any (λ member. kind_number member == kind_number kind) coloured }
+{
+    matches!(
+        kind,
+        Kind::WorkingSet
+            | Kind::DataMask
+            | Kind::AlarmMask
+            | Kind::SoftKeyMask
+            | Kind::Key
+            | Kind::Button
+            | Kind::InputBoolean
+            | Kind::InputString
+            | Kind::InputNumber
+            | Kind::OutputString
+            | Kind::OutputNumber
+    )
+}
+
+fn is_input(kind: Kind) -> bool
+    ensures { result ≡ list_any (λ member. kind_number member == kind_number kind) inputs }
+{
+    matches!(
+        kind,
+        Kind::InputBoolean | Kind::InputString | Kind::InputNumber | Kind::InputList
+    )
+}
+
+fn is_numeric(kind: Kind) -> bool
+    ensures { result ≡ list_any (λ member. kind_number member == kind_number kind) numeric }
+{
+    matches!(
+        kind,
+        Kind::InputBoolean
+            | Kind::InputNumber
+            | Kind::InputList
+            | Kind::OutputNumber
+            | Kind::Meter
+            | Kind::LinearBar
+            | Kind::ArchedBar
+            | Kind::NumberVariable
+            | Kind::ObjectPointer
+    )
+}
+
+fn is_text(kind: Kind) -> bool
+    ensures { result ≡ list_any (λ member. kind_number member == kind_number kind) texts }
+{
+    matches!(
+        kind,
+        Kind::InputString | Kind::OutputString | Kind::StringVariable
+    )
+}
+
+fn has_attributes(kind: Kind) -> bool
+    ensures { result ≡ list_any (λ member. kind_number member == kind_number kind) with_attributes }
+{
+    !matches!(
+        kind,
+        Kind::NumberVariable | Kind::StringVariable | Kind::Macro
     )
 }

@@ -1,9 +1,10 @@
 //! An object of any kind.
 
 ghost use Rattle.std.specs.Prelude.{◌≡◌, IfOk};
-ghost use Rattle.vt_objects.specs.Records.{kind_of, seen};
+ghost use Rattle.vt_objects.specs.Records.{kind_of, macros_of, seen};
 
 use crate::attribute_objects::{FillAttributes, Font, InputAttributes, LineAttributes};
+use crate::entries::MacroEntry;
 use crate::graphs::{ArchedBar, LinearBar, Meter};
 use crate::input_fields::{InputBoolean, InputList, InputNumber, InputString};
 use crate::keys::{Button, Key, SoftKeyMask};
@@ -86,6 +87,43 @@ impl<B: AsSlice<u8>> Object<B> {
             Object::InputAttributes(_) => Kind::InputAttributes,
             Object::ObjectPointer(_) => Kind::ObjectPointer,
             Object::Macro(_) => Kind::Macro,
+        }
+    }
+
+    /// The macros of its events, none of a kind that has no events.
+    pub fn macros(&self) -> &[MacroEntry]
+        ensures { result.now ≡ macros_of self.now }
+    {
+        match self {
+            Object::WorkingSet(o) => o.macros.as_slice(),
+            Object::DataMask(o) => o.macros.as_slice(),
+            Object::AlarmMask(o) => o.macros.as_slice(),
+            Object::Container(o) => o.macros.as_slice(),
+            Object::SoftKeyMask(o) => o.macros.as_slice(),
+            Object::Key(o) => o.macros.as_slice(),
+            Object::Button(o) => o.macros.as_slice(),
+            Object::InputBoolean(o) => o.macros.as_slice(),
+            Object::InputString(o) => o.macros.as_slice(),
+            Object::InputNumber(o) => o.macros.as_slice(),
+            Object::InputList(o) => o.macros.as_slice(),
+            Object::OutputString(o) => o.macros.as_slice(),
+            Object::OutputNumber(o) => o.macros.as_slice(),
+            Object::Line(o) => o.macros.as_slice(),
+            Object::Rectangle(o) => o.macros.as_slice(),
+            Object::Ellipse(o) => o.macros.as_slice(),
+            Object::Polygon(o) => o.macros.as_slice(),
+            Object::Meter(o) => o.macros.as_slice(),
+            Object::LinearBar(o) => o.macros.as_slice(),
+            Object::ArchedBar(o) => o.macros.as_slice(),
+            Object::Picture(o) => o.macros.as_slice(),
+            Object::Font(o) => o.macros.as_slice(),
+            Object::LineAttributes(o) => o.macros.as_slice(),
+            Object::FillAttributes(o) => o.macros.as_slice(),
+            Object::InputAttributes(o) => o.macros.as_slice(),
+            Object::NumberVariable(_)
+            | Object::StringVariable(_)
+            | Object::ObjectPointer(_)
+            | Object::Macro(_) => &[],
         }
     }
 

@@ -5,8 +5,8 @@ use Rattle.std.proofs.lemmas.Nat.Bits.{bit_at-zero}
 use Rattle.std.proofs.lemmas.List.{get_or_past, length-set}
 use Rattle.vt_rank.specs.declared.graph.Graph.{Graph}
 use Rattle.vt_rank.specs.declared.node_set.NodeSet.{NodeSet}
-use Rattle.vt_rank.specs.Graphs.{Triggers, triggered}
-use Rattle.vt_rank.specs.Paths.{IsPath}
+use Rattle.vt_rank.specs.Graphs.{triggered}
+use Rattle.vt_rank.specs.Paths.{Triggers, IsPath}
 use Rattle.vt_rank.specs.NodeSets.{bit_of, IsIn, IsSetOf, IsJoined, row, Reaches, Leads}
 use Rattle.vt_rank.proofs.Paths.{IsPath-join}
 use Rattle.vt_rank.proofs.Searching.{none_past}
@@ -84,7 +84,7 @@ rows_joined before now via node size all j m =
 
 pub record IsClosing (g : Graph) (rows : List NodeSet) (via : ℕ) : Type 0 where
   pub sound : (m n : ℕ) → Reaches rows m n → Leads g m n
-  pub direct : (m n : ℕ) → Triggers g m n → Reaches rows m n
+  pub direct : (m n : ℕ) → Triggers (triggered g) m n → Reaches rows m n
   pub through : (m v n : ℕ) → v < via → Reaches rows m v → Reaches rows v n → Reaches rows m n
 
 pub closing_begins : (g : Graph) (rows : List NodeSet) → ((m : ℕ) → IsSetOf (row rows m) (triggered g m)) → IsClosing g rows 0
@@ -96,7 +96,7 @@ closing_begins g rows are = record {
 
 leads_on : (g : Graph) (m v n : ℕ) → Leads g m v → Leads g v n → Leads g m n
 leads_on g m v n first then_ =
-    (first.0 ++ v ∷ then_.0, subst (IsPath g) (sym (append_assoc (m ∷ first.0) (v ∷ then_.0) (n ∷ []))) (IsPath-join g (m ∷ first.0) v (then_.0 ++ n ∷ []) first.1 then_.1))
+    (first.0 ++ v ∷ then_.0, subst (IsPath (triggered g)) (sym (append_assoc (m ∷ first.0) (v ∷ then_.0) (n ∷ []))) (IsPath-join g (m ∷ first.0) v (then_.0 ++ n ∷ []) first.1 then_.1))
 
 pub closing_more : (g : Graph) (before now : List NodeSet) (via : ℕ) → IsClosing g before via → ((m : ℕ) → IsJoined (row before m) (row now m) (row before via) via) → IsClosing g now (via + 1)
 closing_more g before now via c are =
@@ -125,11 +125,11 @@ closing_more g before now via c are =
           ];
     }
 
-ends : (g : Graph) (z : ℕ) (zs : List ℕ) (n : ℕ) → 256 ≤ z → IsPath g (z ∷ zs ++ n ∷ []) → ⊥
+ends : (g : Graph) (z : ℕ) (zs : List ℕ) (n : ℕ) → 256 ≤ z → IsPath (triggered g) (z ∷ zs ++ n ∷ []) → ⊥
 ends g z [] n past h = none_past g z n past h.0
 ends g z (y ∷ ys) n past h = none_past g z y past h.0
 
-along : (g : Graph) (rows : List NodeSet) (via : ℕ) → 256 ≤ via → IsClosing g rows via → (m : ℕ) (between : List ℕ) (n : ℕ) → IsPath g (m ∷ between ++ n ∷ []) → Reaches rows m n
+along : (g : Graph) (rows : List NodeSet) (via : ℕ) → 256 ≤ via → IsClosing g rows via → (m : ℕ) (between : List ℕ) (n : ℕ) → IsPath (triggered g) (m ∷ between ++ n ∷ []) → Reaches rows m n
 along g rows via all c m [] n h = c.direct m n h.0
 along g rows via all c m (z ∷ zs) n h =
     let rest = along g rows via all c z zs n h.1 in

@@ -8,9 +8,9 @@ use Rattle.vt_rank.specs.declared.graph.Graph.{Graph}
 use Rattle.vt_rank.specs.declared.graph.Item.{Item}
 use Rattle.vt_rank.specs.declared.node_set.NodeSet.{NodeSet}
 use Rattle.vt_rank.specs.declared.search.Search.{Search}
-use Rattle.vt_rank.specs.Graphs.{Triggers, items_of, nodes_of, lists}
+use Rattle.vt_rank.specs.Graphs.{items_of, nodes_of, lists, triggered}
 use Rattle.vt_rank.specs.NodeSets.{IsIn, Adds, row, AreTargets}
-use Rattle.vt_rank.specs.Paths.{IsPath, IsOnCircle, AreRanks}
+use Rattle.vt_rank.specs.Paths.{Triggers, IsPath, IsOnCircle, AreRanks}
 use Rattle.vt_rank.specs.Searches.{IsSearch}
 use Rattle.vt_rank.proofs.Members.{Contains-nil, IsDistinct-push, IsDistinct-pop}
 use Rattle.vt_rank.proofs.MarkedNodes.{marked_here, marked_before, absent-insert, absent-none}
@@ -29,7 +29,7 @@ search_begins g s unranked unseen size count = record {
 }
 
 -- a node that was not seen goes on the path
-pub search_pushed : (g : Graph) (s : Search) (path : List ℕ) (n : ℕ) (seen : NodeSet) → IsSearch g s path → IsPath g (path ++ n ∷ []) → (IsIn s.seen n → ⊥) → (IsIn s.ranked n → ⊥) → n < 256 → Adds s.seen seen (n ∷ []) → IsSearch g (record s { seen = seen }) (path ++ n ∷ [])
+pub search_pushed : (g : Graph) (s : Search) (path : List ℕ) (n : ℕ) (seen : NodeSet) → IsSearch g s path → IsPath (triggered g) (path ++ n ∷ []) → (IsIn s.seen n → ⊥) → (IsIn s.ranked n → ⊥) → n < 256 → Adds s.seen seen (n ∷ []) → IsSearch g (record s { seen = seen }) (path ++ n ∷ [])
 search_pushed g s path n seen h longer unseen unranked small a = record {
   falls = h.falls;
   below = h.below;
@@ -50,7 +50,7 @@ search_pushed g s path n seen h longer unseen unranked small a = record {
 }
 
 -- the last node of the path gets the next rank, where all that it triggers has one
-pub search_ranked : (g : Graph) (s : Search) (front : List ℕ) (node : ℕ) (ranked : NodeSet) → IsSearch g s (front ++ node ∷ []) → ((n : ℕ) → Triggers g node n → IsIn s.ranked n) → Adds s.ranked ranked (node ∷ []) → node < length s.ranks
+pub search_ranked : (g : Graph) (s : Search) (front : List ℕ) (node : ℕ) (ranked : NodeSet) → IsSearch g s (front ++ node ∷ []) → ((n : ℕ) → Triggers (triggered g) node n → IsIn s.ranked n) → Adds s.ranked ranked (node ∷ []) → node < length s.ranks
     → IsSearch g (record s { ranks = set s.ranks node s.count; ranked = ranked; count = s.count + 1 }) front
 search_ranked g s front node ranked h all a here =
     let on_path = h.on_path node (Contains-push front node) in
@@ -63,7 +63,7 @@ search_ranked g s front node ranked h all a here =
           elim (marked_before s.ranked ranked node m a marked) as (λ _. IsIn ranked n × (slice_index (set s.ranks node s.count) n < slice_index (set s.ranks node s.count) m)) [
             | inl before ↦ let old = h.falls m n before t in (a.kept n old.0, omega (arith, old.1, kept n old.0, kept m before))
             | inr same ↦
-                let target = all n (subst (λ (k : ℕ). Triggers g k n) (sym same) t) in
+                let target = all n (subst (λ (k : ℕ). Triggers (triggered g) k n) (sym same) t) in
                 let value : slice_index (set s.ranks node s.count) m ≡ s.count = subst (λ (k : ℕ). slice_index (set s.ranks node s.count) k ≡ s.count) same now in
                 (a.kept n target, omega (arith, kept n target, h.below n target, value))
           ];
@@ -101,10 +101,10 @@ pub record IsVisit (g : Graph) (start : ℕ) (before now : Search) (path : List 
 
 -- ---- the steps of a visit, with what its calls say
 
-pub target_is : (g : Graph) (rows : List NodeSet) (node i n : ℕ) → AreTargets g rows → i ≡ node → IsIn (row rows i) n → Triggers g node n
+pub target_is : (g : Graph) (rows : List NodeSet) (node i n : ℕ) → AreTargets g rows → i ≡ node → IsIn (row rows i) n → Triggers (triggered g) node n
 target_is g rows node i n are at is = (are node n).0 (subst (λ (k : ℕ). IsIn (row rows k) n) at is)
 
-pub targets_in : (g : Graph) (rows : List NodeSet) (node i n : ℕ) → AreTargets g rows → i ≡ node → Triggers g node n → IsIn (row rows i) n
+pub targets_in : (g : Graph) (rows : List NodeSet) (node i n : ℕ) → AreTargets g rows → i ≡ node → Triggers (triggered g) node n → IsIn (row rows i) n
 targets_in g rows node i n are at t = subst (λ (k : ℕ). IsIn (row rows k) n) (sym at) ((are node n).1 t)
 
 pub visit_begins : (g : Graph) (start : ℕ) (s : Search) (seen : NodeSet) (front path : List ℕ)
@@ -121,11 +121,11 @@ visit_begins g start s seen front path h unranked small a none is_path =
     }
 
 pub visit_pushed : (g : Graph) (start : ℕ) (before s : Search) (path front : List ℕ) (node next : ℕ) (seen : NodeSet) (after later : List ℕ)
-    → IsVisit g start before s path → path ≡ front ++ node ∷ [] → Triggers g node next → (IsIn s.ranked next → ⊥) → (IsIn s.seen next → ⊥) → next < 256 → Adds s.seen seen (next ∷ []) → after ≡ front ++ node ∷ [] → later ≡ after ++ next ∷ []
+    → IsVisit g start before s path → path ≡ front ++ node ∷ [] → Triggers (triggered g) node next → (IsIn s.ranked next → ⊥) → (IsIn s.seen next → ⊥) → next < 256 → Adds s.seen seen (next ∷ []) → after ≡ front ++ node ∷ [] → later ≡ after ++ next ∷ []
     → IsVisit g start before (record s { seen = seen }) later
 visit_pushed g start before s path front node next seen after later v parts t unranked unseen small a is_after is_later =
     let is : later ≡ path ++ next ∷ [] = is_later ∙ ap (λ (xs : List ℕ). xs ++ next ∷ []) (is_after ∙ sym parts) in
-    let walk : IsPath g (path ++ next ∷ []) = subst (λ (p : List ℕ). IsPath g (p ++ next ∷ [])) (sym parts) (IsPath-push g front node next (subst (IsPath g) parts v.search.walk) t) in
+    let walk : IsPath (triggered g) (path ++ next ∷ []) = subst (λ (p : List ℕ). IsPath (triggered g) (p ++ next ∷ [])) (sym parts) (IsPath-push g front node next (subst (IsPath (triggered g)) parts v.search.walk) t) in
     let pushed = search_pushed g s path next seen v.search walk unseen unranked small a in
     record {
       search = subst (λ (p : List ℕ). IsSearch g (record s { seen = seen }) p) (sym is) pushed;
@@ -140,7 +140,7 @@ visit_room g start before s path front node next seen after v parts unseen small
     omega (arith, same, search_room g s path next seen v.search unseen small a)
 
 pub visit_ranked : (g : Graph) (start : ℕ) (before s : Search) (path front : List ℕ) (node i : ℕ) (ranked : NodeSet)
-    → IsVisit g start before s path → path ≡ front ++ node ∷ [] → ((n : ℕ) → Triggers g node n → IsIn s.ranked n) → i ≡ node → node < length s.ranks → Adds s.ranked ranked (node ∷ [])
+    → IsVisit g start before s path → path ≡ front ++ node ∷ [] → ((n : ℕ) → Triggers (triggered g) node n → IsIn s.ranked n) → i ≡ node → node < length s.ranks → Adds s.ranked ranked (node ∷ [])
     → IsVisit g start before (record s { ranks = set s.ranks i s.count; ranked = ranked; count = s.count + 1 }) front
 visit_ranked g start before s path front node i ranked v parts all at here a =
     let h = subst (IsSearch g s) parts v.search in
@@ -159,11 +159,11 @@ visit_ranked g start before s path front node i ranked v parts all at here a =
     }
 
 pub visit_circle : (g : Graph) (start : ℕ) (before s : Search) (path front : List ℕ) (node next : ℕ)
-    → IsVisit g start before s path → path ≡ front ++ node ∷ [] → Triggers g node next → (IsIn s.ranked next → ⊥) → IsIn s.seen next → IsOnCircle g next
+    → IsVisit g start before s path → path ≡ front ++ node ∷ [] → Triggers (triggered g) node next → (IsIn s.ranked next → ⊥) → IsIn s.seen next → IsOnCircle g next
 visit_circle g start before s path front node next v parts t unranked seen =
     elim (v.search.seen next seen) as (λ _. IsOnCircle g next) [
       | inl ranked ↦ absurd (unranked ranked)
-      | inr on_path ↦ closed_path g front node next (subst (IsPath g) parts v.search.walk) t (subst (λ (p : List ℕ). Contains p next) parts on_path)
+      | inr on_path ↦ closed_path g front node next (subst (IsPath (triggered g)) parts v.search.walk) t (subst (λ (p : List ℕ). Contains p next) parts on_path)
     ]
 
 -- ---- at the end
@@ -172,7 +172,7 @@ pub items_past : (g : Graph) (m : ℕ) → 256 ≤ m → items_of g m ≡ []
 unfolding items_of
 items_past g m past = get_or_past (take 256 (lists g.nodes)) m [] (omega (arith, length-take 256 (lists g.nodes)))
 
-pub none_past : (g : Graph) (m n : ℕ) → 256 ≤ m → Triggers g m n → ⊥
+pub none_past : (g : Graph) (m n : ℕ) → 256 ≤ m → Triggers (triggered g) m n → ⊥
 none_past g m n past t = Contains-nil n (subst (λ (items : List Item). Contains (flat_map (nodes_of g) items) n) (items_past g m past) t)
 
 pub all_ranked : (g : Graph) (s : Search) → IsSearch g s [] → ((n : ℕ) → n < 256 → IsIn s.ranked n) → AreRanks g s.ranks

@@ -6,8 +6,8 @@ use Rattle.std.proofs.lemmas.List.Elements.{Contains-append_left, Contains-appen
 use Rattle.vt_rank.specs.declared.graph.Graph.{Graph}
 use Rattle.vt_rank.specs.declared.graph.Item.{Item}
 use Rattle.vt_rank.specs.declared.graph.Item.TheVariants.{Step, Group, Most}
-use Rattle.vt_rank.specs.Graphs.{items_of, group_of, nodes_of, Triggers}
-use Rattle.vt_rank.specs.Paths.{AreRanks}
+use Rattle.vt_rank.specs.Graphs.{items_of, group_of, nodes_of, triggered}
+use Rattle.vt_rank.specs.Paths.{Triggers, AreRanks}
 use Rattle.vt_rank.specs.Costs.{greatest, group_total, item_cost, node_total, cost_within, cost_of, CostsAreTotals}
 use Rattle.vt_rank.proofs.Members.{Contains-nil, Contains-head, Contains-tail, Contains-cons_cases}
 
@@ -43,7 +43,7 @@ item_cost-meets g f h l (Group k) meet = sum_by-meets f h l (group_of g k) meet
 item_cost-meets g f h l Most meet =
     greatest-meets (group_total f g) (group_total h g) l g.most.items (λ k among. sum_by-meets f h l (group_of g k) (λ n inside. meet n (Contains-flat_map (group_of g) g.most.items k n among inside)))
 
-pub node_total-meets : (g : Graph) (f h : ℕ → ℕ) (l n : ℕ) → ((t : ℕ) → Triggers g n t → min (f t) l ≡ min (h t) l) → min (node_total f g n) l ≡ min (node_total h g n) l
+pub node_total-meets : (g : Graph) (f h : ℕ → ℕ) (l n : ℕ) → ((t : ℕ) → Triggers (triggered g) n t → min (f t) l ≡ min (h t) l) → min (node_total f g n) l ≡ min (node_total h g n) l
 node_total-meets g f h l n meet =
     sum_by-meets (item_cost f g) (item_cost h g) l (items_of g n) (λ item among. item_cost-meets g f h l item (λ t inside. meet t (Contains-flat_map (nodes_of g) (items_of g n) item t among inside)))
 
@@ -57,7 +57,7 @@ sum_by-same f h xs same =
     let l = sum_by f xs + sum_by h xs in
     both (sum_by f xs) (sum_by h xs) (sum_by-meets f h l xs (λ x inside. ap (λ (k : ℕ). min k l) (same x inside)))
 
-node_total-same : (g : Graph) (f h : ℕ → ℕ) (n : ℕ) → ((t : ℕ) → Triggers g n t → f t ≡ h t) → node_total f g n ≡ node_total h g n
+node_total-same : (g : Graph) (f h : ℕ → ℕ) (n : ℕ) → ((t : ℕ) → Triggers (triggered g) n t → f t ≡ h t) → node_total f g n ≡ node_total h g n
 node_total-same g f h n same =
     let l = node_total f g n + node_total h g n in
     both (node_total f g n) (node_total h g n) (node_total-meets g f h l n (λ t inside. ap (λ (k : ℕ). min k l) (same t inside)))

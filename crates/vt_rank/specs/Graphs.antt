@@ -1,5 +1,5 @@
 -- What a node of a graph triggers.
-use Rattle.std.specs.Prelude.{ℕ, List, [], map, take, slice_index_or, Contains}
+use Rattle.std.specs.Prelude.{ℕ, List, [], map, take, slice_index_or}
 use Rattle.std.specs.List.{flat_map}
 use Rattle.std.specs.declared.vec.Vec.{Vec}
 use Rattle.vt_rank.specs.declared.graph.Graph.{Graph}
@@ -26,6 +26,3 @@ nodes_of g Most = flat_map (group_of g) g.most.items
 
 abbrev pub triggered : Graph → ℕ → List ℕ
 triggered g n = flat_map (nodes_of g) (items_of g n)
-
-abbrev pub Triggers : Graph → ℕ → ℕ → Type 0
-Triggers g m n = Contains (triggered g m) n

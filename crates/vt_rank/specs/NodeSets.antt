@@ -50,4 +50,4 @@ AreTargets g rows = (m : ℕ) → IsSetOf (row rows m) (triggered g m)
 
 -- a path of one trigger or more
 abbrev pub Leads : Graph → ℕ → ℕ → Type 0
-Leads g m n = (between : List ℕ) × IsPath g (m ∷ between ++ n ∷ [])
+Leads g m n = (between : List ℕ) × IsPath (triggered g) (m ∷ between ++ n ∷ [])

@@ -3,6 +3,7 @@
 ghost use Rattle.std.specs.Prelude.{◌≡◌, ℕ, ◌∷◌, List, IfSome, IfNone, slice_index};
 ghost use Rattle.vt_rank.specs.Paths.{IsCircle, IsDistinct, IsOnCircle, IsLeastOnCircles};
 ghost use Rattle.vt_rank.specs.NodeSets.{AreTargets};
+ghost use Rattle.vt_rank.specs.Graphs.{triggered};
 
 use crate::graph::Graph;
 use crate::node_set::NodeSet;
@@ -21,9 +22,9 @@ pub struct Circle {
 pub(crate) fn least_circle(graph: &Graph, rows: &mut [NodeSet; 256], known: u8) -> Circle
     requires targets { AreTargets graph.now rows.old }
     requires known { IsOnCircle graph.now known }
-    ensures circle { IsCircle graph.now result.path.items }
+    ensures circle { IsCircle (triggered graph.now) result.path.items }
     ensures once { IsDistinct result.path.items }
-    ensures least { IsLeastOnCircles graph.now (slice_index result.path.items 0) }
+    ensures least { IsLeastOnCircles (triggered graph.now) (slice_index result.path.items 0) }
 {
     let least = least_on_circles(rows, graph, known);
     // The search for the least node has made paths of any length of the targets.
@@ -36,10 +37,10 @@ pub(crate) fn least_circle(graph: &Graph, rows: &mut [NodeSet; 256], known: u8) 
 // A circle that begins with a node, if there is one: searches from it in depth, until it is triggered again.
 fn circle_through(graph: &Graph, targets: &[NodeSet; 256], start: u8) -> Option<ArrayVec<u8, 256>>
     requires { AreTargets graph.now targets.now }
-    ensures circle { IfSome result (λ path. IsCircle graph.now path.items) }
+    ensures circle { IfSome result (λ path. IsCircle (triggered graph.now) path.items) }
     ensures once { IfSome result (λ path. IsDistinct path.items) }
     ensures first { IfSome result (λ path. slice_index path.items 0 ≡ start) }
-    ensures none { IfNone result ((rest : List ℕ) → IsCircle graph.now (start ∷ rest) → ⊥) }
+    ensures none { IfNone result ((rest : List ℕ) → IsCircle (triggered graph.now) (start ∷ rest) → ⊥) }
 {
     let mut seen = NodeSet::new();
     let mut path = ArrayVec::new();

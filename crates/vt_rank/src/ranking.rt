@@ -3,6 +3,7 @@
 ghost use Rattle.std.specs.Prelude.{◌≡◌, ℕ, List, IfOk, OnOk, IfErr, slice_index};
 ghost use Rattle.vt_rank.specs.Paths.{AreRanks, RanksFall, HasNoCircle, IsCircle, IsDistinct, IsLeastOnCircles};
 ghost use Rattle.vt_rank.specs.declared.graph.Graph.{Graph as Network};
+ghost use Rattle.vt_rank.specs.Graphs.{triggered};
 
 use crate::circle::{Circle, least_circle};
 use crate::graph::Graph;
@@ -43,12 +44,12 @@ impl Ranks {
 pub fn rank(graph: &Graph) -> Result<Ranks, Circle>
     // Ranks fall along every trigger, and where there are ranks there is no circle.
     ensures falls { IfOk result (AreRanks graph.now) }
-    ensures none { OnOk result (HasNoCircle graph.now) }
+    ensures none { OnOk result (HasNoCircle (triggered graph.now)) }
 
     // The path is a circle, has no node twice, and begins with the least node that lies on any.
-    ensures circle { IfErr result (λ c. IsCircle graph.now c.path.items) }
+    ensures circle { IfErr result (λ c. IsCircle (triggered graph.now) c.path.items) }
     ensures once { IfErr result (λ c. IsDistinct c.path.items) }
-    ensures least { IfErr result (λ c. IsLeastOnCircles graph.now (slice_index c.path.items 0)) }
+    ensures least { IfErr result (λ c. IsLeastOnCircles (triggered graph.now) (slice_index c.path.items 0)) }
 {
     let mut rows = [NodeSet::new(); 256];
     write_targets(&mut rows, graph);
@@ -65,5 +66,5 @@ pub fn rank(graph: &Graph) -> Result<Ranks, Circle>
 
 /// A law: ranks that fall along every trigger leave no circle.
 pub fn ranks_leave_no_circle()
-    ensures { (g : Network) (ranks : List ℕ) → RanksFall g ranks → HasNoCircle g }
+    ensures { (g : Network) (ranks : List ℕ) → RanksFall g ranks → HasNoCircle (triggered g) }
 {}

@@ -1,8 +1,8 @@
-//! The kinds that each place allows, by their numbers.
+//! The kinds that each place allows and each command changes, by their numbers.
 
 use crate::{Kind, Kinds};
 
-const SETS: [(Kinds, &[u8]); 13] = [
+const SETS: [(Kinds, &[u8]); 26] = [
     (Kinds::Masks, &[1, 2]),
     (Kinds::SoftKeyMasks, &[4]),
     (
@@ -32,6 +32,28 @@ const SETS: [(Kinds, &[u8]); 13] = [
             24, 25, 26, 28,
         ],
     ),
+    (Kinds::WorkingSets, &[0]),
+    (Kinds::AlarmMasks, &[2]),
+    (Kinds::Containers, &[3]),
+    (Kinds::Parents, &[0, 1, 2, 3, 5, 6]),
+    (
+        Kinds::Sized,
+        &[3, 6, 7, 8, 9, 10, 11, 12, 14, 15, 16, 17, 18, 19, 20],
+    ),
+    (Kinds::Coloured, &[0, 1, 2, 4, 5, 6, 7, 8, 9, 11, 12]),
+    (Kinds::Inputs, &[7, 8, 9, 10]),
+    (Kinds::InputLists, &[10]),
+    (Kinds::Numeric, &[7, 9, 10, 12, 17, 18, 19, 21, 27]),
+    (Kinds::Texts, &[8, 11, 22]),
+    (Kinds::Lines, &[13]),
+    (
+        Kinds::WithAttributes,
+        &[
+            0, 1, 2, 3, 4, 5, 6, 7, 8, 9, 10, 11, 12, 13, 14, 15, 16, 17, 18, 19, 20, 23, 24, 25,
+            26, 27,
+        ],
+    ),
+    (Kinds::Macros, &[28]),
 ];
 
 #[test]

@@ -1,5 +1,6 @@
 use Rattle.std.proofs.Common.{◌≡◌, ◌<◌, ℕ, Option, None, IfNone, List, [], ◌∷◌, ◌++◌, sym, ◌∙◌, subst, ap, arith, rules, lit<}
-use Rattle.vt_rank.specs.Graphs.{Triggers}
+use Rattle.vt_rank.specs.Graphs.{triggered}
+use Rattle.vt_rank.specs.Paths.{Triggers}
 use Rattle.vt_rank.specs.NodeSets.{IsIn, row}
 use Rattle.vt_rank.proofs.Searching.{target_is, targets_in}
 use Rattle.vt_rank.proofs.Quests.{IsQuest, quest_begins, quest_ends, next_pushed, next_room, next_smaller, next_found, last_popped, last_smaller, back_room}
@@ -54,7 +55,7 @@ pub search-preserved : goal.search-preserved
 search-preserved c =
     let none : c.outside.result ≡ None = search rules in
     let all = subst (λ (found : Option ℕ). IfNone found ((n : ℕ) → IsIn (row c.args.targets.now c.from.result) n → IsIn c.search.seen n)) none c.outside.ensures.none in
-    let marked = λ (n : ℕ) (t : Triggers c.args.graph.now c.in-Some.node n). all n (targets_in c.args.graph.now c.args.targets.now c.in-Some.node c.from.result n c.requires c.from.ensures t) in
+    let marked = λ (n : ℕ) (t : Triggers (triggered c.args.graph.now) c.in-Some.node n). all n (targets_in c.args.graph.now c.args.targets.now c.in-Some.node c.from.result n c.requires c.from.ensures t) in
     last_popped _ _ _ _ _ _ c.search.invariant c.in-Some.ensures.items marked
 
 pub returns-clause-none : goal.returns-clause-none

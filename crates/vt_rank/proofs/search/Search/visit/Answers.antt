@@ -1,5 +1,6 @@
 use Rattle.std.proofs.Common.{ℕ, ◌<◌, length, arith, rules, lit<}
-use Rattle.vt_rank.specs.Graphs.{Triggers}
+use Rattle.vt_rank.specs.Graphs.{triggered}
+use Rattle.vt_rank.specs.Paths.{Triggers}
 use Rattle.vt_rank.proofs.MarkedNodes.{marked_is, unmarked_is}
 use Rattle.vt_rank.proofs.Quests.{next_smaller}
 use Rattle.vt_rank.proofs.Searching.{target_is, targets_in, visit_begins, visit_pushed, visit_room, visit_ranked, visit_circle}
@@ -13,7 +14,7 @@ search-init c =
 pub search-preserved-in-None : goal.search-preserved-in-None
 search-preserved-in-None c =
     let here : c.in-Some.node < length c.search.self.ranks = search rules in
-    let all = λ (n : ℕ) (t : Triggers c.args.graph.now c.in-Some.node n). c.in-None.ensures.none n (targets_in c.args.graph.now c.args.targets.now c.in-Some.node c.from.result n c.requires.targets c.from.ensures t) in
+    let all = λ (n : ℕ) (t : Triggers (triggered c.args.graph.now) c.in-Some.node n). c.in-None.ensures.none n (targets_in c.args.graph.now c.args.targets.now c.in-Some.node c.from.result n c.requires.targets c.from.ensures t) in
     visit_ranked _ _ _ _ _ _ _ _ _ c.search.invariant c.in-Some.ensures.items all c.from-in-None.ensures here c.insert-in-None.ensures
 
 pub returns-then-contains-2-clause-circle : goal.returns-then-contains-2-clause-circle
