@@ -34,7 +34,7 @@ rebound-address : (a : ℕ) (p : Part) (o : Option Set) → HasAddress a p.set �
 rebound-address a p None has = has
 rebound-address a p (Some set) has = kept-address a p (option_eq nat_eq set.name None || option_eq nat_eq set.name p.holder) has
 
-named-address : (set : Set) (x y : Option ℕ) → (named set x y).address ≡ set.address
+pub named-address : (set : Set) (x y : Option ℕ) → (named set x y).address ≡ set.address
 named-address set None None = refl
 named-address set None (Some h) = refl
 named-address set (Some n) None = refl
@@ -93,7 +93,7 @@ at-with a x (t ∷ sets) its =
     (λ is. ap (set_at a) (with_set-first x t sets is) ∙ set_at-first a x sets its)
     (λ ne. ap (set_at a) (with_set-later x t sets ne) ∙ set_at-later a t (with_set x sets) (λ h. ne (h ∙ sym its)) ∙ rest)
 
-at-with_other : (a : ℕ) (x : Set) (sets : List Set) → x.address ≢ a → set_at a (with_set x sets) ≡ set_at a sets
+pub at-with_other : (a : ℕ) (x : Set) (sets : List Set) → x.address ≢ a → set_at a (with_set x sets) ≡ set_at a sets
 at-with_other a x [] other = set_at-later a x [] other
 at-with_other a x (t ∷ sets) other =
     let rest = at-with_other a x sets other in

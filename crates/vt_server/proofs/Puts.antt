@@ -89,7 +89,7 @@ set-same a s (t ∷ sets) there =
     (λ is. with_set-first s t sets (is ∙ sym own) ∙ ap (λ (x : Set). x ∷ sets) (sym (some-is t s (sym (set_at-first a t sets is) ∙ there))))
     (λ ne. with_set-later s t sets (λ h. ne (h ∙ own)) ∙ ap (λ l. t ∷ l) (rest (sym (set_at-later a t sets ne) ∙ there)))
 
-none-same : (a : ℕ) (sets : List Set) → set_at a sets ≡ None → without a sets ≡ sets
+pub none-same : (a : ℕ) (sets : List Set) → set_at a sets ≡ None → without a sets ≡ sets
 none-same a [] none = refl
 none-same a (t ∷ sets) none =
     let rest = none-same a sets in

@@ -25,7 +25,7 @@ pub claims-takes : (s : State) (hs : List (ℕ × Local)) → (takes s hs).claim
 claims-takes s [] = refl
 claims-takes s (h ∷ hs) = claims-takes (take s h.0 h.1) hs ∙ claims-take s h.0 h.1
 
-changed-same : (was : Option ℕ) (s t : State) (a : ℕ) → s.claims ≡ t.claims → changed was s a ≡ changed was t a
+pub changed-same : (was : Option ℕ) (s t : State) (a : ℕ) → s.claims ≡ t.claims → changed was s a ≡ changed was t a
 changed-same was s t a e =
     ap (λ (c : Claimed). cond (option_eq nat_eq was (holder_of c.addresses a)) [] ((a, Rebinds) ∷ [])) e
 
