@@ -93,9 +93,8 @@ impl Registry {
         ensures sets { self.new.sets ≡ joining (set_at address self.old.sets) name self.old.sets }
         ensures room { self.new.room ≡ self.old.room }
     {
-        let set = match self.sets.get_mut(&address) {
-            Some(set) => set,
-            None => return Err(RegistryFault::NotMaster),
+        let Some(set) = self.sets.get_mut(&address) else {
+            return Err(RegistryFault::NotMaster);
         };
         if !set.join(name) {
             return Err(RegistryFault::TooManyMembers);
@@ -161,9 +160,8 @@ impl Registry {
         ensures sets { self.new.sets ≡ binding (set_at address self.old.sets) name self.old.sets }
         ensures room { self.new.room ≡ self.old.room }
     {
-        match self.sets.get_mut(&address) {
-            Some(set) => set.bind(name),
-            None => {}
+        if let Some(set) = self.sets.get_mut(&address) {
+            set.bind(name);
         }
     }
 

@@ -4,8 +4,8 @@ use Rattle.std.specs.List.{filter, AllByRecursion}
 use Rattle.std.specs.Option.{option_eq}
 use Rattle.vt_names.specs.Claims.{Claimed, OtherHoldersStay, address_of}
 use Rattle.vt_names.specs.Registry.{Set, set_at, with_set, without}
-use Rattle.vt_server.specs.Parts.{Local, Hears, Rebinds, kept, closed, named, rebound, bound_at_claim}
-use Rattle.vt_server.specs.Terminals.{State, holder, part, take, takes, before, changed, changed_left, left_holder, left_by, changes, changes_by, acts, acting, with_set_at}
+use Rattle.vt_server.specs.Parts.{Local, Hears, Rebinds, unchanged, without_set, with_holder_name, after_change, after_claim_heard}
+use Rattle.vt_server.specs.Terminals.{State, holder, part, take, takes, before, changed, changed_left, left_holder, left_by, changes_by, acts, acting, with_set_at}
 use Rattle.vt_server.specs.Happenings.{IsOrderly, NameIsHeld, SetIsHeld}
 use Rattle.vt_server.specs.SetLists.{AreApart, stays, named_at}
 use Rattle.vt_server.specs.declared.bus.Notice.TheVariants.{Claim}
@@ -155,19 +155,19 @@ stays-name (Some n) h held = ap (option_eq nat_eq (Some n)) held ∙ eq-eqb n n 
 pub named_at-address : (s : State) (a : ℕ) (x : Set) → (named_at s a x).address ≡ x.address
 named_at-address s a x = cases (eqb x.address a)
   where
-    cases : (b : Bool) → (cond b (named x x.name (holder s a)) x).address ≡ x.address
+    cases : (b : Bool) → (cond b (with_holder_name x x.name (holder s a)) x).address ≡ x.address
     cases true = named-address x x.name (holder s a)
     cases false = refl
 
 module _ (u : State) (a : ℕ) (apart : AreApart u.sets) where
-  rebound-is : (o : Option Set) → set_at a u.sets ≡ o → with_set_at a (rebound (part a u) o).set u.sets ≡ filter (only_at a (stays u)) u.sets
+  rebound-is : (o : Option Set) → set_at a u.sets ≡ o → with_set_at a (after_change (part a u) o).set u.sets ≡ filter (only_at a (stays u)) u.sets
   rebound-is None e = sets-same a u.sets (set_at a u.sets) refl ∙ sym (filter-none a (stays u) u.sets e)
   rebound-is (Some x) e =
       closed-is (option_eq nat_eq x.name None || option_eq nat_eq x.name (holder u a))
       ∙ ap (λ q. cond (option_eq nat_eq x.name None || option_eq nat_eq x.name (holder u q)) u.sets (without a u.sets)) (sym (set_at-address a x u.sets e))
       ∙ sym (filter-some a (stays u) u.sets x e apart)
     where
-      closed-is : (b : Bool) → with_set_at a (cond b (kept (part a u)) closed).set u.sets ≡ cond b u.sets (without a u.sets)
+      closed-is : (b : Bool) → with_set_at a (cond b (unchanged (part a u)) without_set).set u.sets ≡ cond b u.sets (without a u.sets)
       closed-is true = sets-same a u.sets (set_at a u.sets) refl
       closed-is false = refl
 
@@ -185,9 +185,9 @@ module _ (u : State) (a : ℕ) (apart : AreApart u.sets) where
       cases true e = stays-all was (set_at a u.sets) refl held (option-true was (holder u a) e)
       cases false e = ap (λ (s : State). s.sets) (take-is u a Rebinds) ∙ rebound-is (set_at a u.sets) refl
 
-  bound-is : (o : Option Set) → set_at a u.sets ≡ o → with_set_at a (bound_at_claim (part a u) o).set u.sets ≡ map (named_at u a) u.sets
-  bound-is None e = sets-same a u.sets (set_at a u.sets) refl ∙ sym (map-none a (λ x. named x x.name (holder u a)) u.sets e)
-  bound-is (Some x) e = sym (map-some a (λ x. named x x.name (holder u a)) u.sets x (λ y. named-address y y.name (holder u a)) e apart)
+  bound-is : (o : Option Set) → set_at a u.sets ≡ o → with_set_at a (after_claim_heard (part a u) o).set u.sets ≡ map (named_at u a) u.sets
+  bound-is None e = sets-same a u.sets (set_at a u.sets) refl ∙ sym (map-none a (λ x. with_holder_name x x.name (holder u a)) u.sets e)
+  bound-is (Some x) e = sym (map-some a (λ x. with_holder_name x x.name (holder u a)) u.sets x (λ y. named-address y y.name (holder u a)) e apart)
 
   claim-list : (name : ℕ) (bytes : List ℕ) → (take u a (Hears (Claim name) bytes)).sets ≡ map (named_at u a) u.sets
   claim-list name bytes = ap (λ (s : State). s.sets) (take-is u a (Hears (Claim name) bytes)) ∙ bound-is (set_at a u.sets) refl
@@ -203,9 +203,9 @@ module _ (law : OtherHoldersStay) (s : State) (orderly : IsOrderly s) (source na
   abbrev pub t : State
   t = before s source (Claim name)
 
-  unchanged : (x : Set) → x.address ≢ source → address_of s.claims.addresses name ≢ Some x.address
+  still : (x : Set) → x.address ≢ source → address_of s.claims.addresses name ≢ Some x.address
       → NameIsHeld x.name (holder s x.address) → stays t x ≡ true
-  unchanged x ne not has =
+  still x ne not has =
       stays-name x.name (holder t x.address)
       (subst (NameIsHeld x.name) (sym (law.others s.claims.addresses source name x.address orderly ne not)) has)
 
@@ -268,13 +268,13 @@ module _ (law : OtherHoldersStay) (s : State) (orderly : IsOrderly s) (source na
 
         left-only : (o : Option ℕ) → ((q : ℕ) → q ≢ source → o ≢ Some q → address_of s.claims.addresses name ≢ Some q)
             → x.address ≢ source → left_test o x ≡ stays t x
-        left-only None not ne = sym (unchanged x ne (not x.address ne (λ e. none-some e)) has)
+        left-only None not ne = sym (still x ne (not x.address ne (λ e. none-some e)) has)
         left-only (Some l) not ne =
             by_eq x.address l
             (λ is. ap (λ b. cond b (stays t x) true) (eq-eqb x.address l is))
             (λ other.
             ap (λ b. cond b (stays t x) true) (ne_eqb x.address l other)
-            ∙ sym (unchanged x ne (not x.address ne (λ e. other (sym (some-is l x.address e)))) has))
+            ∙ sym (still x ne (not x.address ne (λ e. other (sym (some-is l x.address e)))) has))
 
     all : (sets : List Set) → AreApart sets → ((a : ℕ) → SetIsHeld (set_at a sets) (holder s a))
         → AllByRecursion (λ x. (left_test left x && only_at source (stays t) x) ≡ stays t x) sets

@@ -1,5 +1,5 @@
 -- The list of the sets after a step, and that they stay apart.
-use Rattle.std.proofs.Common.{◌≡◌, ◌≢◌, ℕ, Bool, true, false, cond, eqb, List, [], ◌∷◌, ◌++◌, Option, Some, None, refl, sym, ap, subst, ◌∙◌, eq-eqb, ne_eqb}
+use Rattle.std.proofs.Common.{◌≡◌, ◌≢◌, ℕ, Bool, true, false, cond, eqb, List, [], ◌∷◌, Option, Some, None, refl, sym, ap, subst, ◌∙◌, eq-eqb, ne_eqb}
 use Rattle.vt_can.specs.declared.frame.Frame.{Frame}
 use Rattle.vt_can.specs.Nodes.{source_of}
 use Rattle.vt_names.specs.Claims.{Claimed, OtherHoldersStay, holder_of}
@@ -8,10 +8,10 @@ use Rattle.vt_objects.specs.Commands.{command_at}
 use Rattle.vt_objects.specs.Stores.{Contents}
 use Rattle.vt_server.specs.Bus.{said, said_by, unless_echo}
 use Rattle.vt_server.specs.Messages.{technical_reply}
-use Rattle.vt_server.specs.Parts.{Part, Local, Hears, Preloads, hide_show_in, commanded, answered_or, answered}
-use Rattle.vt_server.specs.Terminals.{State, Step, holder, part, take, takes, acts, no_step, losing, acting, is_lost_by, answer_to, with_set_at}
+use Rattle.vt_server.specs.Parts.{Part, Hears, Preloads, hide_show_in, after_command, after_reply, after_message}
+use Rattle.vt_server.specs.Terminals.{State, holder, part, acts, no_step, losing, acting, is_lost_by, answer_to, with_set_at}
 use Rattle.vt_server.specs.States.{step}
-use Rattle.vt_server.specs.Happenings.{IsOrderly, SetIsHeld, SetsHoldTheirAddress}
+use Rattle.vt_server.specs.Happenings.{IsOrderly, SetIsHeld}
 use Rattle.vt_server.specs.SetLists.{AreApart, IsSettled, SetsAfterSteps, sets_after, sets_by}
 use Rattle.vt_server.specs.declared.bus.Notice.{Notice}
 use Rattle.vt_server.specs.declared.bus.Notice.TheVariants.{Claim, ClaimRequest, Master, Member, Message, Nothing}
@@ -21,23 +21,23 @@ use Rattle.vt_server.proofs.Happened.{own-step}
 use Rattle.vt_server.proofs.Held.{held}
 use Rattle.vt_server.proofs.Listing.{claim-closes, none-closed, apart-closed}
 use Rattle.vt_server.proofs.Own.{at-with_other}
-use Rattle.vt_server.proofs.Puts.{by_eq, set_at-address, set_at-later, with_set-first, with_set-later, sets-same, take-is, idle}
+use Rattle.vt_server.proofs.Puts.{by_eq, set_at-address, with_set-first, with_set-later, sets-same, take-is, idle}
 use Rattle.vt_server.proofs.Registering.{master-state}
 use Rattle.vt_server.proofs.Steps.{claims-takes, member-state}
 
 -- ---- a message leaves the set
 
-commanded-set : (a : ℕ) (p : Part) (asked : Option (ℕ × ℕ)) (o : Option Contents) → (commanded a p asked o).set ≡ p.set
+commanded-set : (a : ℕ) (p : Part) (asked : Option (ℕ × ℕ)) (o : Option Contents) → (after_command a p asked o).set ≡ p.set
 commanded-set a p None None = refl
 commanded-set a p None (Some c) = refl
 commanded-set a p (Some x) None = refl
 commanded-set a p (Some x) (Some c) = refl
 
-technical-set : (a : ℕ) (p : Part) (bytes : List ℕ) (o : Option (List ℕ)) → (answered_or a p bytes o).set ≡ p.set
+technical-set : (a : ℕ) (p : Part) (bytes : List ℕ) (o : Option (List ℕ)) → (after_reply a p bytes o).set ≡ p.set
 technical-set a p bytes None = commanded-set a p (hide_show_in (command_at bytes)) p.pool
 technical-set a p bytes (Some reply) = refl
 
-message-set : (a : ℕ) (p : Part) (bytes : List ℕ) (o : Option Set) → (answered a p bytes o).set ≡ p.set
+message-set : (a : ℕ) (p : Part) (bytes : List ℕ) (o : Option Set) → (after_message a p bytes o).set ≡ p.set
 message-set a p bytes None = refl
 message-set a p bytes (Some set) = technical-set a p bytes (technical_reply bytes)
 

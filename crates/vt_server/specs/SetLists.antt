@@ -1,12 +1,11 @@
 -- The list of the sets after a step (docs/PROFILE.md, "Closing a set", "Working sets").
-use Rattle.std.specs.Prelude.{◌≡◌, ◌≢◌, ℕ, ◌==◌, ◌||◌, Bool, if◌then◌else◌, List, [], ◌∷◌, map, filter, None, nat_eq}
-use Rattle.std.specs.Option.{option_eq}
+use Rattle.std.specs.Prelude.{◌≡◌, ◌≢◌, ℕ, ◌==◌, Bool, if◌then◌else◌, List, [], ◌∷◌, map, filter, None}
 use Rattle.vt_can.specs.Nodes.{source_of}
 use Rattle.vt_names.specs.Registry.{Set, set_at, registering, joining}
 use Rattle.vt_objects.specs.Stores.{Contents}
 use Rattle.vt_server.specs.Bus.{said}
 use Rattle.vt_server.specs.Happenings.{loses, IsOrderly, SetsAreHeld}
-use Rattle.vt_server.specs.Parts.{Preloads, named}
+use Rattle.vt_server.specs.Parts.{Preloads, stays_under, with_holder_name}
 use Rattle.vt_server.specs.States.{step}
 use Rattle.vt_server.specs.Terminals.{State, holder, take}
 use Rattle.vt_server.specs.declared.bus.Notice.{Notice}
@@ -16,11 +15,11 @@ use Rattle.vt_server.specs.declared.input.Input.TheVariants as inputs
 
 -- a set without a NAME, or with the NAME of its address's holder
 abbrev pub stays : State → Set → Bool
-stays s set = (option_eq nat_eq set.name None) || option_eq nat_eq set.name (holder s set.address)
+stays s set = stays_under set.name (holder s set.address)
 
 -- a set of an address takes the holder's NAME where it has none
 abbrev pub named_at : State → ℕ → Set → Set
-named_at s address set = if set.address == address then named set set.name (holder s address) else set
+named_at s address set = if set.address == address then with_holder_name set set.name (holder s address) else set
 
 -- By what a frame says, and by the holders after it. A claim closes each set with a NAME that isn't its address's
 -- holder, the others keep their order, and a set of its source without a NAME takes the holder's. A master message
@@ -53,7 +52,7 @@ pub record IsSettled (s : State) : Type 0 where
 
 pub record SetsAfterSteps : Type 0 where
   pub listed : (s : State) (i : Input) → IsOrderly s → IsSettled s → (step s i).after.sets ≡ sets_by s (step s i).after i
-  -- before the first input, after a preload at an address without a set, and after every input
+  -- before the first input, after a preload at another address than the terminal's, and after every input
   pub first : (s : State) → s.sets ≡ [] → IsSettled s
   pub preloaded : (address : ℕ) (s : State) (contents : Contents) → address ≢ s.claims.own → IsSettled s
       → IsSettled (take s address (Preloads contents))
