@@ -1,7 +1,7 @@
 -- What is written at one address.
-use Rattle.std.proofs.Common.{◌≡◌, ◌≢◌, ℕ, Bool, true, false, cond, not, ◌||◌, eqb, List, [], ◌∷◌, ◌++◌, map, length, get_or, ◌<◌, inl, inr, Option, Some, None, true≢false, is_some, unwrap_or, refl, sym, ap, subst, ◌∙◌, eq-eqb, ne_eqb}
+use Rattle.std.proofs.Common.{◌≡◌, ◌≢◌, ℕ, Bool, true, false, cond, not, eqb, List, [], ◌∷◌, ◌++◌, map, length, get_or, ◌<◌, inl, inr, Option, Some, None, true≢false, is_some, unwrap_or, refl, sym, ap, subst, ◌∙◌, eq-eqb, ne_eqb}
 use Rattle.std.proofs.lemmas.Bool.{eqb-true, false≢true, cases_lt}
-use Rattle.std.specs.Option.{option_eq, option_map}
+use Rattle.std.specs.Option.{option_map}
 use Rattle.std.proofs.Math.ListN.{get_or-eq_default}
 use Rattle.vt_objects.specs.declared.list_store.ListStore.{ListStore}
 use Rattle.vt_objects.specs.contracts.list_store.ListStoreStore.TheImpl.{ghosts}

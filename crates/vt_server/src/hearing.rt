@@ -69,11 +69,19 @@ impl Terminal {
         ensures err { OnErr result (state_of self.new ≡ state_of self.old) }
     {
         self.registry.reserve(source)?;
-        // There is room, so only an address without a holder is refused, and then nothing is registered.
+        self.register(source, count);
+        Ok(())
+    }
+
+    // There is room, so only an address without a holder is refused, and then nothing is registered.
+    fn register(&mut self, source: u8, count: u8)
+        requires room { 0 < self.old.registry.room }
+        ensures { (bytes : List ℕ) → state_of self.new
+            ≡ spec.take (state_of self.old) source (Hears (said.Master count) bytes) }
+    {
         let _refused = self
             .registry
             .master(source, self.claims.holder(source), count);
-        Ok(())
     }
 
     /// The reply to a message from the master of a set, if it has one.
