@@ -141,6 +141,45 @@ join_cases : (b : Bool) (a name : ℕ) (s : Set) (sets : List Set) → set_at a 
 join_cases true a name s sets there = refl
 join_cases false a name s sets there = with_set-same a s sets there
 
+-- ---- the set of an address, after one was written or taken out
+
+pub at-with : (q : ℕ) (new : Set) (sets : List Set) → set_at q (with_set new sets) ≡ cond (eqb new.address q) (Some new) (set_at q sets)
+at-with q new [] = refl
+at-with q new (s ∷ sets) =
+    let rest = at-with q new sets in
+    by_eq s.address new.address
+    (λ is. ap (set_at q) (with_set-first new s sets is)
+    ∙ by_eq new.address q
+    (λ own. set_at-first q new sets own ∙ sym (ap (λ b. cond b (Some new) (set_at q (s ∷ sets))) (eq-eqb new.address q own)))
+    (λ other. set_at-later q new sets other ∙ sym (set_at-later q s sets (λ h. other (sym is ∙ h)))
+    ∙ sym (ap (λ b. cond b (Some new) (set_at q (s ∷ sets))) (ne_eqb new.address q other))))
+    (λ ne. ap (set_at q) (with_set-later new s sets ne)
+    ∙ by_eq s.address q
+    (λ own. set_at-first q s (with_set new sets) own
+    ∙ sym (set_at-first q s sets own)
+    ∙ sym (ap (λ b. cond b (Some new) (set_at q (s ∷ sets))) (ne_eqb new.address q (λ h. ne (own ∙ sym h)))))
+    (λ other. set_at-later q s (with_set new sets) other ∙ rest
+    ∙ sym (ap (cond (eqb new.address q) (Some new)) (set_at-later q s sets other))))
+
+pub at-without : (q a : ℕ) (sets : List Set) → set_at q (without a sets) ≡ cond (eqb a q) None (set_at q sets)
+at-without q a [] = none (eqb a q)
+  where
+    none : (b : Bool) → None ≡ cond {A = Option Set} b None None
+    none true = refl
+    none false = refl
+at-without q a (s ∷ sets) =
+    let rest = at-without q a sets in
+    by_eq s.address a
+    (λ is. ap (set_at q) (without-first a s sets is) ∙ rest
+    ∙ by_eq a q
+    (λ own. ap (λ b. cond b None (set_at q sets)) (eq-eqb a q own) ∙ sym (ap (λ b. cond b None (set_at q (s ∷ sets))) (eq-eqb a q own)))
+    (λ other. ap (cond (eqb a q) None) (sym (set_at-later q s sets (λ h. other (sym is ∙ h))))))
+    (λ ne. ap (set_at q) (without-later a s sets ne)
+    ∙ by_eq s.address q
+    (λ own. set_at-first q s (without a sets) own ∙ sym (set_at-first q s sets own)
+    ∙ sym (ap (λ b. cond b None (set_at q (s ∷ sets))) (ne_eqb a q (λ h. ne (own ∙ sym h)))))
+    (λ other. set_at-later q s (without a sets) other ∙ rest ∙ sym (ap (cond (eqb a q) None) (set_at-later q s sets other))))
+
 -- what a registry knows of the set of an address, and what it has after that set was changed
 module _ (a : ℕ) (es : List (ℕ × Set)) (r : Registered) (filed : AreFiled es) (view : ◌≡◌ {A = List Set} (values_of es) r.sets) where
   pub set-there : (s : Set) → Some s ≡ found a es → set_at a r.sets ≡ Some s

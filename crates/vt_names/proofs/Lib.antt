@@ -2,4 +2,5 @@ mod Filing
 mod Holding
 mod Histories
 mod Hearing
+mod Lasting
 mod Registering

@@ -5,7 +5,8 @@ use Rattle.std.proofs.lemmas.List.{length-append}
 use Rattle.vt_names.specs.Registry.{Set, set_at, with_set, without, joining, binding, preloaded, mastered, joined, bound, has_place}
 use Rattle.vt_names.specs.Registrations.{Event, Masters, Joins, Closes, Preloads, Binds, registers, closes, since, registered_at, AreRising, after_events, times_of, AreWithin, SetsAreRegistered}
 use Rattle.vt_names.proofs.Holding.{by_eq, some-is, none-some}
-use Rattle.vt_names.proofs.Filing.{set_at-first, set_at-later, with_set-first, with_set-later, without-first, without-later, set_at-address}
+use Rattle.vt_names.proofs.Lasting.{are-last}
+use Rattle.vt_names.proofs.Filing.{set_at-first, set_at-later, with_set-first, with_set-later, without-first, without-later, set_at-address, at-with, at-without}
 
 -- ---- fewer members than the count
 
@@ -66,43 +67,6 @@ are-within (Preloads a ∷ earlier) = within-with (preloaded a) (after_events ea
 are-within (Binds a n ∷ earlier) = within-bound a (set_at a (after_events earlier)) n (after_events earlier) refl (are-within earlier)
 
 -- ---- which addresses have a set
-
-at-with : (q : ℕ) (new : Set) (sets : List Set) → set_at q (with_set new sets) ≡ cond (eqb new.address q) (Some new) (set_at q sets)
-at-with q new [] = refl
-at-with q new (s ∷ sets) =
-    let rest = at-with q new sets in
-    by_eq s.address new.address
-    (λ is. ap (set_at q) (with_set-first new s sets is)
-    ∙ by_eq new.address q
-    (λ own. set_at-first q new sets own ∙ sym (ap (λ b. cond b (Some new) (set_at q (s ∷ sets))) (eq-eqb new.address q own)))
-    (λ other. set_at-later q new sets other ∙ sym (set_at-later q s sets (λ h. other (sym is ∙ h)))
-    ∙ sym (ap (λ b. cond b (Some new) (set_at q (s ∷ sets))) (ne_eqb new.address q other))))
-    (λ ne. ap (set_at q) (with_set-later new s sets ne)
-    ∙ by_eq s.address q
-    (λ own. set_at-first q s (with_set new sets) own
-    ∙ sym (set_at-first q s sets own)
-    ∙ sym (ap (λ b. cond b (Some new) (set_at q (s ∷ sets))) (ne_eqb new.address q (λ h. ne (own ∙ sym h)))))
-    (λ other. set_at-later q s (with_set new sets) other ∙ rest
-    ∙ sym (ap (cond (eqb new.address q) (Some new)) (set_at-later q s sets other))))
-
-at-without : (q a : ℕ) (sets : List Set) → set_at q (without a sets) ≡ cond (eqb a q) None (set_at q sets)
-at-without q a [] = none (eqb a q)
-  where
-    none : (b : Bool) → None ≡ cond {A = Option Set} b None None
-    none true = refl
-    none false = refl
-at-without q a (s ∷ sets) =
-    let rest = at-without q a sets in
-    by_eq s.address a
-    (λ is. ap (set_at q) (without-first a s sets is) ∙ rest
-    ∙ by_eq a q
-    (λ own. ap (λ b. cond b None (set_at q sets)) (eq-eqb a q own) ∙ sym (ap (λ b. cond b None (set_at q (s ∷ sets))) (eq-eqb a q own)))
-    (λ other. ap (cond (eqb a q) None) (sym (set_at-later q s sets (λ h. other (sym is ∙ h))))))
-    (λ ne. ap (set_at q) (without-later a s sets ne)
-    ∙ by_eq s.address q
-    (λ own. set_at-first q s (without a sets) own ∙ sym (set_at-first q s sets own)
-    ∙ sym (ap (λ b. cond b None (set_at q (s ∷ sets))) (ne_eqb a q (λ h. ne (own ∙ sym h)))))
-    (λ other. set_at-later q s (without a sets) other ∙ rest ∙ sym (ap (cond (eqb a q) None) (set_at-later q s sets other))))
 
 is-with : (b : Bool) (new : Set) (o : Option Set) (t : ℕ) (p : Option ℕ) → is_some o ≡ is_some p
     → is_some (cond b (Some new) o) ≡ is_some (cond b (Some t) p)
@@ -304,4 +268,4 @@ are-rising (Binds a n ∷ earlier) =
     subst (AreRising 0) (sym (rising-bound (registered_at earlier) a n (set_at a (after_events earlier)) (after_events earlier) refl)) (are-rising earlier)
 
 pub registered : SetsAreRegistered
-registered = record { there = are-there; order = are-rising; within = are-within }
+registered = record { there = are-there; order = are-rising; within = are-within; last = are-last }

@@ -1,6 +1,7 @@
 -- The working sets over all that was registered, and their order (ISO 11783-6; docs/PROFILE.md, "Working sets").
-use Rattle.std.specs.Prelude.{◌≡◌, ◌<◌, ◌≤◌, ℕ, suc, ◌==◌, Bool, false, if◌then◌else◌, List, [], ◌∷◌, length, map, Option, Some, None, is_some}
-use Rattle.vt_names.specs.Registry.{Set, set_at, with_set, without, registering, joining, binding, preloaded}
+use Rattle.std.specs.Prelude.{◌≡◌, ◌<◌, ◌≤◌, ℕ, suc, ◌-◌, ◌==◌, Bool, true, false, ◌||◌, if◌then◌else◌, List, [], ◌∷◌, ◌++◌, length, map, take, Option, Some, None, is_some}
+use Rattle.std.specs.List.{AllByRecursion}
+use Rattle.vt_names.specs.Registry.{Set, set_at, with_set, without, registering, joining, binding, preloaded, counted}
 
 -- What may change the sets: a master message, with the holder of its address and its count; a member message, with
 -- its NAME; a closing; a preloading; and a NAME for the set of an address.
@@ -42,6 +43,41 @@ AreRising least [] = Unit {0}
 AreRising least (None ∷ times) = ⊥
 AreRising least (Some time ∷ times) = (least ≤ time) × AreRising (suc time) times
 
+-- ---- the last registration of an address, and what came since
+
+abbrev pub registration_name : Event → Option ℕ
+registration_name (Masters address holder count) = holder
+registration_name _ = None
+
+abbrev pub registration_count : Event → ℕ
+registration_count (Masters address holder count) = counted count
+registration_count _ = 1
+
+-- the last NAME that an address was bound to, or else another
+abbrev pub bound_name : ℕ → List Event → Option ℕ → Option ℕ
+bound_name address [] first = first
+bound_name address (Binds other name ∷ earlier) first = if other == address then Some name else bound_name address earlier first
+bound_name address (event ∷ earlier) first = bound_name address earlier first
+
+-- the NAMEs of the member messages of an address, in their order
+abbrev pub member_names : ℕ → List Event → List ℕ
+member_names address [] = []
+member_names address (Joins other name ∷ earlier) = member_names address earlier ++ (if other == address then name ∷ [] else [])
+member_names address (event ∷ earlier) = member_names address earlier
+
+-- A set is that of the last registration of its address. It has the count of that, the NAME of it or the one that
+-- it was bound to since, and of the member messages since as many as there are places: the count less one.
+pub record IsOfLast (events : List Event) (address : ℕ) (set : Set) : Type 0 where
+  pub since : List Event
+  pub registration : Event
+  pub before : List Event
+  pub all : events ≡ since ++ registration ∷ before
+  pub own : registers address registration ≡ true
+  pub last : AllByRecursion (λ event. (registers address event || closes address event) ≡ false) since
+  pub name : set.name ≡ bound_name address since (registration_name registration)
+  pub count : set.count ≡ registration_count registration
+  pub members : set.members ≡ take (set.count - 1) (member_names address since)
+
 -- ---- what is kept of it
 
 abbrev pub after_event : Event → List Set → List Set
@@ -64,8 +100,9 @@ AreWithin [] = Unit {0}
 AreWithin (set ∷ sets) = (length set.members < set.count) × AreWithin sets
 
 -- The sets are those that were registered and not closed since, one for each address, in the order of their
--- registration, each with fewer members than its count.
+-- registration, each with fewer members than its count, and each as its last registration and what came since have it.
 pub record SetsAreRegistered : Type 0 where
   pub there : (events : List Event) (address : ℕ) → is_some (set_at address (after_events events)) ≡ is_some (registered_at events address)
   pub order : (events : List Event) → AreRising 0 (times_of (registered_at events) (after_events events))
   pub within : (events : List Event) → AreWithin (after_events events)
+  pub last : (events : List Event) (address : ℕ) (set : Set) → set_at address (after_events events) ≡ Some set → IsOfLast events address set

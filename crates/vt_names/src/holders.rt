@@ -37,9 +37,8 @@ impl Holders {
         ensures { (before : Addresses) → AreHolders self.old.least before → left ≡ address_of before name
             → addresses.now.entries ≡ with_address before name claimed → ArePartly self.new.least before name claimed }
     {
-        let left = match left {
-            Some(left) => left,
-            None => return,
+        let Some(left) = left else {
+            return;
         };
         if claimed == Some(left) {
             return;
@@ -55,9 +54,8 @@ impl Holders {
         ensures { (before : Addresses) → ArePartly self.old.least before name claimed
             → AreHolders self.new.least (with_address before name claimed) }
     {
-        let address = match claimed {
-            Some(address) => address,
-            None => return,
+        let Some(address) = claimed else {
+            return;
         };
         let holder = least(self.get(address), name);
         self.least[usize::from(address)] = Some(holder);

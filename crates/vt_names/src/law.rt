@@ -27,7 +27,9 @@ pub fn other_holders_stay()
 {}
 
 /// The law that the sets are those that were registered and not closed since, one for each address, in the
-/// order of their registration, each with fewer members than its count, over all that changes the sets.
+/// order of their registration, each with fewer members than its count, over all that changes the sets. Each
+/// has the count and the NAME of its last registration, or the NAME that it was bound to since, and of the
+/// member messages since as many as there are places.
 pub fn sets_are_registered()
     ensures { SetsAreRegistered }
 {}

@@ -1,6 +1,6 @@
 //! The registry of working sets (ISO 11783-6).
 
-ghost use Rattle.std.specs.Prelude.{◌≡◌, ◌≢◌, ◌<◌, ◌≤◌, None, Some, Ok, Err, [], length, slice_get, is_some, IsOk, IfOk, IfErr, IfSome, IfNone, OnOk, OnErr, if◌then◌else◌};
+ghost use Rattle.std.specs.Prelude.{◌≡◌, ◌≢◌, ◌<◌, ◌≤◌, None, Some, Ok, Err, [], length, slice_get, is_some, IsOk, IfOk, IfErr, IfSome, IfNone, OnOk, OnErr, ◌==◌, if◌then◌else◌};
 ghost use Rattle.std.specs.Option.{option_copied};
 ghost use Rattle.vt_names.specs.Registry.{set_at, with_set, without, registering, joining, binding, preloaded, has_place, IsUnnamed};
 ghost use Rattle.vt_names.specs.declared.registry.RegistryFault.TheVariants as declared;
@@ -77,9 +77,8 @@ impl Registry {
         ensures sets { result ≢ Err declared.OutOfMemory → self.new.sets ≡ registering address holder count self.old.sets }
         ensures err { OnErr result (self.new.sets ≡ self.old.sets) }
     {
-        let name = match holder {
-            Some(name) => name,
-            None => return Err(RegistryFault::NotClaimed),
+        let Some(name) = holder else {
+            return Err(RegistryFault::NotClaimed);
         };
         self.put(Set::of_master(address, name, count))
             .map_err(|_| RegistryFault::OutOfMemory)
@@ -94,9 +93,8 @@ impl Registry {
         ensures sets { self.new.sets ≡ joining (set_at address self.old.sets) name self.old.sets }
         ensures room { self.new.room ≡ self.old.room }
     {
-        let set = match self.sets.get_mut(&address) {
-            Some(set) => set,
-            None => return Err(RegistryFault::NotMaster),
+        let Some(set) = self.sets.get_mut(&address) else {
+            return Err(RegistryFault::NotMaster);
         };
         if !set.join(name) {
             return Err(RegistryFault::TooManyMembers);
@@ -123,14 +121,19 @@ impl Registry {
         self.sets.len()
     }
 
+    /// Whether there is no set.
+    pub fn is_empty(&self) -> bool
+        ensures { result ≡ (length self.now.sets == 0) }
+    {
+        self.sets.is_empty()
+    }
+
     /// The set at a place in the order of registration, counted from 0.
     pub fn at(&self, index: usize) -> Option<&Set>
         ensures { option_copied result ≡ slice_get self.now.sets index }
     {
-        match self.sets.get_index(index) {
-            Some((_, set)) => Some(set),
-            None => None,
-        }
+        let (_, set) = self.sets.get_index(index)?;
+        Some(set)
     }
 
     /// The set of an address.
@@ -157,9 +160,8 @@ impl Registry {
         ensures sets { self.new.sets ≡ binding (set_at address self.old.sets) name self.old.sets }
         ensures room { self.new.room ≡ self.old.room }
     {
-        match self.sets.get_mut(&address) {
-            Some(set) => set.bind(name),
-            None => {}
+        if let Some(set) = self.sets.get_mut(&address) {
+            set.bind(name);
         }
     }
 

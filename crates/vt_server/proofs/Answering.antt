@@ -9,7 +9,7 @@ use Rattle.vt_server.specs.declared.bus.Notice.TheVariants.{Message}
 use Rattle.vt_server.specs.declared.hiding.HideRefusal.{HideRefusal}
 use Rattle.vt_server.specs.Hiding.{hide_effect, after_effect, error_of, error_byte, reply_bytes, DoneAs}
 use Rattle.vt_server.specs.Messages.{message_to, technical_reply}
-use Rattle.vt_server.specs.Parts.{Part, After, Hears, kept, local, hide_show_in, commanded, answered, answered_or}
+use Rattle.vt_server.specs.Parts.{Part, After, Hears, unchanged, local, hide_show_in, after_command, after_message, after_reply}
 use Rattle.vt_server.specs.Terminals.{State, part, put, take, with_pool_at}
 use Rattle.vt_server.proofs.Puts.{put-kept, sets-same, pools-twice, take-is}
 
@@ -24,36 +24,36 @@ done_error (Err refusal) (Err other) is = ap error_byte is
 abbrev pub reply : State → ℕ → List ℕ → After
 reply s a bytes = local a (part a s) (Hears Message bytes)
 
-no_set : (s : State) (a : ℕ) (bytes : List ℕ) (o : Option Set) → false ≡ is_some o → answered a (part a s) bytes o ≡ kept (part a s)
+no_set : (s : State) (a : ℕ) (bytes : List ℕ) (o : Option Set) → false ≡ is_some o → after_message a (part a s) bytes o ≡ unchanged (part a s)
 no_set s a bytes None none = refl
 no_set s a bytes (Some set) none = absurd (true≢false (sym none))
 
-a_set : (s : State) (a : ℕ) (bytes : List ℕ) (o : Option Set) → true ≡ is_some o → answered a (part a s) bytes o ≡ answered_or a (part a s) bytes (technical_reply bytes)
+a_set : (s : State) (a : ℕ) (bytes : List ℕ) (o : Option Set) → true ≡ is_some o → after_message a (part a s) bytes o ≡ after_reply a (part a s) bytes (technical_reply bytes)
 a_set s a bytes None some = absurd (true≢false some)
 a_set s a bytes (Some set) some = refl
 
-no_asked : (s : State) (a : ℕ) (o : Option Contents) → commanded a (part a s) None o ≡ kept (part a s)
+no_asked : (s : State) (a : ℕ) (o : Option Contents) → after_command a (part a s) None o ≡ unchanged (part a s)
 no_asked s a None = refl
 no_asked s a (Some contents) = refl
 
 -- a set isn't there
-pub reply-unregistered : (s : State) (a : ℕ) (bytes : List ℕ) → false ≡ is_some (set_at a s.sets) → reply s a bytes ≡ kept (part a s)
+pub reply-unregistered : (s : State) (a : ℕ) (bytes : List ℕ) → false ≡ is_some (set_at a s.sets) → reply s a bytes ≡ unchanged (part a s)
 reply-unregistered s a bytes none = no_set s a bytes (set_at a s.sets) none
 
 module _ (s : State) (a : ℕ) (bytes : List ℕ) (some : true ≡ is_some (set_at a s.sets)) where
   -- the message asks what the terminal is
   pub reply-technical : (r : List ℕ) → Some r ≡ technical_reply bytes
       → reply s a bytes ≡ record { set = set_at a s.sets; pool = s.pools a; frames = message_to s.claims.own a r ∷ [] }
-  reply-technical r is = a_set s a bytes (set_at a s.sets) some ∙ ap (answered_or a (part a s) bytes) (sym is)
+  reply-technical r is = a_set s a bytes (set_at a s.sets) some ∙ ap (after_reply a (part a s) bytes) (sym is)
 
   -- another message
   pub reply-commanded : (asked : Option (ℕ × ℕ)) → None ≡ technical_reply bytes → asked ≡ hide_show_in (command_at bytes)
-      → reply s a bytes ≡ commanded a (part a s) asked (s.pools a)
+      → reply s a bytes ≡ after_command a (part a s) asked (s.pools a)
   reply-commanded asked none is =
-      a_set s a bytes (set_at a s.sets) some ∙ ap (answered_or a (part a s) bytes) (sym none)
-      ∙ ap (λ (o : Option (ℕ × ℕ)). commanded a (part a s) o (s.pools a)) (sym is)
+      a_set s a bytes (set_at a s.sets) some ∙ ap (after_reply a (part a s) bytes) (sym none)
+      ∙ ap (λ (o : Option (ℕ × ℕ)). after_command a (part a s) o (s.pools a)) (sym is)
 
-  pub reply-other : None ≡ technical_reply bytes → None ≡ hide_show_in (command_at bytes) → reply s a bytes ≡ kept (part a s)
+  pub reply-other : None ≡ technical_reply bytes → None ≡ hide_show_in (command_at bytes) → reply s a bytes ≡ unchanged (part a s)
   reply-other none other = reply-commanded None none other ∙ no_asked s a (s.pools a)
 
 -- ---- Hide/Show
@@ -65,7 +65,7 @@ abbrev pub shown_error : ℕ → ℕ → Option Contents → Option ℕ
 shown_error id state o = option_map (λ (m : Contents). error_of (hide_effect m id state)) o
 
 commanded-is : (p : Part) (a id state : ℕ) (o : Option Contents) → p.pool ≡ o
-    → commanded a p (Some (id, state)) o
+    → after_command a p (Some (id, state)) o
     ≡ record { set = p.set; pool = shown_pool id state o; frames = option_to_list (option_map (λ (e : ℕ). message_to p.own a (reply_bytes id state e)) (shown_error id state o)) }
 commanded-is p a id state None e = ap (λ (o : Option Contents). record { set = p.set; pool = o; frames = [] }) e
 commanded-is p a id state (Some contents) e = refl

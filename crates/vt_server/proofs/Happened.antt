@@ -10,7 +10,7 @@ use Rattle.vt_server.specs.Messages.{claim_from}
 use Rattle.vt_server.specs.Parts.{Part, Local, Hears, Rebinds, Preloads, local}
 use Rattle.vt_server.specs.Terminals.{State, Step, holder, part, takes, says, to_all, before, hear_claim, changed, left_by, changes, changes_by, acts, no_step, losing, acting, step_frame, is_lost_by, is_defended, answer_to, defence}
 use Rattle.vt_server.specs.States.{step, after_all, sent_by_all}
-use Rattle.vt_server.specs.Happenings.{Happening, Heard, HolderIs, Lost, Preloaded, Own, unmoved, turned, held_by, own, own_while, owns, owns_frames, loses, holder_change, heard_from, happenings, happenings_all, frames_to, IsOrderly, EachTakesItsOwn, OwnHappeningsDecide}
+use Rattle.vt_server.specs.Happenings.{Happening, Heard, HolderIs, Lost, Preloaded, Own, without_effect, own_after, with_holder, own, own_while, owns, owns_frames, loses, holder_change, heard_from, happenings, happenings_all, frames_to, IsOrderly, EachTakesItsOwn, OwnHappeningsDecide}
 use Rattle.vt_server.specs.declared.bus.Notice.{Notice}
 use Rattle.vt_server.specs.declared.bus.Notice.TheVariants.{Claim, ClaimRequest, Master, Member, Message, Nothing}
 use Rattle.vt_server.specs.declared.input.Input.{Input}
@@ -95,10 +95,10 @@ module _ (law : OtherHoldersStay) (s : State) (orderly : IsOrderly s) (a source 
 -- ---- a happening while the terminal has its address, and after the loss
 
 own-has : (a : ℕ) (p : Part) (h : Happening) → p.lost ≡ false → own a p h ≡ own_while a p h
-own-has a p h has = ap (λ b. cond b (unmoved p) (own_while a p h)) has
+own-has a p h has = ap (λ b. cond b (without_effect p) (own_while a p h)) has
 
-own-lost : (a : ℕ) (p : Part) (h : Happening) → p.lost ≡ true → own a p h ≡ unmoved p
-own-lost a p h lost = ap (λ b. cond b (unmoved p) (own_while a p h)) lost
+own-lost : (a : ℕ) (p : Part) (h : Happening) → p.lost ≡ true → own a p h ≡ without_effect p
+own-lost a p h lost = ap (λ b. cond b (without_effect p) (own_while a p h)) lost
 
 lost-part : (a : ℕ) (p : Part) (hs : List Happening) → p.lost ≡ true → owns a p hs ≡ p
 lost-part a p [] lost = refl
@@ -130,8 +130,8 @@ module _ (law : OtherHoldersStay) (a : ℕ) (s : State) (f : Frame) (orderly : I
   -- the frame alone, from the address or from another
 
   module _ (p : Part) (has : p.lost ≡ false) (own-is : p.own ≡ s.claims.own) where
-    heard-own : source ≡ a → own a p (Heard f) ≡ turned p (local a p (Hears m bytes))
-    heard-own is = own-has a p (Heard f) has ∙ ap (λ (n : Notice). turned p (local a p (Hears n bytes))) (ap (λ o. said_by o f) own-is ∙ sym (said-there is))
+    heard-own : source ≡ a → own a p (Heard f) ≡ own_after p (local a p (Hears m bytes))
+    heard-own is = own-has a p (Heard f) has ∙ ap (λ (n : Notice). own_after p (local a p (Hears n bytes))) (ap (λ o. said_by o f) own-is ∙ sym (said-there is))
 
     heard-part : (b : Bool) → eqb source a ≡ b → turns a p (cond b (Hears m bytes ∷ []) []) ≡ owns a p (cond b (Heard f ∷ []) [])
     heard-part true e = sym (ap (λ (o : Own). o.part) (heard-own (eqb-true source a e)))
@@ -144,8 +144,8 @@ module _ (law : OtherHoldersStay) (a : ℕ) (s : State) (f : Frame) (orderly : I
   module _ (has : s.lost ≡ false) where
     -- a change of the holder before it
 
-    changed-part : (same : Bool) (name : Option ℕ) → (same ≡ true → held_by (part a s) name ≡ part a s)
-        → turns a (held_by (part a s) name) (cond same [] (Rebinds ∷ []) ++ cond (eqb source a) (Hears m bytes ∷ []) [])
+    changed-part : (same : Bool) (name : Option ℕ) → (same ≡ true → with_holder (part a s) name ≡ part a s)
+        → turns a (with_holder (part a s) name) (cond same [] (Rebinds ∷ []) ++ cond (eqb source a) (Hears m bytes ∷ []) [])
         ≡ owns a (part a s) (cond same [] (HolderIs name ∷ []) ++ heard_from a f)
     changed-part true name stays =
         ap (λ q. turns a q (cond (eqb source a) (Hears m bytes ∷ []) [])) (stays refl) ∙ heard-part (part a s) has refl (eqb source a) refl
@@ -153,8 +153,8 @@ module _ (law : OtherHoldersStay) (a : ℕ) (s : State) (f : Frame) (orderly : I
         heard-part (own_while a (part a s) (HolderIs name)).part has refl (eqb source a) refl
         ∙ sym (ap (λ (o : Own). owns a o.part (heard_from a f)) (own-has a (part a s) (HolderIs name) has))
 
-    changed-frames : (same : Bool) (name : Option ℕ) → (same ≡ true → held_by (part a s) name ≡ part a s)
-        → turns_frames a (held_by (part a s) name) (cond same [] (Rebinds ∷ []) ++ cond (eqb source a) (Hears m bytes ∷ []) [])
+    changed-frames : (same : Bool) (name : Option ℕ) → (same ≡ true → with_holder (part a s) name ≡ part a s)
+        → turns_frames a (with_holder (part a s) name) (cond same [] (Rebinds ∷ []) ++ cond (eqb source a) (Hears m bytes ∷ []) [])
         ≡ owns_frames a (part a s) (cond same [] (HolderIs name ∷ []) ++ heard_from a f)
     changed-frames true name stays =
         ap (λ q. turns_frames a q (cond (eqb source a) (Hears m bytes ∷ []) [])) (stays refl) ∙ heard-frames (part a s) has refl (eqb source a) refl
@@ -162,8 +162,8 @@ module _ (law : OtherHoldersStay) (a : ℕ) (s : State) (f : Frame) (orderly : I
         ap (λ l. (own_while a (part a s) (HolderIs name)).frames ++ l) (heard-frames (own_while a (part a s) (HolderIs name)).part has refl (eqb source a) refl)
         ∙ sym (ap (λ (o : Own). o.frames ++ owns_frames a o.part (heard_from a f)) (own-has a (part a s) (HolderIs name) has))
 
-    stays-held : (t : State) → option_eq nat_eq (holder s a) (holder t a) ≡ true → held_by (part a s) (holder t a) ≡ part a s
-    stays-held t same = ap (held_by (part a s)) (sym (option-true (holder s a) (holder t a) same))
+    stays-held : (t : State) → option_eq nat_eq (holder s a) (holder t a) ≡ true → with_holder (part a s) (holder t a) ≡ part a s
+    stays-held t same = ap (with_holder (part a s)) (sym (option-true (holder s a) (holder t a) same))
 
     -- what happens by a notice, a claim or not
 

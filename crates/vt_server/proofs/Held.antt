@@ -6,9 +6,9 @@ use Rattle.vt_names.specs.Registry.{Set, set_at, has_place, joined}
 use Rattle.vt_objects.specs.Stores.{Contents}
 use Rattle.vt_objects.specs.Commands.{command_at}
 use Rattle.vt_server.specs.Messages.{technical_reply}
-use Rattle.vt_server.specs.Parts.{Part, Preloads, kept, closed, local_said, rebound, named, bound_at_claim, registered, with_member, hide_show_in, commanded, answered_or, answered}
+use Rattle.vt_server.specs.Parts.{Part, Preloads, unchanged, without_set, local_said, after_change, with_holder_name, after_claim_heard, after_master, after_member, hide_show_in, after_command, after_reply, after_message}
 use Rattle.vt_server.specs.Terminals.{State, holder, part, take}
-use Rattle.vt_server.specs.Happenings.{Happening, Heard, HolderIs, Lost, Preloaded, Own, unmoved, held_by, own, own_while, owns, happenings, NameIsHeld, SetIsHeld, SetsHoldTheirAddress}
+use Rattle.vt_server.specs.Happenings.{Happening, Heard, HolderIs, Lost, Preloaded, Own, without_effect, with_holder, own, own_while, owns, happenings, NameIsHeld, SetIsHeld, SetsHoldTheirAddress}
 use Rattle.vt_server.specs.declared.bus.Notice.{Notice}
 use Rattle.vt_server.specs.declared.bus.Notice.TheVariants.{Claim, ClaimRequest, Master, Member, Message, Nothing}
 use Rattle.vt_server.proofs.Happened.{option-true, part-step, orderly-step, own-step}
@@ -18,17 +18,17 @@ use Rattle.vt_server.specs.Bus.{said_by}
 
 -- ---- a frame from the address
 
-named-held : (set : Set) (x y : Option ℕ) → set.name ≡ x → NameIsHeld x y → NameIsHeld (named set x y).name y
+named-held : (set : Set) (x y : Option ℕ) → set.name ≡ x → NameIsHeld x y → NameIsHeld (with_holder_name set x y).name y
 named-held set None None e has = subst (λ n. NameIsHeld n None) (sym e) tt
 named-held set None (Some h) e has = refl
 named-held set (Some n) None e has = subst (λ m. NameIsHeld m None) (sym e) has
 named-held set (Some n) (Some h) e has = subst (λ m. NameIsHeld m (Some h)) (sym e) has
 
-claim-held : (p : Part) (o : Option Set) → SetIsHeld p.set p.holder → SetIsHeld o p.holder → SetIsHeld (bound_at_claim p o).set p.holder
+claim-held : (p : Part) (o : Option Set) → SetIsHeld p.set p.holder → SetIsHeld o p.holder → SetIsHeld (after_claim_heard p o).set p.holder
 claim-held p None has its = has
 claim-held p (Some set) has its = named-held set set.name p.holder refl its
 
-master-held : (a : ℕ) (p : Part) (o : Option ℕ) (count : ℕ) → p.holder ≡ o → SetIsHeld p.set p.holder → SetIsHeld (registered a p o count).set p.holder
+master-held : (a : ℕ) (p : Part) (o : Option ℕ) (count : ℕ) → p.holder ≡ o → SetIsHeld p.set p.holder → SetIsHeld (after_master a p o count).set p.holder
 master-held a p None count e has = has
 master-held a p (Some h) count e has = e
 
@@ -36,21 +36,21 @@ join-held : (b : Bool) (set : Set) (name : ℕ) (holder : Option ℕ) → NameIs
 join-held true set name holder has = has
 join-held false set name holder has = has
 
-member-held : (p : Part) (o : Option Set) (name : ℕ) → SetIsHeld p.set p.holder → SetIsHeld o p.holder → SetIsHeld (with_member p o name).set p.holder
+member-held : (p : Part) (o : Option Set) (name : ℕ) → SetIsHeld p.set p.holder → SetIsHeld o p.holder → SetIsHeld (after_member p o name).set p.holder
 member-held p None name has its = has
 member-held p (Some set) name has its = join-held (has_place set) set name p.holder its
 
-commanded-held : (a : ℕ) (p : Part) (asked : Option (ℕ × ℕ)) (o : Option Contents) → SetIsHeld p.set p.holder → SetIsHeld (commanded a p asked o).set p.holder
+commanded-held : (a : ℕ) (p : Part) (asked : Option (ℕ × ℕ)) (o : Option Contents) → SetIsHeld p.set p.holder → SetIsHeld (after_command a p asked o).set p.holder
 commanded-held a p None None has = has
 commanded-held a p None (Some c) has = has
 commanded-held a p (Some x) None has = has
 commanded-held a p (Some x) (Some c) has = has
 
-technical-held : (a : ℕ) (p : Part) (bytes : List ℕ) (o : Option (List ℕ)) → SetIsHeld p.set p.holder → SetIsHeld (answered_or a p bytes o).set p.holder
+technical-held : (a : ℕ) (p : Part) (bytes : List ℕ) (o : Option (List ℕ)) → SetIsHeld p.set p.holder → SetIsHeld (after_reply a p bytes o).set p.holder
 technical-held a p bytes None has = commanded-held a p (hide_show_in (command_at bytes)) p.pool has
 technical-held a p bytes (Some reply) has = has
 
-message-held : (a : ℕ) (p : Part) (bytes : List ℕ) (o : Option Set) → SetIsHeld p.set p.holder → SetIsHeld (answered a p bytes o).set p.holder
+message-held : (a : ℕ) (p : Part) (bytes : List ℕ) (o : Option Set) → SetIsHeld p.set p.holder → SetIsHeld (after_message a p bytes o).set p.holder
 message-held a p bytes None has = has
 message-held a p bytes (Some set) has = technical-held a p bytes (technical_reply bytes) has
 
@@ -69,11 +69,11 @@ same-name None h e = tt
 same-name (Some n) h e = sym (option-true (Some n) h e)
 
 kept-held : (p : Part) (set : Set) (b : Bool) → (option_eq nat_eq set.name None || option_eq nat_eq set.name p.holder) ≡ b → p.set ≡ Some set
-    → SetIsHeld (cond b (kept p) closed).set p.holder
+    → SetIsHeld (cond b (unchanged p) without_set).set p.holder
 kept-held p set true e is = subst (λ o. SetIsHeld o p.holder) (sym is) (same-name set.name p.holder e)
 kept-held p set false e is = tt
 
-rebound-held : (p : Part) (o : Option Set) → p.set ≡ o → SetIsHeld (rebound p o).set p.holder
+rebound-held : (p : Part) (o : Option Set) → p.set ≡ o → SetIsHeld (after_change p o).set p.holder
 rebound-held p None is = subst (λ o. SetIsHeld o p.holder) (sym is) tt
 rebound-held p (Some set) is = kept-held p set (option_eq nat_eq set.name None || option_eq nat_eq set.name p.holder) refl is
 
@@ -81,12 +81,12 @@ rebound-held p (Some set) is = kept-held p set (option_eq nat_eq set.name None |
 
 while-held : (a : ℕ) (p : Part) (h : Happening) → SetIsHeld p.set p.holder → SetIsHeld (own_while a p h).part.set (own_while a p h).part.holder
 while-held a p (Heard f) has = said-held a p (said_by p.own f) f.bytes.items has
-while-held a p (HolderIs name) has = rebound-held (held_by p name) p.set refl
+while-held a p (HolderIs name) has = rebound-held (with_holder p name) p.set refl
 while-held a p Lost has = has
 while-held a p (Preloaded contents) has = tt
 
 lost-held : (b : Bool) (p : Part) (o : Own) → SetIsHeld p.set p.holder → SetIsHeld o.part.set o.part.holder
-    → SetIsHeld (cond b (unmoved p) o).part.set (cond b (unmoved p) o).part.holder
+    → SetIsHeld (cond b (without_effect p) o).part.set (cond b (without_effect p) o).part.holder
 lost-held true p o has its = has
 lost-held false p o has its = its
 

@@ -9,3 +9,5 @@ mod Registering
 mod Running
 mod Sending
 mod Steps
+mod Listing
+mod Settling

@@ -6,9 +6,9 @@ use Rattle.vt_names.specs.Registry.{Set, set_at, with_set, without, has_place, j
 use Rattle.vt_objects.specs.Stores.{Contents}
 use Rattle.vt_objects.specs.Commands.{command_at}
 use Rattle.vt_server.specs.Messages.{technical_reply}
-use Rattle.vt_server.specs.Parts.{Part, Local, Hears, Rebinds, Preloads, kept, closed, local, local_said, rebound, named, bound_at_claim, registered, with_member, hide_show_in, commanded, answered_or, answered}
+use Rattle.vt_server.specs.Parts.{Part, Local, Hears, Rebinds, Preloads, unchanged, without_set, local, local_said, after_change, with_holder_name, after_claim_heard, after_master, after_member, hide_show_in, after_command, after_reply, after_message}
 use Rattle.vt_server.specs.Terminals.{State, Sent, part, take, takes, say, says, to_one, with_set_at}
-use Rattle.vt_server.specs.Happenings.{turned, frames_to}
+use Rattle.vt_server.specs.Happenings.{own_after, frames_to}
 use Rattle.vt_server.specs.declared.bus.Notice.{Notice}
 use Rattle.vt_server.specs.declared.bus.Notice.TheVariants.{Claim, ClaimRequest, Master, Member, Message, Nothing}
 use Rattle.vt_server.proofs.Puts.{by_eq, set_at-first, set_at-later, set_at-address, with_set-first, with_set-later, without-first, without-later, take-is, say-is}
@@ -26,25 +26,25 @@ part-address a s = cases (set_at a s.sets) refl
     cases None e = tt
     cases (Some x) e = set_at-address a x s.sets e
 
-kept-address : (a : ℕ) (p : Part) (b : Bool) → HasAddress a p.set → HasAddress a (cond b (kept p) closed).set
+kept-address : (a : ℕ) (p : Part) (b : Bool) → HasAddress a p.set → HasAddress a (cond b (unchanged p) without_set).set
 kept-address a p true has = has
 kept-address a p false has = tt
 
-rebound-address : (a : ℕ) (p : Part) (o : Option Set) → HasAddress a p.set → HasAddress a (rebound p o).set
+rebound-address : (a : ℕ) (p : Part) (o : Option Set) → HasAddress a p.set → HasAddress a (after_change p o).set
 rebound-address a p None has = has
 rebound-address a p (Some set) has = kept-address a p (option_eq nat_eq set.name None || option_eq nat_eq set.name p.holder) has
 
-named-address : (set : Set) (x y : Option ℕ) → (named set x y).address ≡ set.address
+pub named-address : (set : Set) (x y : Option ℕ) → (with_holder_name set x y).address ≡ set.address
 named-address set None None = refl
 named-address set None (Some h) = refl
 named-address set (Some n) None = refl
 named-address set (Some n) (Some h) = refl
 
-claim-address : (a : ℕ) (p : Part) (o : Option Set) → HasAddress a p.set → HasAddress a o → HasAddress a (bound_at_claim p o).set
+claim-address : (a : ℕ) (p : Part) (o : Option Set) → HasAddress a p.set → HasAddress a o → HasAddress a (after_claim_heard p o).set
 claim-address a p None has its = has
 claim-address a p (Some set) has its = named-address set set.name p.holder ∙ its
 
-master-address : (a : ℕ) (p : Part) (o : Option ℕ) (count : ℕ) → HasAddress a p.set → HasAddress a (registered a p o count).set
+master-address : (a : ℕ) (p : Part) (o : Option ℕ) (count : ℕ) → HasAddress a p.set → HasAddress a (after_master a p o count).set
 master-address a p None count has = has
 master-address a p (Some h) count has = refl
 
@@ -52,21 +52,21 @@ join-address : (b : Bool) (set : Set) (name : ℕ) → (cond b (joined set name)
 join-address true set name = refl
 join-address false set name = refl
 
-member-address : (a : ℕ) (p : Part) (o : Option Set) (name : ℕ) → HasAddress a p.set → HasAddress a o → HasAddress a (with_member p o name).set
+member-address : (a : ℕ) (p : Part) (o : Option Set) (name : ℕ) → HasAddress a p.set → HasAddress a o → HasAddress a (after_member p o name).set
 member-address a p None name has its = has
 member-address a p (Some set) name has its = join-address (has_place set) set name ∙ its
 
-commanded-address : (a : ℕ) (p : Part) (asked : Option (ℕ × ℕ)) (o : Option Contents) → HasAddress a p.set → HasAddress a (commanded a p asked o).set
+commanded-address : (a : ℕ) (p : Part) (asked : Option (ℕ × ℕ)) (o : Option Contents) → HasAddress a p.set → HasAddress a (after_command a p asked o).set
 commanded-address a p None None has = has
 commanded-address a p None (Some c) has = has
 commanded-address a p (Some x) None has = has
 commanded-address a p (Some x) (Some c) has = has
 
-technical-address : (a : ℕ) (p : Part) (bytes : List ℕ) (o : Option (List ℕ)) → HasAddress a p.set → HasAddress a (answered_or a p bytes o).set
+technical-address : (a : ℕ) (p : Part) (bytes : List ℕ) (o : Option (List ℕ)) → HasAddress a p.set → HasAddress a (after_reply a p bytes o).set
 technical-address a p bytes None has = commanded-address a p (hide_show_in (command_at bytes)) p.pool has
 technical-address a p bytes (Some reply) has = has
 
-message-address : (a : ℕ) (p : Part) (bytes : List ℕ) (o : Option Set) → HasAddress a p.set → HasAddress a (answered a p bytes o).set
+message-address : (a : ℕ) (p : Part) (bytes : List ℕ) (o : Option Set) → HasAddress a p.set → HasAddress a (after_message a p bytes o).set
 message-address a p bytes None has = has
 message-address a p bytes (Some set) has = technical-address a p bytes (technical_reply bytes) has
 
@@ -93,7 +93,7 @@ at-with a x (t ∷ sets) its =
     (λ is. ap (set_at a) (with_set-first x t sets is) ∙ set_at-first a x sets its)
     (λ ne. ap (set_at a) (with_set-later x t sets ne) ∙ set_at-later a t (with_set x sets) (λ h. ne (h ∙ sym its)) ∙ rest)
 
-at-with_other : (a : ℕ) (x : Set) (sets : List Set) → x.address ≢ a → set_at a (with_set x sets) ≡ set_at a sets
+pub at-with_other : (a : ℕ) (x : Set) (sets : List Set) → x.address ≢ a → set_at a (with_set x sets) ≡ set_at a sets
 at-with_other a x [] other = set_at-later a x [] other
 at-with_other a x (t ∷ sets) other =
     let rest = at-with_other a x sets other in
@@ -131,7 +131,7 @@ at-put_other a b (Some x) sets has ne = at-with_other a x sets (λ h. ne (sym h 
 
 -- ---- the part
 
-pub part-take : (a : ℕ) (s : State) (h : Local) → part a (take s a h) ≡ (turned (part a s) (local a (part a s) h)).part
+pub part-take : (a : ℕ) (s : State) (h : Local) → part a (take s a h) ≡ (own_after (part a s) (local a (part a s) h)).part
 part-take a s h =
     let after = local a (part a s) h in
     ap (part a) (take-is s a h)
@@ -180,11 +180,11 @@ of a (h ∷ hs) = cond (eqb h.0 a) (h.1 ∷ of a hs) (of a hs)
 
 abbrev pub turns : ℕ → Part → List Local → Part
 turns a p [] = p
-turns a p (h ∷ hs) = turns a (turned p (local a p h)).part hs
+turns a p (h ∷ hs) = turns a (own_after p (local a p h)).part hs
 
 abbrev pub turns_frames : ℕ → Part → List Local → List Frame
 turns_frames a p [] = []
-turns_frames a p (h ∷ hs) = (local a p h).frames ++ turns_frames a (turned p (local a p h)).part hs
+turns_frames a p (h ∷ hs) = (local a p h).frames ++ turns_frames a (own_after p (local a p h)).part hs
 
 pub of-append : (a : ℕ) (xs ys : List (ℕ × Local)) → of a (xs ++ ys) ≡ of a xs ++ of a ys
 of-append a [] ys = refl

@@ -1,13 +1,13 @@
 -- What is written at one address.
-use Rattle.std.proofs.Common.{◌≡◌, ◌≢◌, ℕ, Bool, true, false, cond, not, ◌||◌, eqb, List, [], ◌∷◌, ◌++◌, map, length, get_or, ◌<◌, inl, inr, Option, Some, None, true≢false, is_some, unwrap_or, refl, sym, ap, subst, ◌∙◌, eq-eqb, ne_eqb}
+use Rattle.std.proofs.Common.{◌≡◌, ◌≢◌, ℕ, Bool, true, false, cond, not, eqb, List, [], ◌∷◌, ◌++◌, map, length, get_or, ◌<◌, inl, inr, Option, Some, None, true≢false, is_some, unwrap_or, refl, sym, ap, subst, ◌∙◌, eq-eqb, ne_eqb}
 use Rattle.std.proofs.lemmas.Bool.{eqb-true, false≢true, cases_lt}
-use Rattle.std.specs.Option.{option_eq, option_map}
+use Rattle.std.specs.Option.{option_map}
 use Rattle.std.proofs.Math.ListN.{get_or-eq_default}
 use Rattle.vt_objects.specs.declared.list_store.ListStore.{ListStore}
 use Rattle.vt_objects.specs.contracts.list_store.ListStoreStore.TheImpl.{ghosts}
 use Rattle.vt_names.specs.Registry.{Set, set_at, with_set, without}
 use Rattle.vt_objects.specs.Stores.{Contents}
-use Rattle.vt_server.specs.Parts.{After, Local, kept, local}
+use Rattle.vt_server.specs.Parts.{After, Local, unchanged, local}
 use Rattle.vt_server.specs.Terminals.{State, to_one, part, put, take, takes, say, with_set_at, with_pool_at}
 
 pub by_eq : {P : Type 0} (x y : ℕ) → (x ≡ y → P) → (x ≢ y → P) → P
@@ -30,27 +30,6 @@ some-name (Some n) e = (n, refl)
 pub no-name : (o : Option ℕ) → false ≡ is_some o → o ≡ None
 no-name None e = refl
 no-name (Some n) e = absurd (true≢false (sym e))
-
--- a NAME that is none, or the holder's, and one that is neither
-
-pub keeps_none : (name h r : Option ℕ) → r ≡ name → is_some r ≡ false → (option_eq eqb name None || option_eq eqb name h) ≡ true
-keeps_none name h r is none =
-    ap (λ (o : Option ℕ). option_eq eqb o None || option_eq eqb o h) (sym is ∙ no-name r (sym none))
-
-or-true : (b : Bool) → (b || true) ≡ true
-or-true true = refl
-or-true false = refl
-
-pub keeps_same : (name h r g : Option ℕ) → r ≡ name → g ≡ h → true ≡ option_eq eqb r g → (option_eq eqb name None || option_eq eqb name h) ≡ true
-keeps_same name h r g is has same =
-    ap (λ (b : Bool). option_eq eqb name None || b) (ap (λ (o : Option ℕ). option_eq eqb o h) (sym is) ∙ ap (option_eq eqb r) (sym has) ∙ sym same)
-    ∙ or-true (option_eq eqb name None)
-
-pub keeps_neither : (name h r g : Option ℕ) → r ≡ name → g ≡ h → is_some r ≡ true → false ≡ option_eq eqb r g → (option_eq eqb name None || option_eq eqb name h) ≡ false
-keeps_neither name h r g is has some other =
-    let named = some-name r (sym some) in
-    ap (λ (o : Option ℕ). option_eq eqb o None || option_eq eqb name h) (sym is ∙ named.1)
-    ∙ ap (λ (o : Option ℕ). option_eq eqb o h) (sym is) ∙ ap (option_eq eqb r) (sym has) ∙ sym other
 
 -- ---- sets
 
@@ -89,7 +68,7 @@ set-same a s (t ∷ sets) there =
     (λ is. with_set-first s t sets (is ∙ sym own) ∙ ap (λ (x : Set). x ∷ sets) (sym (some-is t s (sym (set_at-first a t sets is) ∙ there))))
     (λ ne. with_set-later s t sets (λ h. ne (h ∙ own)) ∙ ap (λ l. t ∷ l) (rest (sym (set_at-later a t sets ne) ∙ there)))
 
-none-same : (a : ℕ) (sets : List Set) → set_at a sets ≡ None → without a sets ≡ sets
+pub none-same : (a : ℕ) (sets : List Set) → set_at a sets ≡ None → without a sets ≡ sets
 none-same a [] none = refl
 none-same a (t ∷ sets) none =
     let rest = none-same a sets in
@@ -151,8 +130,8 @@ unfolding say
 say-is s a h = refl
 
 -- nothing comes of what leaves the part as it was
-pub idle : (s : State) (a : ℕ) (h : Local) → local a (part a s) h ≡ kept (part a s) → take s a h ≡ s
-idle s a h e = take-is s a h ∙ ap (λ after. put a after s) e ∙ put-kept a s (kept (part a s)) refl refl
+pub idle : (s : State) (a : ℕ) (h : Local) → local a (part a s) h ≡ unchanged (part a s) → take s a h ≡ s
+idle s a h e = take-is s a h ∙ ap (λ after. put a after s) e ∙ put-kept a s (unchanged (part a s)) refl refl
 
 pub takes-append : (s : State) (hs ks : List (ℕ × Local)) → takes s (hs ++ ks) ≡ takes (takes s hs) ks
 takes-append s [] ks = refl

@@ -9,7 +9,7 @@ use Rattle.vt_can.specs.declared.frame.Frame.{Frame}
 use Rattle.vt_can.specs.Nodes.{source_of}
 use Rattle.vt_server.specs.Bus.{said}
 use Rattle.vt_server.specs.Messages.{claim_from}
-use Rattle.vt_server.specs.Parts.{Part, Local, Hears, Rebinds, kept, closed, local, registered, rebound, bound_at_claim, with_member}
+use Rattle.vt_server.specs.Parts.{Part, Local, Hears, Rebinds, unchanged, without_set, local, after_master, after_change, after_claim_heard, after_member}
 use Rattle.vt_server.specs.Terminals.{State, Step, holder, part, put, take, takes, say, says, to_one, to_all, before, changed, changed_left, left_by, left_holder, changes, changes_by, acts, no_step, losing, acting, step_said, step_frame, is_lost_by, is_defended, answer_to, defence}
 use Rattle.vt_server.specs.declared.bus.Notice.{Notice}
 use Rattle.vt_server.specs.declared.bus.Notice.TheVariants.{Claim, ClaimRequest, Master, Member, Message, Nothing}
@@ -25,29 +25,29 @@ pub claims-takes : (s : State) (hs : List (ℕ × Local)) → (takes s hs).claim
 claims-takes s [] = refl
 claims-takes s (h ∷ hs) = claims-takes (take s h.0 h.1) hs ∙ claims-take s h.0 h.1
 
-changed-same : (was : Option ℕ) (s t : State) (a : ℕ) → s.claims ≡ t.claims → changed was s a ≡ changed was t a
+pub changed-same : (was : Option ℕ) (s t : State) (a : ℕ) → s.claims ≡ t.claims → changed was s a ≡ changed was t a
 changed-same was s t a e =
     ap (λ (c : Claimed). cond (option_eq nat_eq was (holder_of c.addresses a)) [] ((a, Rebinds) ∷ [])) e
 
 -- ---- the frames of claims and registration: none
 
-cond-none : (b : Bool) (p : Part) → (cond b (kept p) closed).frames ≡ []
+cond-none : (b : Bool) (p : Part) → (cond b (unchanged p) without_set).frames ≡ []
 cond-none true p = refl
 cond-none false p = refl
 
-rebound-none : (p : Part) (o : Option Set) → (rebound p o).frames ≡ []
+rebound-none : (p : Part) (o : Option Set) → (after_change p o).frames ≡ []
 rebound-none p None = refl
 rebound-none p (Some set) = cond-none (option_eq nat_eq set.name None || option_eq nat_eq set.name p.holder) p
 
-bound-none : (p : Part) (o : Option Set) → (bound_at_claim p o).frames ≡ []
+bound-none : (p : Part) (o : Option Set) → (after_claim_heard p o).frames ≡ []
 bound-none p None = refl
 bound-none p (Some set) = refl
 
-registered-none : (a : ℕ) (p : Part) (o : Option ℕ) (count : ℕ) → (registered a p o count).frames ≡ []
+registered-none : (a : ℕ) (p : Part) (o : Option ℕ) (count : ℕ) → (after_master a p o count).frames ≡ []
 registered-none a p None count = refl
 registered-none a p (Some h) count = refl
 
-member-none : (p : Part) (o : Option Set) (name : ℕ) → (with_member p o name).frames ≡ []
+member-none : (p : Part) (o : Option Set) (name : ℕ) → (after_member p o name).frames ≡ []
 member-none p None name = refl
 member-none p (Some set) name = refl
 
@@ -116,8 +116,8 @@ sent-claim s source name bytes heard is =
 
 -- ---- a member message
 
-member_cases : (s : State) (a name : ℕ) (o : Option Set) → set_at a s.sets ≡ o → record s { sets = joining o name s.sets } ≡ put a (with_member (part a s) o name) s
-member_cases s a name None e = sym (put-kept a s (kept (part a s)) refl refl)
+member_cases : (s : State) (a name : ℕ) (o : Option Set) → set_at a s.sets ≡ o → record s { sets = joining o name s.sets } ≡ put a (after_member (part a s) o name) s
+member_cases s a name None e = sym (put-kept a s (unchanged (part a s)) refl refl)
 member_cases s a name (Some set) e =
     ap (λ (l : List Set). record s { sets = l }) (place_cases (has_place set)) ∙ put-set a s (Some (cond (has_place set) (joined set name) set))
   where

@@ -28,25 +28,25 @@ pub record Own : Type 0 where
   pub part : Part
   pub frames : List Frame
 
-abbrev pub unmoved : Part → Own
-unmoved p = record { part = p; frames = [] }
+abbrev pub without_effect : Part → Own
+without_effect p = record { part = p; frames = [] }
 
-abbrev pub turned : Part → After → Own
-turned p after = record { part = record p { set = after.set; pool = after.pool }; frames = after.frames }
+abbrev pub own_after : Part → After → Own
+own_after p after = record { part = record p { set = after.set; pool = after.pool }; frames = after.frames }
 
-abbrev pub held_by : Part → Option ℕ → Part
-held_by p name = record p { holder = name }
+abbrev pub with_holder : Part → Option ℕ → Part
+with_holder p name = record p { holder = name }
 
 -- while the terminal has its own address
 abbrev pub own_while : ℕ → Part → Happening → Own
-own_while address p (Heard frame) = turned p (local address p (Hears (said_by p.own frame) frame.bytes.items))
-own_while address p (HolderIs name) = turned (held_by p name) (local address (held_by p name) Rebinds)
-own_while address p Lost = unmoved (record p { lost = true })
-own_while address p (Preloaded contents) = turned p (local address p (Preloads contents))
+own_while address p (Heard frame) = own_after p (local address p (Hears (said_by p.own frame) frame.bytes.items))
+own_while address p (HolderIs name) = own_after (with_holder p name) (local address (with_holder p name) Rebinds)
+own_while address p Lost = without_effect (record p { lost = true })
+own_while address p (Preloaded contents) = own_after p (local address p (Preloads contents))
 
 -- After the loss nothing has effect.
 abbrev pub own : ℕ → Part → Happening → Own
-own address p happening = if p.lost then unmoved p else own_while address p happening
+own address p happening = if p.lost then without_effect p else own_while address p happening
 
 abbrev pub owns : ℕ → Part → List Happening → Part
 owns address p [] = p

@@ -30,13 +30,13 @@ abbrev pub hidden_object : Option Seen → ℕ → Result Seen HideRefusal
 hidden_object (Some (objects.Container c)) state = with_hidden c (hidden_by state)
 hidden_object _ state = Err NoContainer
 
-abbrev pub put : Contents → ℕ → Result Seen HideRefusal → Result Contents HideRefusal
-put m id (Ok object) = Ok (finite.insert m id object)
-put m id (Err refusal) = Err refusal
+abbrev pub put_object : Contents → ℕ → Result Seen HideRefusal → Result Contents HideRefusal
+put_object m id (Ok object) = Ok (finite.insert m id object)
+put_object m id (Err refusal) = Err refusal
 
 -- The objects after the command, or why it is refused.
 abbrev pub hide_effect : Contents → ℕ → ℕ → Result Contents HideRefusal
-hide_effect m id state = put m id (hidden_object (finite.get m id) state)
+hide_effect m id state = put_object m id (hidden_object (finite.get m id) state)
 
 -- a refused command changes nothing
 abbrev pub after_effect : Contents → Result Contents HideRefusal → Contents

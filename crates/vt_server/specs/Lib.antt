@@ -6,5 +6,6 @@ pub mod Hiding
 pub mod Messages
 pub mod Parts
 pub mod Sending
+pub mod SetLists
 pub mod States
 pub mod Terminals

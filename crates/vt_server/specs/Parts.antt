@@ -34,38 +34,42 @@ pub data Local : Type 0 where
   Rebinds : Local
   Preloads : Contents → Local
 
-abbrev pub kept : Part → After
-kept p = record { set = p.set; pool = p.pool; frames = [] }
+abbrev pub unchanged : Part → After
+unchanged p = record { set = p.set; pool = p.pool; frames = [] }
 
-abbrev pub with_set : Part → Option Set → After
-with_set p set = record { set = set; pool = p.pool; frames = [] }
+abbrev pub with_other_set : Part → Option Set → After
+with_other_set p set = record { set = set; pool = p.pool; frames = [] }
 
-abbrev pub closed : After
-closed = record { set = None; pool = None; frames = [] }
+abbrev pub without_set : After
+without_set = record { set = None; pool = None; frames = [] }
 
 -- ---- claims and registration
 
+-- without a NAME, or with that of the holder
+abbrev pub stays_under : Option ℕ → Option ℕ → Bool
+stays_under name holder = (option_eq nat_eq name None) || option_eq nat_eq name holder
+
 -- A set with a NAME that isn't the holder's is closed.
-abbrev pub rebound : Part → Option Set → After
-rebound p None = kept p
-rebound p (Some set) = if (option_eq nat_eq set.name None) || option_eq nat_eq set.name p.holder then kept p else closed
+abbrev pub after_change : Part → Option Set → After
+after_change p None = unchanged p
+after_change p (Some set) = if stays_under set.name p.holder then unchanged p else without_set
 
 -- A set without a NAME takes the holder's at a claim from its address.
-abbrev pub named : Set → Option ℕ → Option ℕ → Set
-named set None (Some holder) = bound set holder
-named set _ _ = set
+abbrev pub with_holder_name : Set → Option ℕ → Option ℕ → Set
+with_holder_name set None (Some holder) = bound set holder
+with_holder_name set _ _ = set
 
-abbrev pub bound_at_claim : Part → Option Set → After
-bound_at_claim p None = kept p
-bound_at_claim p (Some set) = with_set p (Some (named set set.name p.holder))
+abbrev pub after_claim_heard : Part → Option Set → After
+after_claim_heard p None = unchanged p
+after_claim_heard p (Some set) = with_other_set p (Some (with_holder_name set set.name p.holder))
 
-abbrev pub registered : ℕ → Part → Option ℕ → ℕ → After
-registered address p None count = kept p
-registered address p (Some holder) count = with_set p (Some (mastered address holder count))
+abbrev pub after_master : ℕ → Part → Option ℕ → ℕ → After
+after_master address p None count = unchanged p
+after_master address p (Some holder) count = with_other_set p (Some (mastered address holder count))
 
-abbrev pub with_member : Part → Option Set → ℕ → After
-with_member p None name = kept p
-with_member p (Some set) name = with_set p (Some (if has_place set then joined set name else set))
+abbrev pub after_member : Part → Option Set → ℕ → After
+after_member p None name = unchanged p
+after_member p (Some set) name = with_other_set p (Some (if has_place set then joined set name else set))
 
 -- ---- messages of a set
 
@@ -75,34 +79,34 @@ hide_show_in (Some (HideShow id state)) = Some (id, state)
 hide_show_in _ = None
 
 -- a command, where there is a pool
-abbrev pub commanded : ℕ → Part → Option (ℕ × ℕ) → Option Contents → After
-commanded address p (Some asked) (Some contents) =
+abbrev pub after_command : ℕ → Part → Option (ℕ × ℕ) → Option Contents → After
+after_command address p (Some asked) (Some contents) =
     let effect = hide_effect contents asked.0 asked.1 in record {
       set = p.set;
       pool = Some (after_effect contents effect);
       frames = message_to p.own address (reply_bytes asked.0 asked.1 (error_of effect)) ∷ [];
     }
-commanded address p _ _ = kept p
+after_command address p _ _ = unchanged p
 
-abbrev pub answered_or : ℕ → Part → List ℕ → Option (List ℕ) → After
-answered_or address p bytes (Some reply) = record { set = p.set; pool = p.pool; frames = message_to p.own address reply ∷ [] }
-answered_or address p bytes None = commanded address p (hide_show_in (command_at bytes)) p.pool
+abbrev pub after_reply : ℕ → Part → List ℕ → Option (List ℕ) → After
+after_reply address p bytes (Some reply) = record { set = p.set; pool = p.pool; frames = message_to p.own address reply ∷ [] }
+after_reply address p bytes None = after_command address p (hide_show_in (command_at bytes)) p.pool
 
 -- Only the master of a set is answered.
-abbrev pub answered : ℕ → Part → List ℕ → Option Set → After
-answered address p bytes None = kept p
-answered address p bytes (Some set) = answered_or address p bytes (technical_reply bytes)
+abbrev pub after_message : ℕ → Part → List ℕ → Option Set → After
+after_message address p bytes None = unchanged p
+after_message address p bytes (Some set) = after_reply address p bytes (technical_reply bytes)
 
 -- ---- what an address makes of what happens there
 
 abbrev pub local_said : ℕ → Part → Notice → List ℕ → After
-local_said address p (Claim name) bytes = bound_at_claim p p.set
-local_said address p (Master count) bytes = registered address p p.holder count
-local_said address p (Member name) bytes = with_member p p.set name
-local_said address p Message bytes = answered address p bytes p.set
-local_said address p _ bytes = kept p
+local_said address p (Claim name) bytes = after_claim_heard p p.set
+local_said address p (Master count) bytes = after_master address p p.holder count
+local_said address p (Member name) bytes = after_member p p.set name
+local_said address p Message bytes = after_message address p bytes p.set
+local_said address p _ bytes = unchanged p
 
 abbrev pub local : ℕ → Part → Local → After
 local address p (Hears said bytes) = local_said address p said bytes
-local address p Rebinds = rebound p p.set
+local address p Rebinds = after_change p p.set
 local address p (Preloads contents) = record { set = Some (preloaded address); pool = Some contents; frames = [] }

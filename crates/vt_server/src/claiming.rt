@@ -2,7 +2,8 @@
 
 ghost use Rattle.std.specs.Prelude.{◌≡◌, ◌++◌, ◌<◌, ℕ, List, false, OnOk, OnErr, vec_len, vec_capacity};
 ghost use Rattle.vt_names.specs.Claims.{address_of};
-ghost use Rattle.vt_server.specs.Parts.{Hears};
+ghost use Rattle.vt_server.specs.Messages as messages;
+ghost use Rattle.vt_server.specs.Parts.{Hears, stays_under};
 ghost use Rattle.vt_server.specs.States.{state_of, outputs_of};
 ghost use Rattle.vt_server.specs.Terminals as spec;
 ghost use Rattle.vt_server.specs.declared.bus.Notice.TheVariants as said;
@@ -12,6 +13,7 @@ use crate::hearing::send;
 use crate::messages::claim_from;
 use crate::output::Output;
 use crate::terminal::Terminal;
+use vt_can::Frame;
 use vt_names::{Heard, Name};
 
 /// Cannot Claim is sent from this address.
@@ -34,17 +36,16 @@ impl Terminal {
         ensures err { OnErr result (state_of self.new ≡ state_of self.old) }
         ensures err_sent { OnErr result (outputs.new.items ≡ outputs.old.items) }
     {
-        let own = self.claims.own();
-        let own_name = self.claims.name();
+        let own_claim = self.own_claim();
         match self.claims.answer(source, name) {
             Heard::Lost => {
+                send(outputs, claim_from(NULL_ADDRESS, self.claims.name()));
                 self.lost = true;
-                send(outputs, claim_from(NULL_ADDRESS, own_name));
                 Ok(())
             }
             Heard::Defend => {
                 self.record(source, name)?;
-                send(outputs, claim_from(own, own_name));
+                send(outputs, own_claim);
                 Ok(())
             }
             Heard::Nothing => {
@@ -52,6 +53,13 @@ impl Terminal {
                 Ok(())
             }
         }
+    }
+
+    /// The terminal's Address Claimed.
+    pub(crate) fn own_claim(&self) -> Frame
+        ensures { result ≡ messages.claim_from self.now.claims.own self.now.claims.name }
+    {
+        claim_from(self.claims.own(), self.claims.name())
     }
 
     /// Records a claim. The sets of addresses that have another holder then are closed, and a set of the source
@@ -84,18 +92,14 @@ impl Terminal {
     fn left_holder(&self, left: Option<u8>) -> Option<Name>
         ensures { result ≡ spec.left_holder (state_of self.now) left }
     {
-        match left {
-            Some(left) => self.claims.holder(left),
-            None => None,
-        }
+        self.claims.holder(left?)
     }
 
     fn rebind_left(&mut self, left: Option<u8>, was: Option<Name>)
         ensures { state_of self.new ≡ spec.takes (state_of self.old) (spec.changed_left was (state_of self.old) left) }
     {
-        match left {
-            Some(left) => self.rebind(left, was),
-            None => {}
+        if let Some(left) = left {
+            self.rebind(left, was);
         }
     }
 
@@ -107,11 +111,10 @@ impl Terminal {
         if was == holder {
             return;
         }
-        let name = match self.registry.get(address) {
-            Some(set) => set.name(),
-            None => return,
+        let Some(set) = self.registry.get(address) else {
+            return;
         };
-        if name.is_none() || name == holder {
+        if stays_under(set.name(), holder) {
             return;
         }
         self.registry.close(address);
@@ -123,16 +126,21 @@ impl Terminal {
         ensures { (name : ℕ) (bytes : List ℕ) → state_of self.new
             ≡ spec.take (state_of self.old) address (Hears (said.Claim name) bytes) }
     {
-        let name = match self.registry.get(address) {
-            Some(set) => set.name(),
-            None => return,
+        let Some(set) = self.registry.get(address) else {
+            return;
         };
-        if name.is_some() {
+        if set.name().is_some() {
             return;
         }
-        match self.claims.holder(address) {
-            Some(holder) => self.registry.bind(address, holder),
-            None => {}
+        if let Some(holder) = self.claims.holder(address) {
+            self.registry.bind(address, holder);
         }
     }
+}
+
+// Whether a set of this NAME, or of none, is not closed under the holder of its address.
+fn stays_under(name: Option<Name>, holder: Option<Name>) -> bool
+    ensures { result ≡ stays_under name holder }
+{
+    name.is_none() || name == holder
 }

@@ -12,7 +12,7 @@ ghost use Rattle.vt_server.specs.Parts.{hide_show_in};
 
 use crate::OutOfMemory;
 use crate::bus::{Notice, said};
-use crate::messages::{claim_from, hide_show_reply, message_to, technical_reply};
+use crate::messages::{hide_show_reply, message_to, technical_reply};
 use crate::output::Output;
 use crate::terminal::Terminal;
 use vt_can::Frame;
@@ -42,7 +42,7 @@ impl Terminal {
         match said(self.claims.own(), self.claims.name(), frame) {
             Notice::Claim(name) => self.hear_claim(source, name, outputs),
             Notice::ClaimRequest => {
-                send(outputs, claim_from(self.claims.own(), self.claims.name()));
+                send(outputs, self.own_claim());
                 Ok(())
             }
             Notice::Master { count } => {
@@ -54,9 +54,8 @@ impl Terminal {
                 Ok(())
             }
             Notice::Message => {
-                match self.answer(source, frame.bytes.as_slice()) {
-                    Some(reply) => send(outputs, reply),
-                    None => {}
+                if let Some(reply) = self.answer(source, frame.bytes.as_slice()) {
+                    send(outputs, reply);
                 }
                 Ok(())
             }
@@ -70,11 +69,19 @@ impl Terminal {
         ensures err { OnErr result (state_of self.new ≡ state_of self.old) }
     {
         self.registry.reserve(source)?;
-        // There is room, so only an address without a holder is refused, and then nothing is registered.
+        self.register(source, count);
+        Ok(())
+    }
+
+    // There is room, so only an address without a holder is refused, and then nothing is registered.
+    fn register(&mut self, source: u8, count: u8)
+        requires room { 0 < self.old.registry.room }
+        ensures { (bytes : List ℕ) → state_of self.new
+            ≡ spec.take (state_of self.old) source (Hears (said.Master count) bytes) }
+    {
         let _refused = self
             .registry
             .master(source, self.claims.holder(source), count);
-        Ok(())
     }
 
     /// The reply to a message from the master of a set, if it has one.
@@ -87,18 +94,12 @@ impl Terminal {
             return None;
         }
         let own = self.claims.own();
-        match technical_reply(bytes) {
-            Some(reply) => return Some(message_to(own, source, reply)),
-            None => {}
+        if let Some(reply) = technical_reply(bytes) {
+            return Some(message_to(own, source, reply));
         }
-        let (id, state) = match hide_show_asked(bytes) {
-            Some(asked) => asked,
-            None => return None,
-        };
-        match self.pools.hide_show(source, id, state) {
-            Some(error) => Some(message_to(own, source, hide_show_reply(id, state, error))),
-            None => None,
-        }
+        let (id, state) = hide_show_asked(bytes)?;
+        let error = self.pools.hide_show(source, id, state)?;
+        Some(message_to(own, source, hide_show_reply(id, state, error)))
     }
 }
 

@@ -3,6 +3,7 @@
 ghost use Rattle.vt_server.specs.ClaimsHeard.{HoldersOfRuns};
 ghost use Rattle.vt_server.specs.Sending.{SentAreAddressed};
 ghost use Rattle.vt_server.specs.Happenings.{EachTakesItsOwn, OwnHappeningsDecide, SetsHoldTheirAddress, IsOrderly};
+ghost use Rattle.vt_server.specs.SetLists.{SetsAfterSteps};
 ghost use Rattle.vt_server.specs.States.{state_of};
 
 use crate::terminal::Terminal;
@@ -28,6 +29,15 @@ pub fn own_happenings_decide()
 /// sets of the addresses whose holder is another is to close each set whose NAME isn't its address's holder.
 pub fn sets_hold_their_address()
     ensures { SetsHoldTheirAddress }
+{
+    vt_names::other_holders_stay();
+}
+
+/// The law that a claim closes each set with a NAME that isn't its address's holder, that the others keep their
+/// order, and that a set of its source without a NAME takes the holder's; and what each other input does to the
+/// list of the sets.
+pub fn sets_after_steps()
+    ensures { SetsAfterSteps }
 {
     vt_names::other_holders_stay();
 }

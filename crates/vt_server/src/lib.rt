@@ -17,7 +17,7 @@ mod terminal;
 pub use input::Input;
 pub use law::{
     each_takes_its_own, holders_are_of_runs, own_happenings_decide, sent_are_addressed,
-    sets_hold_their_address, terminals_are_orderly,
+    sets_after_steps, sets_hold_their_address, terminals_are_orderly,
 };
 pub use output::Output;
 pub use terminal::{RunFault, Terminal};

@@ -51,10 +51,7 @@ impl Pools {
             (option_map (λ m. after_effect m (hide_effect m id state)) (pools_of self.old address)) (pools_of self.old) }
         ensures error { result ≡ option_map (λ m. error_of (hide_effect m id state)) (pools_of self.old address) }
     {
-        let mut pool = match self.take(address) {
-            Some(pool) => pool,
-            None => return None,
-        };
+        let mut pool = self.take(address)?;
         let done = hide_show(&mut pool, id, state);
         self.put(address, pool);
         Some(error_of(done))

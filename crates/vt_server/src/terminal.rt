@@ -13,6 +13,7 @@ use crate::input::Input;
 use crate::output::Output;
 use crate::pools::Pools;
 use std::alloc::Global;
+use thiserror::Error;
 use vt_names::{Claims, Name, Registry};
 use vt_objects::{ListStore, Object, ObjectId, Store};
 use vt_pool::Pool;
@@ -30,7 +31,8 @@ pub struct Terminal {
 }
 
 /// The memory for an input of a run was refused. The inputs before it were taken, and no other.
-#[derive(Clone, Copy, Debug, PartialEq, Eq)]
+#[derive(Clone, Copy, Debug, PartialEq, Eq, Error)]
+#[error("the memory for input {at} was refused")]
 pub struct RunFault {
     /// The place of that input, counted from 0.
     pub at: usize,

@@ -123,3 +123,24 @@ fn many_inputs(rt: HostRuntime) -> Result<(), Fail> {
     assert_eq!(rt; outputs.len(), 2_000);
     Ok(())
 }
+
+#[test]
+fn printed_fault(rt: HostRuntime) -> Result<(), Fail> {
+    let text = format!(in rt.alloc(); "{}", RunFault { at: 2 })?;
+    assert_eq!(rt; text.as_str(), "the memory for input 2 was refused");
+    Ok(())
+}
+
+#[test]
+fn laws_change_nothing(rt: HostRuntime) -> Result<(), Fail> {
+    each_takes_its_own();
+    own_happenings_decide();
+    sets_hold_their_address();
+    sets_after_steps();
+    holders_are_of_runs();
+    sent_are_addressed();
+    let terminal = started(&rt, true)?;
+    terminals_are_orderly(&terminal);
+    assert!(rt; terminal.registered(0x80));
+    Ok(())
+}

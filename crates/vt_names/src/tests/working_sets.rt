@@ -16,7 +16,9 @@ fn is_set(set: &Set, wanted: &Wanted<'_>) -> bool {
 }
 
 fn are_sets(registry: &Registry, wanted: &[Wanted<'_>]) -> bool {
-    let mut same = registry.len() == wanted.len() && registry.at(wanted.len()).is_none();
+    let mut same = registry.len() == wanted.len()
+        && registry.is_empty() == wanted.is_empty()
+        && registry.at(wanted.len()).is_none();
     for (index, one) in wanted.iter().enumerate() {
         let first = registry.at(index).is_some_and(|set| is_set(set, one));
         same = same && first && registry.get(one.0).is_some_and(|set| is_set(set, one));

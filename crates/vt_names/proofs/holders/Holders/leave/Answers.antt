@@ -4,9 +4,9 @@ use Rattle.vt_names.specs.Claims.{ArePartly, holder_of}
 use Rattle.vt_names.proofs.Hearing.{partly-none, partly-same, partly-other, partly-searched, same_option, other_option}
 use Rattle.vt_names.proofs.holders.Holders.leave.Goals as goal
 
-pub returns-in-None : goal.returns-in-None
-returns-in-None c before are was is =
-    partly-none c.args.self.now.least before c.args.name c.args.claimed are (sym was ∙ c.in-None.is)
+pub returns-in_default : goal.returns-in_default
+returns-in_default c before are was is =
+    partly-none c.args.self.now.least before c.args.name c.args.claimed are (sym was ∙ c.in_default.is)
 
 pub returns-then-eq : goal.returns-then-eq
 returns-then-eq c before are was is =

@@ -3,11 +3,11 @@ use Rattle.vt_names.specs.Claims.{AreHolders, ArePartly, with_address, lesser}
 use Rattle.vt_names.proofs.Hearing.{whole-none, whole-some}
 use Rattle.vt_names.proofs.holders.Holders.take.Goals as goal
 
-pub returns-in-None : goal.returns-in-None
-returns-in-None c before partly =
-    subst (λ (o : Option ℕ). AreHolders c.args.self.now.least (with_address before c.args.name o)) (sym c.in-None.is)
+pub returns-in_default : goal.returns-in_default
+returns-in_default c before partly =
+    subst (λ (o : Option ℕ). AreHolders c.args.self.now.least (with_address before c.args.name o)) (sym c.in_default.is)
     (whole-none c.args.self.now.least before c.args.name
-    (subst (λ (o : Option ℕ). ArePartly c.args.self.now.least before c.args.name o) c.in-None.is partly))
+    (subst (λ (o : Option ℕ). ArePartly c.args.self.now.least before c.args.name o) c.in_default.is partly))
 
 pub returns : goal.returns
 returns c before partly =

@@ -6,16 +6,16 @@ use Rattle.vt_names.proofs.Holding.{none-some}
 use Rattle.vt_names.proofs.Filing.{set-there, set-absent, written-filed, joined-address, joined-sets}
 use Rattle.vt_names.proofs.registry.Registry.member.Goals as goal
 
-pub returns-in-None-clause-set : goal.returns-in-None-clause-set
-returns-in-None-clause-set c =
+pub returns-in_default-clause-set : goal.returns-in_default-clause-set
+returns-in_default-clause-set c =
     let sets = λ (r : Registered). r.sets in
-    let none = set-absent c.args.address c.self.inside.sets.entries c.args.self.now c.self.invariant (ap sets c.self.view_is) c.in-None.ensures.value in
+    let none = set-absent c.args.address c.self.inside.sets.entries c.args.self.now c.self.invariant (ap sets c.self.view_is) c.in_default.ensures.value in
     subst (λ o. IfSome o (λ (set : Set). Err declared.NotMaster ≡ cond (has_place set) (Ok tt) (Err declared.TooManyMembers))) (sym none) tt
 
-pub returns-in-None-clause-sets : goal.returns-in-None-clause-sets
-returns-in-None-clause-sets c =
+pub returns-in_default-clause-sets : goal.returns-in_default-clause-sets
+returns-in_default-clause-sets c =
     let sets = λ (r : Registered). r.sets in
-    let none = set-absent c.args.address c.self.inside.sets.entries c.args.self.now c.self.invariant (ap sets c.self.view_is) c.in-None.ensures.value in
+    let none = set-absent c.args.address c.self.inside.sets.entries c.args.self.now c.self.invariant (ap sets c.self.view_is) c.in_default.ensures.value in
     ap (λ m. values_of m.entries) c.get_mut.follows.holds-at-none ∙ ap sets c.self.view_is
     ∙ sym (ap (λ o. joining o c.args.name c.args.self.now.sets) none)
 

@@ -16,18 +16,18 @@ returns-in-Some-clause-state c =
     let same = reply-technical s c.args.source c.args.bytes.now c.if-not-registered.ensures c.in-Some.reply c.in-Some.ensures in
     kept-state s c.args.source c.args.bytes.now (ap (λ (t : After). t.set) same) (ap (λ (t : After). t.pool) same)
 
-pub returns-in-None-hide_show_asked-clause-state : goal.returns-in-None-hide_show_asked-clause-state
-returns-in-None-hide_show_asked-clause-state c =
+pub returns-in_err-id-clause-state : goal.returns-in_err-id-clause-state
+returns-in_err-id-clause-state c =
     let s = state_of c.args.self.now in
-    let same = reply-other s c.args.source c.args.bytes.now c.if-not-registered.ensures c.in-None.ensures c.in-None-hide_show_asked.ensures in
+    let same = reply-other s c.args.source c.args.bytes.now c.if-not-registered.ensures c.in_default.ensures c.in_err-id.ensures in
     kept-state s c.args.source c.args.bytes.now (ap (λ (t : After). t.set) same) (ap (λ (t : After). t.pool) same)
 
-pub returns-in-Some-hide_show-clause-state : goal.returns-in-Some-hide_show-clause-state
-returns-in-Some-hide_show-clause-state c =
-    shown-state (state_of c.args.self.now) c.args.source c.args.bytes.now c.in-Some-hide_show_asked.asked.0 c.in-Some-hide_show_asked.asked.1
-    c.if-not-registered.ensures c.in-None.ensures c.in-Some-hide_show_asked.ensures (pools_of c.hide_show.new.self) c.hide_show.ensures.pools
+pub returns-clause-state : goal.returns-clause-state
+returns-clause-state c =
+    shown-state (state_of c.args.self.now) c.args.source c.args.bytes.now c.in_ok-id.id c.in_ok-id.state
+    c.if-not-registered.ensures c.in_default.ensures c.in_ok-id.ensures (pools_of c.hide_show.new.self) c.hide_show.ensures.pools
 
-pub returns-in-None-hide_show-clause-state : goal.returns-in-None-hide_show-clause-state
-returns-in-None-hide_show-clause-state c =
-    shown-state (state_of c.args.self.now) c.args.source c.args.bytes.now c.in-Some-hide_show_asked.asked.0 c.in-Some-hide_show_asked.asked.1
-    c.if-not-registered.ensures c.in-None.ensures c.in-Some-hide_show_asked.ensures (pools_of c.hide_show.new.self) c.hide_show.ensures.pools
+pub returns-in_err-error-clause-state : goal.returns-in_err-error-clause-state
+returns-in_err-error-clause-state c =
+    shown-state (state_of c.args.self.now) c.args.source c.args.bytes.now c.in_ok-id.id c.in_ok-id.state
+    c.if-not-registered.ensures c.in_default.ensures c.in_ok-id.ensures (pools_of c.hide_show.new.self) c.hide_show.ensures.pools

@@ -4,20 +4,20 @@ use Rattle.vt_server.proofs.Puts.{some-name, no-name}
 use Rattle.vt_server.proofs.Registering.{bind-none, bind-named, bind-unheld, bind-held}
 use Rattle.vt_server.proofs.terminal.Terminal.bind.Goals as goal
 
-pub returns-in-None : goal.returns-in-None
-returns-in-None c name bytes = bind-none (state_of c.args.self.now) c.args.address name bytes c.in-None.ensures
+pub returns-in_default : goal.returns-in_default
+returns-in_default c name bytes = bind-none (state_of c.args.self.now) c.args.address name bytes c.in_default.ensures
 
 pub returns-then-is_some : goal.returns-then-is_some
 returns-then-is_some c name bytes =
-    let named = some-name c.name-name.result c.if-is_some.ensures in
-    bind-named (state_of c.args.self.now) c.args.address name bytes c.in-Some.set.now named.0 c.in-Some.ensures (sym c.name-name.ensures ∙ named.1)
+    let named = some-name c.name.result c.if-is_some.ensures in
+    bind-named (state_of c.args.self.now) c.args.address name bytes c.in-Some.set.now named.0 c.in-Some.ensures (sym c.name.ensures ∙ named.1)
 
 pub returns-in-Some-holder : goal.returns-in-Some-holder
 returns-in-Some-holder c name bytes =
     bind-held (state_of c.args.self.now) c.args.address name bytes c.in-Some.set.now c.in-Some-holder.holder c.bind.new.self.sets
-    c.in-Some.ensures (sym c.name-name.ensures ∙ no-name c.name-name.result c.if-is_some.ensures) c.in-Some-holder.ensures c.bind.ensures.sets
+    c.in-Some.ensures (sym c.name.ensures ∙ no-name c.name.result c.if-is_some.ensures) c.in-Some-holder.ensures c.bind.ensures.sets
 
-pub returns-in-None-holder : goal.returns-in-None-holder
-returns-in-None-holder c name bytes =
+pub returns-in_default-holder : goal.returns-in_default-holder
+returns-in_default-holder c name bytes =
     bind-unheld (state_of c.args.self.now) c.args.address name bytes c.in-Some.set.now
-    c.in-Some.ensures (sym c.name-name.ensures ∙ no-name c.name-name.result c.if-is_some.ensures) c.in-None-holder.ensures
+    c.in-Some.ensures (sym c.name.ensures ∙ no-name c.name.result c.if-is_some.ensures) c.in_default-holder.ensures

@@ -1,6 +1,5 @@
 use Rattle.std.proofs.Common.{List, ℕ, ◌++◌, ◌∷◌, [], map, refl, sym, ap, ◌∙◌, append-nil}
 use Rattle.vt_can.specs.declared.frame.Frame.{Frame}
-use Rattle.vt_server.specs.Messages.{claim_from}
 use Rattle.vt_server.specs.Parts.{Hears}
 use Rattle.vt_server.specs.States.{state_of, outputs_of}
 use Rattle.vt_server.specs.Terminals.{Step, Sent, to_one}
@@ -22,9 +21,9 @@ pub returns-in-ClaimRequest-clause-sent : goal.returns-in-ClaimRequest-clause-se
 returns-in-ClaimRequest-clause-sent c =
     let s = state_of c.args.self.now in
     c.send.ensures
-    ∙ ap (λ (l : List Output). l ++ declared.Frame c.claim_from.result ∷ []) c.reserve.ensures.items
+    ∙ ap (λ (l : List Output). l ++ declared.Frame c.own_claim.result ∷ []) c.reserve.ensures.items
     ∙ ap (λ (f : Frame). c.args.outputs.now.items ++ declared.Frame f ∷ [])
-    (c.claim_from.ensures ∙ (λ i. claim_from (c.own-in-ClaimRequest.ensures i) (c.name-in-ClaimRequest.ensures i)))
+    c.own_claim.ensures
     ∙ ap (λ (l : List Sent). c.args.outputs.now.items ++ outputs_of l) (sent-request s c.source-source.result c.args.frame.now.bytes.items)
     ∙ ap (λ (t : Step). c.args.outputs.now.items ++ outputs_of t.sent) (hear-acts s c.args.frame.now c.source-source.result c.own.result c.name.result ClaimRequest c.source-source.ensures c.own.ensures c.name.ensures c.in-ClaimRequest.ensures c.if-self.false refl)
 
@@ -57,11 +56,11 @@ returns-in-Some-clause-sent c =
     ∙ ap (λ (l : List Sent). c.args.outputs.now.items ++ outputs_of l) (sent-message s c.source-source.result c.args.frame.now.bytes.items)
     ∙ ap (λ (t : Step). c.args.outputs.now.items ++ outputs_of t.sent) (hear-acts s c.args.frame.now c.source-source.result c.own.result c.name.result Message c.source-source.ensures c.own.ensures c.name.ensures c.in-Message.ensures c.if-self.false refl)
 
-pub returns-in-None-clause-sent : goal.returns-in-None-clause-sent
-returns-in-None-clause-sent c =
+pub returns-in_default-clause-sent : goal.returns-in_default-clause-sent
+returns-in_default-clause-sent c =
     let s = state_of c.args.self.now in
     c.reserve.ensures.items ∙ sym (append-nil c.args.outputs.now.items)
-    ∙ ap (λ (l : List Frame). c.args.outputs.now.items ++ outputs_of (map (to_one c.source-source.result) l)) (c.in-None.ensures.reply ∙ ap (λ (b : List ℕ). (reply s c.source-source.result b).frames) c.as_slice.ensures.value)
+    ∙ ap (λ (l : List Frame). c.args.outputs.now.items ++ outputs_of (map (to_one c.source-source.result) l)) (c.in_default.ensures.reply ∙ ap (λ (b : List ℕ). (reply s c.source-source.result b).frames) c.as_slice.ensures.value)
     ∙ ap (λ (l : List Sent). c.args.outputs.now.items ++ outputs_of l) (sent-message s c.source-source.result c.args.frame.now.bytes.items)
     ∙ ap (λ (t : Step). c.args.outputs.now.items ++ outputs_of t.sent) (hear-acts s c.args.frame.now c.source-source.result c.own.result c.name.result Message c.source-source.ensures c.own.ensures c.name.ensures c.in-Message.ensures c.if-self.false refl)
 

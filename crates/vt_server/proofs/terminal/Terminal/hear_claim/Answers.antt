@@ -13,7 +13,7 @@ pub returns-in-Lost-clause-sent : goal.returns-in-Lost-clause-sent
 returns-in-Lost-clause-sent c bytes =
     let s = state_of c.args.self.now in
     c.send.ensures
-    ∙ ap (λ (f : Frame). c.args.outputs.now.items ++ declared.Frame f ∷ []) (c.claim_from.ensures ∙ ap (claim_from 254) c.name-own_name.ensures)
+    ∙ ap (λ (f : Frame). c.args.outputs.now.items ++ declared.Frame f ∷ []) (c.claim_from.ensures ∙ ap (claim_from 254) c.name.ensures)
     ∙ ap (λ (t : Step). c.args.outputs.now.items ++ outputs_of t.sent) (step-lost s c.args.source c.args.name bytes c.answer.result c.requires.has c.answer.ensures c.in-Lost.is)
 
 pub returns-in_ok-record-in-Defend-clause-sent : goal.returns-in_ok-record-in-Defend-clause-sent
@@ -21,7 +21,7 @@ returns-in_ok-record-in-Defend-clause-sent c bytes =
     let s = state_of c.args.self.now in
     c.send-in-Defend.ensures
     ∙ ap (λ (f : Frame). c.args.outputs.now.items ++ declared.Frame f ∷ [])
-    (c.claim_from-in-Defend.ensures ∙ (λ i. claim_from (c.own-own.ensures i) (c.name-own_name.ensures i)))
+    c.own_claim-own_claim.ensures
     ∙ ap (λ (l : List Sent). c.args.outputs.now.items ++ outputs_of l) (sent-claim s c.args.source c.args.name bytes claims.Defend c.in-Defend.ensures)
     ∙ ap (λ (t : Step). c.args.outputs.now.items ++ outputs_of t.sent)
     (step-acts s c.args.source (Claim c.args.name) bytes c.requires.has (ap is_lost_by (sym c.in-Defend.ensures)))

@@ -1,11 +1,12 @@
 use Rattle.std.proofs.Common.{List, ap, ◌∙◌}
-use Rattle.vt_names.specs.Registry.{Set, registering}
+use Rattle.vt_names.specs.Registry.{Set}
+use Rattle.vt_server.specs.Parts.{Hears}
 use Rattle.vt_server.specs.States.{state_of}
-use Rattle.vt_server.proofs.Registering.{master-state}
+use Rattle.vt_server.specs.Terminals.{take}
+use Rattle.vt_server.specs.declared.bus.Notice.TheVariants.{Master}
 use Rattle.vt_server.proofs.terminal.Terminal.hear_master.Goals as goal
 
 pub returns-clause-ok : goal.returns-clause-ok
 returns-clause-ok c bytes =
-    master-state (state_of c.args.self.now) c.args.source c.args.count bytes c.holder.result c.master-refused.new.self.sets c.holder.ensures
-    (c.master-refused.ensures.sets (c.master-refused.ensures.room c.in_ok-reserve.ensures.ok)
-    ∙ ap (λ (l : List Set). registering c.args.source c.holder.result c.args.count l) c.in_ok-reserve.ensures.sets)
+    c.register.ensures bytes
+    ∙ ap (λ (l : List Set). take (record (state_of c.args.self.now) { sets = l }) c.args.source (Hears (Master c.args.count) bytes)) c.reserve.ensures.sets

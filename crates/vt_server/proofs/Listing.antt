@@ -1,0 +1,331 @@
+-- What a claim does to the list of the sets.
+use Rattle.std.proofs.Common.{◌≡◌, ◌≢◌, ℕ, Bool, true, false, cond, not, ◌||◌, ◌&&◌, eqb, List, [], ◌∷◌, ◌++◌, map, Option, Some, None, refl, sym, ap, subst, ◌∙◌, eq-eqb, ne_eqb, nat_eq}
+use Rattle.std.specs.List.{filter, AllByRecursion}
+use Rattle.std.specs.Option.{option_eq}
+use Rattle.vt_names.specs.Claims.{Claimed, OtherHoldersStay, address_of}
+use Rattle.vt_names.specs.Registry.{Set, set_at, with_set, without}
+use Rattle.vt_server.specs.Parts.{Local, Hears, Rebinds, unchanged, without_set, with_holder_name, after_change, after_claim_heard}
+use Rattle.vt_server.specs.Terminals.{State, holder, part, take, takes, before, changed, changed_left, left_holder, left_by, changes_by, acts, acting, with_set_at}
+use Rattle.vt_server.specs.Happenings.{IsOrderly, NameIsHeld, SetIsHeld}
+use Rattle.vt_server.specs.SetLists.{AreApart, stays, named_at}
+use Rattle.vt_server.specs.declared.bus.Notice.TheVariants.{Claim}
+use Rattle.vt_server.proofs.Happened.{option-true}
+use Rattle.vt_server.proofs.Own.{named-address}
+use Rattle.vt_server.proofs.Puts.{by_eq, some-is, none-some, set_at-first, set_at-later, set_at-address, with_set-first, with_set-later, without-first, without-later, sets-same, none-same, take-is, takes-append}
+use Rattle.vt_server.proofs.Steps.{claims-takes, changed-same}
+
+-- ---- lists of sets that are tested, and changed
+
+abbrev pub only_at : ℕ → (Set → Bool) → Set → Bool
+only_at a test set = cond (eqb set.address a) (test set) true
+
+filter-none : (a : ℕ) (test : Set → Bool) (sets : List Set) → set_at a sets ≡ None → filter (only_at a test) sets ≡ sets
+filter-none a test [] none = refl
+filter-none a test (t ∷ sets) none =
+    let rest = filter-none a test sets in
+    by_eq t.address a
+    (λ is. none-some (sym none ∙ set_at-first a t sets is))
+    (λ ne. ap (λ b. cond (cond b (test t) true) (t ∷ filter (only_at a test) sets) (filter (only_at a test) sets)) (ne_eqb t.address a ne)
+    ∙ ap (λ l. t ∷ l) (rest (sym (set_at-later a t sets ne) ∙ none)))
+
+filter-some : (a : ℕ) (test : Set → Bool) (sets : List Set) (x : Set) → set_at a sets ≡ Some x → AreApart sets
+    → filter (only_at a test) sets ≡ cond (test x) sets (without a sets)
+filter-some a test [] x there apart = none-some there
+filter-some a test (t ∷ sets) x there apart =
+    let rest = filter-some a test sets x in
+    by_eq t.address a
+    (λ is.
+    let none : set_at a sets ≡ None = subst (λ b. set_at b sets ≡ None) is apart.0 in
+    let same : t ≡ x = some-is t x (sym (set_at-first a t sets is) ∙ there) in
+    ap (λ b. cond (cond b (test t) true) (t ∷ filter (only_at a test) sets) (filter (only_at a test) sets)) (eq-eqb t.address a is)
+    ∙ ap (λ l. cond (test t) (t ∷ l) l) (filter-none a test sets none)
+    ∙ ap (λ l. cond (test t) (t ∷ sets) l) (sym (without-first a t sets is ∙ none-same a sets none))
+    ∙ ap (λ (y : Set). cond (test y) (t ∷ sets) (without a (t ∷ sets))) same)
+    (λ ne.
+    ap (λ b. cond (cond b (test t) true) (t ∷ filter (only_at a test) sets) (filter (only_at a test) sets)) (ne_eqb t.address a ne)
+    ∙ ap (λ l. t ∷ l) (rest (sym (set_at-later a t sets ne) ∙ there) apart.1)
+    ∙ later (test x)
+    ∙ ap (λ l. cond (test x) (t ∷ sets) l) (sym (without-later a t sets ne)))
+  where
+    later : (b : Bool) → t ∷ cond b sets (without a sets) ≡ cond b (t ∷ sets) (t ∷ without a sets)
+    later true = refl
+    later false = refl
+
+-- the set of an address that isn't tested
+filter-other : (q a : ℕ) (test : Set → Bool) (sets : List Set) → q ≢ a → set_at q (filter (only_at a test) sets) ≡ set_at q sets
+filter-other q a test [] ne = refl
+filter-other q a test (t ∷ sets) ne =
+    let rest = filter-other q a test sets ne in
+    by_eq t.address q
+    (λ is.
+    ap (λ b. set_at q (cond (cond b (test t) true) (t ∷ filter (only_at a test) sets) (filter (only_at a test) sets)))
+    (ne_eqb t.address a (λ h. ne (sym is ∙ h)))
+    ∙ set_at-first q t (filter (only_at a test) sets) is ∙ sym (set_at-first q t sets is))
+    (λ other. later other rest (cond (eqb t.address a) (test t) true) ∙ sym (set_at-later q t sets other))
+  where
+    later : t.address ≢ q → set_at q (filter (only_at a test) sets) ≡ set_at q sets → (b : Bool)
+        → set_at q (cond b (t ∷ filter (only_at a test) sets) (filter (only_at a test) sets)) ≡ set_at q sets
+    later other rest true = set_at-later q t (filter (only_at a test) sets) other ∙ rest
+    later other rest false = rest
+
+pub filter-all : (sets : List Set) → filter (λ _. true) sets ≡ sets
+filter-all [] = refl
+filter-all (t ∷ sets) = ap (λ l. t ∷ l) (filter-all sets)
+
+filter-twice : (f g h : Set → Bool) (sets : List Set) → AllByRecursion (λ x. (f x && g x) ≡ h x) sets → filter g (filter f sets) ≡ filter h sets
+filter-twice f g h [] all = refl
+filter-twice f g h (t ∷ sets) all =
+    cases (filter-twice f g h sets all.1) (f t) (g t) refl ∙ ap (λ b. cond b (t ∷ filter h sets) (filter h sets)) all.0
+  where
+    cases : filter g (filter f sets) ≡ filter h sets → (x y : Bool) → g t ≡ y
+        → filter g (cond x (t ∷ filter f sets) (filter f sets)) ≡ cond (x && y) (t ∷ filter h sets) (filter h sets)
+    cases rest true y e = ap (λ b. cond b (t ∷ filter g (filter f sets)) (filter g (filter f sets))) e ∙ ap (λ l. cond y (t ∷ l) l) rest
+    cases rest false y e = rest
+
+-- ---- tests, and changes that leave the addresses
+
+none-filter : (q : ℕ) (test : Set → Bool) (sets : List Set) → set_at q sets ≡ None → set_at q (filter test sets) ≡ None
+none-filter q test [] none = refl
+none-filter q test (t ∷ sets) none =
+    let rest = none-filter q test sets in
+    by_eq t.address q
+    (λ is. none-some (sym none ∙ set_at-first q t sets is))
+    (λ ne. cases ne (rest (sym (set_at-later q t sets ne) ∙ none)) (test t))
+  where
+    cases : t.address ≢ q → set_at q (filter test sets) ≡ None → (b : Bool) → set_at q (cond b (t ∷ filter test sets) (filter test sets)) ≡ None
+    cases ne rest true = set_at-later q t (filter test sets) ne ∙ rest
+    cases ne rest false = rest
+
+apart-filter : (test : Set → Bool) (sets : List Set) → AreApart sets → AreApart (filter test sets)
+apart-filter test [] apart = tt
+apart-filter test (t ∷ sets) apart = cases (apart-filter test sets apart.1) (test t)
+  where
+    cases : AreApart (filter test sets) → (b : Bool) → AreApart (cond b (t ∷ filter test sets) (filter test sets))
+    cases rest true = (none-filter t.address test sets apart.0, rest)
+    cases rest false = rest
+
+none-map : (q : ℕ) (f : Set → Set) (sets : List Set) → ((x : Set) → (f x).address ≡ x.address) → set_at q sets ≡ None → set_at q (map f sets) ≡ None
+none-map q f [] same none = refl
+none-map q f (t ∷ sets) same none =
+    let rest = none-map q f sets same in
+    by_eq t.address q
+    (λ is. none-some (sym none ∙ set_at-first q t sets is))
+    (λ ne. set_at-later q (f t) (map f sets) (λ h. ne (sym (same t) ∙ h)) ∙ rest (sym (set_at-later q t sets ne) ∙ none))
+
+apart-map : (f : Set → Set) (sets : List Set) → ((x : Set) → (f x).address ≡ x.address) → AreApart sets → AreApart (map f sets)
+apart-map f [] same apart = tt
+apart-map f (t ∷ sets) same apart =
+    (subst (λ q. set_at q (map f sets) ≡ None) (sym (same t)) (none-map t.address f sets same apart.0), apart-map f sets same apart.1)
+
+abbrev pub change_at : ℕ → (Set → Set) → Set → Set
+change_at a f set = cond (eqb set.address a) (f set) set
+
+map-none : (a : ℕ) (f : Set → Set) (sets : List Set) → set_at a sets ≡ None → map (change_at a f) sets ≡ sets
+map-none a f [] none = refl
+map-none a f (t ∷ sets) none =
+    let rest = map-none a f sets in
+    by_eq t.address a
+    (λ is. none-some (sym none ∙ set_at-first a t sets is))
+    (λ ne. ap (λ b. cond b (f t) t ∷ map (change_at a f) sets) (ne_eqb t.address a ne)
+    ∙ ap (λ l. t ∷ l) (rest (sym (set_at-later a t sets ne) ∙ none)))
+
+map-some : (a : ℕ) (f : Set → Set) (sets : List Set) (x : Set) → ((y : Set) → (f y).address ≡ y.address) → set_at a sets ≡ Some x → AreApart sets
+    → map (change_at a f) sets ≡ with_set (f x) sets
+map-some a f [] x same there apart = none-some there
+map-some a f (t ∷ sets) x same there apart =
+    let rest = map-some a f sets x same in
+    let own : (f x).address ≡ a = same x ∙ set_at-address a x (t ∷ sets) there in
+    by_eq t.address a
+    (λ is.
+    ap (λ b. cond b (f t) t ∷ map (change_at a f) sets) (eq-eqb t.address a is)
+    ∙ ap (λ l. f t ∷ l) (map-none a f sets (subst (λ b. set_at b sets ≡ None) is apart.0))
+    ∙ ap (λ (y : Set). f y ∷ sets) (some-is t x (sym (set_at-first a t sets is) ∙ there))
+    ∙ sym (with_set-first (f x) t sets (is ∙ sym own)))
+    (λ ne.
+    ap (λ b. cond b (f t) t ∷ map (change_at a f) sets) (ne_eqb t.address a ne)
+    ∙ ap (λ l. t ∷ l) (rest (sym (set_at-later a t sets ne) ∙ there) apart.1)
+    ∙ sym (with_set-later (f x) t sets (λ h. ne (h ∙ own))))
+
+-- ---- what happens at one address, to the list
+
+stays-name : (name h : Option ℕ) → NameIsHeld name h → (option_eq nat_eq name None || option_eq nat_eq name h) ≡ true
+stays-name None h held = refl
+stays-name (Some n) h held = ap (option_eq nat_eq (Some n)) held ∙ eq-eqb n n refl
+
+pub named_at-address : (s : State) (a : ℕ) (x : Set) → (named_at s a x).address ≡ x.address
+named_at-address s a x = cases (eqb x.address a)
+  where
+    cases : (b : Bool) → (cond b (with_holder_name x x.name (holder s a)) x).address ≡ x.address
+    cases true = named-address x x.name (holder s a)
+    cases false = refl
+
+module _ (u : State) (a : ℕ) (apart : AreApart u.sets) where
+  rebound-is : (o : Option Set) → set_at a u.sets ≡ o → with_set_at a (after_change (part a u) o).set u.sets ≡ filter (only_at a (stays u)) u.sets
+  rebound-is None e = sets-same a u.sets (set_at a u.sets) refl ∙ sym (filter-none a (stays u) u.sets e)
+  rebound-is (Some x) e =
+      closed-is (option_eq nat_eq x.name None || option_eq nat_eq x.name (holder u a))
+      ∙ ap (λ q. cond (option_eq nat_eq x.name None || option_eq nat_eq x.name (holder u q)) u.sets (without a u.sets)) (sym (set_at-address a x u.sets e))
+      ∙ sym (filter-some a (stays u) u.sets x e apart)
+    where
+      closed-is : (b : Bool) → with_set_at a (cond b (unchanged (part a u)) without_set).set u.sets ≡ cond b u.sets (without a u.sets)
+      closed-is true = sets-same a u.sets (set_at a u.sets) refl
+      closed-is false = refl
+
+  stays-all : (was : Option ℕ) (o : Option Set) → set_at a u.sets ≡ o → SetIsHeld o was → was ≡ holder u a → u.sets ≡ filter (only_at a (stays u)) u.sets
+  stays-all was None e held same = sym (filter-none a (stays u) u.sets e)
+  stays-all was (Some x) e held same =
+      sym (filter-some a (stays u) u.sets x e apart
+      ∙ ap (λ b. cond b u.sets (without a u.sets))
+      (stays-name x.name (holder u x.address) (subst (NameIsHeld x.name) (same ∙ ap (holder u) (sym (set_at-address a x u.sets e))) held)))
+
+  changed-list : (was : Option ℕ) → SetIsHeld (set_at a u.sets) was → (takes u (changed was u a)).sets ≡ filter (only_at a (stays u)) u.sets
+  changed-list was held = cases (option_eq nat_eq was (holder u a)) refl
+    where
+      cases : (b : Bool) → option_eq nat_eq was (holder u a) ≡ b → (takes u (cond b [] ((a, Rebinds) ∷ []))).sets ≡ filter (only_at a (stays u)) u.sets
+      cases true e = stays-all was (set_at a u.sets) refl held (option-true was (holder u a) e)
+      cases false e = ap (λ (s : State). s.sets) (take-is u a Rebinds) ∙ rebound-is (set_at a u.sets) refl
+
+  bound-is : (o : Option Set) → set_at a u.sets ≡ o → with_set_at a (after_claim_heard (part a u) o).set u.sets ≡ map (named_at u a) u.sets
+  bound-is None e = sets-same a u.sets (set_at a u.sets) refl ∙ sym (map-none a (λ x. with_holder_name x x.name (holder u a)) u.sets e)
+  bound-is (Some x) e = sym (map-some a (λ x. with_holder_name x x.name (holder u a)) u.sets x (λ y. named-address y y.name (holder u a)) e apart)
+
+  claim-list : (name : ℕ) (bytes : List ℕ) → (take u a (Hears (Claim name) bytes)).sets ≡ map (named_at u a) u.sets
+  claim-list name bytes = ap (λ (s : State). s.sets) (take-is u a (Hears (Claim name) bytes)) ∙ bound-is (set_at a u.sets) refl
+
+-- ---- a claim
+
+and-true : (b : Bool) → (b && true) ≡ b
+and-true true = refl
+and-true false = refl
+
+module _ (law : OtherHoldersStay) (s : State) (orderly : IsOrderly s) (source name : ℕ) (apart : AreApart s.sets)
+    (held : (a : ℕ) → SetIsHeld (set_at a s.sets) (holder s a)) where
+  abbrev pub t : State
+  t = before s source (Claim name)
+
+  still : (x : Set) → x.address ≢ source → address_of s.claims.addresses name ≢ Some x.address
+      → NameIsHeld x.name (holder s x.address) → stays t x ≡ true
+  still x ne not has =
+      stays-name x.name (holder t x.address)
+      (subst (NameIsHeld x.name) (sym (law.others s.claims.addresses source name x.address orderly ne not)) has)
+
+  abbrev left_test : Option ℕ → Set → Bool
+  left_test None x = true
+  left_test (Some left) x = only_at left (stays t) x
+
+  module _ (left : Option ℕ) (elsewhere : (l : ℕ) → left ≡ Some l → l ≢ source)
+      (others : (q : ℕ) → q ≢ source → left ≢ Some q → address_of s.claims.addresses name ≢ Some q) where
+    abbrev u : State
+    u = takes t (changed_left (left_holder s left) t left)
+
+    u-claims : u.claims ≡ t.claims
+    u-claims = claims-takes t (changed_left (left_holder s left) t left)
+
+    left-list : u.sets ≡ filter (left_test left) s.sets
+    left-list = cases left
+      where
+        cases : (o : Option ℕ) → (takes t (changed_left (left_holder s o) t o)).sets ≡ filter (left_test o) s.sets
+        cases None = sym (filter-all s.sets)
+        cases (Some l) = changed-list t l apart (holder s l) (held l)
+
+    source-stays : set_at source (filter (left_test left) s.sets) ≡ set_at source s.sets
+    source-stays = cases left elsewhere
+      where
+        cases : (o : Option ℕ) → ((l : ℕ) → o ≡ Some l → l ≢ source) → set_at source (filter (left_test o) s.sets) ≡ set_at source s.sets
+        cases None other = ap (set_at source) (filter-all s.sets)
+        cases (Some l) other = filter-other source l (stays t) s.sets (λ h. other l refl (sym h))
+
+    u-apart : AreApart u.sets
+    u-apart = subst AreApart (sym left-list) (apart-filter (left_test left) s.sets apart)
+
+    abbrev v : State
+    v = takes u (changed (holder s source) t source)
+
+    v-claims : v.claims ≡ t.claims
+    v-claims = claims-takes u (changed (holder s source) t source) ∙ u-claims
+
+    v-list : v.sets ≡ filter (only_at source (stays t)) (filter (left_test left) s.sets)
+    v-list =
+        ap (λ (hs : List (ℕ × Local)). (takes u hs).sets) (changed-same (holder s source) t u source (sym u-claims))
+        ∙ changed-list u source u-apart (holder s source)
+        (subst (λ o. SetIsHeld o (holder s source)) (sym (ap (set_at source) left-list ∙ source-stays)) (held source))
+        ∙ ap (λ (c : Claimed). filter (only_at source (stays (record t { claims = c }))) u.sets) u-claims
+        ∙ ap (filter (only_at source (stays t))) left-list
+
+    one : (x : Set) → NameIsHeld x.name (holder s x.address) → (left_test left x && only_at source (stays t) x) ≡ stays t x
+    one x has =
+        by_eq x.address source
+        (λ is.
+        ap (λ b. b && only_at source (stays t) x) (elsewhere-test left elsewhere is)
+        ∙ ap (λ b. cond b (stays t x) true) (eq-eqb x.address source is))
+        (λ ne.
+        ap (λ b. left_test left x && cond b (stays t x) true) (ne_eqb x.address source ne)
+        ∙ and-true (left_test left x) ∙ left-only left others ne)
+      where
+        elsewhere-test : (o : Option ℕ) → ((l : ℕ) → o ≡ Some l → l ≢ source) → x.address ≡ source → left_test o x ≡ true
+        elsewhere-test None other is = refl
+        elsewhere-test (Some l) other is = ap (λ b. cond b (stays t x) true) (ne_eqb x.address l (λ h. other l refl (sym h ∙ is)))
+
+        left-only : (o : Option ℕ) → ((q : ℕ) → q ≢ source → o ≢ Some q → address_of s.claims.addresses name ≢ Some q)
+            → x.address ≢ source → left_test o x ≡ stays t x
+        left-only None not ne = sym (still x ne (not x.address ne (λ e. none-some e)) has)
+        left-only (Some l) not ne =
+            by_eq x.address l
+            (λ is. ap (λ b. cond b (stays t x) true) (eq-eqb x.address l is))
+            (λ other.
+            ap (λ b. cond b (stays t x) true) (ne_eqb x.address l other)
+            ∙ sym (still x ne (not x.address ne (λ e. other (sym (some-is l x.address e)))) has))
+
+    all : (sets : List Set) → AreApart sets → ((a : ℕ) → SetIsHeld (set_at a sets) (holder s a))
+        → AllByRecursion (λ x. (left_test left x && only_at source (stays t) x) ≡ stays t x) sets
+    all [] parted has = tt
+    all (x ∷ sets) parted has = (
+      one x (subst (λ o. SetIsHeld o (holder s x.address)) (set_at-first x.address x sets refl) (has x.address)),
+      all sets parted.1
+          (λ a. by_eq x.address a
+          (λ is. subst (λ o. SetIsHeld o (holder s a)) (sym (subst (λ b. set_at b sets ≡ None) is parted.0)) tt)
+          (λ ne. subst (λ o. SetIsHeld o (holder s a)) (set_at-later a x sets ne) (has a))),
+    )
+
+    whole-list : v.sets ≡ filter (stays t) s.sets
+    whole-list = v-list ∙ filter-twice (left_test left) (only_at source (stays t)) (stays t) s.sets (all s.sets apart held)
+
+    claimed-list : (bytes : List ℕ) → (takes t (changes_by s t left source ++ (source, Hears (Claim name) bytes) ∷ [])).sets
+        ≡ map (named_at t source) (filter (stays t) s.sets)
+    claimed-list bytes =
+        ap (λ (x : State). x.sets) (takes-append t (changes_by s t left source) ((source, Hears (Claim name) bytes) ∷ []))
+        ∙ ap (λ (x : State). (take x source (Hears (Claim name) bytes)).sets)
+        (takes-append t (changed_left (left_holder s left) t left) (changed (holder s source) t source))
+        ∙ claim-list v source (subst AreApart (sym whole-list) (apart-filter (stays t) s.sets apart)) name bytes
+        ∙ ap (λ (c : Claimed). map (named_at (record t { claims = c }) source) v.sets) v-claims
+        ∙ ap (map (named_at t source)) whole-list
+
+  by-left : (o : Option ℕ) → address_of s.claims.addresses name ≡ o → (bytes : List ℕ)
+      → (takes t (changes_by s t (left_by source o) source ++ (source, Hears (Claim name) bytes) ∷ [])).sets
+      ≡ map (named_at t source) (filter (stays t) s.sets)
+  by-left None e bytes = claimed-list None (λ l h. none-some h) (λ q ne _. λ h. none-some (sym e ∙ h)) bytes
+  by-left (Some l) e bytes =
+      by_eq l source
+      (λ is.
+      ap (λ b. (takes t (changes_by s t (cond b None (Some l)) source ++ (source, Hears (Claim name) bytes) ∷ [])).sets) (eq-eqb l source is)
+      ∙ claimed-list None (λ k h. none-some h) (λ q ne _. λ h. ne (sym (some-is l q (sym e ∙ h)) ∙ is)) bytes)
+      (λ ne.
+      ap (λ b. (takes t (changes_by s t (cond b None (Some l)) source ++ (source, Hears (Claim name) bytes) ∷ [])).sets) (ne_eqb l source ne)
+      ∙ claimed-list (Some l) (λ k h. λ at. ne (some-is l k h ∙ at)) (λ q _ other. λ h. other (sym e ∙ h)) bytes)
+
+  pub claim-closes : (bytes : List ℕ) → let after = (acting s source (Claim name) bytes).after in
+      after.sets ≡ map (named_at after source) (filter (stays after) s.sets)
+  claim-closes bytes =
+      by-left (address_of s.claims.addresses name) refl bytes
+      ∙ ap (λ (c : Claimed). map (named_at (record t { claims = c }) source) (filter (stays (record t { claims = c })) s.sets))
+      (sym (claims-takes t (acts s source (Claim name) bytes)))
+
+-- ---- nothing is found where nothing was, and sets stay apart
+
+pub none-closed : (q : ℕ) (t : State) (source : ℕ) (sets : List Set) → set_at q sets ≡ None → set_at q (map (named_at t source) (filter (stays t) sets)) ≡ None
+none-closed q t source sets none =
+    none-map q (named_at t source) (filter (stays t) sets) (named_at-address t source) (none-filter q (stays t) sets none)
+
+pub apart-closed : (t : State) (source : ℕ) (sets : List Set) → AreApart sets → AreApart (map (named_at t source) (filter (stays t) sets))
+apart-closed t source sets apart =
+    apart-map (named_at t source) (filter (stays t) sets) (named_at-address t source) (apart-filter (stays t) sets apart)

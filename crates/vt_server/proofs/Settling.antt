@@ -1,0 +1,209 @@
+-- The list of the sets after a step, and that they stay apart.
+use Rattle.std.proofs.Common.{◌≡◌, ◌≢◌, ℕ, Bool, true, false, cond, eqb, List, [], ◌∷◌, Option, Some, None, refl, sym, ap, subst, ◌∙◌, eq-eqb, ne_eqb}
+use Rattle.vt_can.specs.declared.frame.Frame.{Frame}
+use Rattle.vt_can.specs.Nodes.{source_of}
+use Rattle.vt_names.specs.Claims.{Claimed, OtherHoldersStay, holder_of}
+use Rattle.vt_names.specs.Registry.{Set, set_at, with_set, registering, joining, mastered, joined, has_place, preloaded}
+use Rattle.vt_objects.specs.Commands.{command_at}
+use Rattle.vt_objects.specs.Stores.{Contents}
+use Rattle.vt_server.specs.Bus.{said, said_by, unless_echo}
+use Rattle.vt_server.specs.Messages.{technical_reply}
+use Rattle.vt_server.specs.Parts.{Part, Hears, Preloads, hide_show_in, after_command, after_reply, after_message}
+use Rattle.vt_server.specs.Terminals.{State, holder, part, acts, no_step, losing, acting, is_lost_by, answer_to, with_set_at}
+use Rattle.vt_server.specs.States.{step}
+use Rattle.vt_server.specs.Happenings.{IsOrderly, SetIsHeld}
+use Rattle.vt_server.specs.SetLists.{AreApart, IsSettled, SetsAfterSteps, sets_after, sets_by}
+use Rattle.vt_server.specs.declared.bus.Notice.{Notice}
+use Rattle.vt_server.specs.declared.bus.Notice.TheVariants.{Claim, ClaimRequest, Master, Member, Message, Nothing}
+use Rattle.vt_server.specs.declared.input.Input.{Input}
+use Rattle.vt_server.specs.declared.input.Input.TheVariants as inputs
+use Rattle.vt_server.proofs.Happened.{own-step}
+use Rattle.vt_server.proofs.Held.{held}
+use Rattle.vt_server.proofs.Listing.{claim-closes, none-closed, apart-closed}
+use Rattle.vt_server.proofs.Own.{at-with_other}
+use Rattle.vt_server.proofs.Puts.{by_eq, set_at-address, with_set-first, with_set-later, sets-same, take-is, idle}
+use Rattle.vt_server.proofs.Registering.{master-state}
+use Rattle.vt_server.proofs.Steps.{claims-takes, member-state}
+
+-- ---- a message leaves the set
+
+commanded-set : (a : ℕ) (p : Part) (asked : Option (ℕ × ℕ)) (o : Option Contents) → (after_command a p asked o).set ≡ p.set
+commanded-set a p None None = refl
+commanded-set a p None (Some c) = refl
+commanded-set a p (Some x) None = refl
+commanded-set a p (Some x) (Some c) = refl
+
+technical-set : (a : ℕ) (p : Part) (bytes : List ℕ) (o : Option (List ℕ)) → (after_reply a p bytes o).set ≡ p.set
+technical-set a p bytes None = commanded-set a p (hide_show_in (command_at bytes)) p.pool
+technical-set a p bytes (Some reply) = refl
+
+message-set : (a : ℕ) (p : Part) (bytes : List ℕ) (o : Option Set) → (after_message a p bytes o).set ≡ p.set
+message-set a p bytes None = refl
+message-set a p bytes (Some set) = technical-set a p bytes (technical_reply bytes)
+
+-- ---- a frame
+
+module _ (law : OtherHoldersStay) (s : State) (orderly : IsOrderly s) (settled : IsSettled s) where
+  everywhere : (a : ℕ) → SetIsHeld (set_at a s.sets) (holder s a)
+  everywhere a =
+      by_eq a s.claims.own
+      (λ is. subst (λ o. SetIsHeld o (holder s a)) (sym (ap (λ b. set_at b s.sets) is ∙ settled.elsewhere)) tt)
+      (settled.held a)
+
+  acting-list : (source : ℕ) (n : Notice) (bytes : List ℕ) → (acting s source n bytes).after.sets ≡ sets_after (acting s source n bytes).after source n s.sets
+  acting-list source (Claim name) bytes = claim-closes law s orderly source name settled.apart everywhere bytes
+  acting-list source ClaimRequest bytes = ap (λ (x : State). x.sets) (idle s source (Hears ClaimRequest bytes) refl)
+  acting-list source (Master count) bytes =
+      ap (λ (x : State). x.sets)
+      (sym (master-state s source count bytes (holder s source) (registering source (holder s source) count s.sets) refl refl))
+      ∙ ap (λ (c : Claimed). registering source (holder_of c.addresses source) count s.sets)
+      (sym (claims-takes s (acts s source (Master count) bytes)))
+  acting-list source (Member name) bytes =
+      ap (λ (x : State). x.sets) (sym (member-state s source name bytes (joining (set_at source s.sets) name s.sets) refl))
+  acting-list source Message bytes =
+      ap (λ (x : State). x.sets) (take-is s source (Hears Message bytes))
+      ∙ ap (λ o. with_set_at source o s.sets) (message-set source (part source s) bytes (set_at source s.sets))
+      ∙ sets-same source s.sets (set_at source s.sets) refl
+  acting-list source Nothing bytes = ap (λ (x : State). x.sets) (idle s source (Hears Nothing bytes) refl)
+
+  step-list : (i : Input) → (step s i).after.sets ≡ sets_by s (step s i).after i
+  step-list (inputs.Frame time f) =
+      let m = said s.claims.own s.claims.name f in
+      cases (source_of f) m f.bytes.items s.lost (is_lost_by (answer_to s (source_of f) m))
+    where
+      cases : (source : ℕ) (m : Notice) (bytes : List ℕ) (lost gone : Bool)
+          → (cond lost (no_step s) (cond gone (losing s) (acting s source m bytes))).after.sets
+          ≡ cond lost s.sets (cond gone s.sets (sets_after (cond lost (no_step s) (cond gone (losing s) (acting s source m bytes))).after source m s.sets))
+      cases source m bytes true gone = refl
+      cases source m bytes false true = refl
+      cases source m bytes false false = acting-list source m bytes
+  step-list (inputs.Operator action) = refl
+
+-- ---- no two at one address
+
+apart-with : (x : Set) (sets : List Set) → AreApart sets → AreApart (with_set x sets)
+apart-with x [] apart = (refl, tt)
+apart-with x (t ∷ sets) apart =
+    let rest = apart-with x sets apart.1 in
+    by_eq t.address x.address
+    (λ is. subst AreApart (sym (with_set-first x t sets is)) (subst (λ q. set_at q sets ≡ None) is apart.0, apart.1))
+    (λ ne. subst AreApart (sym (with_set-later x t sets ne)) (at-with_other t.address x sets (λ h. ne (sym h)) ∙ apart.0, rest))
+
+apart-join : (b : Bool) (x : Set) (sets : List Set) → AreApart sets → AreApart (cond b (with_set x sets) sets)
+apart-join true x sets apart = apart-with x sets apart
+apart-join false x sets apart = apart
+
+apart-joining : (o : Option Set) (name : ℕ) (sets : List Set) → AreApart sets → AreApart (joining o name sets)
+apart-joining None name sets apart = apart
+apart-joining (Some x) name sets apart = apart-join (has_place x) (joined x name) sets apart
+
+apart-registering : (source : ℕ) (o : Option ℕ) (count : ℕ) (sets : List Set) → AreApart sets → AreApart (registering source o count sets)
+apart-registering source None count sets apart = apart
+apart-registering source (Some h) count sets apart = apart-with (mastered source h count) sets apart
+
+apart-after : (t : State) (source : ℕ) (n : Notice) (sets : List Set) → AreApart sets → AreApart (sets_after t source n sets)
+apart-after t source (Claim name) sets apart = apart-closed t source sets apart
+apart-after t source ClaimRequest sets apart = apart
+apart-after t source (Master count) sets apart = apart-registering source (holder t source) count sets apart
+apart-after t source (Member name) sets apart = apart-joining (set_at source sets) name sets apart
+apart-after t source Message sets apart = apart
+apart-after t source Nothing sets apart = apart
+
+-- ---- none at the terminal's own
+
+none-join : (b : Bool) (q : ℕ) (x : Set) (sets : List Set) → x.address ≢ q → set_at q sets ≡ None → set_at q (cond b (with_set x sets) sets) ≡ None
+none-join true q x sets ne none = at-with_other q x sets ne ∙ none
+none-join false q x sets ne none = none
+
+none-joining : (q source : ℕ) (o : Option Set) (name : ℕ) (sets : List Set) → set_at source sets ≡ o → source ≢ q → set_at q sets ≡ None
+    → set_at q (joining o name sets) ≡ None
+none-joining q source None name sets there ne none = none
+none-joining q source (Some x) name sets there ne none =
+    none-join (has_place x) q (joined x name) sets (λ h. ne (sym (set_at-address source x sets there) ∙ h)) none
+
+none-registering : (q source : ℕ) (o : Option ℕ) (count : ℕ) (sets : List Set) → source ≢ q → set_at q sets ≡ None
+    → set_at q (registering source o count sets) ≡ None
+none-registering q source None count sets ne none = none
+none-registering q source (Some h) count sets ne none = at-with_other q (mastered source h count) sets ne ∙ none
+
+none-after : (q : ℕ) (t : State) (source : ℕ) (n : Notice) (sets : List Set) → source ≢ q → set_at q sets ≡ None → set_at q (sets_after t source n sets) ≡ None
+none-after q t source (Claim name) sets ne none = none-closed q t source sets none
+none-after q t source ClaimRequest sets ne none = none
+none-after q t source (Master count) sets ne none = none-registering q source (holder t source) count sets ne none
+none-after q t source (Member name) sets ne none = none-joining q source (set_at source sets) name sets refl ne none
+none-after q t source Message sets ne none = none
+none-after q t source Nothing sets ne none = none
+
+none-claim : (b : Bool) (q : ℕ) (t : State) (source name : ℕ) (sets : List Set) → set_at q sets ≡ None
+    → set_at q (sets_after t source (cond b Nothing (Claim name)) sets) ≡ None
+none-claim true q t source name sets none = none
+none-claim false q t source name sets none = none-closed q t source sets none
+
+none-echo : (q : ℕ) (t : State) (source name : ℕ) (n : Notice) (sets : List Set) → set_at q sets ≡ None
+    → set_at q (sets_after t source (unless_echo name n) sets) ≡ None
+none-echo q t source name (Claim other) sets none = none-claim (eqb other name) q t source other sets none
+none-echo q t source name ClaimRequest sets none = none
+none-echo q t source name (Master count) sets none = none
+none-echo q t source name (Member other) sets none = none
+none-echo q t source name Message sets none = none
+none-echo q t source name Nothing sets none = none
+
+none-said : (own name : ℕ) (t : State) (f : Frame) (sets : List Set) → set_at own sets ≡ None
+    → set_at own (sets_after t (source_of f) (said own name f) sets) ≡ None
+none-said own name t f sets none =
+    let there : Bool → Notice = λ b. cond b (unless_echo name (said_by own f)) (said_by own f) in
+    by_eq (source_of f) own
+    (λ is. ap (λ b. set_at own (sets_after t (source_of f) (there b) sets)) (eq-eqb (source_of f) own is)
+    ∙ none-echo own t (source_of f) name (said_by own f) sets none)
+    (λ ne. ap (λ b. set_at own (sets_after t (source_of f) (there b) sets)) (ne_eqb (source_of f) own ne)
+    ∙ none-after own t (source_of f) (said_by own f) sets ne none)
+
+-- ---- after every step
+
+apart-by : (s t : State) (i : Input) → AreApart s.sets → AreApart (sets_by s t i)
+apart-by s t (inputs.Frame time f) apart =
+    let sets = sets_after t (source_of f) (said s.claims.own s.claims.name f) s.sets in
+    cases s.lost (is_lost_by (answer_to s (source_of f) (said s.claims.own s.claims.name f))) sets
+    (apart-after t (source_of f) (said s.claims.own s.claims.name f) s.sets apart)
+  where
+    cases : (lost gone : Bool) (sets : List Set) → AreApart sets → AreApart (cond lost s.sets (cond gone s.sets sets))
+    cases true gone sets its = apart
+    cases false true sets its = apart
+    cases false false sets its = its
+apart-by s t (inputs.Operator action) apart = apart
+
+none-by : (s t : State) (i : Input) → set_at s.claims.own s.sets ≡ None → set_at s.claims.own (sets_by s t i) ≡ None
+none-by s t (inputs.Frame time f) none =
+    let sets = sets_after t (source_of f) (said s.claims.own s.claims.name f) s.sets in
+    cases s.lost (is_lost_by (answer_to s (source_of f) (said s.claims.own s.claims.name f))) sets
+    (none-said s.claims.own s.claims.name t f s.sets none)
+  where
+    cases : (lost gone : Bool) (sets : List Set) → set_at s.claims.own sets ≡ None → set_at s.claims.own (cond lost s.sets (cond gone s.sets sets)) ≡ None
+    cases true gone sets its = none
+    cases false true sets its = none
+    cases false false sets its = its
+none-by s t (inputs.Operator action) none = none
+
+pub after-steps : OtherHoldersStay → SetsAfterSteps
+after-steps law = record {
+  listed = λ s i orderly is. step-list law s orderly is i;
+  first = λ s none. record {
+    apart = subst AreApart (sym none) tt;
+    elsewhere = ap (set_at s.claims.own) none;
+    held = (held law).first s none;
+  };
+  preloaded = λ a s contents apart is. record {
+    apart = subst AreApart (sym (ap (λ (x : State). x.sets) (take-is s a (Preloads contents)))) (apart-with (preloaded a) s.sets is.apart);
+    elsewhere =
+        (λ i. set_at (take-is s a (Preloads contents) i).claims.own (take-is s a (Preloads contents) i).sets)
+        ∙ at-with_other s.claims.own (preloaded a) s.sets apart ∙ is.elsewhere;
+    held = (held law).preloaded a s contents is.held;
+  };
+  settled = λ s i orderly is. record {
+    apart = subst AreApart (sym (step-list law s orderly is i)) (apart-by s (step s i).after i is.apart);
+    elsewhere =
+        ap (λ q. set_at q (step s i).after.sets) (own-step s i)
+        ∙ ap (set_at s.claims.own) (step-list law s orderly is i) ∙ none-by s (step s i).after i is.elsewhere;
+    held = (held law).kept s i orderly is.held;
+  };
+}

@@ -1,0 +1,59 @@
+-- The list of the sets after a step (docs/PROFILE.md, "Closing a set", "Working sets").
+use Rattle.std.specs.Prelude.{◌≡◌, ◌≢◌, ℕ, ◌==◌, Bool, if◌then◌else◌, List, [], ◌∷◌, map, filter, None}
+use Rattle.vt_can.specs.Nodes.{source_of}
+use Rattle.vt_names.specs.Registry.{Set, set_at, registering, joining}
+use Rattle.vt_objects.specs.Stores.{Contents}
+use Rattle.vt_server.specs.Bus.{said}
+use Rattle.vt_server.specs.Happenings.{loses, IsOrderly, SetsAreHeld}
+use Rattle.vt_server.specs.Parts.{Preloads, stays_under, with_holder_name}
+use Rattle.vt_server.specs.States.{step}
+use Rattle.vt_server.specs.Terminals.{State, holder, take}
+use Rattle.vt_server.specs.declared.bus.Notice.{Notice}
+use Rattle.vt_server.specs.declared.bus.Notice.TheVariants.{Claim, Master, Member}
+use Rattle.vt_server.specs.declared.input.Input.{Input}
+use Rattle.vt_server.specs.declared.input.Input.TheVariants as inputs
+
+-- a set without a NAME, or with the NAME of its address's holder
+abbrev pub stays : State → Set → Bool
+stays s set = stays_under set.name (holder s set.address)
+
+-- a set of an address takes the holder's NAME where it has none
+abbrev pub named_at : State → ℕ → Set → Set
+named_at s address set = if set.address == address then with_holder_name set set.name (holder s address) else set
+
+-- By what a frame says, and by the holders after it. A claim closes each set with a NAME that isn't its address's
+-- holder, the others keep their order, and a set of its source without a NAME takes the holder's. A master message
+-- registers, a member message adds, and nothing else changes the list.
+abbrev pub sets_after : State → ℕ → Notice → List Set → List Set
+sets_after t source (Claim name) sets = map (named_at t source) (filter (stays t) sets)
+sets_after t source (Master count) sets = registering source (holder t source) count sets
+sets_after t source (Member name) sets = joining (set_at source sets) name sets
+sets_after t source _ sets = sets
+
+-- The loss changes no set, and nothing does after it.
+abbrev pub sets_by : State → State → Input → List Set
+sets_by s t (inputs.Frame time frame) =
+    if s.lost then s.sets else if loses s frame then s.sets
+    else sets_after t (source_of frame) (said s.claims.own s.claims.name frame) s.sets
+sets_by s t (inputs.Operator action) = s.sets
+
+-- ---- of what states it holds
+
+-- no two sets have the same address
+abbrev pub AreApart : List Set → Type 0
+AreApart [] = Unit {0}
+AreApart (set ∷ sets) = (set_at set.address sets ≡ None) × AreApart sets
+
+-- none has the terminal's own, and one with a NAME has that of its address's holder
+pub record IsSettled (s : State) : Type 0 where
+  pub apart : AreApart s.sets
+  pub elsewhere : set_at s.claims.own s.sets ≡ None
+  pub held : SetsAreHeld s
+
+pub record SetsAfterSteps : Type 0 where
+  pub listed : (s : State) (i : Input) → IsOrderly s → IsSettled s → (step s i).after.sets ≡ sets_by s (step s i).after i
+  -- before the first input, after a preload at another address than the terminal's, and after every input
+  pub first : (s : State) → s.sets ≡ [] → IsSettled s
+  pub preloaded : (address : ℕ) (s : State) (contents : Contents) → address ≢ s.claims.own → IsSettled s
+      → IsSettled (take s address (Preloads contents))
+  pub settled : (s : State) (i : Input) → IsOrderly s → IsSettled s → IsSettled (step s i).after
