@@ -11,8 +11,10 @@ mod heard;
 mod identifier;
 mod line;
 mod parts;
+mod received;
 mod sessions;
 mod shaped;
+mod wire;
 mod write;
 
 pub use bytes::Bytes;
@@ -23,7 +25,9 @@ pub use line::{
     Action, Line, LineFault, Skipped, lines_have_readings, parse_line, readings_are_one,
     written_lines_are_read,
 };
+pub use received::Received;
 pub use sessions::{Sessions, Timed};
+pub use wire::{Reason, abort_bytes, append, frame_of, three_bytes};
 pub use write::write_line;
 
 #[cfg(test)]

@@ -1,16 +1,13 @@
 //! The frames of the transport protocol as bytes (ISO 11783-3; docs/PROFILE.md, "Transport messages").
 
 ghost use Rattle.std.specs.Prelude.{◌≡◌, ◌≤◌, ◌∷◌, length, drop, slice_index};
-ghost use Rattle.byteorder.specs.Endian.{little_bytes};
-ghost use Rattle.vt_can.specs.Identifier.{HasDestination};
 ghost use Rattle.vt_can.specs.Nodes.{frame_of};
 ghost use Rattle.vt_transport.specs.declared.messages.TpFrame.TheVariants as declared;
-ghost use Rattle.vt_transport.specs.Wire.{tp_frame, connection_management, reply_frame, reply_bytes, reason_code, rts_frame};
+ghost use Rattle.vt_transport.specs.Wire.{tp_frame, connection_management, reply_frame, reply_bytes, rts_frame};
 
-use crate::messages::{Opening, Reason, Reply, TpFrame};
-use arrayvec::ArrayVec;
+use crate::messages::{Opening, Reply, TpFrame};
 use byteorder::{ByteOrder, LittleEndian};
-use vt_can::{CanId, Frame};
+use vt_can::{Frame, abort_bytes, frame_of, three_bytes};
 
 const CONNECTION_MANAGEMENT: u32 = 0xEC00;
 
@@ -92,18 +89,15 @@ fn reply_bytes(reply: Reply) -> [u8; 8]
 {
     match reply {
         Reply::ClearToSend { count, next, pgn } => {
-            let [low, middle, high] = pgn_bytes(pgn);
+            let [low, middle, high] = three_bytes(pgn);
             [CTS, count, next, FILL, FILL, low, middle, high]
         }
         Reply::End { size, packets, pgn } => {
             let [size_low, size_high] = size.to_le_bytes();
-            let [low, middle, high] = pgn_bytes(pgn);
+            let [low, middle, high] = three_bytes(pgn);
             [END, size_low, size_high, packets, FILL, low, middle, high]
         }
-        Reply::Abort { reason, pgn } => {
-            let [low, middle, high] = pgn_bytes(pgn);
-            [ABORT, code(reason), FILL, FILL, FILL, low, middle, high]
-        }
+        Reply::Abort { reason, pgn } => abort_bytes(reason, pgn),
     }
 }
 
@@ -113,7 +107,7 @@ pub(crate) fn rts_frame(own: u8, to: u8, size: u16, pgn: u32) -> Frame
     ensures { result ≡ rts_frame own to size pgn }
 {
     let [size_low, size_high] = size.to_le_bytes();
-    let [low, middle, high] = pgn_bytes(pgn);
+    let [low, middle, high] = three_bytes(pgn);
     let packets = ((size + 6) / 7) as u8;
     let bytes = [
         RTS, size_low, size_high, packets, NO_LIMIT, low, middle, high,
@@ -127,30 +121,4 @@ pub(crate) fn data_frame(own: u8, to: u8, number: u8, packet: [u8; 7]) -> Frame
 {
     let [a, b, c, d, e, f, g] = packet;
     frame_of(DATA_TRANSFER, own, to, [number, a, b, c, d, e, f, g])
-}
-
-fn frame_of(pgn: u32, own: u8, to: u8, bytes: [u8; 8]) -> Frame
-    requires { HasDestination pgn }
-    ensures { result ≡ frame_of pgn own to bytes }
-{
-    Frame {
-        id: CanId::new(7, pgn, to, own),
-        bytes: ArrayVec::from(bytes),
-    }
-}
-
-fn pgn_bytes(pgn: u32) -> [u8; 3]
-    ensures { result ≡ little_bytes 3 pgn }
-{
-    let [low, middle, high, _] = pgn.to_le_bytes();
-    [low, middle, high]
-}
-
-fn code(reason: Reason) -> u8
-    ensures { result ≡ reason_code reason }
-{
-    match reason {
-        Reason::Timeout => 3,
-        Reason::Disorder => 7,
-    }
 }

@@ -40,6 +40,6 @@ returns-then-received-packets c now last =
     let inside = c.self.inside in
     whole_from (record { opening = inside.opening; bytes = inside.bytes.items; received = inside.received; announced = inside.announced; taken = inside.taken; edge = inside.edge })
     _ now last _ _ _ c.self.view_is (sym c.is_next.ensures ∙ c.if-not-is_next.false) (c.if-received-packets.true ∙ c.packets.ensures)
-    (c.new.ensures ∙ c.extend.ensures.items
+    (c.new.ensures ∙ c.append.ensures.items
     ∙ part_taken inside.bytes.items c.args.packet inside.opening.size c.len.result c.min.result
     c.min.ensures (omega (arith, c.len.ensures, inside.bytes.ok.0)) (grind (arith, common_steps)) (omega arith))

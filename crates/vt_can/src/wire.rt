@@ -1,0 +1,77 @@
+//! The bytes that the frames of both transport protocols share (ISO 11783-3; docs/PROFILE.md, "Transport messages").
+
+ghost use Rattle.std.specs.Prelude.{◌≡◌, ◌≤◌, ◌+◌, ◌++◌, length, vec_len, vec_capacity};
+ghost use Rattle.byteorder.specs.Endian.{little_bytes};
+ghost use Rattle.vt_can.specs.Identifier.{HasDestination};
+ghost use Rattle.vt_can.specs.Nodes.{frame_of};
+ghost use Rattle.vt_can.specs.Wire.{abort_bytes, reason_code};
+
+use crate::frame::Frame;
+use crate::identifier::CanId;
+use arrayvec::ArrayVec;
+
+// The first byte of an abort.
+const ABORT: u8 = 0xFF;
+
+// The byte of the places that say nothing.
+const FILL: u8 = 0xFF;
+
+/// Why a node ends a session of a transport protocol.
+#[derive(Clone, Copy, Debug)]
+pub enum Reason {
+    /// A request of more bytes than the node takes.
+    TooLarge,
+    /// No frame of the session for too long.
+    Timeout,
+    /// A frame out of order, or a request that no session can meet.
+    Disorder,
+}
+
+/// The frame of a group with a destination, from one node to another, with priority 7.
+pub fn frame_of(pgn: u32, own: u8, to: u8, bytes: [u8; 8]) -> Frame
+    requires { HasDestination pgn }
+    ensures { result ≡ frame_of pgn own to bytes }
+{
+    Frame {
+        id: CanId::new(7, pgn, to, own),
+        bytes: ArrayVec::from(bytes),
+    }
+}
+
+/// The abort of the session of a group.
+pub fn abort_bytes(reason: Reason, pgn: u32) -> [u8; 8]
+    ensures { result ≡ abort_bytes reason pgn }
+{
+    let [low, middle, high] = three_bytes(pgn);
+    [ABORT, code(reason), FILL, FILL, FILL, low, middle, high]
+}
+
+/// The three low bytes of a number, the lowest first.
+pub fn three_bytes(number: u32) -> [u8; 3]
+    ensures { result ≡ little_bytes 3 number }
+{
+    let [low, middle, high, _] = number.to_le_bytes();
+    [low, middle, high]
+}
+
+/// Appends bytes for which there is room. It takes no memory.
+pub fn append(bytes: &mut Vec<u8>, part: &[u8])
+    requires { vec_len bytes.old + length part.now ≤ vec_capacity bytes.old }
+    ensures items { bytes.new.items ≡ bytes.old.items ++ part.now }
+    ensures len { vec_len bytes.new ≡ vec_len bytes.old + length part.now }
+    ensures room { vec_capacity bytes.new ≡ vec_capacity bytes.old }
+{
+    for byte in part {
+        bytes.push_reserved(*byte);
+    }
+}
+
+fn code(reason: Reason) -> u8
+    ensures { result ≡ reason_code reason }
+{
+    match reason {
+        Reason::TooLarge => 2,
+        Reason::Timeout => 3,
+        Reason::Disorder => 7,
+    }
+}
