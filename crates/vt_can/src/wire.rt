@@ -1,6 +1,6 @@
 //! The bytes that the frames of both transport protocols share (ISO 11783-3; docs/PROFILE.md, "Transport messages").
 
-ghost use Rattle.std.specs.Prelude.{◌≡◌, ◌≤◌, ◌+◌, ◌++◌, length, vec_len, vec_capacity};
+ghost use Rattle.std.specs.Prelude.{◌≡◌, ◌≤◌, ◌+◌, ◌++◌, min, length, take, vec_len, vec_capacity};
 ghost use Rattle.byteorder.specs.Endian.{little_bytes};
 ghost use Rattle.vt_can.specs.Identifier.{HasDestination};
 ghost use Rattle.vt_can.specs.Nodes.{frame_of};
@@ -54,8 +54,20 @@ pub fn three_bytes(number: u32) -> [u8; 3]
     [low, middle, high]
 }
 
-/// Appends bytes for which there is room. It takes no memory.
-pub fn append(bytes: &mut Vec<u8>, part: &[u8])
+/// Appends the bytes of a packet that a message of this size still lacks. It takes no memory.
+pub fn append_packet(bytes: &mut Vec<u8>, size: usize, packet: [u8; 7])
+    requires lacking { vec_len bytes.old ≤ size }
+    requires room { size ≤ vec_capacity bytes.old }
+    ensures items { bytes.new.items ≡ take size (bytes.old.items ++ packet) }
+    ensures len { vec_len bytes.new ≡ min size (vec_len bytes.old + 7) }
+    ensures room { vec_capacity bytes.new ≡ vec_capacity bytes.old }
+{
+    let left = size - bytes.len();
+    append(bytes, &packet[..left.min(7)]);
+}
+
+// Appends bytes for which there is room.
+fn append(bytes: &mut Vec<u8>, part: &[u8])
     requires { vec_len bytes.old + length part.now ≤ vec_capacity bytes.old }
     ensures items { bytes.new.items ≡ bytes.old.items ++ part.now }
     ensures len { vec_len bytes.new ≡ vec_len bytes.old + length part.now }

@@ -10,7 +10,7 @@ ghost use Rattle.vt_extended.specs.declared.messages.Reply.TheVariants as replie
 
 use crate::messages::{Opening, Part, Reply};
 use std::marker::Model;
-use vt_can::{Bytes, Reason, Received, append};
+use vt_can::{Bytes, Reason, Received, append_packet};
 
 /// A message of which packets are still to come.
 #[derive(Drop)]
@@ -90,8 +90,7 @@ impl Session {
             return Received::Refused(self.disorder());
         }
         let Opening { size, pgn } = self.opening;
-        let left = size as usize - self.bytes.len();
-        append(&mut self.bytes, &packet[..left.min(7)]);
+        append_packet(&mut self.bytes, size as usize, packet);
         let received = self.received + 1;
         if received == self.opening.packets() {
             return Received::Whole {

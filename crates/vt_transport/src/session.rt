@@ -8,7 +8,7 @@ ghost use Rattle.vt_transport.specs.Steps.{after_packet};
 
 use crate::messages::{Opening, Reply};
 use std::marker::Model;
-use vt_can::{Bytes, Reason, Received, append};
+use vt_can::{Bytes, Reason, Received, append_packet};
 
 /// A message of which packets are still to come.
 #[derive(Drop)]
@@ -69,8 +69,7 @@ impl Session {
                 pgn,
             });
         }
-        let left = usize::from(size) - self.bytes.len();
-        append(&mut self.bytes, &packet[..left.min(7)]);
+        append_packet(&mut self.bytes, usize::from(size), packet);
         if number == packets {
             return Received::Whole {
                 pgn,
