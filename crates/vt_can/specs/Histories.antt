@@ -1,5 +1,5 @@
 -- What happened to one source, whatever its transport protocol, and the messages in it. Every list of happenings has the latest first.
-use Rattle.std.specs.Prelude.{◌≡◌, ◌<◌, ℕ, Bool, true, List, [], ◌∷◌, ◌++◌, take}
+use Rattle.std.specs.Prelude.{◌≡◌, ◌<◌, ◌≤◌, ℕ, ◌*◌, Bool, true, List, [], ◌∷◌, ◌++◌, take}
 use Rattle.vt_can.specs.Messages.{Message}
 
 -- A frame of the protocol came from the source, or its session was aborted for silence.
@@ -60,3 +60,10 @@ module _ {F O P : Type 0} (spelling : Spelling F O P) where
     pub packet : spelling.IsPacket x
     pub pgn : message.pgn ≡ spelling.pgn opening
     pub bytes : message.bytes ≡ take (spelling.size opening) (spelling.bytes packets)
+
+  -- An open session keeps whole packets, fewer than all, and has room for the message.
+  pub record IsReceiving (o : O) (received len capacity : ℕ) : Type 0 where
+    pub opened : spelling.opens o ≡ true
+    pub room : spelling.size o ≤ capacity
+    pub more : received < spelling.all o
+    pub full : len ≡ 7 * received

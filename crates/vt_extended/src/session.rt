@@ -27,7 +27,9 @@ pub(crate) struct Session {
 
 impl Model for Session {
     ghost use Rattle.std.specs.Prelude.{vec_len, vec_capacity};
-    ghost use Rattle.vt_extended.specs.Kept.{Kept, kept_code, IsReceiving};
+    ghost use Rattle.vt_can.specs.Histories.{IsReceiving};
+    ghost use Rattle.vt_extended.specs.Messages.{spelling};
+    ghost use Rattle.vt_extended.specs.Kept.{Kept, kept_code};
 
     ghost Value = { Kept };
 
@@ -35,7 +37,7 @@ impl Model for Session {
 
     ghost view = { λ s. record { opening = s.opening; bytes = s.bytes.items; received = s.received; announced = s.announced; taken = s.taken; edge = s.edge } };
 
-    ghost invariant = { λ s. IsReceiving s.opening s.received (vec_len s.bytes) (vec_capacity s.bytes) };
+    ghost invariant = { λ s. IsReceiving spelling s.opening s.received (vec_len s.bytes) (vec_capacity s.bytes) };
 }
 
 impl Session {

@@ -20,7 +20,9 @@ pub(crate) struct Session {
 
 impl Model for Session {
     ghost use Rattle.std.specs.Prelude.{vec_len, vec_capacity};
-    ghost use Rattle.vt_transport.specs.Kept.{Kept, kept_code, IsReceiving};
+    ghost use Rattle.vt_can.specs.Histories.{IsReceiving};
+    ghost use Rattle.vt_transport.specs.Messages.{spelling};
+    ghost use Rattle.vt_transport.specs.Kept.{Kept, kept_code};
 
     ghost Value = { Kept };
 
@@ -28,7 +30,7 @@ impl Model for Session {
 
     ghost view = { λ s. record { opening = s.opening; bytes = s.bytes.items; received = s.received } };
 
-    ghost invariant = { λ s. IsReceiving s.opening s.received (vec_len s.bytes) (vec_capacity s.bytes) };
+    ghost invariant = { λ s. IsReceiving spelling s.opening s.received (vec_len s.bytes) (vec_capacity s.bytes) };
 }
 
 impl Session {
