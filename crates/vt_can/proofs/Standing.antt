@@ -1,5 +1,5 @@
 -- Histories of a source, the latest happening first, and the sessions that stand in them.
-use Rattle.std.proofs.Common.{◌≡◌, ◌<◌, ℕ, Bool, true, false, cond, List, [], ◌∷◌, ◌++◌, Option, Some, None, ap, sym, subst, ◌∙◌, refl}
+use Rattle.std.proofs.Common.{◌≡◌, ◌<◌, Bool, true, false, cond, List, [], ◌∷◌, ◌++◌, Option, Some, None, ap, sym, subst, ◌∙◌, refl}
 use Rattle.vt_can.specs.declared.sessions.Timed.{Timed}
 use Rattle.vt_can.specs.Histories.{Happening, Came, Spelling, AreQuiet, Sent, Stands}
 use Rattle.vt_can.specs.Steps.{Matches, IsKept}

@@ -1,11 +1,15 @@
 -- The bytes that the frames of both transport protocols share (docs/PROFILE.md, "Transport messages").
-use Rattle.std.specs.Prelude.{ℕ, ◌==◌, ◌&&◌, if◌then◌else◌, Option, Some, None, List, ◌∷◌, ◌++◌, length, drop, slice_index}
+use Rattle.std.specs.Prelude.{ℕ, Bool, ◌==◌, ◌&&◌, if◌then◌else◌, Option, Some, None, List, ◌∷◌, length, drop, slice_index}
 use Rattle.byteorder.specs.Endian.{little_bytes}
 use Rattle.vt_can.specs.declared.frame.Frame.{Frame}
 use Rattle.vt_can.specs.declared.wire.Reason.{Reason}
 use Rattle.vt_can.specs.declared.wire.Reason.TheVariants.{TooLarge, Timeout, Disorder}
 use Rattle.vt_can.specs.Identifier.{parts_of, pgn_of, destination_of}
 use Rattle.vt_can.specs.Nodes.{is_to}
+
+-- a frame to a node's address, of eight bytes
+abbrev pub is_heard : ℕ → Frame → Bool
+is_heard own frame = is_to own (destination_of (parts_of frame.id)) && length frame.bytes.items == 8
 
 -- By the groups of connection management and of data transfer, and what the bytes of these say:
 module _ {F : Type 0} (management transfer : ℕ) (managed : List ℕ → F) (transferred : ℕ → List ℕ → F) where
@@ -15,12 +19,9 @@ module _ {F : Type 0} (management transfer : ℕ) (managed : List ℕ → F) (tr
       else if pgn == transfer then Some (transferred (slice_index bytes 0) (drop 1 bytes))
       else None
 
-  -- what a frame says to a node: eight bytes, to its address
+  -- what a frame says to a node
   abbrev pub frame_in : ℕ → Frame → Option F
-  frame_in own frame =
-      if is_to own (destination_of (parts_of frame.id)) && length frame.bytes.items == 8
-      then by_group (pgn_of (parts_of frame.id)) frame.bytes.items
-      else None
+  frame_in own frame = if is_heard own frame then by_group (pgn_of (parts_of frame.id)) frame.bytes.items else None
 
 abbrev pub reason_code : Reason → ℕ
 reason_code TooLarge = 2

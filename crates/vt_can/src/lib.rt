@@ -27,7 +27,9 @@ pub use line::{
 };
 pub use received::Received;
 pub use sessions::{Sessions, Timed};
-pub use wire::{Reason, abort_bytes, append_packet, frame_of, three_bytes};
+pub use wire::{
+    Reason, abort_bytes, append_packet, frame_of, is_heard, numbered_packet, three_bytes,
+};
 pub use write::write_line;
 
 #[cfg(test)]

@@ -1,10 +1,10 @@
 //! The bytes that the frames of both transport protocols share (ISO 11783-3; docs/PROFILE.md, "Transport messages").
 
-ghost use Rattle.std.specs.Prelude.{◌≡◌, ◌≤◌, ◌+◌, ◌++◌, min, length, take, vec_len, vec_capacity};
+ghost use Rattle.std.specs.Prelude.{◌≡◌, ◌≤◌, ◌+◌, ◌++◌, min, length, take, drop, slice_index, vec_len, vec_capacity};
 ghost use Rattle.byteorder.specs.Endian.{little_bytes};
 ghost use Rattle.vt_can.specs.Identifier.{HasDestination};
 ghost use Rattle.vt_can.specs.Nodes.{frame_of};
-ghost use Rattle.vt_can.specs.Wire.{abort_bytes, reason_code};
+ghost use Rattle.vt_can.specs.Wire.{is_heard, abort_bytes, reason_code};
 
 use crate::frame::Frame;
 use crate::identifier::CanId;
@@ -25,6 +25,23 @@ pub enum Reason {
     Timeout,
     /// A frame out of order, or a request that no session can meet.
     Disorder,
+}
+
+/// Whether a frame is one to this node, with the eight bytes that frames of a transport protocol have.
+pub fn is_heard(own: u8, frame: &Frame) -> bool
+    ensures { result ≡ is_heard own frame.now }
+{
+    frame.id.destination() == Some(own) && frame.bytes.len() == 8
+}
+
+/// The sequence number and the bytes of the packet that a data transfer carries.
+pub fn numbered_packet(bytes: &[u8]) -> (u8, [u8; 7])
+    requires { length bytes.now ≡ 8 }
+    ensures { result ≡ (slice_index bytes.now 0, drop 1 bytes.now) }
+{
+    let mut packet = [0; 7];
+    packet.copy_from_slice(&bytes[1..]);
+    (bytes[0], packet)
 }
 
 /// The frame of a group with a destination, from one node to another, with priority 7.

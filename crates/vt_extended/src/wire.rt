@@ -1,12 +1,11 @@
 //! The frames of the extended transport protocol as bytes (ISO 11783-3; docs/PROFILE.md, "Transport messages").
 
-ghost use Rattle.std.specs.Prelude.{◌≡◌, length, drop, slice_index};
-ghost use Rattle.vt_extended.specs.declared.messages.Part.TheVariants as declared;
+ghost use Rattle.std.specs.Prelude.{◌≡◌, length};
 ghost use Rattle.vt_extended.specs.Wire.{etp_frame, connection_management, reply_frame, reply_bytes};
 
 use crate::messages::{EtpFrame, Opening, Part, Reply};
 use byteorder::{ByteOrder, LittleEndian};
-use vt_can::{Frame, abort_bytes, frame_of, three_bytes};
+use vt_can::{Frame, abort_bytes, frame_of, is_heard, numbered_packet, three_bytes};
 
 const CONNECTION_MANAGEMENT: u32 = 0xC800;
 
@@ -26,13 +25,16 @@ const ABORT: u8 = 0xFF;
 pub(crate) fn etp_frame(own: u8, frame: &Frame) -> Option<EtpFrame>
     ensures { result ≡ etp_frame own frame.now }
 {
-    let bytes = frame.bytes.as_slice();
-    if frame.id.destination() != Some(own) || bytes.len() != 8 {
+    if !is_heard(own, frame) {
         return None;
     }
+    let bytes = frame.bytes.as_slice();
     match frame.id.pgn() {
         CONNECTION_MANAGEMENT => Some(connection_management(bytes)),
-        DATA_TRANSFER => Some(EtpFrame::Part(data_transfer(bytes))),
+        DATA_TRANSFER => {
+            let (number, bytes) = numbered_packet(bytes);
+            Some(EtpFrame::Part(Part::Packet { number, bytes }))
+        }
         _ => None,
     }
 }
@@ -52,18 +54,6 @@ fn connection_management(bytes: &[u8]) -> EtpFrame
         }),
         ABORT => EtpFrame::Aborted,
         _ => EtpFrame::Other,
-    }
-}
-
-fn data_transfer(bytes: &[u8]) -> Part
-    requires { length bytes.now ≡ 8 }
-    ensures { result ≡ declared.Packet (slice_index bytes.now 0) (drop 1 bytes.now) }
-{
-    let mut packet = [0; 7];
-    packet.copy_from_slice(&bytes[1..]);
-    Part::Packet {
-        number: bytes[0],
-        bytes: packet,
     }
 }
 

@@ -1,13 +1,12 @@
 //! The frames of the transport protocol as bytes (ISO 11783-3; docs/PROFILE.md, "Transport messages").
 
-ghost use Rattle.std.specs.Prelude.{◌≡◌, ◌≤◌, ◌∷◌, length, drop, slice_index};
+ghost use Rattle.std.specs.Prelude.{◌≡◌, ◌≤◌, ◌∷◌, length};
 ghost use Rattle.vt_can.specs.Nodes.{frame_of};
-ghost use Rattle.vt_transport.specs.declared.messages.TpFrame.TheVariants as declared;
 ghost use Rattle.vt_transport.specs.Wire.{tp_frame, connection_management, reply_frame, reply_bytes, rts_frame};
 
 use crate::messages::{Opening, Reply, TpFrame};
 use byteorder::{ByteOrder, LittleEndian};
-use vt_can::{Frame, abort_bytes, frame_of, three_bytes};
+use vt_can::{Frame, abort_bytes, frame_of, is_heard, numbered_packet, three_bytes};
 
 const CONNECTION_MANAGEMENT: u32 = 0xEC00;
 
@@ -31,13 +30,16 @@ const NO_LIMIT: u8 = 0xFF;
 pub(crate) fn tp_frame(own: u8, frame: &Frame) -> Option<TpFrame>
     ensures { result ≡ tp_frame own frame.now }
 {
-    let bytes = frame.bytes.as_slice();
-    if frame.id.destination() != Some(own) || bytes.len() != 8 {
+    if !is_heard(own, frame) {
         return None;
     }
+    let bytes = frame.bytes.as_slice();
     match frame.id.pgn() {
         CONNECTION_MANAGEMENT => Some(connection_management(bytes)),
-        DATA_TRANSFER => Some(data_transfer(bytes)),
+        DATA_TRANSFER => {
+            let (number, bytes) = numbered_packet(bytes);
+            Some(TpFrame::Data { number, bytes })
+        }
         _ => None,
     }
 }
@@ -62,18 +64,6 @@ fn connection_management(bytes: &[u8]) -> TpFrame
         END => TpFrame::EndOfMessage { pgn },
         ABORT => TpFrame::Aborted { pgn },
         _ => TpFrame::Other,
-    }
-}
-
-fn data_transfer(bytes: &[u8]) -> TpFrame
-    requires { length bytes.now ≡ 8 }
-    ensures { result ≡ declared.Data (slice_index bytes.now 0) (drop 1 bytes.now) }
-{
-    let mut packet = [0; 7];
-    packet.copy_from_slice(&bytes[1..]);
-    TpFrame::Data {
-        number: bytes[0],
-        bytes: packet,
     }
 }
 
