@@ -1,4 +1,5 @@
-//! The frames of a CAN bus: identifiers, frames, and the lines of a log; and sessions by address.
+//! The frames of a CAN bus: identifiers, frames, and the lines of a log; and what both transport
+//! protocols share: sessions by address, the bytes of their frames, and what a receiver hands out.
 //!
 //! No call takes memory. docs/PROFILE.md, "Identifiers" and "Log lines", has the rules.
 #![tactic(auto)]
