@@ -9,6 +9,10 @@ pub mod Written
 pub mod Filed
 pub mod ByAddress
 pub mod Joining
+pub mod Booleans
 pub mod OwnFrames
 pub mod Serving
 pub mod Runs
+pub mod Receiving
+pub mod Standing
+pub mod Marking

@@ -8,36 +8,37 @@ use Rattle.vt_can.specs.declared.sessions.Timed.{Timed}
 use Rattle.vt_can.specs.declared.heard.Heard.{Heard}
 use Rattle.vt_can.specs.Messages.{Message}
 use Rattle.vt_can.specs.Sessions.{ByAddress, alive}
-use Rattle.vt_can.specs.Bus.{Input, is_from, inputs_of, session_of, Serves, IsRun, RunsHandOutMessages}
+use Rattle.vt_can.specs.Protocols.{Protocol}
+use Rattle.vt_can.specs.Bus.{left, given, Input, is_from, inputs_of, session_of, Serves, IsRun, RunsHandOutMessages}
 
-module _ {T F : Type 0} (left : ℕ → Option (Timed T) → Option F → Option (Timed T)) (given : ℕ → Option (Timed T) → Option F → Option Message) where
-  served_at : (old new : ByAddress T) (i : Input F) (said : Heard) (source : ℕ) (inputs : List (Input F)) (from : Bool) → is_from source i ≡ from
-      → Serves left given old new i said → finite.get old source ≡ session_of left given source inputs
-      → finite.get new source ≡ session_of left given source (i ∷ inputs)
+module _ {K F R : Type 0} (protocol : Protocol K F R) where
+  served_at : (old new : ByAddress K) (i : Input F) (said : Heard) (source : ℕ) (inputs : List (Input F)) (from : Bool) → is_from source i ≡ from
+      → Serves protocol old new i said → finite.get old source ≡ session_of protocol source inputs
+      → finite.get new source ≡ session_of protocol source (i ∷ inputs)
   served_at old new i said source inputs true from serves before =
-      subst (λ (k : ℕ). finite.get new k ≡ left i.time (alive i.time (finite.get old k)) i.frame) (eqb-true _ _ from) serves.session
-      ∙ ap (λ (kept : Option (Timed T)). left i.time (alive i.time kept) i.frame) before
-      ∙ ap (λ (b : Bool). cond b (left i.time (alive i.time (session_of left given source inputs)) i.frame) (alive i.time (session_of left given source inputs))) (sym from)
+      subst (λ (k : ℕ). finite.get new k ≡ left protocol i.time (alive i.time (finite.get old k)) i.frame) (eqb-true _ _ from) serves.session
+      ∙ ap (λ (kept : Option (Timed K)). left protocol i.time (alive i.time kept) i.frame) before
+      ∙ ap (λ (b : Bool). cond b (left protocol i.time (alive i.time (session_of protocol source inputs)) i.frame) (alive i.time (session_of protocol source inputs))) (sym from)
   served_at old new i said source inputs false from serves before =
       serves.others source (λ same. false≢true (sym from ∙ eq-eqb _ _ (sym same)))
       ∙ ap (alive i.time) before
-      ∙ ap (λ (b : Bool). cond b (left i.time (alive i.time (session_of left given source inputs)) i.frame) (alive i.time (session_of left given source inputs))) (sym from)
+      ∙ ap (λ (b : Bool). cond b (left protocol i.time (alive i.time (session_of protocol source inputs)) i.frame) (alive i.time (session_of protocol source inputs))) (sym from)
 
-  message_of : (old new : ByAddress T) (i : Input F) (said : Heard) (source : ℕ) (inputs : List (Input F)) (from : Bool) → is_from source i ≡ from
-      → finite.get old source ≡ session_of left given source inputs
-      → ◌≡◌ {A = Option Message} (cond from (given i.time (alive i.time (finite.get old i.source)) i.frame) None)
-      (cond from (given i.time (alive i.time (session_of left given source inputs)) i.frame) None)
+  pub message_of : (old new : ByAddress K) (i : Input F) (said : Heard) (source : ℕ) (inputs : List (Input F)) (from : Bool) → is_from source i ≡ from
+      → finite.get old source ≡ session_of protocol source inputs
+      → ◌≡◌ {A = Option Message} (cond from (given protocol i.time (alive i.time (finite.get old i.source)) i.frame) None)
+      (cond from (given protocol i.time (alive i.time (session_of protocol source inputs)) i.frame) None)
   message_of old new i said source inputs true from before =
-      ap (λ (kept : Option (Timed T)). given i.time (alive i.time kept) i.frame) (ap (finite.get old) (eqb-true _ _ from) ∙ before)
+      ap (λ (kept : Option (Timed K)). given protocol i.time (alive i.time kept) i.frame) (ap (finite.get old) (eqb-true _ _ from) ∙ before)
   message_of old new i said source inputs false from before = refl
 
-  run_session : (sessions : ByAddress T) (run : List (Input F × Heard)) (source : ℕ) → IsRun left given sessions run
-      → finite.get sessions source ≡ session_of left given source (inputs_of run)
-  run_session sessions [] source is = ap (λ (m : ByAddress T). finite.get m source) is ∙ finite.get-empty nat_cmp source
+  pub run_session : (sessions : ByAddress K) (run : List (Input F × Heard)) (source : ℕ) → IsRun protocol sessions run
+      → finite.get sessions source ≡ session_of protocol source (inputs_of run)
+  run_session sessions [] source is = ap (λ (m : ByAddress K). finite.get m source) is ∙ finite.get-empty nat_cmp source
   run_session sessions (x ∷ run) source is =
       served_at is.0 sessions x.0 x.1 source (inputs_of run) _ refl is.2 (run_session is.0 run source is.1)
 
-  pub run_messages : RunsHandOutMessages left given
+  pub run_messages : RunsHandOutMessages protocol
   run_messages sessions [] source is = refl
   run_messages sessions (x ∷ run) source is =
       ap₂ (λ (m : Option Message) (ms : List Message). option_to_list m ++ ms)

@@ -2,11 +2,15 @@
 use Rattle.std.specs.Prelude.{◌≡◌, ◌≤◌, ℕ, Bool, ◌==◌, if◌then◌else◌, Option, Some, None, List, [], ◌∷◌, ◌++◌, filter}
 use Rattle.std.specs.FinMap as finite
 use Rattle.std.specs.Option.{option_to_list}
+use Rattle.vt_can.specs.declared.frame.Frame.{Frame}
 use Rattle.vt_can.specs.declared.sessions.Timed.{Timed}
 use Rattle.vt_can.specs.Messages.{Message}
 use Rattle.vt_can.specs.declared.heard.Heard.{Heard}
 use Rattle.vt_can.specs.declared.heard.Heard.TheVariants as heard
+use Rattle.vt_can.specs.Nodes.{source_of}
 use Rattle.vt_can.specs.Sessions.{ByAddress, alive}
+use Rattle.vt_can.specs.Protocols.{Protocol}
+use Rattle.vt_can.specs.Steps.{stepped}
 
 -- a frame that was heard, and what it says to this node
 pub record Input (F : Type 0) : Type 0 where
@@ -39,11 +43,21 @@ module _ {F : Type 0} where
   handed_in source [] = []
   handed_in source (x ∷ run) = option_to_list (handed source x.1) ++ handed_in source run
 
--- The session that a frame leaves, and the message that it completes, by the time and the session before.
-module _ {T F : Type 0} (left : ℕ → Option (Timed T) → Option F → Option (Timed T)) (given : ℕ → Option (Timed T) → Option F → Option Message) where
+module _ {K F R : Type 0} (protocol : Protocol K F R) where
+  -- a frame as an input of the node at an address
+  abbrev pub input_of : ℕ → ℕ → Frame → Input F
+  input_of own now frame = record { time = now; source = source_of frame; frame = protocol.frame_in own frame }
+
+  -- the session that a frame of a source leaves, and the message that it completes
+  abbrev pub left : ℕ → Option (Timed K) → Option F → Option (Timed K)
+  left now kept frame = (stepped protocol now kept frame).session
+
+  abbrev pub given : ℕ → Option (Timed K) → Option F → Option Message
+  given now kept frame = (stepped protocol now kept frame).message
+
   -- The session of a source. At each input of the bus the sessions that are overdue end, before its
   -- frame is heard.
-  abbrev pub session_of : ℕ → List (Input F) → Option (Timed T)
+  abbrev pub session_of : ℕ → List (Input F) → Option (Timed K)
   session_of source [] = None
   session_of source (i ∷ inputs) =
       let kept = alive i.time (session_of source inputs) in
@@ -65,18 +79,18 @@ module _ {T F : Type 0} (left : ℕ → Option (Timed T) → Option F → Option
       → messages_of source inputs ≡ messages_of source (filter (is_from source) inputs)
 
   -- An input is served: the sessions that are overdue end, and its source's makes a step and hands out its message.
-  pub record Serves (old new : ByAddress T) (i : Input F) (said : Heard) : Type 0 where
+  pub record Serves (old new : ByAddress K) (i : Input F) (said : Heard) : Type 0 where
     pub session : finite.get new i.source ≡ left i.time (alive i.time (finite.get old i.source)) i.frame
     pub others : (other : ℕ) → (other ≡ i.source → ⊥) → finite.get new other ≡ alive i.time (finite.get old other)
     pub message : (source : ℕ) → handed source said
         ≡ (if is_from source i then given i.time (alive i.time (finite.get old i.source)) i.frame else None)
 
   -- From no session, inputs were served, and this was said to each.
-  abbrev pub IsRun : ByAddress T → List (Input F × Heard) → Type 0
+  abbrev pub IsRun : ByAddress K → List (Input F × Heard) → Type 0
   IsRun sessions [] = sessions ≡ finite.empty
-  IsRun sessions (x ∷ run) = (old : ByAddress T) × IsRun old run × Serves old sessions x.0 x.1
+  IsRun sessions (x ∷ run) = (old : ByAddress K) × IsRun old run × Serves old sessions x.0 x.1
 
   -- A run hands out the messages of each source.
   abbrev pub RunsHandOutMessages : Type 0
-  RunsHandOutMessages = (sessions : ByAddress T) (run : List (Input F × Heard)) (source : ℕ) → IsRun sessions run
+  RunsHandOutMessages = (sessions : ByAddress K) (run : List (Input F × Heard)) (source : ℕ) → IsRun sessions run
       → handed_in source run ≡ messages_of source (inputs_of run)

@@ -8,4 +8,10 @@ pub mod Parts
 pub mod Sessions
 pub mod Messages
 pub mod Nodes
+pub mod Histories
+pub mod Protocols
+pub mod Steps
+pub mod Receivers
+pub mod Wire
 pub mod Bus
+pub mod Marks

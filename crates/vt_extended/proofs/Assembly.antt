@@ -2,18 +2,22 @@
 use Rattle.std.proofs.Common.{◌≡◌, ℕ, ◌+◌, ◌<◌, Bool, true, false, ◌&&◌, cond, eqb, ltb, List, [], ◌∷◌, ◌++◌, length, take, Option, Some, None, ap, ap₂, sym, subst, ◌∙◌, refl, arith, eq-eqb, eqb-true}
 use Rattle.std.proofs.lemmas.Bool.{false≢true}
 use Rattle.vt_can.specs.declared.sessions.Timed.{Timed}
+use Rattle.vt_can.specs.declared.wire.Reason.TheVariants.{Disorder}
 use Rattle.vt_can.specs.Messages.{Message}
+use Rattle.vt_can.specs.Histories.{Came, TimedOut, Sent, untimed}
+use Rattle.vt_can.specs.Steps.{happens, session_after}
+use Rattle.vt_can.proofs.Booleans.{both_of}
+use Rattle.vt_can.proofs.Standing.{last_of}
 use Rattle.vt_extended.specs.declared.messages.Opening.{Opening}
 use Rattle.vt_extended.specs.declared.messages.Part.{Part}
 use Rattle.vt_extended.specs.declared.messages.Part.TheVariants.{Offset, Packet}
 use Rattle.vt_extended.specs.declared.messages.EtpFrame.TheVariants as etp
-use Rattle.vt_extended.specs.declared.messages.Reason.TheVariants.{Disorder}
 use Rattle.vt_extended.specs.declared.messages.Reply.TheVariants.{Abort}
-use Rattle.vt_extended.specs.Messages.{Happening, Came, TimedOut, Group, Announced, packets_of, received, bytes_of, Sent, Stands, IsWhole, IsAnswered, reply_to, offset_reply, packet_reply, part_reply}
+use Rattle.vt_extended.specs.Messages.{Happening, Group, Announced, packets_of, received, bytes_of, spelling, Stands, IsWhole, IsAnswered, reply_to, offset_reply, packet_reply, part_reply}
 use Rattle.vt_extended.specs.Kept.{Kept}
-use Rattle.vt_extended.specs.Steps.{Outcome, is_open, after_offset, is_next, after_packet, after_part, happens, session_after, untimed, HasGroups, Has, StepsAssembleMessages}
-use Rattle.vt_extended.proofs.Openings.{both_of}
-use Rattle.vt_extended.proofs.Histories.{sent_packet, last_of, IsNext, packet_last}
+use Rattle.vt_extended.specs.Steps.{Outcome, is_open, after_offset, is_next, after_packet, after_part, HasGroups, Has}
+use Rattle.vt_extended.specs.Protocol.{protocol, StepsAssembleMessages}
+use Rattle.vt_extended.proofs.Histories.{sent_packet, IsNext, packet_last}
 use Rattle.vt_extended.proofs.Stepping.{offset_right, offset_wrong, grown_reply, packet_more, packet_whole, packet_wrong, is_open_as, is_next_as, is_next_true, grown_bytes}
 use Rattle.vt_extended.proofs.Matching.{Matches, matches, IsKept, Next, InGroup, next_in}
 
@@ -31,7 +35,7 @@ whole_of_groups hs number packet kept message groups (InGroup count packets befo
     let was = h.received_is in
     record {
       opening = kept.session.opening;
-      groups = Announced count (packet ∷ packets) ∷ before;
+      packets = Announced count (packet ∷ packets) ∷ before;
       sent = sent_packet hs number packet kept.session.opening count packets before next within stands.sent;
       all = omega arith;
       packet = (number, packet, refl);
@@ -69,7 +73,7 @@ whole_part now (Offset count offset) hs (Some kept) message m is =
 whole_part now (Packet number packet) hs (Some kept) message m is = whole_number now number packet hs kept message _ refl (m.kept kept refl) is
 
 whole_step : (now : ℕ) (hs : List Happening) (session : Option (Timed Kept)) (x : Happening) (message : Message) → Matches hs session
-    → (happens now session x).message ≡ Some message → IsWhole hs x message
+    → (happens protocol now session x).message ≡ Some message → IsWhole hs x message
 whole_step now hs session TimedOut message m is = absurd cc
 whole_step now hs session (Came (etp.Rts o)) message m is = absurd cc
 whole_step now hs session (Came (etp.Part part)) message m is = whole_part now part hs session message m is
@@ -102,15 +106,15 @@ message_next now number packet hs session o groups message m n all pgn bytes =
     (bytes ∙ ap (λ (gs : List Group). take o.size (bytes_of gs)) n.all)
 
 message_step : (now : ℕ) (hs : List Happening) (session : Option (Timed Kept)) (x : Happening) (message : Message) → Matches hs session
-    → IsWhole hs x message → (happens now session x).message ≡ Some message
+    → IsWhole hs x message → (happens protocol now session x).message ≡ Some message
 message_step now hs session x message m whole =
     let number = whole.packet.0 in
     let packet = whole.packet.1 in
-    let sent : Sent (Came (etp.Part (Packet number packet)) ∷ hs) whole.opening whole.groups =
-    subst (λ (y : Happening). Sent (y ∷ hs) whole.opening whole.groups) whole.packet.2 whole.sent in
-    subst (λ (y : Happening). (happens now session y).message ≡ Some message) (sym whole.packet.2)
-    (message_next now number packet hs session whole.opening whole.groups message m
-    (packet_last hs number packet whole.opening whole.groups (last_of _ hs whole.opening whole.groups sent)) whole.all whole.pgn whole.bytes)
+    let sent : Sent spelling (Came (etp.Part (Packet number packet)) ∷ hs) whole.opening whole.packets =
+    subst (λ (y : Happening). Sent spelling (y ∷ hs) whole.opening whole.packets) whole.packet.2 whole.sent in
+    subst (λ (y : Happening). (happens protocol now session y).message ≡ Some message) (sym whole.packet.2)
+    (message_next now number packet hs session whole.opening whole.packets message m
+    (packet_last hs number packet whole.opening whole.packets (last_of spelling _ hs whole.opening whole.packets sent)) whole.all whole.pgn whole.bytes)
 
 -- the reply to a DPO
 
@@ -180,7 +184,7 @@ no_reply now part hs None m never = refl
 no_reply now part hs (Some kept) m never = let k = m.kept kept refl in absurd (never kept.session.opening k.0 k.1)
 
 reply_step : (now : ℕ) (hs : List Happening) (session : Option (Timed Kept)) (x : Happening) → Matches hs session
-    → IsAnswered hs x (happens now session x).reply
+    → IsAnswered hs x (happens protocol now session x).reply
 reply_step now hs session TimedOut m = refl
 reply_step now hs session (Came (etp.Rts o)) m = refl
 reply_step now hs session (Came (etp.Part part)) m =
@@ -192,8 +196,7 @@ pub agrees : StepsAssembleMessages
 agrees xs x =
     let m = matches xs in
     record {
-      stands = m.stands;
-      kept = m.kept;
-      messages = λ message. (whole_step x.0 (untimed xs) (session_after xs) x.1 message m, message_step x.0 (untimed xs) (session_after xs) x.1 message m);
-      replies = reply_step x.0 (untimed xs) (session_after xs) x.1 m;
+      session = m;
+      messages = λ message. (whole_step x.0 (untimed xs) (session_after protocol xs) x.1 message m, message_step x.0 (untimed xs) (session_after protocol xs) x.1 message m);
+      replies = reply_step x.0 (untimed xs) (session_after protocol xs) x.1 m;
     }

@@ -1,7 +1,5 @@
-pub mod Taking
 pub mod Openings
 pub mod Histories
 pub mod Stepping
 pub mod Matching
 pub mod Assembly
-pub mod Serving

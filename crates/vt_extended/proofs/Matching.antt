@@ -1,61 +1,34 @@
 -- The session that the steps keep of a source is the one that stands.
-use Rattle.std.proofs.Common.{◌≡◌, ℕ, ◌+◌, ◌≤◌, ◌<◌, Bool, true, false, ◌&&◌, cond, eqb, leb, ltb, List, [], ◌∷◌, ◌++◌, length, Option, Some, None, ap, sym, subst, ◌∙◌, refl, arith, eq-eqb, eqb-true}
+use Rattle.std.proofs.Common.{◌≡◌, ℕ, ◌+◌, ◌≤◌, ◌<◌, Bool, true, false, ◌&&◌, cond, eqb, leb, ltb, List, [], ◌∷◌, length, Option, Some, None, ap, sym, subst, ◌∙◌, refl, arith, eq-eqb, eqb-true}
 use Rattle.std.proofs.lemmas.Bool.{leb-true, ltb-true, false≢true}
 use Rattle.vt_can.specs.declared.sessions.Timed.{Timed}
+use Rattle.vt_can.specs.Histories.{Came, TimedOut, untimed}
+use Rattle.vt_can.specs.Steps as steps
+use Rattle.vt_can.specs.Steps.{happens, session_after}
 use Rattle.vt_can.proofs.Joining.{take_none}
+use Rattle.vt_can.proofs.Booleans.{both_of, all_of}
+use Rattle.vt_can.proofs.Standing.{last_of, matches_none, matches_quiet, matches_end, matches_request}
 use Rattle.vt_extended.specs.declared.messages.Opening.{Opening}
 use Rattle.vt_extended.specs.declared.messages.Part.{Part}
 use Rattle.vt_extended.specs.declared.messages.Part.TheVariants.{Offset, Packet}
 use Rattle.vt_extended.specs.declared.messages.EtpFrame.TheVariants as etp
-use Rattle.vt_extended.specs.Messages.{Happening, Came, TimedOut, Group, Announced, opens, packets_of, received, edge, IsQuiet, Sent, Stands}
+use Rattle.vt_extended.specs.Messages.{Happening, Group, Announced, opens, packets_of, received, edge, spelling, Stands}
 use Rattle.vt_extended.specs.Kept.{Kept}
-use Rattle.vt_extended.specs.Steps.{Outcome, fresh, is_open, after_offset, is_next, after_packet, after_part, happens, session_after, untimed, HasGroups, Has}
-use Rattle.vt_extended.proofs.Openings.{both_of, all_of, opened_packets}
-use Rattle.vt_extended.proofs.Histories.{IsBystander, sent_after_rts, sent_more, sent_offset, sent_packet, Came_last, AtRts, Later, last_of, IsAnnounced, offset_last, IsNext, packet_last}
+use Rattle.vt_extended.specs.Steps.{Outcome, fresh, is_open, after_offset, is_next, after_packet, after_part, HasGroups, Has}
+use Rattle.vt_extended.specs.Protocol.{protocol}
+use Rattle.vt_extended.proofs.Openings.{opened_packets}
+use Rattle.vt_extended.proofs.Histories.{sent_offset, sent_packet, no_parts, IsAnnounced, offset_last, IsNext, packet_last}
 use Rattle.vt_extended.proofs.Stepping.{announced, offset_right, offset_wrong, grown, packet_more, packet_whole, packet_wrong, is_open_as, is_open_true, is_next_as, is_next_true, has_announced, has_grown}
 
+abbrev opening_of : Kept → Opening
+opening_of kept = kept.opening
+
 -- the session of the steps and the one that stands are the same
-pub record Matches (hs : List Happening) (session : Option (Timed Kept)) : Type 0 where
-  pub stands : (o : Opening) (groups : List Group) → Stands hs o groups → Has session o groups
-  pub kept : (kept : Timed Kept) → session ≡ Some kept
-      → (groups : List Group) × Stands hs kept.session.opening groups × Has (Some kept) kept.session.opening groups
+abbrev pub Matches : List Happening → Option (Timed Kept) → Type 0
+Matches = steps.Matches spelling opening_of Has
 
 abbrev pub IsKept : List Happening → Timed Kept → Type 0
-IsKept hs kept = (groups : List Group) × Stands hs kept.session.opening groups × Has (Some kept) kept.session.opening groups
-
-quiet_last : (x : Happening) (hs : List Happening) (o : Opening) (groups : List Group) → IsBystander x → Came_last x hs o groups
-    → ((o : Opening) → x ≡ Came (etp.Rts o) → ⊥) → Sent hs o groups
-quiet_last x hs o groups by (AtRts is opened none) other = absurd (other o is)
-quiet_last x hs o groups by (Later later earlier split opened quiet rest in_order sound) other = record {
-  earlier = earlier;
-  later = later;
-  split = split;
-  opened = opened;
-  quiet = rest;
-  in_order = sym (by.no_part later) ∙ in_order;
-  sound = sound;
-}
-
-matches_quiet : (hs : List Happening) (session : Option (Timed Kept)) (x : Happening) → IsBystander x → ((o : Opening) → x ≡ Came (etp.Rts o) → ⊥)
-    → Matches hs session → Matches (x ∷ hs) session
-matches_quiet hs session x by other m = record {
-  stands = λ o groups s. m.stands o groups (record { sent = quiet_last x hs o groups by (last_of x hs o groups s.sent) other; more = s.more });
-  kept = λ kept is.
-      let k = m.kept kept is in
-      (k.0, record { sent = sent_more hs x kept.session.opening k.0 by k.1.sent; more = k.1.more }, k.2);
-}
-
--- nothing stands after a happening that ends each session
-not_quiet : (x : Happening) (hs : List Happening) (o : Opening) (groups : List Group) → Came_last x hs o groups → (IsQuiet x → ⊥)
-    → ((o : Opening) → x ≡ Came (etp.Rts o) → ⊥) → ⊥
-not_quiet x hs o groups (AtRts is opened none) loud other = other o is
-not_quiet x hs o groups (Later later earlier split opened quiet rest in_order sound) loud other = loud quiet
-
-matches_end : (hs : List Happening) (x : Happening) → (IsQuiet x → ⊥) → ((o : Opening) → x ≡ Came (etp.Rts o) → ⊥) → Matches (x ∷ hs) None
-matches_end hs x loud other = record {
-  stands = λ o groups s. absurd (not_quiet x hs o groups (last_of x hs o groups s.sent) loud other);
-  kept = λ kept is. absurd cc;
-}
+IsKept = steps.IsKept spelling opening_of Has
 
 -- an RTS
 
@@ -65,32 +38,10 @@ first now o = record { last = now; session = fresh o }
 has_first : (now : ℕ) (o : Opening) → Has (Some (first now o)) o []
 has_first now o = record { opening = refl; bytes = sym (take_none o.size); received_is = refl; last = (refl, refl); edge_is = refl }
 
-has_rts : (now : ℕ) (o o' : Opening) (groups : List Group) → o ≡ o' → opens o' ≡ true → groups ≡ []
-    → Has (cond (opens o) (Some (first now o)) None) o' groups
-has_rts now o o' groups same opened none =
-    let here : opens o ≡ true = ap opens same ∙ opened in
-    subst (λ (q : Opening). Has (cond (opens o) (Some (first now o)) None) q groups) same
-    (subst (λ (gs : List Group). Has (cond (opens o) (Some (first now o)) None) o gs) (sym none)
-    (subst (λ (b : Bool). Has (cond b (Some (first now o)) None) o []) (sym here) (has_first now o)))
-
-rts_last : (now : ℕ) (hs : List Happening) (o o' : Opening) (groups : List Group) → Came_last (Came (etp.Rts o)) hs o' groups
-    → Has (cond (opens o) (Some (first now o)) None) o' groups
-rts_last now hs o o' groups (AtRts is opened none) = has_rts now o o' groups (cc) opened none
-rts_last now hs o o' groups (Later later earlier split opened quiet rest in_order sound) = absurd quiet
-
-rts_kept : (now : ℕ) (hs : List Happening) (o : Opening) (b : Bool) (kept : Timed Kept) → opens o ≡ b → cond b (Some (first now o)) None ≡ Some kept
-    → IsKept (Came (etp.Rts o) ∷ hs) kept
-rts_kept now hs o false kept opened is = absurd cc
-rts_kept now hs o true kept opened is =
-    let same : first now o ≡ kept = cc in
-    subst (IsKept (Came (etp.Rts o) ∷ hs)) same
-    ([], record { sent = sent_after_rts hs o opened; more = opened_packets o opened }, has_first now o)
-
 matches_rts : (now : ℕ) (hs : List Happening) (o : Opening) → Matches (Came (etp.Rts o) ∷ hs) (cond (opens o) (Some (first now o)) None)
-matches_rts now hs o = record {
-  stands = λ o' groups s. rts_last now hs o o' groups (last_of _ hs o' groups s.sent);
-  kept = λ kept is. rts_kept now hs o (opens o) kept refl is;
-}
+matches_rts now hs o =
+    matches_request spelling opening_of Has o (first now o) [] refl (λ quiet. quiet) (λ o' e. cc) (record { in_order = refl; sound = tt }) (opened_packets o)
+    (λ groups none. subst (λ (gs : List Group). Has (Some (first now o)) o gs) (sym (no_parts groups none.in_order)) (has_first now o)) hs
 
 -- a DPO
 
@@ -218,29 +169,31 @@ kept_packet now number packet hs (Some kept) kept' m is = kept_number now number
 matches_part : (now : ℕ) (part : Part) (hs : List Happening) (session : Option (Timed Kept)) → Matches hs session
     → Matches (Came (etp.Part part) ∷ hs) (after_part now session part).session
 matches_part now (Offset count offset) hs session m = record {
-  stands = λ o groups s. stands_offset now count offset hs session o groups m (offset_last hs count offset o groups (last_of _ hs o groups s.sent)) s.more;
+  stands = λ o groups s. stands_offset now count offset hs session o groups m (offset_last hs count offset o groups (last_of spelling _ hs o groups s.sent)) s.more;
   kept = λ kept' is. kept_offset now count offset hs session kept' m is;
 }
 matches_part now (Packet number packet) hs session m = record {
-  stands = λ o groups s. stands_packet now number packet hs session o groups m (packet_last hs number packet o groups (last_of _ hs o groups s.sent)) s.more;
+  stands = λ o groups s. stands_packet now number packet hs session o groups m (packet_last hs number packet o groups (last_of spelling _ hs o groups s.sent)) s.more;
   kept = λ kept' is. kept_packet now number packet hs session kept' m is;
 }
 
 matches_step : (now : ℕ) (hs : List Happening) (session : Option (Timed Kept)) (x : Happening) → Matches hs session
-    → Matches (x ∷ hs) (happens now session x).session
-matches_step now hs session TimedOut m = matches_end hs TimedOut (λ quiet. quiet) (λ o e. cc)
+    → Matches (x ∷ hs) (happens protocol now session x).session
+matches_step now hs session TimedOut m = matches_end spelling opening_of Has hs TimedOut (record { loud = λ quiet. quiet; other = λ o e. cc })
 matches_step now hs session (Came (etp.Rts o)) m = matches_rts now hs o
 matches_step now hs session (Came (etp.Part part)) m = matches_part now part hs session m
-matches_step now hs session (Came etp.Aborted) m = matches_end hs _ (λ quiet. quiet) (λ o e. cc)
-matches_step now hs session (Came etp.Other) m = matches_quiet hs session _ (record { quiet = tt; no_part = λ _. refl }) (λ o e. cc) m
+matches_step now hs session (Came etp.Aborted) m =
+    matches_end spelling opening_of Has hs (Came etp.Aborted) (record { loud = λ quiet. quiet; other = λ o e. cc })
+matches_step now hs session (Came etp.Other) m =
+    matches_quiet spelling opening_of Has hs session (Came etp.Other)
+    (record {
+      quiet = tt;
+      other = λ o e. cc;
+      more = λ o later groups brought. record { in_order = brought.in_order; sound = brought.sound };
+      less = λ o later groups brought. record { in_order = brought.in_order; sound = brought.sound };
+    })
+    m
 
-no_history : (o : Opening) (later earlier : List Happening) → [] ≡ later ++ Came (etp.Rts o) ∷ earlier → ⊥
-no_history o [] earlier e = cc
-no_history o (x ∷ later) earlier e = cc
-
-pub matches : (xs : List (ℕ × Happening)) → Matches (untimed xs) (session_after xs)
-matches [] = record {
-  stands = λ o groups s. absurd (no_history o s.sent.later s.sent.earlier s.sent.split);
-  kept = λ kept is. absurd cc;
-}
-matches (x ∷ xs) = matches_step x.0 (untimed xs) (session_after xs) x.1 (matches xs)
+pub matches : (xs : List (ℕ × Happening)) → Matches (untimed xs) (session_after protocol xs)
+matches [] = matches_none spelling opening_of Has
+matches (x ∷ xs) = matches_step x.0 (untimed xs) (session_after protocol xs) x.1 (matches xs)

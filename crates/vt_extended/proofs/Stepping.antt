@@ -3,15 +3,16 @@ use Rattle.std.proofs.Common.{◌≡◌, ℕ, ◌+◌, ◌≤◌, ◌<◌, max, 
 use Rattle.std.proofs.lemmas.Bool.{le-leb, false≢true}
 use Rattle.std.proofs.lemmas.List.{append_assoc, append-nil}
 use Rattle.vt_can.specs.declared.sessions.Timed.{Timed}
+use Rattle.vt_can.specs.declared.wire.Reason.TheVariants.{Disorder}
 use Rattle.vt_can.specs.Messages.{joined}
+use Rattle.vt_can.specs.Protocols.{silent, ended}
 use Rattle.vt_can.proofs.Joining.{take_again}
 use Rattle.vt_extended.specs.declared.messages.Opening.{Opening}
-use Rattle.vt_extended.specs.declared.messages.Reason.TheVariants.{Disorder}
 use Rattle.vt_extended.specs.declared.messages.Reply.{Reply}
 use Rattle.vt_extended.specs.declared.messages.Reply.TheVariants.{Abort}
 use Rattle.vt_extended.specs.Messages.{Group, Announced, packets_of, received, full, edge_after, edge, bytes_of, reply_to}
 use Rattle.vt_extended.specs.Kept.{Kept}
-use Rattle.vt_extended.specs.Steps.{Outcome, silent, ended, is_open, with_group, after_offset, is_next, with_packet, after_packet, HasGroups}
+use Rattle.vt_extended.specs.Steps.{Outcome, is_open, with_group, after_offset, is_next, with_packet, after_packet, HasGroups}
 
 -- the step of a DPO, in its two cases
 

@@ -1,8 +1,7 @@
 -- What a receiver keeps of a source.
-use Rattle.std.specs.Prelude.{◌≡◌, ◌<◌, ◌≤◌, ℕ, ◌*◌, true, List, refl}
+use Rattle.std.specs.Prelude.{ℕ, List, refl}
 use Rattle.std.specs.Coded.{Coded, code_by, coded×, coded_ℕ, coded_list}
 use Rattle.vt_extended.specs.declared.messages.Opening.{Opening}
-use Rattle.vt_extended.specs.Messages.{opens, packets_of}
 
 -- A session: its RTS, the bytes so far, and the number of packets that brought them; how many packets
 -- the last DPO announced and how many of those came; and the last packet that is open.
@@ -24,10 +23,3 @@ kept_code =
     (λ k. (k.opening, (k.bytes, (k.received, (k.announced, (k.taken, k.edge))))))
     (λ p. record { opening = p.0; bytes = p.1.0; received = p.1.1.0; announced = p.1.1.1.0; taken = p.1.1.1.1.0; edge = p.1.1.1.1.1 })
     (λ _. refl)
-
--- an open session: its bytes so far are whole packets, and there is room for all
-pub record IsReceiving (o : Opening) (received len capacity : ℕ) : Type 0 where
-  pub opened : opens o ≡ true
-  pub room : o.size ≤ capacity
-  pub more : received < packets_of o
-  pub full : len ≡ 7 * received

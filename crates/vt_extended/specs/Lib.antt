@@ -2,6 +2,4 @@ pub mod Messages
 pub mod Wire
 pub mod Kept
 pub mod Steps
-pub mod Received
-pub mod Receivers
-pub mod Bus
+pub mod Protocol

@@ -1,21 +1,22 @@
 -- The messages of one source, over the whole list of what came from it (ISO 11783-3;
 -- docs/PROFILE.md, "The ETP receiver"). Every list of happenings, groups and packets has the latest first.
-use Rattle.std.specs.Prelude.{◌≡◌, ◌<◌, ◌≤◌, ℕ, ◌+◌, ◌-◌, ◌/◌, Bool, true, nat_le, nat_lt, ◌==◌, ◌&&◌, if◌then◌else◌, min, Option, Some, None, List, [], ◌∷◌, ◌++◌, length, take}
+use Rattle.std.specs.Prelude.{◌≡◌, ◌≤◌, ℕ, ◌+◌, ◌-◌, ◌/◌, Bool, nat_le, nat_lt, ◌==◌, ◌&&◌, if◌then◌else◌, min, Option, Some, None, List, [], ◌∷◌, ◌++◌, length}
+use Rattle.vt_can.specs.declared.wire.Reason.{Reason}
+use Rattle.vt_can.specs.declared.wire.Reason.TheVariants.{TooLarge, Disorder}
 use Rattle.vt_can.specs.Messages.{Message, joined}
+use Rattle.vt_can.specs.Histories as histories
+use Rattle.vt_can.specs.Histories.{Spelling, Came, TimedOut}
 use Rattle.vt_extended.specs.declared.messages.Opening.{Opening}
 use Rattle.vt_extended.specs.declared.messages.Part.{Part}
 use Rattle.vt_extended.specs.declared.messages.Part.TheVariants.{Offset, Packet}
 use Rattle.vt_extended.specs.declared.messages.EtpFrame.{EtpFrame}
 use Rattle.vt_extended.specs.declared.messages.EtpFrame.TheVariants as etp
-use Rattle.vt_extended.specs.declared.messages.Reason.{Reason}
-use Rattle.vt_extended.specs.declared.messages.Reason.TheVariants.{TooLarge, Disorder}
 use Rattle.vt_extended.specs.declared.messages.Reply.{Reply}
 use Rattle.vt_extended.specs.declared.messages.Reply.TheVariants.{ClearToSend, End, Abort}
 
 -- A frame of the extended transport protocol came from the source, or its session was aborted for silence.
-pub data Happening : Type 0 where
-  Came : EtpFrame → Happening
-  TimedOut : Happening
+abbrev pub Happening : Type 0
+Happening = histories.Happening EtpFrame
 
 -- 9 to 1048576 bytes
 abbrev pub opens : Opening → Bool
@@ -74,10 +75,6 @@ IsQuiet (Came (etp.Rts o)) = ⊥
 IsQuiet (Came etp.Aborted) = ⊥
 IsQuiet (Came _) = Unit {0}
 
-abbrev pub AreQuiet : List Happening → Type 0
-AreQuiet [] = Unit {0}
-AreQuiet (h ∷ hs) = IsQuiet h × AreQuiet hs
-
 -- the DPOs and DTs that came
 abbrev pub parts_in : List Happening → List Part
 parts_in [] = []
@@ -85,30 +82,33 @@ parts_in (TimedOut ∷ hs) = parts_in hs
 parts_in (Came (etp.Part part) ∷ hs) = part ∷ parts_in hs
 parts_in (Came _ ∷ hs) = parts_in hs
 
--- After an RTS that opens came quiet happenings alone, and the DPOs and DTs among them are those of sound groups.
-pub record Sent (hs : List Happening) (o : Opening) (groups : List Group) : Type 0 where
-  pub earlier : List Happening
-  pub later : List Happening
-  pub split : hs ≡ later ++ Came (etp.Rts o) ∷ earlier
-  pub opened : opens o ≡ true
-  pub quiet : AreQuiet later
+-- what came after an RTS is the DPOs and DTs of sound groups
+pub record BringsGroups (o : Opening) (later : List Happening) (groups : List Group) : Type 0 where
   pub in_order : parts_in later ≡ parts_of groups
   pub sound : AreSound o groups
 
--- a session is open, with packets still to come
-pub record Stands (hs : List Happening) (o : Opening) (groups : List Group) : Type 0 where
-  pub sent : Sent hs o groups
-  pub more : received groups < packets_of o
+-- Messages are spelled by an RTS and by the DPOs and DTs of groups.
+abbrev pub spelling : Spelling EtpFrame Opening (List Group)
+spelling = record {
+  request = λ o. etp.Rts o;
+  opens = opens;
+  size = λ o. o.size;
+  pgn = λ o. o.pgn;
+  all = packets_of;
+  IsQuiet = IsQuiet;
+  Brings = BringsGroups;
+  count = received;
+  bytes = bytes_of;
+  IsPacket = λ x. (number : ℕ) × (bytes : List ℕ) × (x ≡ Came (etp.Part (Packet number bytes)));
+}
 
--- x is the last packet of a message
-pub record IsWhole (hs : List Happening) (x : Happening) (message : Message) : Type 0 where
-  pub opening : Opening
-  pub groups : List Group
-  pub sent : Sent (x ∷ hs) opening groups
-  pub all : received groups ≡ packets_of opening
-  pub packet : (number : ℕ) × (bytes : List ℕ) × (x ≡ Came (etp.Part (Packet number bytes)))
-  pub pgn : message.pgn ≡ opening.pgn
-  pub bytes : message.bytes ≡ take opening.size (bytes_of groups)
+-- a session is open, with packets still to come
+abbrev pub Stands : List Happening → Opening → List Group → Type 0
+Stands = histories.Stands spelling
+
+-- a happening is the last packet of a message
+abbrev pub IsWhole : List Happening → Happening → Message → Type 0
+IsWhole = histories.IsWhole spelling
 
 -- the CTS after so many packets, for 255 of those left at most
 abbrev pub clear_to_send : Opening → ℕ → Reply

@@ -1,29 +1,21 @@
--- One step of a receiver on the session of one source, and the law that these steps assemble the messages.
-use Rattle.std.specs.Prelude.{◌≡◌, ◌↔◌, ℕ, ◌+◌, Bool, nat_le, nat_lt, ◌==◌, ◌&&◌, if◌then◌else◌, max, Option, Some, None, List, [], ◌∷◌, ◌++◌, length, take}
+-- One step of a receiver on the session of one source.
+use Rattle.std.specs.Prelude.{◌≡◌, ℕ, ◌+◌, Bool, nat_le, nat_lt, ◌==◌, ◌&&◌, if◌then◌else◌, max, Option, Some, None, List, [], ◌∷◌, ◌++◌, length, take}
 use Rattle.vt_can.specs.declared.sessions.Timed.{Timed}
-use Rattle.vt_can.specs.Messages.{Message}
+use Rattle.vt_can.specs.declared.wire.Reason.TheVariants.{Disorder}
+use Rattle.vt_can.specs.Protocols as protocols
+use Rattle.vt_can.specs.Protocols.{silent, ended}
 use Rattle.vt_extended.specs.declared.messages.Opening.{Opening}
 use Rattle.vt_extended.specs.declared.messages.Part.{Part}
 use Rattle.vt_extended.specs.declared.messages.Part.TheVariants.{Offset, Packet}
 use Rattle.vt_extended.specs.declared.messages.EtpFrame.{EtpFrame}
 use Rattle.vt_extended.specs.declared.messages.EtpFrame.TheVariants as etp
-use Rattle.vt_extended.specs.declared.messages.Reason.TheVariants.{Disorder}
 use Rattle.vt_extended.specs.declared.messages.Reply.{Reply}
 use Rattle.vt_extended.specs.declared.messages.Reply.TheVariants.{Abort}
-use Rattle.vt_extended.specs.Messages.{Happening, Came, TimedOut, Group, Announced, opens, packets_of, received, edge_after, edge, bytes_of, first_reply, reply_to, Stands, IsWhole, IsAnswered}
+use Rattle.vt_extended.specs.Messages.{Group, Announced, opens, packets_of, received, edge_after, edge, bytes_of, first_reply, reply_to}
 use Rattle.vt_extended.specs.Kept.{Kept}
 
--- what a step leaves, and what it gives
-pub record Outcome : Type 0 where
-  pub session : Option (Timed Kept)
-  pub reply : Option Reply
-  pub message : Option Message
-
-abbrev pub silent : Option (Timed Kept) → Outcome
-silent session = record { session = session; reply = None; message = None }
-
-abbrev pub ended : Reply → Outcome
-ended reply = record { session = None; reply = Some reply; message = None }
+abbrev pub Outcome : Type 0
+Outcome = protocols.Outcome Kept Reply
 
 -- a session without packets
 abbrev pub fresh : Opening → Kept
@@ -90,19 +82,6 @@ step now kept (etp.Part part) = after_part now kept part
 step now kept etp.Aborted = silent None
 step now kept etp.Other = silent kept
 
-abbrev pub happens : ℕ → Option (Timed Kept) → Happening → Outcome
-happens now kept (Came frame) = step now kept frame
-happens now kept TimedOut = silent None
-
--- the session of a source after what happened to it, each with its time, the latest first
-abbrev pub session_after : List (ℕ × Happening) → Option (Timed Kept)
-session_after [] = None
-session_after (x ∷ xs) = (happens x.0 (session_after xs) x.1).session
-
-abbrev pub untimed : List (ℕ × Happening) → List Happening
-untimed [] = []
-untimed (x ∷ xs) = x.1 ∷ untimed xs
-
 -- the last group: how many packets it announced, and how many of them came
 abbrev pub IsLast : List Group → ℕ → ℕ → Type 0
 IsLast [] announced taken = (announced ≡ 0) × (taken ≡ 0)
@@ -119,14 +98,3 @@ pub record HasGroups (kept : Kept) (o : Opening) (groups : List Group) : Type 0 
 abbrev pub Has : Option (Timed Kept) → Opening → List Group → Type 0
 Has None o groups = ⊥
 Has (Some kept) o groups = HasGroups kept.session o groups
-
--- The steps keep the session that stands, and at the next happening x give its message and its reply.
-pub record Agrees (xs : List (ℕ × Happening)) (x : ℕ × Happening) : Type 0 where
-  pub stands : (o : Opening) (groups : List Group) → Stands (untimed xs) o groups → Has (session_after xs) o groups
-  pub kept : (kept : Timed Kept) → session_after xs ≡ Some kept
-      → (groups : List Group) × Stands (untimed xs) kept.session.opening groups × Has (Some kept) kept.session.opening groups
-  pub messages : (message : Message) → ((happens x.0 (session_after xs) x.1).message ≡ Some message) ↔ IsWhole (untimed xs) x.1 message
-  pub replies : IsAnswered (untimed xs) x.1 (happens x.0 (session_after xs) x.1).reply
-
-abbrev pub StepsAssembleMessages : Type 0
-StepsAssembleMessages = (xs : List (ℕ × Happening)) (x : ℕ × Happening) → Agrees xs x

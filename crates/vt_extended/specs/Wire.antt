@@ -1,14 +1,13 @@
 -- The bytes of the extended transport protocol's frames (docs/PROFILE.md, "Transport messages").
-use Rattle.std.specs.Prelude.{ℕ, ◌==◌, ◌&&◌, if◌then◌else◌, Option, Some, None, List, ◌∷◌, ◌++◌, length, drop, slice_index}
+use Rattle.std.specs.Prelude.{ℕ, ◌==◌, if◌then◌else◌, Option, List, ◌∷◌, ◌++◌, drop, slice_index}
 use Rattle.byteorder.specs.Endian.{little_number, little_bytes}
 use Rattle.vt_can.specs.declared.frame.Frame.{Frame}
-use Rattle.vt_can.specs.Identifier.{parts_of, pgn_of, destination_of}
-use Rattle.vt_can.specs.Nodes.{is_to, frame_of}
+use Rattle.vt_can.specs.Nodes.{frame_of}
+use Rattle.vt_can.specs.Wire as wire
+use Rattle.vt_can.specs.Wire.{abort_bytes}
 use Rattle.vt_extended.specs.declared.messages.Part.TheVariants.{Offset, Packet}
 use Rattle.vt_extended.specs.declared.messages.EtpFrame.{EtpFrame}
 use Rattle.vt_extended.specs.declared.messages.EtpFrame.TheVariants.{Rts, Part, Aborted, Other}
-use Rattle.vt_extended.specs.declared.messages.Reason.{Reason}
-use Rattle.vt_extended.specs.declared.messages.Reason.TheVariants.{TooLarge, Timeout, Disorder}
 use Rattle.vt_extended.specs.declared.messages.Reply.{Reply}
 use Rattle.vt_extended.specs.declared.messages.Reply.TheVariants.{ClearToSend, End, Abort}
 
@@ -22,28 +21,14 @@ connection_management bytes =
     else if control == 0xFF then Aborted
     else Other
 
-abbrev pub by_group : ℕ → List ℕ → Option EtpFrame
-by_group pgn bytes =
-    if pgn == 0xC800 then Some (connection_management bytes)
-    else if pgn == 0xC700 then Some (Part (Packet (slice_index bytes 0) (drop 1 bytes)))
-    else None
-
--- what a frame says to a node: eight bytes, to its address
+-- what a frame says to a node
 abbrev pub etp_frame : ℕ → Frame → Option EtpFrame
-etp_frame own frame =
-    if is_to own (destination_of (parts_of frame.id)) && length frame.bytes.items == 8
-    then by_group (pgn_of (parts_of frame.id)) frame.bytes.items
-    else None
-
-abbrev pub reason_code : Reason → ℕ
-reason_code TooLarge = 2
-reason_code Timeout = 3
-reason_code Disorder = 7
+etp_frame = wire.frame_in 0xC800 0xC700 connection_management (λ number bytes. Part (Packet number bytes))
 
 abbrev pub reply_bytes : Reply → List ℕ
 reply_bytes (ClearToSend count next pgn) = 0x15 ∷ count ∷ (little_bytes 3 next ++ little_bytes 3 pgn)
 reply_bytes (End size pgn) = 0x17 ∷ (little_bytes 4 size ++ little_bytes 3 pgn)
-reply_bytes (Abort reason pgn) = 0xFF ∷ reason_code reason ∷ 0xFF ∷ 0xFF ∷ 0xFF ∷ little_bytes 3 pgn
+reply_bytes (Abort reason pgn) = abort_bytes reason pgn
 
 abbrev pub reply_frame : ℕ → ℕ → Reply → Frame
 reply_frame own to reply = frame_of 0xC800 own to (reply_bytes reply)

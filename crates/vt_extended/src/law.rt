@@ -1,7 +1,6 @@
 //! What the definitions of the receiver come to.
 
-ghost use Rattle.vt_extended.specs.Bus.{MessagesDependOnOwnFrames, RunsHandOutMessages};
-ghost use Rattle.vt_extended.specs.Steps.{StepsAssembleMessages};
+ghost use Rattle.vt_extended.specs.Protocol.{StepsAssembleMessages, MessagesDependOnOwnFrames, RunsHandOutMessages, SessionsAreOfHistories, RunsHandOutWholeMessages};
 
 /// The law that the steps of a receiver on the session of a source hand out its messages, with the
 /// replies to its frames, as the whole history of the source defines them.
@@ -19,4 +18,12 @@ pub fn messages_depend_on_own_frames()
 /// frame of a run the sessions that are overdue end, and then the frame is heard.
 pub fn runs_hand_out_messages()
     ensures { RunsHandOutMessages }
+{}
+
+/// The law that a run of a receiver, from no session, hands out a message of a source exactly where it is
+/// whole in the history of the source. That has the source's frames, and a mark at each input of the bus
+/// at which its session is overdue; and it has the session that the run keeps of the source.
+pub fn runs_hand_out_whole_messages()
+    ensures sessions { SessionsAreOfHistories }
+    ensures messages { RunsHandOutWholeMessages }
 {}

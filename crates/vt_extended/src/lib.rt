@@ -9,7 +9,10 @@ mod receiver;
 mod session;
 mod wire;
 
-pub use law::{messages_depend_on_own_frames, runs_hand_out_messages, steps_assemble_messages};
+pub use law::{
+    messages_depend_on_own_frames, runs_hand_out_messages, runs_hand_out_whole_messages,
+    steps_assemble_messages,
+};
 pub use receiver::Receiver;
 pub use vt_can::{Bytes, Heard};
 

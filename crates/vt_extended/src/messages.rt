@@ -3,6 +3,8 @@
 ghost use Rattle.std.specs.Prelude.{◌≡◌, ◌<◌, true};
 ghost use Rattle.vt_extended.specs.Messages.{opens, packets_of, edge_after, clear_to_send, refusal, first_reply};
 
+use vt_can::Reason;
+
 /// The fewest and the most bytes of a message.
 const SIZES: (u32, u32) = (9, 1_048_576);
 
@@ -31,16 +33,6 @@ pub(crate) enum EtpFrame {
     Part(Part),
     Aborted,
     Other,
-}
-
-/// Why this node ends a session.
-#[derive(Clone, Copy, Debug)]
-pub(crate) enum Reason {
-    // A request of more bytes than a message may have here.
-    TooLarge,
-    Timeout,
-    // A frame out of order, or a request that is too small.
-    Disorder,
 }
 
 /// What this node answers in a session.

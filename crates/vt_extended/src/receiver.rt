@@ -5,20 +5,21 @@ ghost use Rattle.std.specs.FinMap as finite;
 ghost use Rattle.vt_can.specs.Sessions.{is_overdue, alive};
 ghost use Rattle.vt_can.specs.Nodes.{source_of};
 ghost use Rattle.vt_can.specs.Messages.{told_of};
+ghost use Rattle.vt_can.specs.Receivers.{outcome, timely_outcome, Says, Takes, OthersStay, IsReadyFor, OpensNone, TimesOut};
 ghost use Rattle.vt_extended.specs.Wire.{etp_frame};
 ghost use Rattle.vt_extended.specs.Messages.{opens};
 ghost use Rattle.vt_extended.specs.Steps.{after_rts, after_part, step};
-ghost use Rattle.vt_extended.specs.Receivers.{outcome, timely_outcome, Says, Takes, OthersStay, IsReadyFor, OpensNone, TimesOut};
+ghost use Rattle.vt_extended.specs.Protocol.{protocol};
 ghost use Rattle.vt_extended.specs.declared.messages.EtpFrame.TheVariants as declared;
 ghost use Rattle.vt_extended.specs.declared.messages.Part.TheVariants as parts;
 
-use crate::messages::{EtpFrame, Opening, Part, Reason, Reply};
-use crate::session::{Received, Session};
+use crate::messages::{EtpFrame, Opening, Part, Reply};
+use crate::session::Session;
 use crate::{OutOfMemory, wire};
 use std::alloc::Global;
 use std::marker::Model;
 use std::mem;
-use vt_can::{Frame, Heard, Sessions, Timed};
+use vt_can::{Frame, Heard, Reason, Received, Sessions, Timed};
 
 /// The receiver of a node: at most one session for each source, seen as the map of the sessions by
 /// source, the node's address, and the bytes for which room is set aside.
@@ -35,11 +36,12 @@ pub struct Receiver {
 
 impl Model for Receiver {
     ghost use Rattle.std.specs.Prelude.{◌≡◌, vec_len, vec_capacity};
-    ghost use Rattle.vt_extended.specs.Receivers.{Listening, listening_code};
+    ghost use Rattle.vt_can.specs.Receivers.{Listening, listening_code};
+    ghost use Rattle.vt_extended.specs.Kept.{Kept, kept_code};
 
-    ghost Value = { Listening };
+    ghost Value = { Listening Kept };
 
-    ghost coded = { listening_code };
+    ghost coded = { listening_code kept_code };
 
     ghost view = { λ r. record { own = r.own; sessions = r.sessions; room = vec_capacity r.spare } };
 
@@ -64,11 +66,11 @@ impl Receiver {
     /// Hears a frame at a time. Only a request to send takes memory, for the whole message; refused,
     /// it leaves the receiver as it was. docs/PROFILE.md, "The ETP receiver".
     pub fn hear(&mut self, now: u64, frame: &Frame) -> Result<Heard, OutOfMemory>
-        ensures step { IfOk result (λ said. Takes self.old self.new (source_of frame.now) (outcome self.old now frame.now) said) }
+        ensures step { IfOk result (λ said. Takes protocol self.old self.new (source_of frame.now) (outcome protocol self.old now frame.now) said) }
         ensures others { OthersStay self.old self.new (source_of frame.now) }
         ensures err { OnErr result (self.new ≡ self.old) }
-        ensures ready { IsReadyFor (etp_frame self.old.own frame.now) self.old.room → IsOk result }
-        ensures room { OpensNone (etp_frame self.old.own frame.now) → self.new.room ≡ self.old.room }
+        ensures ready { IsReadyFor protocol (etp_frame self.old.own frame.now) self.old.room → IsOk result }
+        ensures room { OpensNone protocol (etp_frame self.old.own frame.now) → self.new.room ≡ self.old.room }
     {
         let source = frame.id.source();
         match wire::etp_frame(self.own, frame) {
@@ -84,7 +86,7 @@ impl Receiver {
     pub fn expire(&mut self, now: u64) -> Option<Frame>
         ensures own { self.new.own ≡ self.old.own }
         ensures room { self.new.room ≡ self.old.room }
-        ensures some { IfSome result (λ frame. TimesOut self.old self.new now frame) }
+        ensures some { IfSome result (λ frame. TimesOut protocol self.old self.new now frame) }
         ensures none { IfNone result (self.new ≡ self.old) }
         ensures all { IfNone result ((source : ℕ) → is_overdue now (finite.get self.old.sessions source) ≡ false) }
     {
@@ -102,10 +104,10 @@ impl Receiver {
     pub fn prepare(&mut self, now: u64, frame: &Frame) -> Result<Option<(usize, u8)>, OutOfMemory>
         ensures own { self.new.own ≡ self.old.own }
         ensures sessions { self.new.sessions ≡ self.old.sessions }
-        ensures ready { OnOk result (IsReadyFor (etp_frame self.old.own frame.now) self.new.room) }
-        ensures free { IsReadyFor (etp_frame self.old.own frame.now) self.old.room → IsOk result }
-        ensures room { OpensNone (etp_frame self.old.own frame.now) → self.new.room ≡ self.old.room }
-        ensures told { IfOk result (λ told. told ≡ told_of (timely_outcome self.old now frame.now).message) }
+        ensures ready { OnOk result (IsReadyFor protocol (etp_frame self.old.own frame.now) self.new.room) }
+        ensures free { IsReadyFor protocol (etp_frame self.old.own frame.now) self.old.room → IsOk result }
+        ensures room { OpensNone protocol (etp_frame self.old.own frame.now) → self.new.room ≡ self.old.room }
+        ensures told { IfOk result (λ told. told ≡ told_of (timely_outcome protocol self.old now frame.now).message) }
     {
         match wire::etp_frame(self.own, frame) {
             Some(EtpFrame::Rts(opening)) => {
@@ -120,10 +122,10 @@ impl Receiver {
     }
 
     fn open(&mut self, now: u64, source: u8, opening: Opening) -> Result<Heard, OutOfMemory>
-        ensures step { IfOk result (λ said. Takes self.old self.new source (after_rts now opening) said) }
+        ensures step { IfOk result (λ said. Takes protocol self.old self.new source (after_rts now opening) said) }
         ensures others { OthersStay self.old self.new source }
         ensures err { OnErr result (self.new ≡ self.old) }
-        ensures ready { IsReadyFor (Some (declared.Rts opening)) self.old.room → IsOk result }
+        ensures ready { IsReadyFor protocol (Some (declared.Rts opening)) self.old.room → IsOk result }
         ensures room { opens opening ≡ false → self.new.room ≡ self.old.room }
     {
         if !opening.opens() {
@@ -137,7 +139,7 @@ impl Receiver {
     }
 
     fn take_part(&mut self, now: u64, source: u8, part: Part) -> Heard
-        ensures step { Takes self.old self.new source (after_part now (finite.get self.old.sessions source) part) result }
+        ensures step { Takes protocol self.old self.new source (after_part now (finite.get self.old.sessions source) part) result }
         ensures others { OthersStay self.old self.new source }
         ensures room { self.new.room ≡ self.old.room }
     {
@@ -160,7 +162,7 @@ impl Receiver {
     }
 
     fn aborted(&mut self, source: u8) -> Heard
-        ensures step { Takes self.old self.new source (step 0 (finite.get self.old.sessions source) declared.Aborted) result }
+        ensures step { Takes protocol self.old self.new source (step 0 (finite.get self.old.sessions source) declared.Aborted) result }
         ensures others { OthersStay self.old self.new source }
         ensures room { self.new.room ≡ self.old.room }
     {
@@ -171,8 +173,8 @@ impl Receiver {
     fn set_aside(&mut self, opening: Opening) -> Result<(), OutOfMemory>
         ensures own { self.new.own ≡ self.old.own }
         ensures sessions { self.new.sessions ≡ self.old.sessions }
-        ensures ready { OnOk result (IsReadyFor (Some (declared.Rts opening)) self.new.room) }
-        ensures free { IsReadyFor (Some (declared.Rts opening)) self.old.room → IsOk result }
+        ensures ready { OnOk result (IsReadyFor protocol (Some (declared.Rts opening)) self.new.room) }
+        ensures free { IsReadyFor protocol (Some (declared.Rts opening)) self.old.room → IsOk result }
         ensures room { opens opening ≡ false → self.new.room ≡ self.old.room }
     {
         if opening.opens() {
@@ -195,7 +197,7 @@ impl Receiver {
 }
 
 fn answered(own: u8, source: u8, reply: Option<Reply>) -> Heard
-    ensures { Says own source reply None result }
+    ensures { Says protocol own source reply None result }
 {
     match reply {
         Some(reply) => Heard::Reply(wire::reply_frame(own, source, reply)),

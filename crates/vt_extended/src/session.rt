@@ -1,16 +1,16 @@
 //! A message as it comes in.
 
-ghost use Rattle.std.specs.Prelude.{◌≡◌, ◌+◌, ◌≤◌, ℕ, max, true, Some, [], ◌++◌, length, List, vec_len, vec_capacity};
+ghost use Rattle.std.specs.Prelude.{◌≡◌, ◌≤◌, ℕ, max, true, Some, length, List, vec_len, vec_capacity};
+ghost use Rattle.vt_can.specs.declared.wire.Reason.TheVariants.{Disorder};
 ghost use Rattle.vt_can.specs.Messages.{told_of};
+ghost use Rattle.vt_can.specs.Protocols.{outcome_of};
 ghost use Rattle.vt_extended.specs.Messages.{opens};
 ghost use Rattle.vt_extended.specs.Steps.{fresh, is_open, is_next, after_part, after_offset, after_packet};
-ghost use Rattle.vt_extended.specs.Received.{outcome_of};
-ghost use Rattle.vt_extended.specs.declared.messages.Reason.TheVariants.{Disorder};
 ghost use Rattle.vt_extended.specs.declared.messages.Reply.TheVariants as replies;
 
-use crate::messages::{Opening, Part, Reason, Reply};
+use crate::messages::{Opening, Part, Reply};
 use std::marker::Model;
-use vt_can::Bytes;
+use vt_can::{Bytes, Reason, Received, append_packet};
 
 /// A message of which packets are still to come.
 #[derive(Drop)]
@@ -27,7 +27,9 @@ pub(crate) struct Session {
 
 impl Model for Session {
     ghost use Rattle.std.specs.Prelude.{vec_len, vec_capacity};
-    ghost use Rattle.vt_extended.specs.Kept.{Kept, kept_code, IsReceiving};
+    ghost use Rattle.vt_can.specs.Histories.{IsReceiving};
+    ghost use Rattle.vt_extended.specs.Messages.{spelling};
+    ghost use Rattle.vt_extended.specs.Kept.{Kept, kept_code};
 
     ghost Value = { Kept };
 
@@ -35,19 +37,7 @@ impl Model for Session {
 
     ghost view = { λ s. record { opening = s.opening; bytes = s.bytes.items; received = s.received; announced = s.announced; taken = s.taken; edge = s.edge } };
 
-    ghost invariant = { λ s. IsReceiving s.opening s.received (vec_len s.bytes) (vec_capacity s.bytes) };
-}
-
-/// What a DPO or DT makes of a session.
-#[derive(Drop)]
-pub(crate) enum Received {
-    Refused(Reply),
-    More(Session, Option<Reply>),
-    Whole {
-        pgn: u32,
-        bytes: Bytes,
-        reply: Reply,
-    },
+    ghost invariant = { λ s. IsReceiving spelling s.opening s.received (vec_len s.bytes) (vec_capacity s.bytes) };
 }
 
 impl Session {
@@ -75,7 +65,7 @@ impl Session {
     }
 
     /// Takes a DPO or DT, which must be in its turn.
-    pub(crate) fn receive(self, part: Part) -> Received
+    pub(crate) fn receive(self, part: Part) -> Received<Session, Reply>
         ensures { (now last : ℕ) → outcome_of (max now last) result ≡ after_part now (Some (record { last = last; session = self })) part }
     {
         match part {
@@ -84,7 +74,7 @@ impl Session {
         }
     }
 
-    fn announce(mut self, count: u8, offset: u32) -> Received
+    fn announce(mut self, count: u8, offset: u32) -> Received<Session, Reply>
         ensures { (now last : ℕ) → outcome_of (max now last) result ≡ after_offset now (record { last = last; session = self }) count offset }
     {
         if !self.is_open(count, offset) {
@@ -95,15 +85,14 @@ impl Session {
         Received::More(self, None)
     }
 
-    fn append(mut self, number: u8, packet: [u8; 7]) -> Received
+    fn append(mut self, number: u8, packet: [u8; 7]) -> Received<Session, Reply>
         ensures { (now last : ℕ) → outcome_of (max now last) result ≡ after_packet now (record { last = last; session = self }) number packet }
     {
         if !self.is_next(number) {
             return Received::Refused(self.disorder());
         }
         let Opening { size, pgn } = self.opening;
-        let left = size as usize - self.bytes.len();
-        extend(&mut self.bytes, &packet[..left.min(7)]);
+        append_packet(&mut self.bytes, size as usize, packet);
         let received = self.received + 1;
         if received == self.opening.packets() {
             return Received::Whole {
@@ -155,17 +144,5 @@ impl Session {
             reason: Reason::Disorder,
             pgn: self.opening.pgn,
         }
-    }
-}
-
-// Appends bytes for which there is room.
-fn extend(bytes: &mut Vec<u8>, part: &[u8])
-    requires { vec_len bytes.old + length part.now ≤ vec_capacity bytes.old }
-    ensures items { bytes.new.items ≡ bytes.old.items ++ part.now }
-    ensures len { vec_len bytes.new ≡ vec_len bytes.old + length part.now }
-    ensures room { vec_capacity bytes.new ≡ vec_capacity bytes.old }
-{
-    for byte in part {
-        bytes.push_reserved(*byte);
     }
 }

@@ -2,6 +2,7 @@ mod linux;
 mod linux_20000;
 mod linux_logs;
 mod receiving;
+mod refusing;
 mod serving;
 mod sources;
 

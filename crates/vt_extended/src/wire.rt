@@ -1,16 +1,11 @@
 //! The frames of the extended transport protocol as bytes (ISO 11783-3; docs/PROFILE.md, "Transport messages").
 
-ghost use Rattle.std.specs.Prelude.{◌≡◌, length, drop, slice_index};
-ghost use Rattle.byteorder.specs.Endian.{little_bytes};
-ghost use Rattle.vt_can.specs.Identifier.{HasDestination};
-ghost use Rattle.vt_can.specs.Nodes.{frame_of};
-ghost use Rattle.vt_extended.specs.declared.messages.Part.TheVariants as declared;
-ghost use Rattle.vt_extended.specs.Wire.{etp_frame, connection_management, reply_frame, reply_bytes, reason_code};
+ghost use Rattle.std.specs.Prelude.{◌≡◌, length};
+ghost use Rattle.vt_extended.specs.Wire.{etp_frame, connection_management, reply_frame, reply_bytes};
 
-use crate::messages::{EtpFrame, Opening, Part, Reason, Reply};
-use arrayvec::ArrayVec;
+use crate::messages::{EtpFrame, Opening, Part, Reply};
 use byteorder::{ByteOrder, LittleEndian};
-use vt_can::{CanId, Frame};
+use vt_can::{Frame, abort_bytes, frame_of, is_heard, numbered_packet, three_bytes};
 
 const CONNECTION_MANAGEMENT: u32 = 0xC800;
 
@@ -26,20 +21,20 @@ const END: u8 = 0x17;
 
 const ABORT: u8 = 0xFF;
 
-// The byte of the places that say nothing.
-const FILL: u8 = 0xFF;
-
 /// What a frame says to a node. It is of the extended transport protocol, to the node's address and of 8 bytes.
 pub(crate) fn etp_frame(own: u8, frame: &Frame) -> Option<EtpFrame>
     ensures { result ≡ etp_frame own frame.now }
 {
-    let bytes = frame.bytes.as_slice();
-    if frame.id.destination() != Some(own) || bytes.len() != 8 {
+    if !is_heard(own, frame) {
         return None;
     }
+    let bytes = frame.bytes.as_slice();
     match frame.id.pgn() {
         CONNECTION_MANAGEMENT => Some(connection_management(bytes)),
-        DATA_TRANSFER => Some(EtpFrame::Part(data_transfer(bytes))),
+        DATA_TRANSFER => {
+            let (number, bytes) = numbered_packet(bytes);
+            Some(EtpFrame::Part(Part::Packet { number, bytes }))
+        }
         _ => None,
     }
 }
@@ -59,18 +54,6 @@ fn connection_management(bytes: &[u8]) -> EtpFrame
         }),
         ABORT => EtpFrame::Aborted,
         _ => EtpFrame::Other,
-    }
-}
-
-fn data_transfer(bytes: &[u8]) -> Part
-    requires { length bytes.now ≡ 8 }
-    ensures { result ≡ declared.Packet (slice_index bytes.now 0) (drop 1 bytes.now) }
-{
-    let mut packet = [0; 7];
-    packet.copy_from_slice(&bytes[1..]);
-    Part::Packet {
-        number: bytes[0],
-        bytes: packet,
     }
 }
 
@@ -95,37 +78,6 @@ fn reply_bytes(reply: Reply) -> [u8; 8]
             let [pgn_0, pgn_1, pgn_2] = three_bytes(pgn);
             [END, size_0, size_1, size_2, size_3, pgn_0, pgn_1, pgn_2]
         }
-        Reply::Abort { reason, pgn } => {
-            let [pgn_0, pgn_1, pgn_2] = three_bytes(pgn);
-            [ABORT, code(reason), FILL, FILL, FILL, pgn_0, pgn_1, pgn_2]
-        }
-    }
-}
-
-fn frame_of(pgn: u32, own: u8, to: u8, bytes: [u8; 8]) -> Frame
-    requires { HasDestination pgn }
-    ensures { result ≡ frame_of pgn own to bytes }
-{
-    Frame {
-        id: CanId::new(7, pgn, to, own),
-        bytes: ArrayVec::from(bytes),
-    }
-}
-
-// The three low bytes, the lowest first.
-fn three_bytes(number: u32) -> [u8; 3]
-    ensures { result ≡ little_bytes 3 number }
-{
-    let [low, middle, high, _] = number.to_le_bytes();
-    [low, middle, high]
-}
-
-fn code(reason: Reason) -> u8
-    ensures { result ≡ reason_code reason }
-{
-    match reason {
-        Reason::TooLarge => 2,
-        Reason::Timeout => 3,
-        Reason::Disorder => 7,
+        Reply::Abort { reason, pgn } => abort_bytes(reason, pgn),
     }
 }

@@ -2,16 +2,19 @@
 use Rattle.std.proofs.Common.{◌≡◌, ℕ, suc, ◌+◌, Bool, true, false, cond, eqb, List, ◌∷◌, ◌++◌, length, take, Option, Some, None, ap, ap₂, sym, subst, ◌∙◌, refl, arith, eq-eqb, eqb-true}
 use Rattle.std.proofs.lemmas.Bool.{false≢true}
 use Rattle.vt_can.specs.declared.sessions.Timed.{Timed}
+use Rattle.vt_can.specs.declared.wire.Reason.TheVariants.{Disorder}
+use Rattle.vt_can.specs.Messages.{Message, joined}
+use Rattle.vt_can.specs.Histories.{Came, TimedOut, Sent, untimed}
+use Rattle.vt_can.specs.Steps.{happens, session_after}
+use Rattle.vt_can.proofs.Standing.{last_of}
 use Rattle.vt_transport.specs.declared.messages.Opening.{Opening}
 use Rattle.vt_transport.specs.declared.messages.TpFrame.TheVariants.{Rts, Cts, EndOfMessage, Aborted, Data, Other}
-use Rattle.vt_transport.specs.declared.messages.Reason.TheVariants.{Disorder}
 use Rattle.vt_transport.specs.declared.messages.Reply.TheVariants.{Abort}
-use Rattle.vt_can.specs.Messages.{Message, joined}
-use Rattle.vt_transport.specs.Messages.{Happening, Came, TimedOut, Sent, Stands, IsWhole, IsAnswered, reply_to, packet_reply}
+use Rattle.vt_transport.specs.Messages.{Happening, spelling, Stands, IsWhole, IsAnswered, reply_to, packet_reply}
 use Rattle.vt_transport.specs.Kept.{Kept}
-use Rattle.vt_transport.specs.Steps.{Outcome, after_packet, happens, session_after, untimed, Has, StepsAssembleMessages}
-use Rattle.vt_transport.proofs.Histories.{sent_packet, last_of}
-use Rattle.vt_transport.proofs.Assembly.{packet_more, packet_whole, packet_wrong, IsNext, packet_last, Matches, IsKept, grown_bytes, matches}
+use Rattle.vt_transport.specs.Steps.{Outcome, after_packet, Has}
+use Rattle.vt_transport.specs.Protocol.{protocol, StepsAssembleMessages}
+use Rattle.vt_transport.proofs.Assembly.{packet_more, packet_whole, packet_wrong, IsNext, packet_last, sent_packet, Matches, IsKept, grown_bytes, matches}
 
 -- the message
 
@@ -54,7 +57,7 @@ whole_packet now number packet hs None message m is = absurd cc
 whole_packet now number packet hs (Some kept) message m is = whole_number now number packet hs kept message _ refl (m.kept kept refl) is
 
 whole_step : (now : ℕ) (hs : List Happening) (session : Option (Timed Kept)) (x : Happening) (message : Message) → Matches hs session
-    → (happens now session x).message ≡ Some message → IsWhole hs x message
+    → (happens protocol now session x).message ≡ Some message → IsWhole hs x message
 whole_step now hs session TimedOut message m is = absurd cc
 whole_step now hs session (Came (Rts o)) message m is = absurd cc
 whole_step now hs session (Came (Cts count next pgn)) message m is = absurd cc
@@ -86,15 +89,15 @@ message_next now number packet hs session o packets message m n all pgn bytes =
     (bytes ∙ ap (λ (ps : List (List ℕ)). take o.size (joined ps)) n.all)
 
 message_step : (now : ℕ) (hs : List Happening) (session : Option (Timed Kept)) (x : Happening) (message : Message) → Matches hs session
-    → IsWhole hs x message → (happens now session x).message ≡ Some message
+    → IsWhole hs x message → (happens protocol now session x).message ≡ Some message
 message_step now hs session x message m whole =
     let number = whole.packet.0 in
     let packet = whole.packet.1 in
-    let sent : Sent (Came (Data number packet) ∷ hs) whole.opening whole.packets =
-    subst (λ (y : Happening). Sent (y ∷ hs) whole.opening whole.packets) whole.packet.2 whole.sent in
-    subst (λ (y : Happening). (happens now session y).message ≡ Some message) (sym whole.packet.2)
+    let sent : Sent spelling (Came (Data number packet) ∷ hs) whole.opening whole.packets =
+    subst (λ (y : Happening). Sent spelling (y ∷ hs) whole.opening whole.packets) whole.packet.2 whole.sent in
+    subst (λ (y : Happening). (happens protocol now session y).message ≡ Some message) (sym whole.packet.2)
     (message_next now number packet hs session whole.opening whole.packets message m
-    (packet_last hs number packet whole.opening whole.packets (last_of _ hs whole.opening whole.packets sent)) whole.all whole.pgn whole.bytes)
+    (packet_last hs number packet whole.opening whole.packets (last_of spelling _ hs whole.opening whole.packets sent)) whole.all whole.pgn whole.bytes)
 
 -- the reply
 
@@ -127,7 +130,7 @@ no_reply now number packet hs None m never = refl
 no_reply now number packet hs (Some kept) m never = let k = m.kept kept refl in absurd (never kept.session.opening k.0 k.1)
 
 reply_step : (now : ℕ) (hs : List Happening) (session : Option (Timed Kept)) (x : Happening) → Matches hs session
-    → IsAnswered hs x (happens now session x).reply
+    → IsAnswered hs x (happens protocol now session x).reply
 reply_step now hs session TimedOut m = refl
 reply_step now hs session (Came (Rts o)) m = refl
 reply_step now hs session (Came (Cts count next pgn)) m = refl
@@ -141,8 +144,7 @@ pub agrees : StepsAssembleMessages
 agrees xs x =
     let m = matches xs in
     record {
-      stands = m.stands;
-      kept = m.kept;
-      messages = λ message. (whole_step x.0 (untimed xs) (session_after xs) x.1 message m, message_step x.0 (untimed xs) (session_after xs) x.1 message m);
-      replies = reply_step x.0 (untimed xs) (session_after xs) x.1 m;
+      session = m;
+      messages = λ message. (whole_step x.0 (untimed xs) (session_after protocol xs) x.1 message m, message_step x.0 (untimed xs) (session_after protocol xs) x.1 message m);
+      replies = reply_step x.0 (untimed xs) (session_after protocol xs) x.1 m;
     }

@@ -8,7 +8,7 @@ use Rattle.vt_can.specs.Messages.{Message}
 use Rattle.vt_transport.specs.Messages.{sending_group}
 use Rattle.vt_transport.specs.declared.messages.TpFrame.{TpFrame}
 use Rattle.vt_transport.specs.declared.messages.TpFrame.TheVariants.{Cts, EndOfMessage, Aborted}
-use Rattle.vt_transport.specs.declared.messages.Reason.TheVariants.{Disorder}
+use Rattle.vt_can.specs.declared.wire.Reason.TheVariants.{Disorder}
 use Rattle.vt_transport.specs.declared.messages.Reply.TheVariants.{Abort}
 use Rattle.vt_transport.specs.Wire.{reply_frame, packet_frame}
 use Rattle.vt_transport.specs.Senders.{Sending, Answer, Answers, answer_of, answered, session_answer, unanswered, refreshed, packets_of, numbers_from, is_of_group}

@@ -1,18 +1,33 @@
 -- The steps on the session of a source assemble the messages that were sent.
-use Rattle.std.proofs.Common.{◌≡◌, ℕ, suc, ◌+◌, ◌<◌, max, Bool, true, false, cond, eqb, List, [], ◌∷◌, ◌++◌, length, take, Option, Some, None, ap, sym, subst, ◌∙◌, refl, arith, eq-eqb, eqb-true, ne_eqb}
+use Rattle.std.proofs.Common.{◌≡◌, ℕ, suc, ◌+◌, ◌<◌, max, Bool, true, false, cond, eqb, List, [], ◌∷◌, ◌++◌, length, take, Option, Some, None, ap, ap₂, sym, subst, ◌∙◌, refl, arith, eq-eqb, eqb-true, ne_eqb}
 use Rattle.std.proofs.lemmas.Bool.{false≢true}
 use Rattle.vt_can.specs.declared.sessions.Timed.{Timed}
+use Rattle.vt_can.specs.declared.wire.Reason.TheVariants.{Disorder}
 use Rattle.vt_can.specs.Messages.{joined}
+use Rattle.vt_can.specs.Histories.{Came, TimedOut, Sent, AreQuiet, untimed}
+use Rattle.vt_can.specs.Protocols.{ended}
+use Rattle.vt_can.specs.Steps as steps
+use Rattle.vt_can.specs.Steps.{happens, session_after}
+use Rattle.vt_can.proofs.Joining.{take_again, take_none}
+use Rattle.vt_can.proofs.Standing.{sent_more, Last, AtRequest, Later, last_of, matches_none, matches_quiet, matches_end, matches_request}
 use Rattle.vt_transport.specs.declared.messages.Opening.{Opening}
 use Rattle.vt_transport.specs.declared.messages.TpFrame.TheVariants.{Rts, Cts, EndOfMessage, Aborted, Data, Other}
-use Rattle.vt_transport.specs.declared.messages.Reason.TheVariants.{Disorder}
 use Rattle.vt_transport.specs.declared.messages.Reply.TheVariants.{Abort}
-use Rattle.vt_transport.specs.Messages.{Happening, Came, TimedOut, opens, sending_group, IsQuiet, AreQuiet, packets_in, numbered, Sent, Stands, reply_to}
+use Rattle.vt_transport.specs.Messages.{Happening, opens, sending_group, packets_in, numbered, spelling, reply_to}
 use Rattle.vt_transport.specs.Kept.{Kept}
-use Rattle.vt_transport.specs.Steps.{Outcome, ended, after_packet, happens, session_after, untimed, Has}
-use Rattle.vt_transport.proofs.Histories.{IsBystander, sent_after_rts, sent_more, sent_packet, Came_last, AtRts, Later, last_of}
-use Rattle.vt_can.proofs.Joining.{take_again, take_none}
-use Rattle.vt_transport.proofs.Openings.{opens_packets, opens_size}
+use Rattle.vt_transport.specs.Steps.{Outcome, after_packet, Has}
+use Rattle.vt_transport.specs.Protocol.{protocol}
+use Rattle.vt_transport.proofs.Openings.{opened_packets}
+
+-- the session of the steps and the one that stands are the same
+abbrev pub opening_of : Kept → Opening
+opening_of kept = kept.opening
+
+abbrev pub Matches : List Happening → Option (Timed Kept) → Type 0
+Matches = steps.Matches spelling opening_of Has
+
+abbrev pub IsKept : List Happening → Timed Kept → Type 0
+IsKept = steps.IsKept spelling opening_of Has
 
 -- the step of a packet, in its three cases
 
@@ -51,10 +66,10 @@ pub record IsNext (hs : List Happening) (number : ℕ) (packet : List ℕ) (o : 
   pub before : List (List ℕ)
   pub all : packets ≡ packet ∷ before
   pub next : number ≡ length before + 1
-  pub sent : Sent hs o before
+  pub sent : Sent spelling hs o before
 
 next_of : (hs later earlier : List Happening) (number : ℕ) (packet : List ℕ) (o : Opening) (packets : List (List ℕ))
-    → hs ≡ later ++ Came (Rts o) ∷ earlier → opens o ≡ true → AreQuiet later → (number, packet) ∷ packets_in later ≡ numbered packets
+    → hs ≡ later ++ Came (Rts o) ∷ earlier → opens o ≡ true → AreQuiet spelling later → (number, packet) ∷ packets_in later ≡ numbered packets
     → IsNext hs number packet o packets
 next_of hs later earlier number packet o [] split opened quiet in_order = absurd cc
 next_of hs later earlier number packet o (last ∷ before) split opened quiet in_order =
@@ -63,57 +78,24 @@ next_of hs later earlier number packet o (last ∷ before) split opened quiet in
       before = before;
       all = ap (λ (p : List ℕ). p ∷ before) (sym (ap (λ (d : ℕ × List ℕ). d.1) pair));
       next = ap (λ (d : ℕ × List ℕ). d.0) pair;
-      sent = record { earlier = earlier; later = later; split = split; opened = opened; quiet = quiet; in_order = cc };
+      sent = record { earlier = earlier; later = later; split = split; opened = opened; quiet = quiet; brought = cc };
     }
 
 not_rts : (number : ℕ) (packet : List ℕ) (o : Opening) → Came (Data number packet) ≡ Came (Rts o) → ⊥
 not_rts number packet o e = cc
 
 -- a packet that a history ends with
-pub packet_last : (hs : List Happening) (number : ℕ) (packet : List ℕ) (o : Opening) (packets : List (List ℕ)) → Came_last (Came (Data number packet)) hs o packets
-    → IsNext hs number packet o packets
-packet_last hs number packet o packets (AtRts is opened none) = absurd (not_rts number packet o is)
+pub packet_last : (hs : List Happening) (number : ℕ) (packet : List ℕ) (o : Opening) (packets : List (List ℕ))
+    → Last spelling (Came (Data number packet)) hs o packets → IsNext hs number packet o packets
+packet_last hs number packet o packets (AtRequest is opened none) = absurd (not_rts number packet o is)
 packet_last hs number packet o packets (Later later earlier split opened quiet rest in_order) =
     next_of hs later earlier number packet o packets split opened rest in_order
 
--- the session of the steps and the one that stands are the same
-pub record Matches (hs : List Happening) (session : Option (Timed Kept)) : Type 0 where
-  pub stands : (o : Opening) (packets : List (List ℕ)) → Stands hs o packets → Has session o packets
-  pub kept : (kept : Timed Kept) → session ≡ Some kept
-      → (packets : List (List ℕ)) × Stands hs kept.session.opening packets × Has (Some kept) kept.session.opening packets
-
-quiet_last : (x : Happening) (hs : List Happening) (o : Opening) (packets : List (List ℕ)) → IsBystander x → Came_last x hs o packets
-    → ((o : Opening) → x ≡ Came (Rts o) → ⊥) → Sent hs o packets
-quiet_last x hs o packets by (AtRts is opened none) other = absurd (other o is)
-quiet_last x hs o packets by (Later later earlier split opened quiet rest in_order) other = record {
-  earlier = earlier;
-  later = later;
-  split = split;
-  opened = opened;
-  quiet = rest;
-  in_order = sym (by.no_packet later) ∙ in_order;
-}
-
-matches_quiet : (hs : List Happening) (session : Option (Timed Kept)) (x : Happening) → IsBystander x → ((o : Opening) → x ≡ Came (Rts o) → ⊥)
-    → Matches hs session → Matches (x ∷ hs) session
-matches_quiet hs session x by other m = record {
-  stands = λ o packets s. m.stands o packets (record { sent = quiet_last x hs o packets by (last_of x hs o packets s.sent) other; more = s.more });
-  kept = λ kept is.
-      let k = m.kept kept is in
-      (k.0, record { sent = sent_more hs x kept.session.opening k.0 by k.1.sent; more = k.1.more }, k.2);
-}
-
--- nothing stands after a happening that ends each session
-not_quiet : (x : Happening) (hs : List Happening) (o : Opening) (packets : List (List ℕ)) → Came_last x hs o packets → (IsQuiet x → ⊥)
-    → ((o : Opening) → x ≡ Came (Rts o) → ⊥) → ⊥
-not_quiet x hs o packets (AtRts is opened none) loud other = other o is
-not_quiet x hs o packets (Later later earlier split opened quiet rest in_order) loud other = loud quiet
-
-matches_end : (hs : List Happening) (x : Happening) → (IsQuiet x → ⊥) → ((o : Opening) → x ≡ Came (Rts o) → ⊥) → Matches (x ∷ hs) None
-matches_end hs x loud other = record {
-  stands = λ o packets s. absurd (not_quiet x hs o packets (last_of x hs o packets s.sent) loud other);
-  kept = λ kept is. absurd cc;
-}
+pub sent_packet : (hs : List Happening) (number : ℕ) (packet : List ℕ) (o : Opening) (packets : List (List ℕ)) → number ≡ length packets + 1
+    → Sent spelling hs o packets → Sent spelling (Came (Data number packet) ∷ hs) o (packet ∷ packets)
+sent_packet hs number packet o packets next =
+    sent_more spelling hs (Came (Data number packet)) o packets (packet ∷ packets) tt
+    (λ later in_order. ap₂ (λ (n : ℕ) (ys : List (ℕ × List ℕ)). (n, packet) ∷ ys) next in_order)
 
 -- an RTS
 
@@ -123,41 +105,14 @@ fresh now o = record { last = now; session = record { opening = o; bytes = []; r
 has_fresh : (now : ℕ) (o : Opening) → Has (Some (fresh now o)) o []
 has_fresh now o = (refl, sym (take_none o.size), refl)
 
-has_rts : (now : ℕ) (o o' : Opening) (packets : List (List ℕ)) → o ≡ o' → opens o' ≡ true → packets ≡ []
-    → Has (cond (opens o) (Some (fresh now o)) None) o' packets
-has_rts now o o' packets same opened none =
-    let here : opens o ≡ true = ap opens same ∙ opened in
-    subst (λ (q : Opening). Has (cond (opens o) (Some (fresh now o)) None) q packets) same
-    (subst (λ (ps : List (List ℕ)). Has (cond (opens o) (Some (fresh now o)) None) o ps) (sym none)
-    (subst (λ (b : Bool). Has (cond b (Some (fresh now o)) None) o []) (sym here) (has_fresh now o)))
-
-rts_last : (now : ℕ) (hs : List Happening) (o o' : Opening) (packets : List (List ℕ)) → Came_last (Came (Rts o)) hs o' packets
-    → Has (cond (opens o) (Some (fresh now o)) None) o' packets
-rts_last now hs o o' packets (AtRts is opened none) = has_rts now o o' packets (cc) opened none
-rts_last now hs o o' packets (Later later earlier split opened quiet rest in_order) = absurd quiet
-
-abbrev pub IsKept : List Happening → Timed Kept → Type 0
-IsKept hs kept = (packets : List (List ℕ)) × Stands hs kept.session.opening packets × Has (Some kept) kept.session.opening packets
-
-opened_packets : (o : Opening) → opens o ≡ true → 0 < o.packets
-opened_packets o opened =
-    let p = opens_packets o opened in
-    let n = opens_size o opened in
-    omega arith
-
-rts_kept : (now : ℕ) (hs : List Happening) (o : Opening) (b : Bool) (kept : Timed Kept) → opens o ≡ b → cond b (Some (fresh now o)) None ≡ Some kept
-    → IsKept (Came (Rts o) ∷ hs) kept
-rts_kept now hs o false kept opened is = absurd cc
-rts_kept now hs o true kept opened is =
-    let same : fresh now o ≡ kept = cc in
-    subst (IsKept (Came (Rts o) ∷ hs)) same
-    ([], record { sent = sent_after_rts hs o opened; more = opened_packets o opened }, has_fresh now o)
+no_packets : (packets : List (List ℕ)) → [] ≡ numbered packets → packets ≡ []
+no_packets [] e = refl
+no_packets (packet ∷ packets) e = absurd cc
 
 matches_rts : (now : ℕ) (hs : List Happening) (o : Opening) → Matches (Came (Rts o) ∷ hs) (cond (opens o) (Some (fresh now o)) None)
-matches_rts now hs o = record {
-  stands = λ o' packets s. rts_last now hs o o' packets (last_of _ hs o' packets s.sent);
-  kept = λ kept is. rts_kept now hs o (opens o) kept refl is;
-}
+matches_rts now hs o =
+    matches_request spelling opening_of Has o (fresh now o) [] refl (λ quiet. quiet) (λ o' e. cc) refl (opened_packets o)
+    (λ packets none. subst (λ (ps : List (List ℕ)). Has (Some (fresh now o)) o ps) (sym (no_packets packets none)) (has_fresh now o)) hs
 
 -- a packet
 
@@ -234,38 +189,36 @@ kept_packet now number packet hs (Some kept) kept' m is = kept_number now number
 matches_packet : (now number : ℕ) (packet : List ℕ) (hs : List Happening) (session : Option (Timed Kept)) → Matches hs session
     → Matches (Came (Data number packet) ∷ hs) (after_packet now session number packet).session
 matches_packet now number packet hs session m = record {
-  stands = λ o packets s. stands_packet now number packet hs session o packets m (packet_last hs number packet o packets (last_of _ hs o packets s.sent)) s.more;
+  stands = λ o packets s. stands_packet now number packet hs session o packets m (packet_last hs number packet o packets (last_of spelling _ hs o packets s.sent)) s.more;
   kept = λ kept' is. kept_packet now number packet hs session kept' m is;
 }
 
 -- each happening
 
-not_rts_abort : (pgn : ℕ) (o : Opening) → Came (Aborted pgn) ≡ Came (Rts o) → ⊥
-not_rts_abort pgn o e = cc
-
 matches_abort : (hs : List Happening) (session : Option (Timed Kept)) (pgn : ℕ) (b : Bool) → eqb pgn sending_group ≡ b → Matches hs session
     → Matches (Came (Aborted pgn) ∷ hs) (cond b session None)
 matches_abort hs session pgn true is m =
-    matches_quiet hs session _ (record { quiet = eqb-true _ _ is; no_packet = λ _. refl }) (not_rts_abort pgn) m
-matches_abort hs session pgn false is m = matches_end hs _ (λ quiet. false≢true (sym is ∙ eq-eqb _ _ quiet)) (not_rts_abort pgn)
+    matches_quiet spelling opening_of Has hs session (Came (Aborted pgn))
+    (record { quiet = eqb-true _ _ is; other = λ o e. cc; more = λ o later packets brought. brought; less = λ o later packets brought. brought }) m
+matches_abort hs session pgn false is m =
+    matches_end spelling opening_of Has hs (Came (Aborted pgn)) (record { loud = λ quiet. false≢true (sym is ∙ eq-eqb _ _ quiet); other = λ o e. cc })
 
 matches_step : (now : ℕ) (hs : List Happening) (session : Option (Timed Kept)) (x : Happening) → Matches hs session
-    → Matches (x ∷ hs) (happens now session x).session
-matches_step now hs session TimedOut m = matches_end hs TimedOut (λ quiet. quiet) (λ o e. cc)
+    → Matches (x ∷ hs) (happens protocol now session x).session
+matches_step now hs session TimedOut m = matches_end spelling opening_of Has hs TimedOut (record { loud = λ quiet. quiet; other = λ o e. cc })
 matches_step now hs session (Came (Rts o)) m = matches_rts now hs o
-matches_step now hs session (Came (Cts count next pgn)) m = matches_quiet hs session _ (record { quiet = tt; no_packet = λ _. refl }) (λ o e. cc) m
-matches_step now hs session (Came (EndOfMessage pgn)) m = matches_quiet hs session _ (record { quiet = tt; no_packet = λ _. refl }) (λ o e. cc) m
+matches_step now hs session (Came (Cts count next pgn)) m =
+    matches_quiet spelling opening_of Has hs session (Came (Cts count next pgn))
+    (record { quiet = tt; other = λ o e. cc; more = λ o later packets brought. brought; less = λ o later packets brought. brought }) m
+matches_step now hs session (Came (EndOfMessage pgn)) m =
+    matches_quiet spelling opening_of Has hs session (Came (EndOfMessage pgn))
+    (record { quiet = tt; other = λ o e. cc; more = λ o later packets brought. brought; less = λ o later packets brought. brought }) m
 matches_step now hs session (Came (Aborted pgn)) m = matches_abort hs session pgn _ refl m
 matches_step now hs session (Came (Data number packet)) m = matches_packet now number packet hs session m
-matches_step now hs session (Came Other) m = matches_quiet hs session _ (record { quiet = tt; no_packet = λ _. refl }) (λ o e. cc) m
+matches_step now hs session (Came Other) m =
+    matches_quiet spelling opening_of Has hs session (Came Other)
+    (record { quiet = tt; other = λ o e. cc; more = λ o later packets brought. brought; less = λ o later packets brought. brought }) m
 
-no_history : (o : Opening) (packets : List (List ℕ)) (later earlier : List Happening) → [] ≡ later ++ Came (Rts o) ∷ earlier → ⊥
-no_history o packets [] earlier e = cc
-no_history o packets (x ∷ later) earlier e = cc
-
-pub matches : (xs : List (ℕ × Happening)) → Matches (untimed xs) (session_after xs)
-matches [] = record {
-  stands = λ o packets s. absurd (no_history o packets s.sent.later s.sent.earlier s.sent.split);
-  kept = λ kept is. absurd cc;
-}
-matches (x ∷ xs) = matches_step x.0 (untimed xs) (session_after xs) x.1 (matches xs)
+pub matches : (xs : List (ℕ × Happening)) → Matches (untimed xs) (session_after protocol xs)
+matches [] = matches_none spelling opening_of Has
+matches (x ∷ xs) = matches_step x.0 (untimed xs) (session_after protocol xs) x.1 (matches xs)

@@ -1,17 +1,20 @@
 -- A message that is sent is whole with its last packet.
-use Rattle.std.proofs.Common.{◌≡◌, ℕ, zero, suc, ◌+◌, ◌-◌, ◌*◌, ◌≤◌, List, [], ◌∷◌, ◌++◌, length, take, drop, replicate, true, refl, sym, ap, ap₂, subst, ◌∙◌, arith, Bool, false, ◌&&◌, leb, eqb, eq-eqb, cond, ◌/◌, ◌^◌, ◌<◌, Some, None, lit<}
+use Rattle.std.proofs.Common.{◌≡◌, ℕ, zero, suc, ◌+◌, ◌-◌, ◌*◌, ◌≤◌, List, [], ◌∷◌, ◌++◌, length, take, drop, replicate, true, refl, sym, ap, ap₂, subst, ◌∙◌, arith, Bool, false, ◌&&◌, leb, eqb, eq-eqb, cond, Option, ◌/◌, ◌^◌, ◌<◌, Some, None, lit<}
 use Rattle.std.proofs.lemmas.List.{take-take, take_all, take-append-le, drop-append-le, length-take, length-append}
 use Rattle.std.proofs.lemmas.Bool.{leb-true}
 use Rattle.std.proofs.Math.Seq.{take-add}
 use Rattle.vt_can.specs.Messages.{Message, joined}
+use Rattle.vt_can.specs.Histories.{Came, AreQuiet}
+use Rattle.vt_can.specs.Wire.{by_group}
+use Rattle.vt_transport.specs.declared.messages.TpFrame.{TpFrame}
 use Rattle.vt_transport.specs.declared.messages.TpFrame.TheVariants.{Rts, Data}
-use Rattle.vt_transport.specs.Messages.{Happening, Came, AreQuiet, packets_in, numbered, IsWhole, opens}
+use Rattle.vt_transport.specs.Messages.{Happening, packets_in, numbered, spelling, IsWhole, opens}
 use Rattle.byteorder.specs.Endian.{little_bytes}
 use Rattle.byteorder.specs.Numbers.{little_number-reads_back}
 use Rattle.vt_can.specs.Identifier.{Parts, parts_of, raw_of, pgn_of, destination_of, addressed, HasDestination}
 use Rattle.vt_can.specs.Nodes.{is_to, frame_of}
 use Rattle.vt_can.proofs.Sums.{joined-raw, joined-parts}
-use Rattle.vt_transport.specs.Wire.{tp_frame, by_group, rts_frame, packet_bytes, packet_frame}
+use Rattle.vt_transport.specs.Wire.{tp_frame, connection_management, rts_frame, packet_bytes, packet_frame}
 use Rattle.vt_transport.specs.Senders.{packets_of, has_size}
 use Rattle.vt_transport.specs.BothEnds.{opening_of, packet_of, begun, SentIsReceived}
 
@@ -56,7 +59,7 @@ begun_split : (message : Message) (count : ℕ) → begun message count ≡ take
 begun_split message zero = refl
 begun_split message (suc count) = ap (λ (hs : List Happening). packet_of message (suc count) ∷ hs) (begun_split message count)
 
-taken_quiet : (message : Message) (count : ℕ) → AreQuiet (taken message count)
+taken_quiet : (message : Message) (count : ℕ) → AreQuiet spelling (taken message count)
 taken_quiet message zero = tt
 taken_quiet message (suc count) = (tt, taken_quiet message count)
 
@@ -91,7 +94,7 @@ whole_at message before all size = record {
     split = begun_split message (suc before);
     opened = opening_opens message size;
     quiet = taken_quiet message (suc before);
-    in_order = taken_in_order message (suc before);
+    brought = taken_in_order message (suc before);
   };
   all = length_packets message.bytes (suc before) ∙ all;
   packet = (suc before, packet_bytes message.bytes (suc before), refl);
@@ -113,17 +116,20 @@ both_true true true first second = refl
 both_true true false first second = absurd cc
 both_true false b first second = absurd cc
 
+abbrev tp_by_group : ℕ → List ℕ → Option TpFrame
+tp_by_group = by_group 0xEC00 0xEB00 connection_management (λ number bytes. Data number bytes)
+
 heard_by : (own to pgn : ℕ) (bytes : List ℕ) → HasDestination pgn → own < 2 ^ 8 → to < 2 ^ 8 → length bytes ≡ 8
     → destination_of (addressed 7 pgn to own) ≡ Some to → pgn_of (addressed 7 pgn to own) ≡ pgn
-    → tp_frame to (frame_of pgn own to bytes) ≡ by_group pgn bytes
+    → tp_frame to (frame_of pgn own to bytes) ≡ tp_by_group pgn bytes
 heard_by own to pgn bytes group own_fits to_fits eight to_is pgn_is =
     let parts : parts_of (raw_of (addressed 7 pgn to own)) ≡ addressed 7 pgn to own =
     ap parts_of (sym (joined-raw 7 pgn to own (lit< tt) group to_fits own_fits)) ∙ joined-parts 7 pgn to own (lit< tt) group to_fits own_fits in
     let is_heard : (is_to to (destination_of (addressed 7 pgn to own)) && eqb (length bytes) 8) ≡ true =
     both_true _ _ (ap (is_to to) to_is ∙ eq-eqb to to refl) (eq-eqb _ _ eight) in
-    ap (λ (p : Parts). cond (is_to to (destination_of p) && eqb (length bytes) 8) (by_group (pgn_of p) bytes) None) parts
-    ∙ ap (λ (b : Bool). cond b (by_group (pgn_of (addressed 7 pgn to own)) bytes) None) is_heard
-    ∙ ap (λ (k : ℕ). by_group k bytes) pgn_is
+    ap (λ (p : Parts). cond (is_to to (destination_of p) && eqb (length bytes) 8) (tp_by_group (pgn_of p) bytes) None) parts
+    ∙ ap (λ (b : Bool). cond b (tp_by_group (pgn_of (addressed 7 pgn to own)) bytes) None) is_heard
+    ∙ ap (λ (k : ℕ). tp_by_group k bytes) pgn_is
 
 request_heard : (own to size pgn : ℕ) → own < 2 ^ 8 → to < 2 ^ 8 → size < 256 ^ 2 → pgn < 256 ^ 3
     → tp_frame to (rts_frame own to size pgn) ≡ Some (Rts (record { size = size; packets = (size + 6) / 7; most = 0xFF; pgn = pgn }))

@@ -1,8 +1,7 @@
 -- What a receiver keeps of a source.
-use Rattle.std.specs.Prelude.{◌≡◌, ◌<◌, ◌≤◌, ℕ, ◌*◌, true, List, refl}
+use Rattle.std.specs.Prelude.{ℕ, List, refl}
 use Rattle.std.specs.Coded.{Coded, code_by, coded×, coded_ℕ, coded_list}
 use Rattle.vt_transport.specs.declared.messages.Opening.{Opening}
-use Rattle.vt_transport.specs.Messages.{opens}
 
 -- a session: its RTS, the bytes so far, and the number of packets that brought them
 pub record Kept : Type 0 where
@@ -19,10 +18,3 @@ abbrev pub kept_code : Coded Kept
 kept_code =
     code_by (Opening × (List ℕ × ℕ)) (coded× opening_code (coded× (coded_list coded_ℕ) coded_ℕ))
     (λ k. (k.opening, (k.bytes, k.received))) (λ p. record { opening = p.0; bytes = p.1.0; received = p.1.1 }) (λ _. refl)
-
--- an open session: its bytes so far are whole packets, and there is room for all
-pub record IsReceiving (o : Opening) (received len capacity : ℕ) : Type 0 where
-  pub opened : opens o ≡ true
-  pub room : o.size ≤ capacity
-  pub more : received < o.packets
-  pub full : len ≡ 7 * received

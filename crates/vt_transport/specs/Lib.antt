@@ -2,8 +2,6 @@ pub mod Messages
 pub mod Wire
 pub mod Kept
 pub mod Steps
-pub mod Received
-pub mod Receivers
-pub mod Bus
+pub mod Protocol
 pub mod Senders
 pub mod BothEnds

@@ -1,18 +1,19 @@
 -- The messages of one source, over the whole list of what came from it (ISO 11783-3;
 -- docs/PROFILE.md, "The TP receiver"). Every list of happenings and of packets has the latest first.
-use Rattle.std.specs.Prelude.{◌≡◌, ◌<◌, ℕ, ◌+◌, ◌-◌, ◌/◌, ◌%◌, Bool, true, nat_le, ◌==◌, ◌&&◌, if◌then◌else◌, min, Option, Some, None, List, [], ◌∷◌, ◌++◌, length, take}
+use Rattle.std.specs.Prelude.{◌≡◌, ℕ, ◌+◌, ◌-◌, ◌/◌, ◌%◌, Bool, nat_le, ◌==◌, ◌&&◌, if◌then◌else◌, min, Option, Some, None, List, [], ◌∷◌, length}
+use Rattle.vt_can.specs.declared.wire.Reason.TheVariants.{Disorder}
 use Rattle.vt_can.specs.Messages.{Message, joined}
+use Rattle.vt_can.specs.Histories as histories
+use Rattle.vt_can.specs.Histories.{Spelling, Came, TimedOut}
 use Rattle.vt_transport.specs.declared.messages.Opening.{Opening}
 use Rattle.vt_transport.specs.declared.messages.TpFrame.{TpFrame}
 use Rattle.vt_transport.specs.declared.messages.TpFrame.TheVariants.{Rts, Aborted, Data}
-use Rattle.vt_transport.specs.declared.messages.Reason.TheVariants.{Disorder}
 use Rattle.vt_transport.specs.declared.messages.Reply.{Reply}
 use Rattle.vt_transport.specs.declared.messages.Reply.TheVariants.{ClearToSend, End, Abort}
 
 -- A frame of the transport protocol came from the source, or its session was aborted for silence.
-pub data Happening : Type 0 where
-  Came : TpFrame → Happening
-  TimedOut : Happening
+abbrev pub Happening : Type 0
+Happening = histories.Happening TpFrame
 
 -- 9 to 1785 bytes, in packets of seven
 abbrev pub opens : Opening → Bool
@@ -33,10 +34,6 @@ IsQuiet (Came (Rts o)) = ⊥
 IsQuiet (Came (Aborted pgn)) = pgn ≡ sending_group
 IsQuiet (Came _) = Unit {0}
 
-abbrev pub AreQuiet : List Happening → Type 0
-AreQuiet [] = Unit {0}
-AreQuiet (h ∷ hs) = IsQuiet h × AreQuiet hs
-
 -- the packets that came, with their sequence numbers
 abbrev pub packets_in : List Happening → List (ℕ × List ℕ)
 packets_in [] = []
@@ -49,29 +46,28 @@ abbrev pub numbered : List (List ℕ) → List (ℕ × List ℕ)
 numbered [] = []
 numbered (packet ∷ packets) = (length packets + 1, packet) ∷ numbered packets
 
--- After an RTS that opens came quiet happenings alone, and the packets among them are in order.
-pub record Sent (hs : List Happening) (o : Opening) (packets : List (List ℕ)) : Type 0 where
-  pub earlier : List Happening
-  pub later : List Happening
-  pub split : hs ≡ later ++ Came (Rts o) ∷ earlier
-  pub opened : opens o ≡ true
-  pub quiet : AreQuiet later
-  pub in_order : packets_in later ≡ numbered packets
+-- Messages are spelled by an RTS and by DTs with the sequence numbers of their packets.
+abbrev pub spelling : Spelling TpFrame Opening (List (List ℕ))
+spelling = record {
+  request = λ o. Rts o;
+  opens = opens;
+  size = λ o. o.size;
+  pgn = λ o. o.pgn;
+  all = λ o. o.packets;
+  IsQuiet = IsQuiet;
+  Brings = λ o later packets. packets_in later ≡ numbered packets;
+  count = λ packets. length packets;
+  bytes = joined;
+  IsPacket = λ x. (number : ℕ) × (bytes : List ℕ) × (x ≡ Came (Data number bytes));
+}
 
 -- a session is open, with packets still to come
-pub record Stands (hs : List Happening) (o : Opening) (packets : List (List ℕ)) : Type 0 where
-  pub sent : Sent hs o packets
-  pub more : length packets < o.packets
+abbrev pub Stands : List Happening → Opening → List (List ℕ) → Type 0
+Stands = histories.Stands spelling
 
--- x is the last packet of a message
-pub record IsWhole (hs : List Happening) (x : Happening) (message : Message) : Type 0 where
-  pub opening : Opening
-  pub packets : List (List ℕ)
-  pub sent : Sent (x ∷ hs) opening packets
-  pub all : length packets ≡ opening.packets
-  pub packet : (number : ℕ) × (bytes : List ℕ) × (x ≡ Came (Data number bytes))
-  pub pgn : message.pgn ≡ opening.pgn
-  pub bytes : message.bytes ≡ take opening.size (joined packets)
+-- a happening is the last packet of a message
+abbrev pub IsWhole : List Happening → Happening → Message → Type 0
+IsWhole = histories.IsWhole spelling
 
 -- the reply to an RTS
 abbrev pub first_reply : Opening → Reply

@@ -9,7 +9,7 @@ use Rattle.vt_can.specs.Messages.{Message}
 use Rattle.vt_can.specs.Nodes.{source_of}
 use Rattle.vt_transport.specs.declared.messages.TpFrame.{TpFrame}
 use Rattle.vt_transport.specs.declared.messages.TpFrame.TheVariants.{Cts, EndOfMessage, Aborted}
-use Rattle.vt_transport.specs.declared.messages.Reason.TheVariants.{Timeout, Disorder}
+use Rattle.vt_can.specs.declared.wire.Reason.TheVariants.{Timeout, Disorder}
 use Rattle.vt_transport.specs.declared.messages.Reply.TheVariants.{Abort}
 use Rattle.vt_transport.specs.Messages.{sending_group}
 use Rattle.vt_transport.specs.Wire.{tp_frame, reply_frame, rts_frame, packet_frame}

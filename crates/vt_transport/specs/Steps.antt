@@ -1,27 +1,20 @@
--- One step of a receiver on the session of one source, and the law that these steps assemble the messages.
-use Rattle.std.specs.Prelude.{◌≡◌, ◌↔◌, ℕ, ◌+◌, ◌==◌, if◌then◌else◌, max, Option, Some, None, List, [], ◌∷◌, ◌++◌, length, take}
+-- One step of a receiver on the session of one source.
+use Rattle.std.specs.Prelude.{◌≡◌, ℕ, ◌+◌, ◌==◌, if◌then◌else◌, max, Option, Some, None, List, [], ◌++◌, length, take}
 use Rattle.vt_can.specs.declared.sessions.Timed.{Timed}
-use Rattle.vt_can.specs.Messages.{Message, joined}
+use Rattle.vt_can.specs.declared.wire.Reason.TheVariants.{Disorder}
+use Rattle.vt_can.specs.Messages.{joined}
+use Rattle.vt_can.specs.Protocols as protocols
+use Rattle.vt_can.specs.Protocols.{silent, ended}
 use Rattle.vt_transport.specs.declared.messages.Opening.{Opening}
 use Rattle.vt_transport.specs.declared.messages.TpFrame.{TpFrame}
 use Rattle.vt_transport.specs.declared.messages.TpFrame.TheVariants.{Rts, Aborted, Data}
-use Rattle.vt_transport.specs.declared.messages.Reason.TheVariants.{Disorder}
 use Rattle.vt_transport.specs.declared.messages.Reply.{Reply}
 use Rattle.vt_transport.specs.declared.messages.Reply.TheVariants.{Abort}
-use Rattle.vt_transport.specs.Messages.{Happening, Came, TimedOut, opens, sending_group, first_reply, reply_to, Stands, IsWhole, IsAnswered}
+use Rattle.vt_transport.specs.Messages.{opens, sending_group, first_reply, reply_to}
 use Rattle.vt_transport.specs.Kept.{Kept}
 
--- what a step leaves, and what it gives
-pub record Outcome : Type 0 where
-  pub session : Option (Timed Kept)
-  pub reply : Option Reply
-  pub message : Option Message
-
-abbrev pub silent : Option (Timed Kept) → Outcome
-silent session = record { session = session; reply = None; message = None }
-
-abbrev pub ended : Reply → Outcome
-ended reply = record { session = None; reply = Some reply; message = None }
+abbrev pub Outcome : Type 0
+Outcome = protocols.Outcome Kept Reply
 
 abbrev pub after_rts : ℕ → Opening → Outcome
 after_rts now o = record {
@@ -58,32 +51,8 @@ step now kept (Data number packet) = after_packet now kept number packet
 step now kept (Aborted pgn) = silent (if pgn == sending_group then kept else None)
 step now kept _ = silent kept
 
-abbrev pub happens : ℕ → Option (Timed Kept) → Happening → Outcome
-happens now kept (Came frame) = step now kept frame
-happens now kept TimedOut = silent None
-
--- the session of a source after what happened to it, each with its time, the latest first
-abbrev pub session_after : List (ℕ × Happening) → Option (Timed Kept)
-session_after [] = None
-session_after (x ∷ xs) = (happens x.0 (session_after xs) x.1).session
-
-abbrev pub untimed : List (ℕ × Happening) → List Happening
-untimed [] = []
-untimed (x ∷ xs) = x.1 ∷ untimed xs
-
 -- a session has just these packets
 abbrev pub Has : Option (Timed Kept) → Opening → List (List ℕ) → Type 0
 Has None o packets = ⊥
 Has (Some kept) o packets =
     (kept.session.opening ≡ o) × (kept.session.bytes ≡ take o.size (joined packets)) × (kept.session.received ≡ length packets)
-
--- The steps keep the session that stands, and at the next happening x give its message and its reply.
-pub record Agrees (xs : List (ℕ × Happening)) (x : ℕ × Happening) : Type 0 where
-  pub stands : (o : Opening) (packets : List (List ℕ)) → Stands (untimed xs) o packets → Has (session_after xs) o packets
-  pub kept : (kept : Timed Kept) → session_after xs ≡ Some kept
-      → (packets : List (List ℕ)) × Stands (untimed xs) kept.session.opening packets × Has (Some kept) kept.session.opening packets
-  pub messages : (message : Message) → ((happens x.0 (session_after xs) x.1).message ≡ Some message) ↔ IsWhole (untimed xs) x.1 message
-  pub replies : IsAnswered (untimed xs) x.1 (happens x.0 (session_after xs) x.1).reply
-
-abbrev pub StepsAssembleMessages : Type 0
-StepsAssembleMessages = (xs : List (ℕ × Happening)) (x : ℕ × Happening) → Agrees xs x

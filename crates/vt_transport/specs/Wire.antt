@@ -1,13 +1,12 @@
 -- The bytes of the transport protocol's frames (docs/PROFILE.md, "Transport messages").
-use Rattle.std.specs.Prelude.{ℕ, ◌+◌, ◌-◌, ◌*◌, ◌/◌, ◌==◌, ◌&&◌, if◌then◌else◌, Option, Some, None, List, ◌∷◌, ◌++◌, length, take, drop, slice_index, replicate}
+use Rattle.std.specs.Prelude.{ℕ, ◌+◌, ◌-◌, ◌*◌, ◌/◌, ◌==◌, if◌then◌else◌, Option, List, ◌∷◌, ◌++◌, take, drop, slice_index, replicate}
 use Rattle.byteorder.specs.Endian.{little_number, little_bytes}
 use Rattle.vt_can.specs.declared.frame.Frame.{Frame}
-use Rattle.vt_can.specs.Identifier.{parts_of, pgn_of, destination_of}
-use Rattle.vt_can.specs.Nodes.{is_to, frame_of}
+use Rattle.vt_can.specs.Nodes.{frame_of}
+use Rattle.vt_can.specs.Wire as wire
+use Rattle.vt_can.specs.Wire.{abort_bytes}
 use Rattle.vt_transport.specs.declared.messages.TpFrame.{TpFrame}
 use Rattle.vt_transport.specs.declared.messages.TpFrame.TheVariants.{Rts, Cts, EndOfMessage, Aborted, Data, Other}
-use Rattle.vt_transport.specs.declared.messages.Reason.{Reason}
-use Rattle.vt_transport.specs.declared.messages.Reason.TheVariants.{Timeout, Disorder}
 use Rattle.vt_transport.specs.declared.messages.Reply.{Reply}
 use Rattle.vt_transport.specs.declared.messages.Reply.TheVariants.{ClearToSend, End, Abort}
 
@@ -23,27 +22,14 @@ connection_management bytes =
     else if control == 0xFF then Aborted pgn
     else Other
 
-abbrev pub by_group : ℕ → List ℕ → Option TpFrame
-by_group pgn bytes =
-    if pgn == 0xEC00 then Some (connection_management bytes)
-    else if pgn == 0xEB00 then Some (Data (slice_index bytes 0) (drop 1 bytes))
-    else None
-
--- what a frame says to a node: eight bytes, to its address
+-- what a frame says to a node
 abbrev pub tp_frame : ℕ → Frame → Option TpFrame
-tp_frame own frame =
-    if is_to own (destination_of (parts_of frame.id)) && length frame.bytes.items == 8
-    then by_group (pgn_of (parts_of frame.id)) frame.bytes.items
-    else None
-
-abbrev pub reason_code : Reason → ℕ
-reason_code Timeout = 3
-reason_code Disorder = 7
+tp_frame = wire.frame_in 0xEC00 0xEB00 connection_management (λ number bytes. Data number bytes)
 
 abbrev pub reply_bytes : Reply → List ℕ
 reply_bytes (ClearToSend count next pgn) = 0x11 ∷ count ∷ next ∷ 0xFF ∷ 0xFF ∷ little_bytes 3 pgn
 reply_bytes (End size packets pgn) = 0x13 ∷ (little_bytes 2 size ++ packets ∷ 0xFF ∷ little_bytes 3 pgn)
-reply_bytes (Abort reason pgn) = 0xFF ∷ reason_code reason ∷ 0xFF ∷ 0xFF ∷ 0xFF ∷ little_bytes 3 pgn
+reply_bytes (Abort reason pgn) = abort_bytes reason pgn
 
 abbrev pub reply_frame : ℕ → ℕ → Reply → Frame
 reply_frame own to reply = frame_of 0xEC00 own to (reply_bytes reply)

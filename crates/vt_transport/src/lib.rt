@@ -12,8 +12,8 @@ mod session;
 mod wire;
 
 pub use law::{
-    messages_depend_on_own_frames, runs_hand_out_messages, sent_is_received,
-    steps_assemble_messages,
+    messages_depend_on_own_frames, runs_hand_out_messages, runs_hand_out_whole_messages,
+    sent_is_received, steps_assemble_messages,
 };
 pub use receiver::Receiver;
 pub use sender::{SendFault, Sender};

@@ -3,6 +3,8 @@
 ghost use Rattle.std.specs.Prelude.{◌≡◌, ◌<◌};
 ghost use Rattle.vt_transport.specs.Messages.{opens, allowed, first_reply, reply_to};
 
+use vt_can::Reason;
+
 /// The fewest and the most bytes of a message.
 pub(crate) const SIZES: (u16, u16) = (9, 1785);
 
@@ -28,14 +30,6 @@ pub(crate) enum TpFrame {
     Aborted { pgn: u32 },
     Data { number: u8, bytes: [u8; 7] },
     Other,
-}
-
-/// Why this node ends a session.
-#[derive(Clone, Copy, Debug)]
-pub(crate) enum Reason {
-    Timeout,
-    // A frame out of order, or a request that no session can meet.
-    Disorder,
 }
 
 /// What this node answers in a session.

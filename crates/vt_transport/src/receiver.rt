@@ -5,19 +5,20 @@ ghost use Rattle.std.specs.FinMap as finite;
 ghost use Rattle.vt_can.specs.Sessions.{is_overdue, alive};
 ghost use Rattle.vt_can.specs.Nodes.{source_of};
 ghost use Rattle.vt_can.specs.Messages.{told_of};
+ghost use Rattle.vt_can.specs.Receivers.{outcome, timely_outcome, Says, Takes, OthersStay, IsReadyFor, OpensNone, TimesOut};
 ghost use Rattle.vt_transport.specs.Wire.{tp_frame};
 ghost use Rattle.vt_transport.specs.Messages.{opens};
 ghost use Rattle.vt_transport.specs.Steps.{after_rts, after_packet, step};
-ghost use Rattle.vt_transport.specs.Receivers.{outcome, timely_outcome, Says, Takes, OthersStay, IsReadyFor, OpensNone, TimesOut};
+ghost use Rattle.vt_transport.specs.Protocol.{protocol};
 ghost use Rattle.vt_transport.specs.declared.messages.TpFrame.TheVariants as declared;
 
-use crate::messages::{Opening, Reason, Reply, SENDING, TpFrame};
-use crate::session::{Received, Session};
+use crate::messages::{Opening, Reply, SENDING, TpFrame};
+use crate::session::Session;
 use crate::{OutOfMemory, wire};
 use std::alloc::Global;
 use std::marker::Model;
 use std::mem;
-use vt_can::{Frame, Heard, Sessions, Timed};
+use vt_can::{Frame, Heard, Reason, Received, Sessions, Timed};
 
 /// The receiver of a node: at most one session for each source, seen as the map of the sessions by
 /// source, the node's address, and the bytes for which room is set aside.
@@ -34,11 +35,12 @@ pub struct Receiver {
 
 impl Model for Receiver {
     ghost use Rattle.std.specs.Prelude.{◌≡◌, vec_len, vec_capacity};
-    ghost use Rattle.vt_transport.specs.Receivers.{Listening, listening_code};
+    ghost use Rattle.vt_can.specs.Receivers.{Listening, listening_code};
+    ghost use Rattle.vt_transport.specs.Kept.{Kept, kept_code};
 
-    ghost Value = { Listening };
+    ghost Value = { Listening Kept };
 
-    ghost coded = { listening_code };
+    ghost coded = { listening_code kept_code };
 
     ghost view = { λ r. record { own = r.own; sessions = r.sessions; room = vec_capacity r.spare } };
 
@@ -64,11 +66,11 @@ impl Receiver {
     /// it leaves the receiver as it was. docs/PROFILE.md, "The TP receiver".
     pub fn hear(&mut self, now: u64, frame: &Frame) -> Result<Heard, OutOfMemory>
         ensures step { IfOk result
-            (λ said. Takes self.old self.new (source_of frame.now) (outcome self.old now frame.now) said) }
+            (λ said. Takes protocol self.old self.new (source_of frame.now) (outcome protocol self.old now frame.now) said) }
         ensures others { OthersStay self.old self.new (source_of frame.now) }
         ensures err { OnErr result (self.new ≡ self.old) }
-        ensures ready { IsReadyFor (tp_frame self.old.own frame.now) self.old.room → IsOk result }
-        ensures room { OpensNone (tp_frame self.old.own frame.now) → self.new.room ≡ self.old.room }
+        ensures ready { IsReadyFor protocol (tp_frame self.old.own frame.now) self.old.room → IsOk result }
+        ensures room { OpensNone protocol (tp_frame self.old.own frame.now) → self.new.room ≡ self.old.room }
     {
         let source = frame.id.source();
         match wire::tp_frame(self.own, frame) {
@@ -84,7 +86,7 @@ impl Receiver {
     pub fn expire(&mut self, now: u64) -> Option<Frame>
         ensures own { self.new.own ≡ self.old.own }
         ensures room { self.new.room ≡ self.old.room }
-        ensures some { IfSome result (λ frame. TimesOut self.old self.new now frame) }
+        ensures some { IfSome result (λ frame. TimesOut protocol self.old self.new now frame) }
         ensures none { IfNone result (self.new ≡ self.old) }
         ensures all { IfNone result
             ((source : ℕ) → is_overdue now (finite.get self.old.sessions source) ≡ false) }
@@ -103,10 +105,10 @@ impl Receiver {
     pub fn prepare(&mut self, now: u64, frame: &Frame) -> Result<Option<(usize, u8)>, OutOfMemory>
         ensures own { self.new.own ≡ self.old.own }
         ensures sessions { self.new.sessions ≡ self.old.sessions }
-        ensures ready { OnOk result (IsReadyFor (tp_frame self.old.own frame.now) self.new.room) }
-        ensures free { IsReadyFor (tp_frame self.old.own frame.now) self.old.room → IsOk result }
-        ensures room { OpensNone (tp_frame self.old.own frame.now) → self.new.room ≡ self.old.room }
-        ensures told { IfOk result (λ told. told ≡ told_of (timely_outcome self.old now frame.now).message) }
+        ensures ready { OnOk result (IsReadyFor protocol (tp_frame self.old.own frame.now) self.new.room) }
+        ensures free { IsReadyFor protocol (tp_frame self.old.own frame.now) self.old.room → IsOk result }
+        ensures room { OpensNone protocol (tp_frame self.old.own frame.now) → self.new.room ≡ self.old.room }
+        ensures told { IfOk result (λ told. told ≡ told_of (timely_outcome protocol self.old now frame.now).message) }
     {
         match wire::tp_frame(self.own, frame) {
             Some(TpFrame::Rts(opening)) => {
@@ -121,10 +123,10 @@ impl Receiver {
     }
 
     fn open(&mut self, now: u64, source: u8, opening: Opening) -> Result<Heard, OutOfMemory>
-        ensures step { IfOk result (λ said. Takes self.old self.new source (after_rts now opening) said) }
+        ensures step { IfOk result (λ said. Takes protocol self.old self.new source (after_rts now opening) said) }
         ensures others { OthersStay self.old self.new source }
         ensures err { OnErr result (self.new ≡ self.old) }
-        ensures ready { IsReadyFor (Some (declared.Rts opening)) self.old.room → IsOk result }
+        ensures ready { IsReadyFor protocol (Some (declared.Rts opening)) self.old.room → IsOk result }
         ensures room { opens opening ≡ false → self.new.room ≡ self.old.room }
     {
         if !opening.opens() {
@@ -138,7 +140,7 @@ impl Receiver {
     }
 
     fn packet(&mut self, now: u64, source: u8, number: u8, bytes: [u8; 7]) -> Heard
-        ensures step { Takes self.old self.new source
+        ensures step { Takes protocol self.old self.new source
             (after_packet now (finite.get self.old.sessions source) number bytes) result }
         ensures others { OthersStay self.old self.new source }
         ensures room { self.new.room ≡ self.old.room }
@@ -163,7 +165,7 @@ impl Receiver {
 
     // An abort of the sender's parameter group is no receiver's.
     fn aborted(&mut self, source: u8, pgn: u32) -> Heard
-        ensures step { Takes self.old self.new source
+        ensures step { Takes protocol self.old self.new source
             (step 0 (finite.get self.old.sessions source) (declared.Aborted pgn)) result }
         ensures others { OthersStay self.old self.new source }
         ensures room { self.new.room ≡ self.old.room }
@@ -178,8 +180,8 @@ impl Receiver {
     fn set_aside(&mut self, opening: Opening) -> Result<(), OutOfMemory>
         ensures own { self.new.own ≡ self.old.own }
         ensures sessions { self.new.sessions ≡ self.old.sessions }
-        ensures ready { OnOk result (IsReadyFor (Some (declared.Rts opening)) self.new.room) }
-        ensures free { IsReadyFor (Some (declared.Rts opening)) self.old.room → IsOk result }
+        ensures ready { OnOk result (IsReadyFor protocol (Some (declared.Rts opening)) self.new.room) }
+        ensures free { IsReadyFor protocol (Some (declared.Rts opening)) self.old.room → IsOk result }
         ensures room { opens opening ≡ false → self.new.room ≡ self.old.room }
     {
         if opening.opens() {
@@ -202,7 +204,7 @@ impl Receiver {
 }
 
 fn answered(own: u8, source: u8, reply: Option<Reply>) -> Heard
-    ensures { Says own source reply None result }
+    ensures { Says protocol own source reply None result }
 {
     match reply {
         Some(reply) => Heard::Reply(wire::reply_frame(own, source, reply)),

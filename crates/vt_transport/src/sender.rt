@@ -8,14 +8,14 @@ ghost use Rattle.vt_transport.specs.Wire.{rts_frame};
 ghost use Rattle.vt_transport.specs.declared.messages.TpFrame.TheVariants as declared;
 ghost use Rattle.vt_transport.specs.Senders.{Answers, Starts, TimesOut, has_size, answer, answer_of, is_of_group};
 
-use crate::messages::{Reason, Reply, SENDING, SIZES, TpFrame};
+use crate::messages::{Reply, SENDING, SIZES, TpFrame};
 use crate::sending::Outgoing;
 use crate::wire;
 use arrayvec::ArrayVec;
 use std::alloc::Global;
 use std::marker::Model;
 use thiserror::Error;
-use vt_can::{Frame, Sessions, Timed};
+use vt_can::{Frame, Reason, Sessions, Timed};
 
 /// Why a message cannot be sent.
 #[derive(Clone, Copy, Debug, PartialEq, Eq, Error)]

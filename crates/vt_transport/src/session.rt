@@ -1,14 +1,14 @@
 //! A message as it comes in.
 
-ghost use Rattle.std.specs.Prelude.{◌≡◌, ◌+◌, ◌≤◌, ℕ, max, true, Some, [], ◌++◌, length, List, vec_len, vec_capacity};
+ghost use Rattle.std.specs.Prelude.{◌≡◌, ◌≤◌, ℕ, max, true, Some, [], length, List, vec_len, vec_capacity};
 ghost use Rattle.vt_can.specs.Messages.{told_of};
+ghost use Rattle.vt_can.specs.Protocols.{outcome_of};
 ghost use Rattle.vt_transport.specs.Messages.{opens};
 ghost use Rattle.vt_transport.specs.Steps.{after_packet};
-ghost use Rattle.vt_transport.specs.Received.{outcome_of};
 
-use crate::messages::{Opening, Reason, Reply};
+use crate::messages::{Opening, Reply};
 use std::marker::Model;
-use vt_can::Bytes;
+use vt_can::{Bytes, Reason, Received, append_packet};
 
 /// A message of which packets are still to come.
 #[derive(Drop)]
@@ -20,7 +20,9 @@ pub(crate) struct Session {
 
 impl Model for Session {
     ghost use Rattle.std.specs.Prelude.{vec_len, vec_capacity};
-    ghost use Rattle.vt_transport.specs.Kept.{Kept, kept_code, IsReceiving};
+    ghost use Rattle.vt_can.specs.Histories.{IsReceiving};
+    ghost use Rattle.vt_transport.specs.Messages.{spelling};
+    ghost use Rattle.vt_transport.specs.Kept.{Kept, kept_code};
 
     ghost Value = { Kept };
 
@@ -28,19 +30,7 @@ impl Model for Session {
 
     ghost view = { λ s. record { opening = s.opening; bytes = s.bytes.items; received = s.received } };
 
-    ghost invariant = { λ s. IsReceiving s.opening s.received (vec_len s.bytes) (vec_capacity s.bytes) };
-}
-
-/// What a packet makes of a session.
-#[derive(Drop)]
-pub(crate) enum Received {
-    Refused(Reply),
-    More(Session, Option<Reply>),
-    Whole {
-        pgn: u32,
-        bytes: Bytes,
-        reply: Reply,
-    },
+    ghost invariant = { λ s. IsReceiving spelling s.opening s.received (vec_len s.bytes) (vec_capacity s.bytes) };
 }
 
 impl Session {
@@ -65,7 +55,7 @@ impl Session {
     }
 
     /// Takes a packet, which must be the next one.
-    pub(crate) fn receive(mut self, number: u8, packet: [u8; 7]) -> Received
+    pub(crate) fn receive(mut self, number: u8, packet: [u8; 7]) -> Received<Session, Reply>
         ensures { (now last : ℕ) → outcome_of (max now last) result
             ≡ after_packet now (Some (record { last = last; session = self })) number packet }
     {
@@ -81,8 +71,7 @@ impl Session {
                 pgn,
             });
         }
-        let left = usize::from(size) - self.bytes.len();
-        append(&mut self.bytes, &packet[..left.min(7)]);
+        append_packet(&mut self.bytes, usize::from(size), packet);
         if number == packets {
             return Received::Whole {
                 pgn,
@@ -105,17 +94,5 @@ impl Session {
         } else {
             None
         }
-    }
-}
-
-// Appends bytes for which there is room.
-fn append(bytes: &mut Vec<u8>, part: &[u8])
-    requires { vec_len bytes.old + length part.now ≤ vec_capacity bytes.old }
-    ensures items { bytes.new.items ≡ bytes.old.items ++ part.now }
-    ensures len { vec_len bytes.new ≡ vec_len bytes.old + length part.now }
-    ensures room { vec_capacity bytes.new ≡ vec_capacity bytes.old }
-{
-    for byte in part {
-        bytes.push_reserved(*byte);
     }
 }

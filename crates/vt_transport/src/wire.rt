@@ -1,16 +1,12 @@
 //! The frames of the transport protocol as bytes (ISO 11783-3; docs/PROFILE.md, "Transport messages").
 
-ghost use Rattle.std.specs.Prelude.{◌≡◌, ◌≤◌, ◌∷◌, length, drop, slice_index};
-ghost use Rattle.byteorder.specs.Endian.{little_bytes};
-ghost use Rattle.vt_can.specs.Identifier.{HasDestination};
+ghost use Rattle.std.specs.Prelude.{◌≡◌, ◌≤◌, ◌∷◌, length};
 ghost use Rattle.vt_can.specs.Nodes.{frame_of};
-ghost use Rattle.vt_transport.specs.declared.messages.TpFrame.TheVariants as declared;
-ghost use Rattle.vt_transport.specs.Wire.{tp_frame, connection_management, reply_frame, reply_bytes, reason_code, rts_frame};
+ghost use Rattle.vt_transport.specs.Wire.{tp_frame, connection_management, reply_frame, reply_bytes, rts_frame};
 
-use crate::messages::{Opening, Reason, Reply, TpFrame};
-use arrayvec::ArrayVec;
+use crate::messages::{Opening, Reply, TpFrame};
 use byteorder::{ByteOrder, LittleEndian};
-use vt_can::{CanId, Frame};
+use vt_can::{Frame, abort_bytes, frame_of, is_heard, numbered_packet, three_bytes};
 
 const CONNECTION_MANAGEMENT: u32 = 0xEC00;
 
@@ -34,13 +30,16 @@ const NO_LIMIT: u8 = 0xFF;
 pub(crate) fn tp_frame(own: u8, frame: &Frame) -> Option<TpFrame>
     ensures { result ≡ tp_frame own frame.now }
 {
-    let bytes = frame.bytes.as_slice();
-    if frame.id.destination() != Some(own) || bytes.len() != 8 {
+    if !is_heard(own, frame) {
         return None;
     }
+    let bytes = frame.bytes.as_slice();
     match frame.id.pgn() {
         CONNECTION_MANAGEMENT => Some(connection_management(bytes)),
-        DATA_TRANSFER => Some(data_transfer(bytes)),
+        DATA_TRANSFER => {
+            let (number, bytes) = numbered_packet(bytes);
+            Some(TpFrame::Data { number, bytes })
+        }
         _ => None,
     }
 }
@@ -68,18 +67,6 @@ fn connection_management(bytes: &[u8]) -> TpFrame
     }
 }
 
-fn data_transfer(bytes: &[u8]) -> TpFrame
-    requires { length bytes.now ≡ 8 }
-    ensures { result ≡ declared.Data (slice_index bytes.now 0) (drop 1 bytes.now) }
-{
-    let mut packet = [0; 7];
-    packet.copy_from_slice(&bytes[1..]);
-    TpFrame::Data {
-        number: bytes[0],
-        bytes: packet,
-    }
-}
-
 /// The frame that a reply is, from this node to another.
 pub(crate) fn reply_frame(own: u8, to: u8, reply: Reply) -> Frame
     ensures { result ≡ reply_frame own to reply }
@@ -92,18 +79,15 @@ fn reply_bytes(reply: Reply) -> [u8; 8]
 {
     match reply {
         Reply::ClearToSend { count, next, pgn } => {
-            let [low, middle, high] = pgn_bytes(pgn);
+            let [low, middle, high] = three_bytes(pgn);
             [CTS, count, next, FILL, FILL, low, middle, high]
         }
         Reply::End { size, packets, pgn } => {
             let [size_low, size_high] = size.to_le_bytes();
-            let [low, middle, high] = pgn_bytes(pgn);
+            let [low, middle, high] = three_bytes(pgn);
             [END, size_low, size_high, packets, FILL, low, middle, high]
         }
-        Reply::Abort { reason, pgn } => {
-            let [low, middle, high] = pgn_bytes(pgn);
-            [ABORT, code(reason), FILL, FILL, FILL, low, middle, high]
-        }
+        Reply::Abort { reason, pgn } => abort_bytes(reason, pgn),
     }
 }
 
@@ -113,7 +97,7 @@ pub(crate) fn rts_frame(own: u8, to: u8, size: u16, pgn: u32) -> Frame
     ensures { result ≡ rts_frame own to size pgn }
 {
     let [size_low, size_high] = size.to_le_bytes();
-    let [low, middle, high] = pgn_bytes(pgn);
+    let [low, middle, high] = three_bytes(pgn);
     let packets = ((size + 6) / 7) as u8;
     let bytes = [
         RTS, size_low, size_high, packets, NO_LIMIT, low, middle, high,
@@ -127,30 +111,4 @@ pub(crate) fn data_frame(own: u8, to: u8, number: u8, packet: [u8; 7]) -> Frame
 {
     let [a, b, c, d, e, f, g] = packet;
     frame_of(DATA_TRANSFER, own, to, [number, a, b, c, d, e, f, g])
-}
-
-fn frame_of(pgn: u32, own: u8, to: u8, bytes: [u8; 8]) -> Frame
-    requires { HasDestination pgn }
-    ensures { result ≡ frame_of pgn own to bytes }
-{
-    Frame {
-        id: CanId::new(7, pgn, to, own),
-        bytes: ArrayVec::from(bytes),
-    }
-}
-
-fn pgn_bytes(pgn: u32) -> [u8; 3]
-    ensures { result ≡ little_bytes 3 pgn }
-{
-    let [low, middle, high, _] = pgn.to_le_bytes();
-    [low, middle, high]
-}
-
-fn code(reason: Reason) -> u8
-    ensures { result ≡ reason_code reason }
-{
-    match reason {
-        Reason::Timeout => 3,
-        Reason::Disorder => 7,
-    }
 }

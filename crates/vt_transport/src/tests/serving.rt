@@ -1,9 +1,9 @@
 ghost use Rattle.std.specs.Prelude.{◌≡◌, IfOk, OnErr};
 ghost use Rattle.vt_can.specs.Nodes.{source_of};
-ghost use Rattle.vt_can.specs.Bus.{Serves};
 ghost use Rattle.vt_can.specs.Messages.{told_of};
-ghost use Rattle.vt_transport.specs.Receivers.{timely_outcome, Says};
-ghost use Rattle.vt_transport.specs.Bus.{left, given, input_of};
+ghost use Rattle.vt_can.specs.Receivers.{timely_outcome, Says};
+ghost use Rattle.vt_can.specs.Bus.{Serves, input_of};
+ghost use Rattle.vt_transport.specs.Protocol.{protocol};
 
 use super::*;
 use std::alloc::Global;
@@ -17,13 +17,13 @@ fn served(
 ) -> Result<(Option<(usize, u8)>, Heard), OutOfMemory>
     ensures err { OnErr result (receiver.new.sessions ≡ receiver.old.sessions) }
     ensures own { IfOk result (λ done. receiver.new.own ≡ receiver.old.own) }
-    ensures serves { IfOk result (λ done. Serves left given receiver.old.sessions receiver.new.sessions
-        (input_of receiver.old.own now frame.now) done.1) }
-    ensures said { IfOk result (λ done. Says receiver.old.own (source_of frame.now)
-        (timely_outcome receiver.old now frame.now).reply
-        (timely_outcome receiver.old now frame.now).message done.1) }
+    ensures serves { IfOk result (λ done. Serves protocol receiver.old.sessions receiver.new.sessions
+        (input_of protocol receiver.old.own now frame.now) done.1) }
+    ensures said { IfOk result (λ done. Says protocol receiver.old.own (source_of frame.now)
+        (timely_outcome protocol receiver.old now frame.now).reply
+        (timely_outcome protocol receiver.old now frame.now).message done.1) }
     ensures told { IfOk result
-        (λ done. done.0 ≡ told_of (timely_outcome receiver.old now frame.now).message) }
+        (λ done. done.0 ≡ told_of (timely_outcome protocol receiver.old now frame.now).message) }
 {
     let told = receiver.prepare(now, frame)?;
     while let Some(_abort) = receiver.expire(now) {}

@@ -3,9 +3,10 @@ use Rattle.vt_can.specs.declared.sessions.Timed.{Timed}
 use Rattle.vt_extended.specs.declared.messages.Opening.{Opening}
 use Rattle.vt_extended.specs.Kept.{Kept}
 use Rattle.vt_extended.specs.Messages.{opens}
-use Rattle.vt_extended.specs.Receivers.{Listening}
+use Rattle.vt_extended.specs.Protocol.{protocol}
+use Rattle.vt_can.specs.Receivers.{Listening}
 use Rattle.vt_can.proofs.ByAddress.{left_others, put_others}
-use Rattle.vt_extended.proofs.Taking.{left_takes, put_takes, replied}
+use Rattle.vt_can.proofs.Receiving.{left_takes, put_takes, replied}
 use Rattle.vt_extended.proofs.receiver.Receiver.open.Goals as goal
 
 refused : (o : Opening) (timed : Timed Kept) → opens o ≡ false → cond (opens o) (Some timed) None ≡ None
@@ -16,18 +17,18 @@ accepted o timed opening = ap (λ b. cond b (Some timed) None) opening
 
 pub returns-then-not-opens-clause-step : goal.returns-then-not-opens-clause-step
 returns-then-not-opens-clause-step c =
-    left_takes _ _ _ _ _ _ (ap (λ (r : Listening). r.own) c.self.view_is) c.remove.ensures (refused c.args.opening _ (sym c.if-not-opens.ensures))
-    (replied _ _ _ _ _ _ c.answered.ensures (ap (λ (r : Listening). r.own) c.self.view_is) c.first_reply.ensures)
+    left_takes protocol _ _ _ _ _ _ (ap (λ (r : Listening Kept). r.own) c.self.view_is) c.remove.ensures (refused c.args.opening _ (sym c.if-not-opens.ensures))
+    (replied protocol _ _ _ _ _ _ c.answered.ensures (ap (λ (r : Listening Kept). r.own) c.self.view_is) c.first_reply.ensures)
 
 pub returns-then-not-opens-clause-others : goal.returns-then-not-opens-clause-others
 returns-then-not-opens-clause-others c =
-    left_others _ _ _ c.self.inside.sessions (sym (ap (λ (r : Listening). r.sessions) c.self.view_is)) c.remove.ensures
+    left_others _ _ _ c.self.inside.sessions (sym (ap (λ (r : Listening Kept). r.sessions) c.self.view_is)) c.remove.ensures
 
 pub returns-clause-step : goal.returns-clause-step
 returns-clause-step c =
-    put_takes _ _ _ _ c.self.inside.sessions _ _ (ap (λ (r : Listening). r.own) c.self.view_is) c.put.ensures (accepted c.args.opening _ (sym c.if-not-opens.ensures) ∙ ap Some (ap (λ (k : Kept). record { last = c.args.now; session = k }) (sym c.new-2.ensures)))
-    (replied _ _ _ _ _ _ c.answered-2.ensures (ap (λ (r : Listening). r.own) c.self.view_is) c.first_reply-2.ensures)
+    put_takes protocol _ _ _ _ c.self.inside.sessions _ _ (ap (λ (r : Listening Kept). r.own) c.self.view_is) c.put.ensures (accepted c.args.opening _ (sym c.if-not-opens.ensures) ∙ ap Some (ap (λ (k : Kept). record { last = c.args.now; session = k }) (sym c.new-2.ensures)))
+    (replied protocol _ _ _ _ _ _ c.answered-2.ensures (ap (λ (r : Listening Kept). r.own) c.self.view_is) c.first_reply-2.ensures)
 
 pub returns-clause-others : goal.returns-clause-others
 returns-clause-others c =
-    put_others _ _ _ _ c.self.inside.sessions (sym (ap (λ (r : Listening). r.sessions) c.self.view_is)) c.put.ensures
+    put_others _ _ _ _ c.self.inside.sessions (sym (ap (λ (r : Listening Kept). r.sessions) c.self.view_is)) c.put.ensures

@@ -1,21 +1,9 @@
-use Rattle.std.proofs.Common.{◌≡◌, ℕ, ◌+◌, ◌-◌, ◌≤◌, ◌++◌, min, eqb, true, List, Some, None, length, take, sym, ap, ◌∙◌, arith, eq-eqb}
-use Rattle.std.proofs.lemmas.Grind.{common_steps}
-use Rattle.std.proofs.lemmas.List.{take_min}
-use Rattle.std.proofs.Math.Seq.{take-append-add}
+use Rattle.std.proofs.Common.{◌≡◌, ℕ, ◌+◌, ◌++◌, eqb, true, List, Some, None, take, sym, ap, ◌∙◌, eq-eqb}
 use Rattle.vt_extended.specs.declared.messages.Reply.TheVariants.{End}
 use Rattle.vt_extended.specs.Messages.{packets_of}
 use Rattle.vt_extended.specs.Kept.{Kept}
 use Rattle.vt_extended.specs.Steps.{Outcome, is_next, after_packet}
 use Rattle.vt_extended.proofs.session.Session.append.Goals as goal
-
--- as many bytes of the last packet as the message still needs
-part_taken : (xs ys : List ℕ) (size len n : ℕ) → n ≡ min (size - len) 7 → len ≡ length xs → len ≤ size → length ys ≡ 7
-    → xs ++ take n ys ≡ take size (xs ++ ys)
-part_taken xs ys size len n is long within seven =
-    let left : n ≡ min (size - len) (length ys) = is ∙ ap (min (size - len)) (sym seven) in
-    let all : size ≡ length xs + (size - len) = omega arith in
-    ap (λ (k : ℕ). xs ++ take k ys) left ∙ ap (λ zs. xs ++ zs) (take_min (size - len) ys)
-    ∙ sym (take-append-add xs ys (size - len)) ∙ ap (λ (k : ℕ). take k (xs ++ ys)) (sym all)
 
 whole_of : (s : Kept) (now last number : ℕ) (packet bytes : List ℕ) → is_next s number ≡ true → s.received + 1 ≡ packets_of s.opening
     → bytes ≡ take s.opening.size (s.bytes ++ packet)
@@ -40,6 +28,4 @@ returns-then-received-packets c now last =
     let inside = c.self.inside in
     whole_from (record { opening = inside.opening; bytes = inside.bytes.items; received = inside.received; announced = inside.announced; taken = inside.taken; edge = inside.edge })
     _ now last _ _ _ c.self.view_is (sym c.is_next.ensures ∙ c.if-not-is_next.false) (c.if-received-packets.true ∙ c.packets.ensures)
-    (c.new.ensures ∙ c.extend.ensures.items
-    ∙ part_taken inside.bytes.items c.args.packet inside.opening.size c.len.result c.min.result
-    c.min.ensures (omega (arith, c.len.ensures, inside.bytes.ok.0)) (grind (arith, common_steps)) (omega arith))
+    (c.new.ensures ∙ c.append_packet.ensures.items)

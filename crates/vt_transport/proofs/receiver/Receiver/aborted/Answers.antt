@@ -2,9 +2,10 @@ use Rattle.std.proofs.Common.{◌≡◌, ℕ, cond, eqb, Option, None, ap, sym, 
 use Rattle.vt_can.specs.declared.sessions.Timed.{Timed}
 use Rattle.vt_transport.specs.Kept.{Kept}
 use Rattle.vt_transport.specs.Messages.{sending_group}
-use Rattle.vt_transport.specs.Receivers.{Listening}
+use Rattle.vt_transport.specs.Protocol.{protocol}
+use Rattle.vt_can.specs.Receivers.{Listening}
 use Rattle.vt_can.proofs.ByAddress.{left_others}
-use Rattle.vt_transport.proofs.Taking.{left_takes}
+use Rattle.vt_can.proofs.Receiving.{left_takes}
 use Rattle.vt_transport.proofs.receiver.Receiver.aborted.Goals as goal
 
 not_sending : (pgn : ℕ) (kept : Option (Timed Kept)) → (pgn ≡ sending_group → ⊥) → cond (eqb pgn sending_group) kept None ≡ None
@@ -12,8 +13,8 @@ not_sending pgn kept other = ap (λ b. cond b kept None) (ne_eqb pgn sending_gro
 
 pub returns-clause-step : goal.returns-clause-step
 returns-clause-step c =
-    left_takes _ _ _ _ _ _ (ap (λ (r : Listening). r.own) c.self.view_is) c.remove.ensures (not_sending c.args.pgn _ c.if-pgn-eq-SENDING.false) refl
+    left_takes protocol _ _ _ _ _ _ (ap (λ (r : Listening Kept). r.own) c.self.view_is) c.remove.ensures (not_sending c.args.pgn _ c.if-pgn-eq-SENDING.false) refl
 
 pub returns-clause-others : goal.returns-clause-others
 returns-clause-others c =
-    left_others _ _ _ c.self.inside.sessions (sym (ap (λ (r : Listening). r.sessions) c.self.view_is)) c.remove.ensures
+    left_others _ _ _ c.self.inside.sessions (sym (ap (λ (r : Listening Kept). r.sessions) c.self.view_is)) c.remove.ensures

@@ -1,6 +1,6 @@
 use Rattle.std.proofs.Common.{◌∙◌}
-use Rattle.vt_can.proofs.Serving.{expired_same, expired_fewer}
-use Rattle.vt_transport.proofs.Serving.{serves_as}
+use Rattle.vt_can.proofs.Serving.{expired_same, expired_fewer, serves_as}
+use Rattle.vt_transport.specs.Protocol.{protocol}
 use Rattle.vt_transport.proofs.tests.serving.served.Goals as goal
 
 pub loop-abort-preserved : goal.loop-abort-preserved
@@ -15,6 +15,6 @@ loop-abort-smaller c = expired_fewer _ _ _ _ _ c.in-Some.ensures.some.expired
 
 pub returns-clause-serves : goal.returns-clause-serves
 returns-clause-serves c =
-    serves_as c.args.receiver.now c.prepare.new.self c.loop-abort.receiver c.expire.new.self c.hear.new.self c.args.now c.args.frame.now c.in-Ok.said
+    serves_as protocol c.args.receiver.now c.prepare.new.self c.loop-abort.receiver c.expire.new.self c.hear.new.self c.args.now c.args.frame.now c.in-Ok.said
     c.prepare.ensures.own c.prepare.ensures.sessions c.loop-abort.invariant.own c.loop-abort.invariant.sessions
     c.in_default.ensures.none c.in_default.ensures.all c.in-Ok.ensures.step c.in-Ok.ensures.others

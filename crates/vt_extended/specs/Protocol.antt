@@ -1,0 +1,53 @@
+-- The extended transport protocol, as the definitions of receivers, runs and histories take it, and its laws.
+use Rattle.std.specs.Prelude.{ℕ, Bool, false}
+use Rattle.vt_can.specs.declared.wire.Reason.TheVariants.{Timeout}
+use Rattle.vt_can.specs.Protocols.{Protocol}
+use Rattle.vt_can.specs.Steps as steps
+use Rattle.vt_can.specs.Bus as bus
+use Rattle.vt_can.specs.Marks as marks
+use Rattle.vt_extended.specs.declared.messages.EtpFrame.{EtpFrame}
+use Rattle.vt_extended.specs.declared.messages.EtpFrame.TheVariants.{Rts}
+use Rattle.vt_extended.specs.declared.messages.Reply.{Reply}
+use Rattle.vt_extended.specs.declared.messages.Reply.TheVariants.{Abort}
+use Rattle.vt_extended.specs.Messages.{opens, spelling, IsWhole, IsAnswered}
+use Rattle.vt_extended.specs.Wire.{etp_frame, reply_frame}
+use Rattle.vt_extended.specs.Kept.{Kept}
+use Rattle.vt_extended.specs.Steps.{Has, step}
+
+-- An RTS opens a session, and no other frame does.
+abbrev pub opens_session : EtpFrame → Bool
+opens_session (Rts o) = opens o
+opens_session _ = false
+
+abbrev pub size_in : EtpFrame → ℕ
+size_in (Rts o) = o.size
+size_in _ = 0
+
+abbrev pub protocol : Protocol Kept EtpFrame Reply
+protocol = record {
+  frame_in = etp_frame;
+  opens = opens_session;
+  size = size_in;
+  step = step;
+  timeout = λ kept. Abort Timeout kept.opening.pgn;
+  reply_frame = reply_frame;
+}
+
+-- The steps keep the session that stands, and give its messages and its replies.
+abbrev pub StepsAssembleMessages : Type 0
+StepsAssembleMessages = steps.StepsAssembleMessages spelling (λ kept. kept.opening) Has protocol IsAnswered
+
+-- The messages of a source depend on its own frames and their times alone.
+abbrev pub MessagesDependOnOwnFrames : Type 0
+MessagesDependOnOwnFrames = bus.MessagesDependOnOwnFrames protocol
+
+-- A run of a receiver hands out these messages.
+abbrev pub RunsHandOutMessages : Type 0
+RunsHandOutMessages = bus.RunsHandOutMessages protocol
+
+-- They are those that are whole in the histories of their sources, with marks for the timeouts.
+abbrev pub SessionsAreOfHistories : Type 0
+SessionsAreOfHistories = marks.SessionsAreOfHistories protocol
+
+abbrev pub RunsHandOutWholeMessages : Type 0
+RunsHandOutWholeMessages = marks.RunsHandOutWholeMessages protocol IsWhole
