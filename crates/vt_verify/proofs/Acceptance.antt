@@ -1,0 +1,12 @@
+-- The last rules of a pool, after those before them.
+use Rattle.vt_rank.specs.Paths.{HasNoCircle}
+use Rattle.vt_verify.specs.Shapes.{Objects, shape_of}
+use Rattle.vt_verify.specs.Triggers.{triggered}
+use Rattle.vt_verify.specs.Rules.{IsAcceptable, IsWithinBudget, HoldBefore, TriggersAreNoCircle, BudgetsAreWithin}
+
+pub before_budgets : (objects : Objects) → HoldBefore objects TriggersAreNoCircle → HasNoCircle (triggered (shape_of objects)) → HoldBefore objects BudgetsAreWithin
+before_budgets objects b none = (b.0, (b.1.0, (b.1.1.0, (b.1.1.1.0, (b.1.1.1.1.0, (b.1.1.1.1.1.0, (b.1.1.1.1.1.1.0, (b.1.1.1.1.1.1.1.0, (b.1.1.1.1.1.1.1.1.0, (b.1.1.1.1.1.1.1.1.1.0, (none, tt)))))))))))
+
+pub acceptable : (objects : Objects) → HoldBefore objects TriggersAreNoCircle → HasNoCircle (triggered (shape_of objects)) → IsWithinBudget (shape_of objects)
+    → IsAcceptable objects
+acceptable objects b none within = (b.0, (b.1.0, (b.1.1.0, (b.1.1.1.0, (b.1.1.1.1.0, (b.1.1.1.1.1.0, (b.1.1.1.1.1.1.0, (b.1.1.1.1.1.1.1.0, (b.1.1.1.1.1.1.1.1.0, (b.1.1.1.1.1.1.1.1.1.0, (none, (within, tt))))))))))))

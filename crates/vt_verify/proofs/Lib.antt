@@ -1,0 +1,15 @@
+pub mod Acceptance
+pub mod Chains
+pub mod Costs
+pub mod Cuts
+pub mod Depths
+pub mod FirstOver
+pub mod Graphs
+pub mod Listings
+pub mod Passes
+pub mod Pieces
+pub mod Refusals
+pub mod ReportLines
+pub mod Rising
+pub mod Searching
+pub mod Shapes

@@ -1,0 +1,347 @@
+-- The events at which objects list macros, and the groups of these.
+use Rattle.std.proofs.Common.{◌≡◌, ℕ, zero, suc, ◌+◌, ◌-◌, ◌<◌, ◌≤◌, Bool, true, false, cond, ◌&&◌, ◌||◌, List, [], ◌∷◌, ◌++◌, map, filter, take, drop, length, get_or, Option, Some, None, refl, sym, ap, ap₂, subst, ◌∙◌, arith}
+use Rattle.std.proofs.Math.Seq.{drop-cons}
+use Rattle.std.proofs.lemmas.List.{append_assoc, append-nil, map-append, take_more}
+use Rattle.std.proofs.lemmas.List.Folds.{list_any-append}
+use Rattle.std.proofs.lemmas.Grind.{flat_map-append}
+use Rattle.std.proofs.lemmas.Bool.{ne_eqb}
+use Rattle.std.proofs.lemmas.Iterator.Adapters.{position_from-zero}
+use Rattle.std.specs.Prelude.{is_some, IsTrue, nat_eq}
+use Rattle.std.specs.Option.{option_to_list}
+use Rattle.std.specs.List.{flat_map, position, list_all, AllByRecursion}
+use Rattle.std.specs.declared.cmp.Ordering.{Ordering}
+use Rattle.std.specs.declared.cmp.Ordering.TheVariants.{Less, Equal, Greater}
+use Rattle.std.specs.Ordering.{nat_cmp, is_eq, is_lt, eq_by_cmp}
+use Rattle.std.specs.FinMap as finite
+use Rattle.std.specs.FinMap.Entries.{below_all}
+use Rattle.vt_objects.specs.declared.object.Object.{Object}
+use Rattle.vt_objects.specs.Pieces.{cut}
+use Rattle.vt_objects.specs.Records.{Seen, seen, kind_of, macros_of}
+use Rattle.vt_objects.specs.declared.entries.MacroEntry.{MacroEntry}
+use Rattle.vt_objects.specs.declared.kind.Kind.{Kind}
+use Rattle.vt_objects.specs.Stores.{shown}
+use Rattle.vt_rank.specs.declared.graph.Item.{Item}
+use Rattle.vt_rank.specs.declared.graph.Item.TheVariants as items
+use Rattle.vt_verify.specs.declared.events.Raised.{Raised}
+use Rattle.vt_verify.specs.Lists.{first_failing}
+use Rattle.vt_verify.specs.Shapes.{Objects, IsRising, Shape, Fixed, fixed, shape_of, fixed_at}
+use Rattle.vt_verify.specs.Macros.{bytes_in, named_macro, macros, is_whole, commands_of, commands}
+use Rattle.vt_verify.specs.Triggers.{raise, is_mask, masks, listed, listed_in}
+use Rattle.vt_verify.specs.Targets.{is_event}
+use Rattle.vt_verify.proofs.Passes.{all_pass, each_of_each}
+use Rattle.vt_verify.proofs.Shapes.{seen_kind, seen_macros}
+use Rattle.vt_verify.proofs.Rising.{Three, three, below, same, above, equal, greater, both_true}
+use Rattle.vt_verify.specs.TriggerGraphs.{is_event_of, has, macros_at, non_empty, if_any, if_listed, event_numbers, listed_events, group_of_event, groups_of}
+
+is_equal : (o : Ordering) → is_eq o ≡ true → o ≡ Equal
+is_equal Less is = absurd cc
+is_equal Equal is = refl
+is_equal Greater is = absurd cc
+
+pub tied_same : (a b : ℕ) → eq_by_cmp nat_cmp a b ≡ true → a ≡ b
+tied_same a b is = finite.nat_cmp-IsAntisymmetric a b (is_equal (nat_cmp a b) is)
+
+pub next_is : {X : Type 0} (xs : List X) (i : ℕ) (x : X) → i < length xs → x ≡ get_or xs i x → drop i xs ≡ x ∷ drop (i + 1) xs
+next_is xs i x lt is =
+    let one : suc i ≡ i + 1 = omega arith in
+    drop-cons xs i x lt ∙ ap (λ x. x ∷ drop (suc i) xs) (sym is) ∙ ap (λ k. x ∷ drop k xs) one
+
+-- ---- the group of an event
+
+pub group_is : (events : List Raised) (raised : Raised) → position (is_event_of raised) events ≡ group_of_event events raised
+group_is events raised = position_from-zero (is_event_of raised) events
+
+-- ---- what is made so far, and what is left
+
+-- what comes next moves from what is left to what is made
+pub moved : {A : Type 0} (made next left all : List A) → made ++ (next ++ left) ≡ all → (made ++ next) ++ left ≡ all
+moved made next left all is = append_assoc made next left ∙ is
+
+pub next_group : (events : List Raised) (made : List Item) (raised : Raised) (left : List Raised) (all : List Item)
+    → made ++ map items.Group (groups_of events (raised ∷ left)) ≡ all
+    → (made ++ map items.Group (option_to_list (group_of_event events raised))) ++ map items.Group (groups_of events left) ≡ all
+next_group events made raised left all is =
+    moved made (map items.Group (option_to_list (group_of_event events raised))) (map items.Group (groups_of events left)) all
+    (ap (λ (gs : List Item). made ++ gs) (sym (map-append items.Group (option_to_list (group_of_event events raised)) (groups_of events left))) ∙ is)
+
+-- ---- the groups of masks that are hidden
+
+hidden_case : (events : List Raised) (b : Bool) (e : ℕ × Fixed) (rest : Shape)
+    → groups_of events (map (λ mask. raise mask 4) (map (λ e. e.0) (cond b (e ∷ rest) rest)))
+    ≡ cond b (option_to_list (group_of_event events (raise e.0 4))) [] ++ groups_of events (map (λ mask. raise mask 4) (map (λ e. e.0) rest))
+hidden_case events true e rest = refl
+hidden_case events false e rest = refl
+
+module _ {B : Type 0} (events : List Raised) where
+  hidden_of : List (ℕ × Object B) → List ℕ
+  hidden_of es = groups_of events (map (λ mask. raise mask 4) (masks (shape_of (map shown es))))
+
+  first_hidden : (e : ℕ × Object B) (es : List (ℕ × Object B))
+      → hidden_of (e ∷ es) ≡ cond (is_mask (kind_of e.1)) (option_to_list (group_of_event events (raise e.0 4))) [] ++ hidden_of es
+  unfolding hidden_of
+  first_hidden e es =
+      hidden_case events (is_mask (kind_of (seen e.1))) (e.0, fixed (seen e.1)) (filter (λ e. is_mask e.1.kind) (shape_of (map shown es)))
+      ∙ ap (λ (kind : Kind). cond (is_mask kind) (option_to_list (group_of_event events (raise e.0 4))) [] ++ hidden_of es) (seen_kind e.1)
+
+  pub next_hidden : (made : List ℕ) (es : List (ℕ × Object B)) (i : ℕ) (e : ℕ × Object B) (all : List ℕ) → i < length es → e ≡ get_or es i e
+      → made ++ groups_of events (map (λ mask. raise mask 4) (masks (shape_of (map shown (drop i es))))) ≡ all
+      → (made ++ cond (is_mask (kind_of e.1)) (option_to_list (group_of_event events (raise e.0 4))) [])
+      ++ groups_of events (map (λ mask. raise mask 4) (masks (shape_of (map shown (drop (i + 1) es))))) ≡ all
+  unfolding hidden_of
+  next_hidden made es i e all lt is left =
+      moved made (cond (is_mask (kind_of e.1)) (option_to_list (group_of_event events (raise e.0 4))) []) (hidden_of (drop (i + 1) es)) all
+      (ap (λ (gs : List ℕ). made ++ gs)
+      (sym (ap hidden_of (next_is es i e lt is) ∙ first_hidden e (drop (i + 1) es)))
+      ∙ left)
+
+-- ---- the macro under an ID is whole, where all are
+
+whole_case : (id : ℕ) (e : ℕ × Fixed) (b : Bool) (rest : Option Fixed) → (b ≡ true → id ≡ e.0) → first_failing is_whole (named_macro e) ≡ None
+    → first_failing is_whole (flat_map (λ f. named_macro (id, f)) (option_to_list rest)) ≡ None
+    → first_failing is_whole (flat_map (λ f. named_macro (id, f)) (option_to_list (cond b (Some e.1) rest))) ≡ None
+whole_case id e true rest alike whole later =
+    ap (first_failing is_whole) (append-nil (named_macro (id, e.1))) ∙ ap (λ (id : ℕ). first_failing is_whole (named_macro (id, e.1))) (alike refl) ∙ whole
+whole_case id e false rest alike whole later = later
+
+whole_under : (shape : Shape) (id : ℕ) → first_failing is_whole (macros shape) ≡ None
+    → first_failing is_whole (flat_map (λ f. named_macro (id, f)) (option_to_list (fixed_at shape id))) ≡ None
+whole_under [] id all = refl
+whole_under (e ∷ shape) id all =
+    let parts = all_pass is_whole (named_macro e) (macros shape) all in
+    whole_case id e (eq_by_cmp nat_cmp id e.0) (fixed_at shape id) (tied_same id e.0) parts.0 (whole_under shape id parts.1)
+
+named_bytes : (id : ℕ) (found : Option Fixed)
+    → flat_map (λ f. named_macro (id, f)) (option_to_list found)
+    ≡ map (λ bytes. (id, bytes)) (flat_map (λ f. option_to_list (bytes_in id f)) (option_to_list found))
+named_bytes id None = refl
+named_bytes id (Some f) =
+    append-nil (named_macro (id, f)) ∙ ap (map (λ bytes. (id, bytes))) (sym (append-nil (option_to_list (bytes_in id f))))
+
+passed : (b : Bool) (m : ℕ × List ℕ) → cond b None (Some m) ≡ None → IsTrue b
+passed true m is = refl
+passed false m is = absurd cc
+
+pub whole_bytes : (shape : Shape) (id : ℕ) (found : Option (List ℕ)) (bytes : List ℕ) → first_failing is_whole (macros shape) ≡ None
+    → option_to_list found ≡ flat_map (λ f. option_to_list (bytes_in id f)) (option_to_list (fixed_at shape id)) → found ≡ Some bytes → IsTrue (is_some (cut bytes))
+whole_bytes shape id found bytes all is some =
+    passed (is_some (cut bytes)) (id, bytes)
+    (ap (λ (found : Option (List ℕ)). first_failing is_whole (map (λ bytes. (id, bytes)) (option_to_list found))) (sym some)
+    ∙ ap (λ (bs : List (List ℕ)). first_failing is_whole (map (λ bytes. (id, bytes)) bs)) is
+    ∙ ap (first_failing is_whole) (sym (named_bytes id (fixed_at shape id)))
+    ∙ whole_under shape id all)
+
+-- the commands of the macro whose bytes are found
+pub commands_found : (shape : Shape) (id : ℕ) (found : Option (List ℕ))
+    → option_to_list found ≡ flat_map (λ f. option_to_list (bytes_in id f)) (option_to_list (fixed_at shape id)) → flat_map commands_of (option_to_list found) ≡ commands shape id
+unfolding commands
+commands_found shape id found is =
+    ap (flat_map commands_of) is ∙ each_of_each commands_of (λ (f : Fixed). option_to_list (bytes_in id f)) (option_to_list (fixed_at shape id))
+
+-- ---- the events, in order
+
+unfoldable pub from : ℕ → ℕ → List ℕ
+from zero start = []
+from (suc count) start = start ∷ from count (suc start)
+
+from_at : (count start k d : ℕ) → k < count → get_or (from count start) k d ≡ start + k
+unfolding from
+from_at zero start k d lt = absurd (omega arith)
+from_at (suc count) start zero d lt = omega arith
+from_at (suc count) start (suc k) d lt =
+    let later = from_at count (suc start) k d (omega arith) in
+    later ∙ omega arith
+
+pub numbers_are : event_numbers ≡ from 26 1
+unfolding from
+numbers_are = refl
+
+pub next_event : (n : ℕ) → 1 ≤ n → n < 27 → drop (n - 1) event_numbers ≡ n ∷ drop ((n + 1) - 1) event_numbers
+next_event n low high =
+    let len : length event_numbers ≡ 26 = refl in
+    let at : get_or event_numbers (n - 1) n ≡ 1 + (n - 1) = ap (λ (ns : List ℕ). get_or ns (n - 1) n) numbers_are ∙ from_at 26 1 (n - 1) n (omega arith) in
+    let one : (n - 1) + 1 ≡ (n + 1) - 1 = omega arith in
+    let back : 1 + (n - 1) ≡ n = omega arith in
+    next_is event_numbers (n - 1) n (omega arith) (sym (at ∙ back)) ∙ ap (λ (k : ℕ). n ∷ drop k event_numbers) one
+
+never_both : (b c : Bool) → c ≡ false → (b && c) ≡ false
+never_both true c is = is
+never_both false c is = refl
+
+neither : (a b : Bool) → a ≡ false → b ≡ false → (a || b) ≡ false
+neither true b one other = absurd cc
+neither false b one other = other
+
+none_if_any : (q r : Raised) (ms : List ℕ) → is_event_of q r ≡ false → has (if_any r ms) q ≡ false
+none_if_any q r [] is = refl
+none_if_any q r (m ∷ ms) is = neither (is_event_of q r) false is refl
+
+-- an event of a greater number is not there yet
+pub still_new : (id n event : ℕ) (keys : List Raised) (ms : List ℕ) → n + 1 ≤ event → has keys (raise id event) ≡ false
+    → has (keys ++ if_any (raise id n) ms) (raise id event) ≡ false
+still_new id n event keys ms le none =
+    list_any-append (is_event_of (raise id event)) keys (if_any (raise id n) ms)
+    ∙ neither (has keys (raise id event)) (has (if_any (raise id n) ms) (raise id event)) none
+    (none_if_any (raise id event) (raise id n) ms (never_both (nat_eq id id) (nat_eq event n) (ne_eqb event n (λ e. absurd (omega (arith, e))))))
+
+-- ---- the events of objects whose IDs rise
+
+-- what an object adds
+pub events_of : ℕ × Fixed → List Raised
+events_of e = flat_map (λ event. if_any (raise e.0 event) (macros_at event e.1.macros)) event_numbers
+
+pub macros_of_events : ℕ × Fixed → List (List ℕ)
+macros_of_events e = flat_map (λ event. non_empty (macros_at event e.1.macros)) event_numbers
+
+other_events : (q : Raised) (id : ℕ) (f : Fixed) (ns : List ℕ) → nat_eq q.id id ≡ false
+    → has (flat_map (λ event. if_any (raise id event) (macros_at event f.macros)) ns) q ≡ false
+other_events q id f [] other = refl
+other_events q id f (n ∷ ns) other =
+    list_any-append (is_event_of q) (if_any (raise id n) (macros_at n f.macros)) (flat_map (λ event. if_any (raise id event) (macros_at event f.macros)) ns)
+    ∙ neither (has (if_any (raise id n) (macros_at n f.macros)) q) (has (flat_map (λ event. if_any (raise id event) (macros_at event f.macros)) ns) q)
+    (none_if_any q (raise id n) (macros_at n f.macros) (ap (λ b. b && nat_eq q.event n) other)) (other_events q id f ns other)
+
+others : (q : Raised) (shape : Shape) → AllByRecursion (λ e. nat_eq q.id e.0 ≡ false) shape → has (flat_map events_of shape) q ≡ false
+unfolding events_of
+others q [] all = refl
+others q (e ∷ shape) all =
+    list_any-append (is_event_of q) (events_of e) (flat_map events_of shape)
+    ∙ neither (has (events_of e) q) (has (flat_map events_of shape) q) (other_events q e.0 e.1 event_numbers all.0) (others q shape all.1)
+
+pub is_below : (a b : ℕ) → Three a b → IsTrue (is_lt (nat_cmp a b)) → a < b
+is_below a b (below lt) is = lt
+is_below a b (same e) is =
+    let never : false ≡ true = subst (λ (o : Ordering). is_lt o ≡ true) (ap (nat_cmp a) (sym e) ∙ equal a) is in
+    absurd cc
+is_below a b (above lt) is =
+    let never : false ≡ true = subst (λ (o : Ordering). is_lt o ≡ true) (greater a b lt) is in
+    absurd cc
+
+module _ {B : Type 0} where
+  below_at : (a : ℕ) (es : List (ℕ × Object B)) (i : ℕ) (e : ℕ × Object B) → i < length es → e ≡ get_or es i e → IsTrue (below_all nat_cmp a (map shown es)) → a < e.0
+  below_at a [] i e lt is all = absurd (omega arith)
+  below_at a (x ∷ es) zero e lt is all =
+      let parts = both_true (is_lt (nat_cmp a x.0)) (below_all nat_cmp a (map shown es)) all in
+      subst (λ (e : ℕ × Object B). a < e.0) (sym is) (is_below a x.0 (three a x.0) parts.0)
+  below_at a (x ∷ es) (suc i) e lt is all =
+      let parts = both_true (is_lt (nat_cmp a x.0)) (below_all nat_cmp a (map shown es)) all in
+      below_at a es i e (omega arith) is parts.1
+
+  apart : (es : List (ℕ × Object B)) (i : ℕ) (e : ℕ × Object B) → i < length es → e ≡ get_or es i e → IsRising (map shown es)
+      → AllByRecursion (λ x. nat_eq e.0 x.0 ≡ false) (shape_of (map shown (take i es)))
+  apart [] i e lt is rising = absurd (omega arith)
+  apart (x ∷ es) zero e lt is rising = tt
+  apart (x ∷ es) (suc i) e lt is rising =
+      let parts = both_true (below_all nat_cmp x.0 (map shown es)) (finite.is_sorted nat_cmp (map shown es)) rising in
+      let less = below_at x.0 es i e (omega arith) is parts.0 in
+      (ne_eqb e.0 x.0 (λ alike. absurd (omega (arith, alike))), apart es i e (omega arith) is parts.1)
+
+  pub not_yet : (es : List (ℕ × Object B)) (i : ℕ) (e : ℕ × Object B) (event : ℕ) → i < length es → e ≡ get_or es i e → IsRising (map shown es)
+      → has (flat_map events_of (shape_of (map shown (take i es)))) (raise e.0 event) ≡ false
+  not_yet es i e event lt is rising = others (raise e.0 event) (shape_of (map shown (take i es))) (apart es i e lt is rising)
+
+  -- what is made of one more object
+  pub one_more : {A : Type 0} (F : ℕ × Fixed → List A) (es : List (ℕ × Object B)) (i : ℕ) (e : ℕ × Object B) → i < length es → e ≡ get_or es i e
+      → flat_map F (shape_of (map shown (take (i + 1) es))) ≡ flat_map F (shape_of (map shown (take i es))) ++ F (e.0, fixed (seen e.1))
+  one_more F es i e lt is =
+      ap (λ (xs : List (ℕ × Object B)). flat_map F (shape_of (map shown xs))) (take_more es i e lt ∙ ap (λ (x : ℕ × Object B). take i es ++ x ∷ []) (sym is))
+      ∙ ap (λ (objects : Objects). flat_map F (shape_of objects)) (map-append shown (take i es) (e ∷ []))
+      ∙ ap (flat_map F) (map-append (λ (e : ℕ × Seen). (e.0, fixed e.1)) (map shown (take i es)) (shown e ∷ []))
+      ∙ flat_map-append F (shape_of (map shown (take i es))) ((e.0, fixed (seen e.1)) ∷ [])
+      ∙ ap (λ more. flat_map F (shape_of (map shown (take i es))) ++ more) (append-nil (F (e.0, fixed (seen e.1))))
+
+  pub events_seen : (e : ℕ × Object B) → events_of (e.0, fixed (seen e.1)) ≡ flat_map (λ event. if_any (raise e.0 event) (macros_at event (macros_of e.1))) event_numbers
+  unfolding events_of
+  events_seen e = ap (λ (entries : List MacroEntry). flat_map (λ event. if_any (raise e.0 event) (macros_at event entries)) event_numbers) (seen_macros e.1)
+
+  pub groups_seen : (e : ℕ × Object B) → macros_of_events (e.0, fixed (seen e.1)) ≡ flat_map (λ event. non_empty (macros_at event (macros_of e.1))) event_numbers
+  unfolding macros_of_events
+  groups_seen e = ap (λ (entries : List MacroEntry). flat_map (λ event. non_empty (macros_at event entries)) event_numbers) (seen_macros e.1)
+
+-- ---- these are the events at which macros are listed, and their macros
+
+IsFound : Shape → ℕ × Fixed → Type 0
+IsFound shape e = fixed_at shape e.0 ≡ Some e.1
+
+found_later : (e : ℕ × Fixed) (es xs : Shape) → IsTrue (below_all nat_cmp e.0 xs) → AllByRecursion (IsFound es) xs → AllByRecursion (IsFound (e ∷ es)) xs
+unfolding IsFound
+found_later e es [] higher all = tt
+found_later e es (x ∷ xs) higher all =
+    let parts = both_true (is_lt (nat_cmp e.0 x.0)) (below_all nat_cmp e.0 xs) higher in
+    let lt = is_below e.0 x.0 (three e.0 x.0) parts.0 in (
+      ap (λ (o : Ordering). cond (is_eq o) (Some e.1) (fixed_at es x.0)) (greater x.0 e.0 lt) ∙ all.0,
+      found_later e es xs parts.1 all.1,
+    )
+
+all_found : (shape : Shape) → IsTrue (finite.is_sorted nat_cmp shape) → AllByRecursion (IsFound shape) shape
+unfolding IsFound
+all_found [] rising = tt
+all_found (e ∷ shape) rising =
+    let parts = both_true (below_all nat_cmp e.0 shape) (finite.is_sorted nat_cmp shape) rising in (
+      ap (λ (o : Ordering). cond (is_eq o) (Some e.1) (fixed_at shape e.0)) (equal e.0),
+      found_later e shape shape parts.0 (all_found shape parts.1),
+    )
+
+-- the macros listed at an event of an object that is there
+pub listed_here : (shape : Shape) (id : ℕ) (f : Fixed) (event : ℕ) → fixed_at shape id ≡ Some f → IsTrue (is_event event)
+    → listed shape (raise id event) ≡ macros_at event f.macros
+unfolding listed
+listed_here shape id f event found is =
+    ap (λ (b : Bool). cond b (flat_map (listed_in event) (option_to_list (fixed_at shape id))) []) is
+    ∙ ap (λ (o : Option Fixed). flat_map (listed_in event) (option_to_list o)) found
+    ∙ append-nil (macros_at event f.macros)
+
+same_events : (shape : Shape) (id : ℕ) (f : Fixed) (ns : List ℕ) → fixed_at shape id ≡ Some f → IsTrue (list_all is_event ns)
+    → flat_map (λ event. if_any (raise id event) (macros_at event f.macros)) ns ≡ flat_map (λ event. if_listed shape (raise id event)) ns
+same_events shape id f [] found all = refl
+same_events shape id f (n ∷ ns) found all =
+    let parts = both_true (is_event n) (list_all is_event ns) all in
+    ap₂ (λ (one more : List Raised). one ++ more) (ap (if_any (raise id n)) (sym (listed_here shape id f n found parts.0))) (same_events shape id f ns found parts.1)
+
+all_events : (shape es : Shape) → AllByRecursion (IsFound shape) es
+    → flat_map events_of es ≡ flat_map (λ e. flat_map (λ event. if_listed shape (raise e.0 event)) event_numbers) es
+unfolding IsFound events_of
+all_events shape [] all = refl
+all_events shape (e ∷ es) all =
+    ap₂ (λ (one more : List Raised). one ++ more) (same_events shape e.0 e.1 event_numbers all.0 refl) (all_events shape es all.1)
+
+group_case : (shape : Shape) (r : Raised) (ms : List ℕ) → listed shape r ≡ ms → map (listed shape) (if_any r ms) ≡ non_empty ms
+group_case shape r [] is = refl
+group_case shape r (m ∷ ms) is = ap (λ (l : List ℕ). l ∷ []) is
+
+same_groups : (shape : Shape) (id : ℕ) (ns : List ℕ) (f : Fixed) → fixed_at shape id ≡ Some f → IsTrue (list_all is_event ns)
+    → flat_map (λ event. non_empty (macros_at event f.macros)) ns ≡ map (listed shape) (flat_map (λ event. if_any (raise id event) (macros_at event f.macros)) ns)
+same_groups shape id [] f found all = refl
+same_groups shape id (n ∷ ns) f found all =
+    let parts = both_true (is_event n) (list_all is_event ns) all in
+    let rest = flat_map (λ event. if_any (raise id event) (macros_at event f.macros)) ns in
+    ap₂ (λ (one more : List (List ℕ)). one ++ more)
+    (sym (group_case shape (raise id n) (macros_at n f.macros) (listed_here shape id f n found parts.0))) (same_groups shape id ns f found parts.1)
+    ∙ sym (map-append (listed shape) (if_any (raise id n) (macros_at n f.macros)) rest)
+
+all_groups : (shape es : Shape) → AllByRecursion (IsFound shape) es → flat_map macros_of_events es ≡ map (listed shape) (flat_map events_of es)
+unfolding IsFound events_of macros_of_events
+all_groups shape [] all = refl
+all_groups shape (e ∷ es) all =
+    ap₂ (λ (one more : List (List ℕ)). one ++ more) (same_groups shape e.0 event_numbers e.1 all.0 refl) (all_groups shape es all.1)
+    ∙ sym (map-append (listed shape) (events_of e) (flat_map events_of es))
+
+below_fixed : (a : ℕ) (objects : Objects) → below_all nat_cmp a (shape_of objects) ≡ below_all nat_cmp a objects
+below_fixed a [] = refl
+below_fixed a (e ∷ objects) = ap (λ (b : Bool). is_lt (nat_cmp a e.0) && b) (below_fixed a objects)
+
+-- what stays of objects rises as they do
+pub shape_rises : (objects : Objects) → finite.is_sorted nat_cmp (shape_of objects) ≡ finite.is_sorted nat_cmp objects
+shape_rises [] = refl
+shape_rises (e ∷ objects) = ap₂ (λ (a b : Bool). a && b) (below_fixed e.0 objects) (shape_rises objects)
+
+pub rising_shape : (objects : Objects) → IsRising objects → IsTrue (finite.is_sorted nat_cmp (shape_of objects))
+rising_shape objects rising = shape_rises objects ∙ rising
+
+pub events_listed : (objects : Objects) → IsRising objects → flat_map events_of (shape_of objects) ≡ listed_events (shape_of objects)
+events_listed objects rising = all_events (shape_of objects) (shape_of objects) (all_found (shape_of objects) (shape_rises objects ∙ rising))
+
+pub groups_listed : (objects : Objects) → IsRising objects
+    → flat_map macros_of_events (shape_of objects) ≡ map (listed (shape_of objects)) (listed_events (shape_of objects))
+groups_listed objects rising =
+    all_groups (shape_of objects) (shape_of objects) (all_found (shape_of objects) (shape_rises objects ∙ rising))
+    ∙ ap (map (listed (shape_of objects))) (events_listed objects rising)

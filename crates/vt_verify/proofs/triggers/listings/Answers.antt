@@ -1,0 +1,50 @@
+use Rattle.std.proofs.Common.{ℕ, List, ◌++◌, ◌≤◌, length, map, sym, ap, ap₂, subst, ◌∙◌, arith}
+use Rattle.std.proofs.lemmas.List.{take_all}
+use Rattle.std.specs.List.{flat_map}
+use Rattle.vt_objects.specs.declared.entries.MacroEntry.{MacroEntry}
+use Rattle.vt_objects.specs.Stores.{shown}
+use Rattle.vt_verify.specs.declared.events.Raised.{Raised}
+use Rattle.vt_verify.specs.Shapes.{Objects, IsRising, shape_of}
+use Rattle.vt_verify.specs.Triggers.{raise}
+use Rattle.vt_verify.specs.TriggerGraphs.{has, if_any, non_empty, macros_at, event_numbers}
+use Rattle.vt_verify.proofs.Listings.{events_of, macros_of_events, not_yet, one_more, events_seen, groups_seen, events_listed, groups_listed}
+use Rattle.vt_verify.proofs.triggers.listings.Goals as goal
+
+pub put_listings-requires : goal.put_listings-requires
+put_listings-requires c event =
+    ap (λ (keys : List Raised). has keys (raise c.loop-id-item.result.0 event)) c.loop-id.invariant.1
+    ∙ not_yet c.entries-id-items.result.now c.loop-id.id-index c.loop-id-item.result event c.loop-id-test.true c.loop-id-item.is
+    (subst IsRising (sym c.entries-id-items.ensures) c.ids_rise.ensures)
+
+pub loop-id-preserved : goal.loop-id-preserved
+loop-id-preserved c =
+    let items = c.entries-id-items.result.now in
+    let item = c.loop-id-item.result in (
+      c.loop-id.invariant.0,
+      c.in_ok-put_listings.ensures.events
+          ∙ ap₂ (λ (made more : List Raised). made ++ more) c.loop-id.invariant.1
+          (ap (λ (entries : List MacroEntry). flat_map (λ event. if_any (raise item.0 event) (macros_at event entries)) event_numbers) c.macros.ensures
+          ∙ sym (events_seen item))
+          ∙ sym (one_more events_of items c.loop-id.id-index item c.loop-id-test.true c.loop-id-item.is),
+      c.in_ok-put_listings.ensures.groups
+          ∙ ap₂ (λ (made more : List (List ℕ)). made ++ more) c.loop-id.invariant.2
+          (ap (λ (entries : List MacroEntry). flat_map (λ event. non_empty (macros_at event entries)) event_numbers) c.macros.ensures
+          ∙ sym (groups_seen item))
+          ∙ sym (one_more macros_of_events items c.loop-id.id-index item c.loop-id-test.true c.loop-id-item.is),
+    )
+
+pub returns-clause-events : goal.returns-clause-events
+returns-clause-events c =
+    let items = c.entries-id-items.result.now in
+    let end : length items ≤ c.loop-id.id-index = omega (arith, c.loop-id-test.false) in
+    c.loop-id.invariant.1
+    ∙ ap (λ (objects : Objects). flat_map events_of (shape_of objects)) (ap (map shown) (take_all c.loop-id.id-index items end) ∙ c.entries-id-items.ensures)
+    ∙ events_listed c.args.objects.now c.ids_rise.ensures
+
+pub returns-clause-groups : goal.returns-clause-groups
+returns-clause-groups c =
+    let items = c.entries-id-items.result.now in
+    let end : length items ≤ c.loop-id.id-index = omega (arith, c.loop-id-test.false) in
+    c.loop-id.invariant.2
+    ∙ ap (λ (objects : Objects). flat_map macros_of_events (shape_of objects)) (ap (map shown) (take_all c.loop-id.id-index items end) ∙ c.entries-id-items.ensures)
+    ∙ groups_listed c.args.objects.now c.ids_rise.ensures

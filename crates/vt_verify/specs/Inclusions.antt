@@ -1,0 +1,42 @@
+-- Which objects include which, and chains of them (docs/PROFILE.md, "Inclusions and chains").
+use Rattle.std.specs.Prelude.{◌≡◌, ◌≤◌, ℕ, Bool, true, false, ◌==◌, ◌&&◌, not, List, [], ◌∷◌, filter, map, length, Option, Some, None, Contains}
+use Rattle.vt_objects.specs.declared.place.Place.{Place}
+use Rattle.vt_objects.specs.declared.place.Place.TheVariants as places
+use Rattle.vt_objects.specs.declared.slot.Slot.{Slot}
+use Rattle.vt_objects.specs.Records.{Seen}
+use Rattle.vt_objects.specs.References.{slots_of}
+use Rattle.vt_verify.specs.Shapes.{Objects, object_at}
+
+-- children, keys, items, and the value of a pointer
+abbrev pub is_inclusion : Place → Bool
+is_inclusion (places.Child index) = true
+is_inclusion (places.Key index) = true
+is_inclusion (places.Item index) = true
+is_inclusion places.Value = true
+is_inclusion _ = false
+
+-- NULL is none
+abbrev pub includes : Slot → Bool
+includes slot = is_inclusion slot.place && not (slot.id == 0xFFFF)
+
+abbrev pub included_by : Option Seen → List ℕ
+included_by None = []
+included_by (Some o) = map (λ slot. slot.id) (filter includes (slots_of o))
+
+-- the IDs that the object of an ID includes
+abbrev pub included : Objects → ℕ → List ℕ
+included objects id = included_by (object_at objects id)
+
+-- each of them includes the next
+abbrev pub IsChain : Objects → List ℕ → Type 0
+IsChain objects [] = Unit {0}
+IsChain objects (a ∷ []) = Unit {0}
+IsChain objects (a ∷ b ∷ ids) = Contains (included objects a) b × IsChain objects (b ∷ ids)
+
+-- no chain has more than 16 inclusions
+abbrev pub IsShallow : Objects → Type 0
+IsShallow objects = (ids : List ℕ) → IsChain objects ids → length ids ≤ 17
+
+-- a chain of 17 inclusions
+abbrev pub IsTooDeep : Objects → List ℕ → Type 0
+IsTooDeep objects ids = IsChain objects ids × (length ids ≡ 18)

@@ -1,0 +1,13 @@
+pub mod Lists
+pub mod Shapes
+pub mod Places
+pub mod References
+pub mod Inclusions
+pub mod Depths
+pub mod Macros
+pub mod Targets
+pub mod Triggers
+pub mod Budgets
+pub mod TriggerGraphs
+pub mod Rules
+pub mod Reports

@@ -1,0 +1,163 @@
+-- What a pool has to meet, in the order in which it is tested, and what a refusal says (docs/PROFILE.md,
+-- "Verification of a pool").
+use Rattle.std.specs.Prelude.{◌≡◌, ◌≤◌, ◌<◌, ℕ, Bool, true, false, List, [], ◌∷◌, filter, length, take, slice_index, Option, Some, None}
+use Rattle.std.specs.List.{flat_map, AllByRecursion}
+use Rattle.vt_objects.specs.declared.kind.Kind.{Kind}
+use Rattle.vt_objects.specs.declared.kind.Kind.TheVariants as kinds
+use Rattle.vt_rank.specs.Paths.{IsCircle, IsDistinct, HasNoCircle, IsLeastOnCircles}
+use Rattle.vt_verify.specs.declared.reference.Reference.{Reference}
+use Rattle.vt_verify.specs.declared.refusal.Refusal.{Refusal}
+use Rattle.vt_verify.specs.declared.refusal.Refusal.TheVariants as refusals
+use Rattle.vt_verify.specs.Lists.{first_failing}
+use Rattle.vt_verify.specs.Shapes.{Objects, Shape, shape_of}
+use Rattle.vt_verify.specs.References.{references, is_there, fits, values_of}
+use Rattle.vt_verify.specs.Inclusions.{IsShallow, IsTooDeep}
+use Rattle.vt_verify.specs.Macros.{Piece, macros, is_whole, pieces, is_allowed}
+use Rattle.vt_verify.specs.Targets.{macro_references, has_attribute}
+use Rattle.vt_verify.specs.Triggers.{triggered}
+use Rattle.vt_verify.specs.Budgets.{cost, budget}
+
+-- ---- the first culprit of each pass
+
+abbrev pub is_working_set : Kind → Bool
+is_working_set kinds.WorkingSet = true
+is_working_set kind = false
+
+-- how many objects are working sets
+abbrev pub working_sets : Shape → ℕ
+working_sets shape = length (filter (λ e. is_working_set e.1.kind) shape)
+
+abbrev pub missing : Objects → Option Reference
+missing objects = first_failing (is_there (shape_of objects)) (references objects)
+
+abbrev pub wrong_kind : Objects → Option Reference
+wrong_kind objects = first_failing (fits (shape_of objects)) (flat_map (values_of objects) objects)
+
+abbrev pub cut_short : Shape → Option (ℕ × List ℕ)
+cut_short shape = first_failing is_whole (macros shape)
+
+abbrev pub other_command : Shape → Option Piece
+other_command shape = first_failing is_allowed (pieces shape)
+
+abbrev pub macro_missing : Shape → Option Reference
+macro_missing shape = first_failing (is_there shape) (macro_references shape)
+
+abbrev pub macro_wrong_kind : Shape → Option Reference
+macro_wrong_kind shape = first_failing (fits shape) (macro_references shape)
+
+abbrev pub other_attribute : Shape → Option Piece
+other_attribute shape = first_failing (has_attribute shape) (pieces shape)
+
+-- no cost of a macro and no budget of an event is over it
+abbrev pub greatest_budget : ℕ
+greatest_budget = 65535
+
+pub record IsWithinBudget (shape : Shape) : Type 0 where
+  pub costs : (id : ℕ) → cost shape id ≤ greatest_budget
+  pub budgets : (id event : ℕ) → budget shape id event ≤ greatest_budget
+
+-- the least macro over it, or where there is none the least object with such an event
+pub data IsFirstOver (shape : Shape) (id : ℕ) : Type 0 where
+  Macro : greatest_budget < cost shape id → ((other : ℕ) → other < id → cost shape other ≤ greatest_budget) → IsFirstOver shape id
+  Object : ((other : ℕ) → cost shape other ≤ greatest_budget) → (event : ℕ) → greatest_budget < budget shape id event
+      → ((other of : ℕ) → other < id → budget shape other of ≤ greatest_budget) → IsFirstOver shape id
+
+-- ---- the rules
+
+pub data Rule : Type 0 where
+  HasWorkingSet : Rule
+  HasOneWorkingSet : Rule
+  ReferencesAreThere : Rule
+  ReferencesFit : Rule
+  ChainsAreShort : Rule
+  MacrosAreWhole : Rule
+  CommandsAreAllowed : Rule
+  TargetsAreThere : Rule
+  TargetsFit : Rule
+  AttributesAreThere : Rule
+  TriggersAreNoCircle : Rule
+  BudgetsAreWithin : Rule
+
+-- in the order of the tests
+abbrev pub rules : List Rule
+rules =
+    HasWorkingSet ∷ HasOneWorkingSet ∷ ReferencesAreThere ∷ ReferencesFit ∷ ChainsAreShort ∷ MacrosAreWhole
+    ∷ CommandsAreAllowed ∷ TargetsAreThere ∷ TargetsFit ∷ AttributesAreThere ∷ TriggersAreNoCircle ∷ BudgetsAreWithin ∷ []
+
+abbrev pub Holds : Objects → Rule → Type 0
+Holds objects HasWorkingSet = 1 ≤ working_sets (shape_of objects)
+Holds objects HasOneWorkingSet = working_sets (shape_of objects) ≤ 1
+Holds objects ReferencesAreThere = missing objects ≡ None
+Holds objects ReferencesFit = wrong_kind objects ≡ None
+Holds objects ChainsAreShort = IsShallow objects
+Holds objects MacrosAreWhole = cut_short (shape_of objects) ≡ None
+Holds objects CommandsAreAllowed = other_command (shape_of objects) ≡ None
+Holds objects TargetsAreThere = macro_missing (shape_of objects) ≡ None
+Holds objects TargetsFit = macro_wrong_kind (shape_of objects) ≡ None
+Holds objects AttributesAreThere = other_attribute (shape_of objects) ≡ None
+Holds objects TriggersAreNoCircle = HasNoCircle (triggered (shape_of objects))
+Holds objects BudgetsAreWithin = IsWithinBudget (shape_of objects)
+
+-- A pool is acceptable where all rules hold.
+abbrev pub IsAcceptable : Objects → Type 0
+IsAcceptable objects = AllByRecursion (Holds objects) rules
+
+-- ---- refusals
+
+-- the first of a pass, as parent and ID
+abbrev pub Names : Option Reference → ℕ → ℕ → Type 0
+Names first parent id = (r : Reference) × (first ≡ Some r) × (r.parent ≡ parent) × (r.id ≡ id)
+
+-- the first of a pass, as a macro and the place in its bytes
+abbrev pub IsAt : Option Piece → ℕ → ℕ → Type 0
+IsAt first id at = (p : Piece) × (first ≡ Some p) × (p.id ≡ id) × (p.at ≡ at)
+
+-- the IDs are a circle of triggers, none twice, and the first of them is the least on any
+pub record IsLeastCircle (shape : Shape) (path : List ℕ) : Type 0 where
+  pub circle : IsCircle (triggered shape) path
+  pub once : IsDistinct path
+  pub least : IsLeastOnCircles (triggered shape) (slice_index path 0)
+
+-- how many rules are tested before
+abbrev pub place : Rule → ℕ
+place HasWorkingSet = 0
+place HasOneWorkingSet = 1
+place ReferencesAreThere = 2
+place ReferencesFit = 3
+place ChainsAreShort = 4
+place MacrosAreWhole = 5
+place CommandsAreAllowed = 6
+place TargetsAreThere = 7
+place TargetsFit = 8
+place AttributesAreThere = 9
+place TriggersAreNoCircle = 10
+place BudgetsAreWithin = 11
+
+-- the rules before this one hold
+abbrev pub HoldBefore : Objects → Rule → Type 0
+HoldBefore objects rule = AllByRecursion (Holds objects) (take (place rule) rules)
+
+-- What a refusal says of a pool: the first rule that fails, and its first culprit. Memory may run out at any growth.
+abbrev pub IsRefused : Objects → Refusal → Type 0
+IsRefused objects refusals.NoWorkingSet = working_sets (shape_of objects) ≡ 0
+IsRefused objects refusals.TwoWorkingSets = 1 < working_sets (shape_of objects)
+IsRefused objects (refusals.Missing parent id) = HoldBefore objects ReferencesAreThere × Names (missing objects) parent id
+IsRefused objects (refusals.WrongKind parent id) = HoldBefore objects ReferencesFit × Names (wrong_kind objects) parent id
+IsRefused objects (refusals.TooDeep chain) = HoldBefore objects ChainsAreShort × IsTooDeep objects chain.items
+IsRefused objects (refusals.MacroBytes id) =
+    HoldBefore objects MacrosAreWhole × ((m : ℕ × List ℕ) × (cut_short (shape_of objects) ≡ Some m) × (m.0 ≡ id))
+IsRefused objects (refusals.MacroCommand id at) = HoldBefore objects CommandsAreAllowed × IsAt (other_command (shape_of objects)) id at
+IsRefused objects (refusals.MacroMissing parent id) = HoldBefore objects TargetsAreThere × Names (macro_missing (shape_of objects)) parent id
+IsRefused objects (refusals.MacroKind parent id) = HoldBefore objects TargetsFit × Names (macro_wrong_kind (shape_of objects)) parent id
+IsRefused objects (refusals.MacroValue id at) = HoldBefore objects AttributesAreThere × IsAt (other_attribute (shape_of objects)) id at
+IsRefused objects (refusals.MacroCircle path) = HoldBefore objects TriggersAreNoCircle × IsLeastCircle (shape_of objects) path.items
+IsRefused objects (refusals.OverBudget id) = HoldBefore objects BudgetsAreWithin × IsFirstOver (shape_of objects) id
+IsRefused objects refusals.OutOfMemory = Unit {0}
+
+abbrev pub IsWantOfMemory : Refusal → Type 0
+IsWantOfMemory refusals.OutOfMemory = Unit {0}
+IsWantOfMemory refusal = ⊥
+
+-- Of a pool that is acceptable no refusal says anything but want of memory.
+abbrev pub RefusalsAreTrue : Type 0
+RefusalsAreTrue = (objects : Objects) (refusal : Refusal) → IsAcceptable objects → IsRefused objects refusal → IsWantOfMemory refusal

@@ -1,0 +1,97 @@
+//! Pools that are accepted.
+
+ghost use Rattle.std.specs.Prelude.{◌≡◌, ◌++◌, map, string_bytes, IfOk, OnOk, OnErr};
+ghost use Rattle.std.specs.List.{flat_map};
+ghost use Rattle.vt_objects.specs.Stores.{shown};
+ghost use Rattle.vt_verify.specs.Shapes.{IsRising, shape_of};
+ghost use Rattle.vt_verify.specs.Budgets.{CostsAreTotals, budget};
+ghost use Rattle.vt_verify.specs.Rules.{IsAcceptable};
+ghost use Rattle.vt_verify.specs.Reports.{report_text, budget_line};
+
+use crate::events::Raised;
+use crate::objects::Objects;
+use crate::triggers::Triggers;
+use std::alloc::{AllocError, Global};
+use std::marker::Model;
+use vt_objects::{Object, ObjectId};
+use vt_rank::Costs;
+
+/// The objects of a pool that meets all rules, in memory of their own, and what their events can cost.
+#[derive(Drop)]
+pub struct Accepted {
+    pub(crate) objects: Objects,
+    pub(crate) triggers: Triggers,
+    pub(crate) costs: Costs,
+}
+
+impl Model for Accepted {
+    ghost use Rattle.vt_rank.specs.Costs.{AreCosts};
+    ghost use Rattle.vt_verify.specs.Shapes.{Objects, IsRising, shape_of};
+    ghost use Rattle.vt_verify.specs.Rules.{IsAcceptable};
+    ghost use Rattle.vt_verify.specs.Budgets.{CostsAreTotals};
+    ghost use Rattle.vt_verify.specs.TriggerGraphs.{AreTriggers};
+
+    ghost Value = { Objects };
+
+    ghost view = { λ a. a.objects };
+
+    ghost invariant = { λ a. IsRising a.objects × IsAcceptable a.objects
+        × AreTriggers (shape_of a.objects) a.triggers.events.keys a.triggers.graph
+        × AreCosts a.triggers.graph a.costs × CostsAreTotals (shape_of a.objects) };
+}
+
+impl Accepted {
+    /// The objects by rising ID.
+    pub fn objects(&self) -> &[(ObjectId, Object<Vec<u8>>)]
+        ensures all { map shown result.now ≡ self.now }
+        ensures rising { IsRising self.now }
+        ensures acceptable { IsAcceptable self.now }
+    {
+        self.objects.entries()
+    }
+
+    /// How many steps an event of an object can cost at most: 0 where it lists no macro, and for a number that is no
+    /// event's.
+    pub fn budget(&self, id: ObjectId, event: u8) -> u32
+        ensures budget { result ≡ budget (shape_of self.now) id event }
+        // Each macro costs what its commands cost.
+        ensures totals { CostsAreTotals (shape_of self.now) }
+    {
+        match self.triggers.events.get_index_of(&Raised { id, event }) {
+            Some(group) => self.costs.group(&self.triggers.graph, group),
+            None => 0,
+        }
+    }
+
+    /// Appends the report: how many objects there are, and the budget of each event that lists a macro. After
+    /// `OutOfMemory` the vector is as it was. docs/PROFILE.md, "The report of an accepted pool".
+    pub fn report(&self, alloc: Global, out: &mut Vec<u8>) -> Result<(), AllocError>
+        ensures ok { OnOk result (out.new.items ≡ out.old.items ++ report_text self.now) }
+        ensures err { OnErr result (out.new.items ≡ out.old.items) }
+    {
+        let text = self.text(alloc)?;
+        out.extend_from_slice(&text)
+    }
+
+    fn text(&self, alloc: Global) -> Result<Vec<u8>, AllocError>
+        ensures { IfOk result (λ text. text.items ≡ report_text self.now) }
+    {
+        let mut text = Vec::new(alloc);
+        let count = self.objects().len();
+        text.extend_from_slice(format!(in alloc; "accepted {count} objects\n")?.as_bytes())?;
+        for group in 0..self.triggers.events.len() {
+            let raised = self.triggers.events[group];
+            let line = line(alloc, raised, self.budget(raised.id, raised.event))?;
+            text.extend_from_slice(line.as_bytes())?;
+        }
+        Ok(text)
+    }
+}
+
+fn line(alloc: Global, raised: Raised, budget: u32) -> Result<String, AllocError>
+    ensures { IfOk result (λ line. string_bytes line ≡ budget_line raised budget) }
+{
+    let id = raised.id.raw();
+    let event = raised.event;
+    format!(in alloc; "object {id} event {event} budget {budget}\n")
+}

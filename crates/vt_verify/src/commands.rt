@@ -1,0 +1,29 @@
+//! The commands of macros.
+
+ghost use Rattle.std.specs.Prelude.{◌≡◌};
+ghost use Rattle.std.specs.Option.{option_map};
+ghost use Rattle.vt_objects.specs.Records.{seen};
+ghost use Rattle.vt_verify.specs.Shapes.{fixed};
+ghost use Rattle.vt_verify.specs.Macros.{bytes_in, macro_command};
+
+use vt_objects::{Command, Object, ObjectId};
+
+/// The bytes of a macro, if it is one that may be named: its ID is at most 255.
+pub(crate) fn named_macro(id: ObjectId, object: &Object<Vec<u8>>) -> Option<&[u8]>
+    ensures { option_map (λ bytes. bytes.now) result ≡ bytes_in id (fixed (seen object.now)) }
+{
+    match object {
+        Object::Macro(o) if id.raw() <= 255 => Some(o.bytes.as_slice()),
+        _ => None,
+    }
+}
+
+/// The command that a piece of a macro's bytes is, if it is one that macros may have: all but Delete Object Pool.
+pub(crate) fn macro_command(piece: &[u8]) -> Option<Command<'_>>
+    ensures { result ≡ macro_command piece.now }
+{
+    match Command::read(piece)? {
+        Command::DeletePool => None,
+        command => Some(command),
+    }
+}

@@ -1,0 +1,100 @@
+//! Pools that are accepted, and pools that are not.
+
+mod budgets;
+mod inclusions;
+mod refusals;
+
+use super::*;
+use std::alloc::{AllocError, Global};
+use std::test::Fail;
+use vt_pool::read_pool;
+
+/// A Working Set 0 that shows the Data Mask 1000, with the Container 100.
+const WORKING_SET: &[u8] = &[0, 0, 0, 0, 1, 0xE8, 3, 0, 0, 0];
+
+const MASK: &[u8] = &[0xE8, 3, 1, 0, 0xFF, 0xFF, 1, 0, 100, 0, 10, 0, 5, 0];
+
+const CONTAINER: &[u8] = &[100, 0, 3, 50, 0, 20, 0, 0, 0, 0];
+
+/// The Font 5 that lists macro 1 at event 11, and macro 1, which changes it.
+const OWN_FONT: &[u8] = &[5, 0, 23, 0, 0, 0, 0, 1, 11, 1];
+
+const OWN_MACRO: &[u8] = &[1, 0, 28, 8, 0, 0xAA, 5, 0, 0, 0, 0, 0, 0xFF];
+
+/// Appends these parts.
+fn put(bytes: &mut Vec<u8>, parts: &[&[u8]]) -> Result<(), AllocError> {
+    for part in parts {
+        bytes.extend_from_slice(part)?;
+    }
+    Ok(())
+}
+
+/// Whether the records, joined, have this report.
+fn reports(alloc: Global, records: &[&[u8]], wanted: &str) -> Result<bool, Fail> {
+    let mut bytes = Vec::new(alloc);
+    put(&mut bytes, records)?;
+    let pool = read_pool(alloc, &bytes)?;
+    let mut text = Vec::new(alloc);
+    match verify(alloc, &pool) {
+        Ok(accepted) => accepted.report(alloc, &mut text)?,
+        Err(refusal) => {
+            let line = format!(in alloc; "{refusal}\n")?;
+            text.extend_from_slice(line.as_bytes())?;
+        }
+    }
+    Ok(text.as_slice() == wanted.as_bytes())
+}
+
+#[test]
+fn no_working_set(rt: HostRuntime) -> Result<(), Fail> {
+    assert!(rt; reports(rt.alloc(), &[], "refused 1 NoWorkingSet\n")?);
+    assert!(rt; reports(rt.alloc(), &[CONTAINER], "refused 1 NoWorkingSet\n")?);
+    Ok(())
+}
+
+#[test]
+fn three_objects(rt: HostRuntime) -> Result<(), Fail> {
+    let records = [WORKING_SET, MASK, CONTAINER];
+    assert!(rt; reports(rt.alloc(), &records, "accepted 3 objects\n")?);
+    Ok(())
+}
+
+#[test]
+fn missing_container(rt: HostRuntime) -> Result<(), Fail> {
+    assert!(rt;
+        reports(
+            rt.alloc(),
+            &[WORKING_SET, MASK],
+            "refused 3 Missing 1000 100\n"
+        )?
+    );
+    Ok(())
+}
+
+#[test]
+fn macro_circle(rt: HostRuntime) -> Result<(), Fail> {
+    let records = [WORKING_SET, MASK, CONTAINER, OWN_FONT, OWN_MACRO];
+    assert!(rt; reports(rt.alloc(), &records, "refused 11 MacroCircle 1\n")?);
+    Ok(())
+}
+
+/// The Container 100 with macro 1 at event 3 and macro 2 at event 4, the Font 261 with macro 3 at event 11, the
+/// macros 1 and 2, which change that font, and macro 3, which sets the volume.
+const LISTING: &[u8] = &[100, 0, 3, 50, 0, 20, 0, 0, 0, 2, 3, 1, 4, 2];
+
+const FONT: &[u8] = &[5, 1, 23, 0, 0, 0, 0, 1, 11, 3];
+
+const MACROS: &[u8] = &[
+    1, 0, 28, 8, 0, 0xAA, 5, 1, 0, 0, 0, 0, 0xFF, // macro 1
+    2, 0, 28, 8, 0, 0xAA, 5, 1, 0, 0, 0, 0, 0xFF, // macro 2
+    3, 0, 28, 8, 0, 0xA4, 50, 0xFF, 0xFF, 0xFF, 0xFF, 0xFF, 0xFF, // macro 3
+];
+
+#[test]
+fn budgets_of_events(rt: HostRuntime) -> Result<(), Fail> {
+    let records = [WORKING_SET, MASK, LISTING, FONT, MACROS];
+    let wanted =
+        "accepted 7 objects\nobject 100 event 3 budget 2\nobject 100 event 4 budget 2\nobject 261 event 11 budget 1\n";
+    assert!(rt; reports(rt.alloc(), &records, wanted)?);
+    Ok(())
+}

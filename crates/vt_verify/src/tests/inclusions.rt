@@ -1,0 +1,127 @@
+//! Chains of inclusions, as long as they may be and longer.
+
+ghost use Rattle.std.specs.Prelude.{◌<◌};
+
+use super::*;
+use std::alloc::AllocError;
+
+/// Writes a container that lists a child so many times.
+fn write_container(bytes: &mut Vec<u8>, id: u8, child: u8, times: u8) -> Result<(), AllocError> {
+    bytes.extend_from_slice(&[id, 0, 3, 50, 0, 20, 0, 0, times, 0])?;
+    for _ in 0..times {
+        bytes.extend_from_slice(&[child, 0, 0, 0, 0, 0])?;
+    }
+    Ok(())
+}
+
+/// Containers from 100 on, of which each lists the next so many times, and the last one this ID.
+fn containers(alloc: Global, count: u8, times: u8, last: u8) -> Result<Vec<u8>, AllocError>
+    requires { count < 100 }
+{
+    let mut bytes = Vec::new(alloc);
+    for id in 100..99 + count {
+        write_container(&mut bytes, id, id + 1, times)?;
+    }
+    write_container(&mut bytes, 99 + count, last, 1)?;
+    Ok(bytes)
+}
+
+/// The Output Number 9, which includes nothing.
+const LAST: &[u8] = &[
+    9, 0, 12, 50, 0, 20, 0, 0, 0xFF, 0xFF, 0, 0xFF, 0xFF, 0, 0, 0, 0, 0, 0, 0, 0, 0, 0, 0x80, 0x3F,
+    0, 0, 0, 0,
+];
+
+#[test]
+fn sixteen_inclusions(rt: HostRuntime) -> Result<(), Fail> {
+    let containers = containers(rt.alloc(), 15, 1, 9)?;
+    let records = [WORKING_SET, MASK, LAST, containers.as_slice()];
+    assert!(rt; reports(rt.alloc(), &records, "accepted 18 objects\n")?);
+    Ok(())
+}
+
+#[test]
+fn seventeen_inclusions(rt: HostRuntime) -> Result<(), Fail> {
+    let containers = containers(rt.alloc(), 16, 1, 9)?;
+    let records = [WORKING_SET, MASK, LAST, containers.as_slice()];
+    let wanted =
+        "refused 5 TooDeep 1000 100 101 102 103 104 105 106 107 108 109 110 111 112 113 114 115 9\n";
+    assert!(rt; reports(rt.alloc(), &records, wanted)?);
+    Ok(())
+}
+
+#[test]
+fn itself(rt: HostRuntime) -> Result<(), Fail> {
+    let containers = containers(rt.alloc(), 1, 1, 100)?;
+    let records = [WORKING_SET, MASK, containers.as_slice()];
+    let wanted =
+        "refused 5 TooDeep 100 100 100 100 100 100 100 100 100 100 100 100 100 100 100 100 100 100\n";
+    assert!(rt; reports(rt.alloc(), &records, wanted)?);
+    Ok(())
+}
+
+#[test]
+fn ring(rt: HostRuntime) -> Result<(), Fail> {
+    let containers = containers(rt.alloc(), 2, 1, 100)?;
+    let records = [WORKING_SET, MASK, containers.as_slice()];
+    let wanted =
+        "refused 5 TooDeep 100 101 100 101 100 101 100 101 100 101 100 101 100 101 100 101 100 101\n";
+    assert!(rt; reports(rt.alloc(), &records, wanted)?);
+    Ok(())
+}
+
+/// The Input List 200 with the items NULL and 201, and the Object Pointer 201 with the value 9.
+const LIST: &[u8] = &[
+    200, 0, 10, 50, 0, 20, 0, 0xFF, 0xFF, 0, 2, 1, 0, 0xFF, 0xFF, 201, 0,
+];
+
+const POINTER: &[u8] = &[201, 0, 27, 9, 0];
+
+#[test]
+fn list_and_pointer(rt: HostRuntime) -> Result<(), Fail> {
+    let shallow = containers(rt.alloc(), 13, 1, 200)?;
+    let records = [WORKING_SET, MASK, LAST, shallow.as_slice(), LIST, POINTER];
+    assert!(rt; reports(rt.alloc(), &records, "accepted 18 objects\n")?);
+    let deep = containers(rt.alloc(), 14, 1, 200)?;
+    let records = [WORKING_SET, MASK, LAST, deep.as_slice(), LIST, POINTER];
+    let wanted =
+        "refused 5 TooDeep 1000 100 101 102 103 104 105 106 107 108 109 110 111 112 113 200 201 9\n";
+    assert!(rt; reports(rt.alloc(), &records, wanted)?);
+    Ok(())
+}
+
+/// The mask with the Soft Key Mask 200, which has the Key 201, in which the Container 100 is.
+const KEYS: &[u8] = &[
+    0xE8, 3, 1, 0, 200, 0, 0, 0, // mask
+    200, 0, 4, 0, 1, 0, 201, 0, // soft key mask
+    201, 0, 5, 0, 1, 1, 0, 100, 0, 0, 0, 0, 0, // key
+];
+
+#[test]
+fn keys(rt: HostRuntime) -> Result<(), Fail> {
+    let shallow = containers(rt.alloc(), 14, 1, 9)?;
+    let records = [WORKING_SET, KEYS, LAST, shallow.as_slice()];
+    assert!(rt; reports(rt.alloc(), &records, "accepted 19 objects\n")?);
+    let deep = containers(rt.alloc(), 15, 1, 9)?;
+    let records = [WORKING_SET, KEYS, LAST, deep.as_slice()];
+    let wanted =
+        "refused 5 TooDeep 200 201 100 101 102 103 104 105 106 107 108 109 110 111 112 113 114 9\n";
+    assert!(rt; reports(rt.alloc(), &records, wanted)?);
+    Ok(())
+}
+
+#[test]
+fn active_mask(rt: HostRuntime) -> Result<(), Fail> {
+    let containers = containers(rt.alloc(), 1, 1, 0)?;
+    let records = [WORKING_SET, MASK, containers.as_slice()];
+    assert!(rt; reports(rt.alloc(), &records, "accepted 3 objects\n")?);
+    Ok(())
+}
+
+#[test]
+fn many_inclusions(rt: HostRuntime) -> Result<(), Fail> {
+    let containers = containers(rt.alloc(), 15, 255, 9)?;
+    let records = [WORKING_SET, MASK, LAST, containers.as_slice()];
+    assert!(rt; reports(rt.alloc(), &records, "accepted 18 objects\n")?);
+    Ok(())
+}

@@ -1,0 +1,125 @@
+//! One pool for each refusal.
+
+use super::{CONTAINER, MASK, WORKING_SET, reports};
+use std::test::Fail;
+
+#[test]
+fn working_sets(rt: HostRuntime) -> Result<(), Fail> {
+    let second: &[u8] = &[1, 0, 0, 0, 1, 0xE8, 3, 0, 0, 0];
+    assert!(rt; reports(rt.alloc(), &[MASK, CONTAINER], "refused 1 NoWorkingSet\n")?);
+    let records = [WORKING_SET, MASK, CONTAINER, second];
+    assert!(rt; reports(rt.alloc(), &records, "refused 2 TwoWorkingSets\n")?);
+    Ok(())
+}
+
+/// The Data Mask 1000 with a NULL child.
+const NULL_CHILD: &[u8] = &[0xE8, 3, 1, 0, 0xFF, 0xFF, 1, 0, 0xFF, 0xFF, 10, 0, 5, 0];
+
+/// The Font 200, which is drawn nowhere.
+const FONT: &[u8] = &[200, 0, 23, 0, 0, 0, 0, 0];
+
+/// The Data Mask 1000 with the child 200.
+const CHILD_200: &[u8] = &[0xE8, 3, 1, 0, 0xFF, 0xFF, 1, 0, 200, 0, 10, 0, 5, 0];
+
+/// The Object Pointers 200, without a value, to the Font 100, and to itself.
+const POINTER: &[u8] = &[200, 0, 27, 0xFF, 0xFF];
+
+const TO_FONT: &[u8] = &[200, 0, 27, 201, 0];
+
+const FONT_201: &[u8] = &[201, 0, 23, 0, 0, 0, 0, 0];
+
+const TO_ITSELF: &[u8] = &[200, 0, 27, 200, 0];
+
+#[test]
+fn references(rt: HostRuntime) -> Result<(), Fail> {
+    let alloc = rt.alloc();
+    assert!(rt;
+        reports(
+            alloc,
+            &[WORKING_SET, NULL_CHILD],
+            "refused 3 Missing 1000 65535\n"
+        )?
+    );
+    assert!(rt; reports(alloc, &[WORKING_SET], "refused 3 Missing 0 1000\n")?);
+    let records = [WORKING_SET, CHILD_200, FONT];
+    assert!(rt; reports(alloc, &records, "refused 4 WrongKind 1000 200\n")?);
+    let records = [WORKING_SET, CHILD_200, POINTER];
+    assert!(rt; reports(alloc, &records, "accepted 3 objects\n")?);
+    let records = [WORKING_SET, CHILD_200, TO_FONT, FONT_201];
+    assert!(rt; reports(alloc, &records, "refused 4 WrongKind 1000 201\n")?);
+    let records = [WORKING_SET, CHILD_200, TO_ITSELF];
+    assert!(rt; reports(alloc, &records, "refused 4 WrongKind 200 200\n")?);
+    Ok(())
+}
+
+/// Macros 9: Set Audio Volume less its last byte, Delete Object Pool after Set Audio Volume, and what hides the
+/// container 100, the font 200 and what is not there.
+const CUT: &[u8] = &[9, 0, 28, 7, 0, 0xA4, 50, 0xFF, 0xFF, 0xFF, 0xFF, 0xFF];
+
+const DELETES: &[u8] = &[
+    9, 0, 28, 16, 0, 0xA4, 50, 0xFF, 0xFF, 0xFF, 0xFF, 0xFF, 0xFF, 0xB2, 0xFF, 0xFF, 0xFF, 0xFF,
+    0xFF, 0xFF, 0xFF,
+];
+
+const HIDES: &[u8] = &[9, 0, 28, 8, 0, 0xA0, 100, 0, 0, 0xFF, 0xFF, 0xFF, 0xFF];
+
+const HIDES_FONT: &[u8] = &[9, 0, 28, 8, 0, 0xA0, 200, 0, 0, 0xFF, 0xFF, 0xFF, 0xFF];
+
+const HIDES_NULL: &[u8] = &[9, 0, 28, 8, 0, 0xA0, 0xFF, 0xFF, 0, 0xFF, 0xFF, 0xFF, 0xFF];
+
+#[test]
+fn macros(rt: HostRuntime) -> Result<(), Fail> {
+    let alloc = rt.alloc();
+    let pool = |last| [WORKING_SET, MASK, CONTAINER, FONT, last];
+    assert!(rt; reports(alloc, &pool(CUT), "refused 6 MacroBytes 9\n")?);
+    assert!(rt; reports(alloc, &pool(DELETES), "refused 7 MacroCommand 9 8\n")?);
+    assert!(rt; reports(alloc, &pool(HIDES), "accepted 5 objects\n")?);
+    assert!(rt; reports(alloc, &pool(HIDES_FONT), "refused 9 MacroKind 9 200\n")?);
+    assert!(rt; reports(alloc, &pool(HIDES_NULL), "refused 8 MacroMissing 9 65535\n")?);
+    Ok(())
+}
+
+/// The macro 300, which no entry can name, with a byte of no command.
+const UNNAMED: &[u8] = &[44, 1, 28, 1, 0, 0x92];
+
+/// Fonts 201 that list macro 9 at event 11, at event 27, which there is not, and at event 21, which nothing raises.
+const AT_11: &[u8] = &[201, 0, 23, 0, 0, 0, 0, 1, 11, 9];
+
+const AT_27: &[u8] = &[201, 0, 23, 0, 0, 0, 0, 1, 27, 9];
+
+const AT_21: &[u8] = &[201, 0, 23, 0, 0, 0, 0, 1, 21, 9];
+
+/// The Number Variable 9.
+const NO_MACRO: &[u8] = &[9, 0, 21, 0, 0, 0, 0];
+
+#[test]
+fn entries(rt: HostRuntime) -> Result<(), Fail> {
+    let alloc = rt.alloc();
+    let pool = |font, last| [WORKING_SET, MASK, CONTAINER, UNNAMED, font, last];
+    assert!(rt; reports(alloc, &pool(AT_11, FONT), "refused 8 MacroMissing 201 9\n")?);
+    assert!(rt; reports(alloc, &pool(AT_11, NO_MACRO), "refused 9 MacroKind 201 9\n")?);
+    assert!(rt; reports(alloc, &pool(AT_27, NO_MACRO), "accepted 6 objects\n")?);
+    let budget = "accepted 6 objects\nobject 201 event 21 budget 1\n";
+    assert!(rt; reports(alloc, &pool(AT_21, HIDES), budget)?);
+    Ok(())
+}
+
+/// Macros 9: Change Attribute 2 of the font 200, attribute 5, which it has not, and an attribute of the Number
+/// Variable 201, which has none.
+const SIZE: &[u8] = &[9, 0, 28, 8, 0, 0xAF, 200, 0, 2, 1, 0, 0, 0];
+
+const FIFTH: &[u8] = &[9, 0, 28, 8, 0, 0xAF, 200, 0, 5, 1, 0, 0, 0];
+
+const OF_VARIABLE: &[u8] = &[9, 0, 28, 8, 0, 0xAF, 201, 0, 1, 1, 0, 0, 0];
+
+const VARIABLE: &[u8] = &[201, 0, 21, 0, 0, 0, 0];
+
+#[test]
+fn attributes(rt: HostRuntime) -> Result<(), Fail> {
+    let alloc = rt.alloc();
+    let pool = |last| [WORKING_SET, MASK, CONTAINER, FONT, VARIABLE, last];
+    assert!(rt; reports(alloc, &pool(SIZE), "accepted 6 objects\n")?);
+    assert!(rt; reports(alloc, &pool(FIFTH), "refused 10 MacroValue 9 0\n")?);
+    assert!(rt; reports(alloc, &pool(OF_VARIABLE), "refused 9 MacroKind 9 201\n")?);
+    Ok(())
+}

@@ -1,0 +1,275 @@
+//! The triggers of macros, as a graph.
+
+ghost use Rattle.std.specs.Prelude.{◌≡◌, ◌<◌, ◌++◌, ◌∷◌, ℕ, [], map, None, IfOk, OnOk, IsTrue, slice_index_or, is_some, false, if◌then◌else◌};
+ghost use Rattle.std.specs.Option.{option_map, option_to_list};
+ghost use Rattle.std.specs.List.{flat_map};
+ghost use Rattle.vt_objects.specs.Pieces.{cut};
+ghost use Rattle.vt_rank.specs.Graphs.{lists};
+ghost use Rattle.vt_verify.specs.Shapes.{shape_of, fixed_at};
+ghost use Rattle.vt_verify.specs.Macros.{bytes_in, macro_command, commands_of, commands};
+ghost use Rattle.vt_verify.specs.Triggers.{raise, listed, is_mask, masks, changes_mask};
+ghost use Rattle.vt_verify.specs.TriggerGraphs.{AreTriggers, macros_at, has, if_any, non_empty, event_numbers, listed_events, command_items, group_of_event, groups_of};
+ghost use Rattle.vt_verify.specs.Rules as rules;
+
+use crate::commands::{macro_command, named_macro};
+use crate::events::{LAST_EVENT, Raised, row_events};
+use crate::objects::Objects;
+use indexmap::IndexSet;
+use std::alloc::{AllocError, Global};
+use vt_objects::{Command, Kind, MacroEntry, ObjectId, cut_is_one, split_command};
+use vt_rank::{Graph, Item};
+
+/// The event that hides a mask.
+const HIDE: u8 = 4;
+
+/// The events at which objects list macros, and the graph of the macros. The macros of an event are the group of its
+/// place.
+#[derive(Drop)]
+pub(crate) struct Triggers {
+    pub(crate) events: IndexSet<Raised>,
+    pub(crate) graph: Graph,
+}
+
+impl Triggers {
+    /// The triggers of the macros of these objects.
+    pub(crate) fn of_objects(alloc: Global, objects: &Objects) -> Result<Triggers, AllocError>
+        requires { rules.cut_short (shape_of objects.now) ≡ None }
+        ensures { IfOk result (λ t. AreTriggers (shape_of objects.now) t.events.keys t.graph) }
+    {
+        let (events, groups) = listings(alloc, objects)?;
+        let nodes = nodes(alloc, objects, &events)?;
+        let most = hidden(alloc, objects, &events)?;
+        let graph = Graph {
+            nodes,
+            groups,
+            most,
+        };
+        Ok(Triggers { events, graph })
+    }
+}
+
+/// The events at which objects list macros, by rising ID and number, and the macros of each.
+fn listings(
+    alloc: Global,
+    objects: &Objects,
+) -> Result<(IndexSet<Raised>, Vec<Vec<u8>>), AllocError>
+    ensures events { IfOk result (λ r. r.0.keys ≡ listed_events (shape_of objects.now)) }
+    ensures groups { IfOk result (λ r. lists r.1 ≡ map (listed (shape_of objects.now)) (listed_events (shape_of objects.now))) }
+{
+    // IDs rise, so that no event is there twice.
+    objects.ids_rise();
+    let mut events = IndexSet::new(alloc);
+    let mut groups = Vec::new(alloc);
+    for (id, object) in objects.entries() {
+        put_listings(alloc, &mut events, &mut groups, *id, object.macros())?;
+    }
+    Ok((events, groups))
+}
+
+/// Appends the events at which an object lists macros, and the macros of each.
+fn put_listings(
+    alloc: Global,
+    events: &mut IndexSet<Raised>,
+    groups: &mut Vec<Vec<u8>>,
+    id: ObjectId,
+    entries: &[MacroEntry],
+) -> Result<(), AllocError>
+    requires { (event : ℕ) → has events.old.keys (raise id event) ≡ false }
+    ensures events { OnOk result (events.new.keys ≡ events.old.keys ++ flat_map (λ event. if_any (raise id event) (macros_at event entries.now)) event_numbers) }
+    ensures groups { OnOk result (lists groups.new ≡ lists groups.old ++ flat_map (λ event. non_empty (macros_at event entries.now)) event_numbers) }
+{
+    for event in 1..LAST_EVENT + 1 {
+        put_listing(alloc, events, groups, Raised { id, event }, entries)?;
+    }
+    Ok(())
+}
+
+/// Appends an event and its macros, where entries list any.
+fn put_listing(
+    alloc: Global,
+    events: &mut IndexSet<Raised>,
+    groups: &mut Vec<Vec<u8>>,
+    raised: Raised,
+    entries: &[MacroEntry],
+) -> Result<(), AllocError>
+    requires { has events.old.keys raised ≡ false }
+    ensures events { OnOk result (events.new.keys ≡ events.old.keys ++ if_any raised (macros_at raised.event entries.now)) }
+    ensures groups { OnOk result (lists groups.new ≡ lists groups.old ++ non_empty (macros_at raised.event entries.now)) }
+{
+    let listed = listed_at(alloc, entries, raised.event)?;
+    if listed.is_empty() {
+        return Ok(());
+    }
+    events.insert(raised)?;
+    groups.push(listed)?;
+    Ok(())
+}
+
+/// The macros that entries list at an event, in their order.
+fn listed_at(alloc: Global, entries: &[MacroEntry], event: u8) -> Result<Vec<u8>, AllocError>
+    ensures { IfOk result (λ macros. macros.items ≡ macros_at event entries.now) }
+{
+    let mut listed = Vec::new(alloc);
+    for entry in entries {
+        if entry.event == event {
+            listed.push(entry.macro_id)?;
+        }
+    }
+    Ok(listed)
+}
+
+/// The items of each macro that may be named.
+fn nodes(
+    alloc: Global,
+    objects: &Objects,
+    events: &IndexSet<Raised>,
+) -> Result<Vec<Vec<Item>>, AllocError>
+    requires { rules.cut_short (shape_of objects.now) ≡ None }
+    ensures { IfOk result (λ nodes. (id : ℕ) → id < 256 → slice_index_or (lists nodes) id [] ≡ flat_map (command_items events.now.keys) (commands (shape_of objects.now) id)) }
+{
+    let mut nodes = Vec::new(alloc);
+    for id in 0..256u16 {
+        nodes.push(items(alloc, objects, events, ObjectId::from_raw(id))?)?;
+    }
+    Ok(nodes)
+}
+
+fn items(
+    alloc: Global,
+    objects: &Objects,
+    events: &IndexSet<Raised>,
+    id: ObjectId,
+) -> Result<Vec<Item>, AllocError>
+    requires { rules.cut_short (shape_of objects.now) ≡ None }
+    ensures { IfOk result (λ items. items.items ≡ flat_map (command_items events.now.keys) (commands (shape_of objects.now) id)) }
+{
+    match macro_bytes(objects, id) {
+        Some(bytes) => items_of(alloc, events, bytes),
+        None => Ok(Vec::new(alloc)),
+    }
+}
+
+fn items_of(alloc: Global, events: &IndexSet<Raised>, bytes: &[u8]) -> Result<Vec<Item>, AllocError>
+    requires { IsTrue (is_some (cut bytes.now)) }
+    ensures { IfOk result (λ items. items.items ≡ flat_map (command_items events.now.keys) (commands_of bytes.now)) }
+{
+    // What is left is cut as the whole is.
+    cut_is_one();
+    let mut items = Vec::new(alloc);
+    let mut rest = bytes;
+    while let Some((piece, next)) = split_command(rest) {
+        put_piece(&mut items, events, piece)?;
+        rest = next;
+    }
+    Ok(items)
+}
+
+fn macro_bytes(objects: &Objects, id: ObjectId) -> Option<&[u8]>
+    ensures { option_to_list (option_map (λ bytes. bytes.now) result) ≡ flat_map (λ f. option_to_list (bytes_in id f)) (option_to_list (fixed_at (shape_of objects.now) id)) }
+{
+    match objects.get(id) {
+        Some(object) => named_macro(id, object),
+        None => None,
+    }
+}
+
+/// Appends what a piece of a macro's bytes adds to the cost of the macro.
+fn put_piece(
+    items: &mut Vec<Item>,
+    events: &IndexSet<Raised>,
+    piece: &[u8],
+) -> Result<(), AllocError>
+    ensures { OnOk result (items.new.items ≡ items.old.items ++ flat_map (command_items events.now.keys) (option_to_list (macro_command piece.now))) }
+{
+    match macro_command(piece) {
+        Some(command) => put_items(items, events, &command),
+        None => Ok(()),
+    }
+}
+
+/// Appends what a command adds to the cost of its macro.
+fn put_items(
+    items: &mut Vec<Item>,
+    events: &IndexSet<Raised>,
+    command: &Command<'_>,
+) -> Result<(), AllocError>
+    ensures { OnOk result (items.new.items ≡ items.old.items ++ command_items events.now.keys command.now) }
+{
+    items.push(Item::Step)?;
+    put_most(items, command)?;
+    for raised in row_events(command) {
+        put_group(items, events, raised)?;
+    }
+    Ok(())
+}
+
+fn put_most(items: &mut Vec<Item>, command: &Command<'_>) -> Result<(), AllocError>
+    ensures { OnOk result (items.new.items ≡ items.old.items ++ (if changes_mask command.now then Item.Most ∷ [] else [])) }
+{
+    match command {
+        Command::ChangeActiveMask { .. } => {
+            items.push(Item::Most)?;
+            Ok(())
+        }
+        _ => Ok(()),
+    }
+}
+
+/// Appends the group of an event, if there is one.
+fn put_group(
+    items: &mut Vec<Item>,
+    events: &IndexSet<Raised>,
+    raised: Raised,
+) -> Result<(), AllocError>
+    ensures { OnOk result (items.new.items ≡ items.old.items ++ map Item.Group (option_to_list (group_of_event events.now.keys raised))) }
+{
+    match group_of(events, raised) {
+        Some(group) => {
+            items.push(Item::Group(group))?;
+            Ok(())
+        }
+        None => Ok(()),
+    }
+}
+
+fn group_of(events: &IndexSet<Raised>, raised: Raised) -> Option<usize>
+    ensures { result ≡ group_of_event events.now.keys raised }
+{
+    events.get_index_of(&raised)
+}
+
+/// The groups of the macros that masks list where they are hidden.
+fn hidden(
+    alloc: Global,
+    objects: &Objects,
+    events: &IndexSet<Raised>,
+) -> Result<Vec<usize>, AllocError>
+    ensures { IfOk result (λ groups. groups.items ≡ groups_of events.now.keys (map (λ mask. raise mask 4) (masks (shape_of objects.now)))) }
+{
+    let mut groups = Vec::new(alloc);
+    for (id, object) in objects.entries() {
+        put_hidden(&mut groups, events, *id, object.kind())?;
+    }
+    Ok(groups)
+}
+
+/// Appends the group of the event that hides an object, if it is a mask and there is one.
+fn put_hidden(
+    groups: &mut Vec<usize>,
+    events: &IndexSet<Raised>,
+    id: ObjectId,
+    kind: Kind,
+) -> Result<(), AllocError>
+    ensures { OnOk result (groups.new.items ≡ groups.old.items ++ (if is_mask kind then option_to_list (group_of_event events.now.keys (raise id 4)) else [])) }
+{
+    if !matches!(kind, Kind::DataMask | Kind::AlarmMask) {
+        return Ok(());
+    }
+    match group_of(events, Raised { id, event: HIDE }) {
+        Some(group) => {
+            groups.push(group)?;
+            Ok(())
+        }
+        None => Ok(()),
+    }
+}
