@@ -1,25 +1,68 @@
 -- From a pool's file to the terminal that a replay begins with, and from its log to what is written.
-use Rattle.std.proofs.Common.{◌≡◌, ◌∙◌, ℕ, false, List, [], Option, Some, None, IfSome, sym, subst}
+use Rattle.std.proofs.Common.{◌≡◌, ◌∙◌, ℕ, false, List, [], Option, Some, None, IfSome, sym, ap, subst}
 use Rattle.std.specs.Io.KnownBytes.{Appends, Keeps}
 use Rattle.vt_pool.specs.Pools.{Entry, AreRecords, IsInForce, IsFault, contents, joined}
-use Rattle.vt_pool.specs.declared.fault.PoolFault.{PoolFault}
+use Rattle.std.specs.FinMap as finite
+use Rattle.std.specs.FinMap.{nat_cmp-IsAntisymmetric}
+use Rattle.std.proofs.lemmas.Cmp.{nat_cmp_total}
+use Rattle.vt_objects.specs.Stores.{Contents}
+use Rattle.vt_verify.specs.Shapes.{by_rising_id}
+use Rattle.vt_verify.specs.Rules.{IsAcceptable, IsRefused}
+use Rattle.vt_verify.specs.declared.refusal.Refusal.{Refusal}
+use Rattle.vt_replay.specs.declared.program.Fault.{Fault}
+use Rattle.vt_replay.specs.declared.program.Fault.TheVariants as fault
 use Rattle.vt_replay.specs.declared.counts.Counts.{Counts}
 use Rattle.vt_replay.specs.declared.options.Options.{Options}
 use Rattle.vt_replay.specs.declared.options.Preload.{Preload}
 use Rattle.vt_replay.specs.Replays.{IsReplay}
-use Rattle.vt_replay.specs.Runs.{Files, IsLoaded, IsPoolOf, IsStart, WritesReplay, new_state}
+use Rattle.vt_replay.specs.Runs.{Files, IsLoaded, IsPoolOf, IsAcceptedPoolOf, IsRefusedPool, IsFaultOfPool, IsLoadFault, IsStart, WritesReplay, new_state}
 use Rattle.vt_server.specs.Terminals.{State}
 
-pub pool_read : (file : Option (List ℕ)) (read : List ℕ) (objects : List Entry) → IfSome file (λ bytes. read ≡ bytes)
-    → (records : List Entry) × AreRecords records × (read ≡ joined records) × IsInForce records objects
-    → IfSome file (λ bytes. IsPoolOf bytes (contents objects))
-pool_read None read objects same pool = tt
-pool_read (Some bytes) read objects same pool =
-    record { records = pool.0; whole = pool.1; spelled = sym same ∙ pool.2; in_force = pool.3.last }
+-- a map is that of its entries
+pub entries_again : (m : Contents) → contents (finite.entries m) ≡ m
+entries_again m =
+    finite.same_map nat_cmp_total nat_cmp-IsAntisymmetric (contents (finite.entries m)) m
+    (λ q. finite.get-from_entries nat_cmp_total (finite.entries m) q ∙ sym (finite.get-entries m q))
 
-pub fault_read : (file : Option (List ℕ)) (read : List ℕ) (why : PoolFault) → IfSome file (λ bytes. read ≡ bytes) → IsFault read why → IfSome file (λ bytes. IsFault bytes why)
-fault_read None read why same is = tt
-fault_read (Some bytes) read why same is = subst (λ (b : List ℕ). IsFault b why) same is
+-- what is accepted of a pool has its objects
+pub same_objects : (pool accepted : List Entry) → accepted ≡ by_rising_id pool → contents accepted ≡ contents pool
+unfolding by_rising_id
+same_objects pool accepted is = ap contents is ∙ entries_again (contents pool)
+
+pub pool_of : (read : List ℕ) (pool : List Entry) → (records : List Entry) × AreRecords records × (read ≡ joined records) × IsInForce records pool
+    → IsPoolOf read (contents pool)
+pool_of read pool p = record { records = p.0; whole = p.1; spelled = p.2; in_force = p.3.last }
+
+pub accepted_pool : (read : List ℕ) (pool accepted : List Entry) → (records : List Entry) × AreRecords records × (read ≡ joined records) × IsInForce records pool
+    → accepted ≡ by_rising_id pool → IsAcceptable accepted → IsAcceptedPoolOf read (contents accepted)
+unfolding by_rising_id
+accepted_pool read pool accepted p is all =
+    let same = same_objects pool accepted is in (
+      subst (IsPoolOf read) (sym same) (pool_of read pool p),
+      subst IsAcceptable (is ∙ ap finite.entries (sym same)) all,
+    )
+
+pub refused_pool : (read : List ℕ) (pool : List Entry) (why : Refusal) → (records : List Entry) × AreRecords records × (read ≡ joined records) × IsInForce records pool
+    → IsRefused (by_rising_id pool) why → IsRefusedPool read why
+unfolding by_rising_id
+refused_pool read pool why p refused = record { objects = contents pool; pool = pool_of read pool p; refused = refused }
+
+-- from the bytes that were read to those of the file
+pub pool_read : (file : Option (List ℕ)) (read : List ℕ) (objects : Contents) → IfSome file (λ bytes. read ≡ bytes) → IsAcceptedPoolOf read objects
+    → IfSome file (λ bytes. IsAcceptedPoolOf bytes objects)
+pool_read None read objects same pool = tt
+pool_read (Some bytes) read objects same pool = subst (λ (b : List ℕ). IsAcceptedPoolOf b objects) same pool
+
+fault_read_by : (file : Option (List ℕ)) (read : List ℕ) (P : List ℕ → Type 0) → IfSome file (λ bytes. read ≡ bytes) → P read → IfSome file P
+fault_read_by None read P same is = tt
+fault_read_by (Some bytes) read P same is = subst P same is
+
+pub fault_read : (files : Files) (p : Preload) (read : List ℕ) (why : Fault) → IfSome (files p.pool.now) (λ bytes. read ≡ bytes) → IsFaultOfPool read why → IsLoadFault files p why
+fault_read files p read (fault.File path cause) same is = absurd is
+fault_read files p read (fault.Pool why) same is = fault_read_by (files p.pool.now) read (λ bytes. IsFault bytes why) same is
+fault_read files p read (fault.Refused why) same is = fault_read_by (files p.pool.now) read (λ bytes. IsRefusedPool bytes why) same is
+fault_read files p read fault.Memory same is = tt
+fault_read files p read (fault.Replay why) same is = absurd is
 
 pub new_is : (s : State) (own name : ℕ) → s.claims ≡ record { own = own; name = name; addresses = [] } → s.sets ≡ []
     → ((address : ℕ) → s.pools address ≡ None) → s.lost ≡ false → s ≡ new_state own name

@@ -8,6 +8,10 @@ use Rattle.clap.specs.declared.error.kind.ErrorKind.TheVariants.{DisplayHelp, Di
 use Rattle.vt_objects.specs.Stores.{Contents}
 use Rattle.vt_pool.specs.declared.fault.PoolFault.{PoolFault}
 use Rattle.vt_pool.specs.Pools.{Entry, AreRecords, IsFault, contents, joined}
+use Rattle.std.specs.FinMap as finite
+use Rattle.vt_verify.specs.declared.refusal.Refusal.{Refusal as PoolRefusal}
+use Rattle.vt_verify.specs.Rules.{IsAcceptable, IsRefused}
+use Rattle.vt_verify.specs.Reports as report
 use Rattle.vt_replay.specs.declared.counts.Counts.{Counts}
 use Rattle.vt_replay.specs.declared.fault.ReplayFault.TheVariants as replay_fault
 use Rattle.vt_replay.specs.declared.options.Options.{Options}
@@ -36,6 +40,16 @@ pub record IsPoolOf (bytes : List ℕ) (objects : Contents) : Type 0 where
   pub spelled : bytes ≡ joined records
   pub in_force : objects ≡ contents (reverse records)
 
+-- the same of a pool that meets all rules
+abbrev pub IsAcceptedPoolOf : List ℕ → Contents → Type 0
+IsAcceptedPoolOf bytes objects = IsPoolOf bytes objects × IsAcceptable (finite.entries objects)
+
+-- the bytes are a pool that is refused
+pub record IsRefusedPool (bytes : List ℕ) (why : PoolRefusal) : Type 0 where
+  pub objects : Contents
+  pub pool : IsPoolOf bytes objects
+  pub refused : IsRefused (finite.entries objects) why
+
 -- a terminal that has heard nothing, with its address and NAME
 abbrev pub new_state : ℕ → ℕ → State
 new_state own name = record {
@@ -48,7 +62,7 @@ new_state own name = record {
 -- A set with the pool of the file is preloaded at the owner.
 pub record IsLoaded (files : Files) (p : Preload) (before after : State) : Type 0 where
   pub objects : Contents
-  pub pool : IfSome (files p.pool.now) (λ bytes. IsPoolOf bytes objects)
+  pub pool : IfSome (files p.pool.now) (λ bytes. IsAcceptedPoolOf bytes objects)
   pub state : after ≡ take before p.owner (Preloads objects)
 
 abbrev pub IsPreloaded : Files → Option Preload → State → State → Type 0
@@ -81,12 +95,22 @@ pub record HasReplayed (files : Files) (options : Options) (old new : Option (Li
 abbrev pub IsFileFault : Bor Text → Fault → Type 0
 IsFileFault path (fault.File other cause) = other ≡ path
 IsFileFault path (fault.Pool why) = ⊥
+IsFileFault path (fault.Refused why) = ⊥
 IsFileFault path fault.Memory = ⊥
 IsFileFault path (fault.Replay why) = ⊥
+
+-- why the bytes of a pool give no accepted pool
+abbrev pub IsFaultOfPool : List ℕ → Fault → Type 0
+IsFaultOfPool bytes (fault.File path cause) = ⊥
+IsFaultOfPool bytes (fault.Pool why) = IsFault bytes why
+IsFaultOfPool bytes (fault.Refused why) = IsRefusedPool bytes why
+IsFaultOfPool bytes fault.Memory = Unit {0}
+IsFaultOfPool bytes (fault.Replay why) = ⊥
 
 abbrev pub IsLoadFault : Files → Preload → Fault → Type 0
 IsLoadFault files p (fault.File path cause) = path ≡ p.pool
 IsLoadFault files p (fault.Pool why) = IfSome (files p.pool.now) (λ bytes. IsFault bytes why)
+IsLoadFault files p (fault.Refused why) = IfSome (files p.pool.now) (λ bytes. IsRefusedPool bytes why)
 IsLoadFault files p fault.Memory = Unit {0}
 IsLoadFault files p (fault.Replay why) = ⊥
 
@@ -94,6 +118,7 @@ IsLoadFault files p (fault.Replay why) = ⊥
 abbrev pub IsLogFault : Files → Text → Fault → Type 0
 IsLogFault files log (fault.File path cause) = path.now ≡ log
 IsLogFault files log (fault.Pool why) = ⊥
+IsLogFault files log (fault.Refused why) = ⊥
 IsLogFault files log fault.Memory = ⊥
 IsLogFault files log (fault.Replay why) = IfSome (files log) (λ input. why ≡ replay_fault.TooLong → HasLongLine input)
 
@@ -136,9 +161,16 @@ pub record HasFaultyPool (words : List Text) (files : Files) : Type 0 where
   pub why : PoolFault
   pub faulty : IsSomeAnd options.preload (λ p. IsLoadFault files p (fault.Pool why))
 
--- Help is to be printed, or the fault of a pool.
+-- The words give options with a pool, and that is refused.
+pub record HasRefusedPool (words : List Text) (files : Files) : Type 0 where
+  pub options : Options
+  pub given : WordsGive words options
+  pub why : PoolRefusal
+  pub refused : IsSomeAnd options.preload (λ p. IsLoadFault files p (fault.Refused why))
+
+-- Help is to be printed, or the fault or the refusal of a pool.
 abbrev pub HasToPrint : List Text → Files → Type 0
-HasToPrint words files = Refuses words status.Done ⊎ HasFaultyPool words files
+HasToPrint words files = Refuses words status.Done ⊎ HasFaultyPool words files ⊎ HasRefusedPool words files
 
 -- Which status a run ends with. Memory may run out at any words, and then it is Fault.
 abbrev pub Ends : List Text → Files → Option (List ℕ) → Option (List ℕ) → Status → Type 0
@@ -148,9 +180,10 @@ Ends words files old new status.Fault = Unit {0}
 
 -- ---- the texts of faults
 
--- what is printed of a fault; what the system, a pool's fault and a replay's print no contract says
+-- what is printed of a fault; what the system, the fault of a pool and that of a replay print no contract says
 abbrev pub fault_line : Fault → Option Text
 fault_line (fault.File path cause) = None
 fault_line (fault.Pool why) = None
+fault_line (fault.Refused why) = Some (report.refusal_text why)
 fault_line fault.Memory = Some (codes "out of memory")
 fault_line (fault.Replay why) = None

@@ -5,7 +5,8 @@ ghost use Rattle.vt_names.specs.Registry.{set_at};
 ghost use Rattle.std.specs.Io.KnownBytes.{Keeps};
 ghost use Rattle.vt_replay.specs.declared.program.Fault.TheVariants.{Memory};
 ghost use Rattle.vt_replay.specs.Words.{AreApart, status_code};
-ghost use Rattle.vt_replay.specs.Runs.{Ends, EndsBy, HasReplayed, HasToPrint, IsFaultOf, IsFileFault, IsLoadFault, IsLoaded, fault_line};
+ghost use Rattle.vt_replay.specs.Runs.{Ends, EndsBy, HasReplayed, HasToPrint, IsAcceptedPoolOf, IsFaultOf, IsFaultOfPool, IsFileFault, IsLoadFault, IsLoaded, fault_line};
+ghost use Rattle.vt_pool.specs.Pools.{contents};
 ghost use Rattle.vt_server.specs.States.{state_of};
 
 use crate::fault::ReplayFault;
@@ -17,6 +18,7 @@ use std::fmt;
 use std::io::{self, Read, Write};
 use vt_pool::{PoolFault, read_pool};
 use vt_server::Terminal;
+use vt_verify::{Accepted, verify};
 
 /// What opens files by their paths.
 pub trait Open {
@@ -59,6 +61,7 @@ impl Status {
 enum Fault<'a> {
     File { path: &'a str, cause: io::Error },
     Pool(PoolFault),
+    Refused(vt_verify::Refusal),
     Memory,
     Replay(ReplayFault),
 }
@@ -70,6 +73,7 @@ impl fmt::Display for Fault<'_> {
         match self {
             Fault::File { path, cause } => write!(f, "{path}: {cause}"),
             Fault::Pool(fault) => write!(f, "{fault}"),
+            Fault::Refused(refusal) => write!(f, "{refusal}"),
             Fault::Memory => write!(f, "out of memory"),
             Fault::Replay(fault) => write!(f, "{fault}"),
         }
@@ -84,7 +88,7 @@ impl From<AllocError> for Fault<'_> {
     }
 }
 
-/// Runs the program on its words, of which the first is its name. The fault of a pool is printed to `out`;
+/// Runs the program on its words, of which the first is its name. The fault or the refusal of a pool is printed to `out`;
 /// every other fault is named on `errors`, and the status is the same where that cannot be written.
 pub fn run<S: AsStr, F: Open, W: Write, E: Write>(
     alloc: Global,
@@ -94,7 +98,7 @@ pub fn run<S: AsStr, F: Open, W: Write, E: Write>(
     errors: &mut E,
 ) -> io::Result<Status>
     ensures ends { IfOk result (Ends (map S.text words.now) (F.file files.old) (W.contents out.old) (W.contents out.new)) }
-    // It fails only where it has to print help, or the fault of a pool.
+    // It fails only where it has to print help, or the fault or refusal of a pool.
     ensures fails { OnErr result (HasToPrint (map S.text words.now) (F.file files.old)) }
 {
     let options = match Options::parse(alloc, words) {
@@ -105,6 +109,11 @@ pub fn run<S: AsStr, F: Open, W: Write, E: Write>(
         Ok(()) => Ok(Status::Done),
         Err(Fault::Pool(fault)) => {
             writeln!(out, "{fault}")?;
+            out.flush()?;
+            Ok(Status::Fault)
+        }
+        Err(Fault::Refused(refusal)) => {
+            writeln!(out, "{refusal}")?;
             out.flush()?;
             Ok(Status::Fault)
         }
@@ -163,7 +172,7 @@ fn replay_log<'a, F: Open, W: Write>(
     }
 }
 
-/// Reads the pool of a working set and adds the set to the terminal.
+/// Reads the pool of a working set, verifies it, and adds the set to the terminal.
 fn load<'a, F: Open>(
     alloc: Global,
     preload: &Preload<'a>,
@@ -178,10 +187,28 @@ fn load<'a, F: Open>(
     ensures stay { F.file files.new ≡ F.file files.old }
 {
     let bytes = read_file(alloc, preload.pool, files)?;
-    match read_pool(alloc, &bytes) {
-        Ok(pool) => Ok(terminal.preload(preload.owner, &pool)?),
-        Err(PoolFault::OutOfMemory { .. }) => Err(Fault::Memory),
-        Err(fault) => Err(Fault::Pool(fault)),
+    let pool = match accepted(alloc, &bytes) {
+        Ok(pool) => pool,
+        Err(fault) => return Err(fault),
+    };
+    terminal.preload(preload.owner, &pool)?;
+    Ok(())
+}
+
+/// The pool of these bytes, where it is accepted.
+fn accepted<'a>(alloc: Global, bytes: &[u8]) -> Result<Accepted, Fault<'a>>
+    ensures pool { IfOk result (λ pool. IsAcceptedPoolOf bytes.now (contents pool)) }
+    ensures fault { IfErr result (IsFaultOfPool bytes.now) }
+{
+    let pool = match read_pool(alloc, bytes) {
+        Ok(pool) => pool,
+        Err(PoolFault::OutOfMemory { .. }) => return Err(Fault::Memory),
+        Err(fault) => return Err(Fault::Pool(fault)),
+    };
+    match verify(alloc, &pool) {
+        Ok(accepted) => Ok(accepted),
+        Err(vt_verify::Refusal::OutOfMemory) => Err(Fault::Memory),
+        Err(refusal) => Err(Fault::Refused(refusal)),
     }
 }
 

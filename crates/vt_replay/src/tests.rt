@@ -184,12 +184,13 @@ fn words_that_are_refused(rt: HostRuntime) -> Result<(), Fail> {
 
 #[test]
 fn files_with_faults(rt: HostRuntime) -> Result<(), Fail> {
-    let with_pool = ["vt_replay", "log", "--pool", "pool", "--owner", "80"].as_slice();
-    let cut = (Status::Fault, "fault 1 Truncated at 10\n", false);
-    expect_run(&rt, with_pool, (HIDE, &POOL[..23]), cut)?;
     let pool_first = ["vt_replay", "none", "--pool", "pool", "--owner", "80"].as_slice();
+    let cut = (Status::Fault, "fault 1 Truncated at 10\n", false);
+    expect_run(&rt, pool_first, (HIDE, &POOL[..23]), cut)?;
     let left_out = (Status::Fault, "fault 3 LeftOutType at 0\n", false);
     expect_run(&rt, pool_first, (HIDE, b"\x01\x00\x1D"), left_out)?;
+    let refused = (Status::Fault, "refused 3 Missing 1000 100\n", false);
+    expect_run(&rt, pool_first, (HIDE, &POOL[..24]), refused)?;
     let no_file = (Status::Fault, "", true);
     expect_run(&rt, pool_first, (HIDE, POOL), no_file)?;
     let no_pool = ["vt_replay", "log", "--pool", "none", "--owner", "80"].as_slice();

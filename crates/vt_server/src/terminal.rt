@@ -1,9 +1,8 @@
 //! The terminal.
 
-ghost use Rattle.std.specs.Prelude.{◌≡◌, ◌≢◌, ◌≤◌, ◌++◌, ◌<◌, ℕ, [], ◌∷◌, None, Some, true, false, is_some, IfOk, IfErr, OnOk, OnErr, length, take, map};
+ghost use Rattle.std.specs.Prelude.{◌≡◌, ◌≢◌, ◌≤◌, ◌++◌, ◌<◌, ℕ, [], ◌∷◌, None, Some, true, false, is_some, IfOk, IfErr, OnOk, OnErr, length, take};
 ghost use Rattle.vt_names.specs.Registry.{set_at};
 ghost use Rattle.vt_pool.specs.Pools.{contents};
-ghost use Rattle.vt_objects.specs.Stores.{shown};
 ghost use Rattle.vt_server.specs.Parts.{Preloads};
 ghost use Rattle.vt_server.specs.States.{state_of, outputs_of, step, after_all, sent_by_all};
 ghost use Rattle.vt_server.specs.Terminals as spec;
@@ -15,8 +14,8 @@ use crate::pools::Pools;
 use std::alloc::Global;
 use thiserror::Error;
 use vt_names::{Claims, Name, Registry};
-use vt_objects::{ListStore, Object, ObjectId, Store};
-use vt_pool::Pool;
+use vt_objects::{ListStore, Store};
+use vt_verify::Accepted;
 
 /// A terminal at an address of its own: its working sets, their pools, and what it has heard of the
 /// addresses of others.
@@ -63,18 +62,17 @@ impl Terminal {
         self.registry.get(address).is_some()
     }
 
-    /// Adds a working set without a NAME, with the objects of a pool. There is none of that address yet, and
+    /// Adds a working set without a NAME, with the objects of an accepted pool. There is none of that address yet, and
     /// the address is at most 253 and not the terminal's own. Nothing is sent. After `OutOfMemory` the
     /// terminal is as it was. docs/PROFILE.md, "Preloaded sets".
-    pub fn preload(&mut self, address: u8, pool: &Pool<'_>) -> Result<(), OutOfMemory>
+    pub fn preload(&mut self, address: u8, pool: &Accepted) -> Result<(), OutOfMemory>
         requires none { set_at address (state_of self.old).sets ≡ None }
         requires claimed { address ≤ 253 }
         requires other { address ≢ (state_of self.old).claims.own }
         ensures ok { OnOk result (state_of self.new ≡ spec.take (state_of self.old) address (Preloads (contents pool.now))) }
         ensures err { OnErr result (state_of self.new ≡ state_of self.old) }
     {
-        let objects = copies(self.alloc, pool.objects())?;
-        let objects = ListStore::from_objects(self.alloc, &objects)?;
+        let objects = ListStore::from_objects(self.alloc, pool.objects())?;
         self.registry.preload(address)?;
         self.pools.put(address, objects);
         Ok(())
@@ -115,18 +113,4 @@ impl Terminal {
         }
         Ok(())
     }
-}
-
-// The same objects in memory of their own.
-fn copies(
-    alloc: Global,
-    objects: &[(ObjectId, Object<&[u8]>)],
-) -> Result<Vec<(ObjectId, Object<Vec<u8>>)>, OutOfMemory>
-    ensures { IfOk result (λ copies. map shown copies.items ≡ map shown objects.now) }
-{
-    let mut copies = Vec::new(alloc);
-    for (id, object) in objects {
-        copies.push((*id, object.copied(alloc)?))?;
-    }
-    Ok(copies)
 }

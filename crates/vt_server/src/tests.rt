@@ -8,6 +8,7 @@ use std::test::Fail;
 use vt_can::{Action, Line, parse_line, write_frame};
 use vt_names::Name;
 use vt_pool::read_pool;
+use vt_verify::verify;
 
 const OWN: u8 = 0x26;
 
@@ -32,7 +33,10 @@ fn started(rt: &(impl Abort + AllocGlobal), preloaded: bool) -> Result<Terminal,
     let mut terminal = Terminal::new(rt.alloc(), OWN, Name::from_raw(NAME));
     if preloaded {
         let pool = read_pool(rt.alloc(), POOL)?;
-        terminal.preload(0x80, &pool)?;
+        let Ok(accepted) = verify(rt.alloc(), &pool) else {
+            return Err(Fail::new("the pool is refused"));
+        };
+        terminal.preload(0x80, &accepted)?;
     }
     Ok(terminal)
 }

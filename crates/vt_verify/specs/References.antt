@@ -22,12 +22,11 @@ is_member kinds kind = list_any (λ member. kind_number member == kind_number ki
 abbrev pub is_there : Shape → Reference → Bool
 is_there shape r = if r.id == 0xFFFF then r.null else is_some (kind_at shape r.id)
 
--- NULL and an ID that is not there are not looked at
 abbrev pub allows : Kinds → Option Kind → Bool
 allows kinds None = true
 allows kinds (Some kind) = is_member kinds kind
 
--- a kind that is allowed
+-- a kind that is allowed; NULL and an ID that is not there are not looked at
 abbrev pub fits : Shape → Reference → Bool
 fits shape r = if r.id == 0xFFFF then true else allows r.kinds (kind_at shape r.id)
 

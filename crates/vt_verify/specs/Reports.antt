@@ -31,7 +31,7 @@ report_text objects = count_line (length objects) ++ flat_map (event_line (shape
 abbrev pub numbers : List ℕ → List ℕ
 numbers ns = flat_map (λ n. codes " " ++ decimal n) ns
 
--- the line of a refusal, without its newline
+-- the line of a refusal, without its newline; want of memory has none in a report
 abbrev pub refusal_text : Refusal → List ℕ
 refusal_text refusals.NoWorkingSet = codes "refused 1 NoWorkingSet"
 refusal_text refusals.TwoWorkingSets = codes "refused 2 TwoWorkingSets"
@@ -45,4 +45,4 @@ refusal_text (refusals.MacroKind parent id) = codes "refused 9 MacroKind" ++ num
 refusal_text (refusals.MacroValue id at) = codes "refused 10 MacroValue" ++ numbers (id ∷ at ∷ [])
 refusal_text (refusals.MacroCircle path) = codes "refused 11 MacroCircle" ++ numbers path.items
 refusal_text (refusals.OverBudget id) = codes "refused 12 OverBudget" ++ numbers (id ∷ [])
-refusal_text refusals.OutOfMemory = codes "refused 13 OutOfMemory"
+refusal_text refusals.OutOfMemory = codes "out of memory"

@@ -9,7 +9,7 @@ use Rattle.vt_objects.specs.declared.entries.MacroEntry.{MacroEntry}
 use Rattle.vt_objects.specs.declared.object.Object.TheVariants as objects
 use Rattle.vt_objects.specs.Records.{Seen, kind_of, macros_of}
 
--- by rising ID
+-- objects with their IDs
 abbrev pub Objects : Type 0
 Objects = List (ℕ × Seen)
 

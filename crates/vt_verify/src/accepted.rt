@@ -65,11 +65,11 @@ impl Accepted {
 
     /// Appends the report: how many objects there are, and the budget of each event that lists a macro. After
     /// `OutOfMemory` the vector is as it was. docs/PROFILE.md, "The report of an accepted pool".
-    pub fn report(&self, alloc: Global, out: &mut Vec<u8>) -> Result<(), AllocError>
+    pub fn report(&self, out: &mut Vec<u8>) -> Result<(), AllocError>
         ensures ok { OnOk result (out.new.items ≡ out.old.items ++ report_text self.now) }
         ensures err { OnErr result (out.new.items ≡ out.old.items) }
     {
-        let text = self.text(alloc)?;
+        let text = self.text(*out.allocator())?;
         out.extend_from_slice(&text)
     }
 

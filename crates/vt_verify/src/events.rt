@@ -26,7 +26,7 @@ pub(crate) fn is_event(event: u8) -> bool
     (1..=LAST_EVENT).contains(&event)
 }
 
-/// The events that a command raises by its row. Change Active Mask may hide any mask beside.
+/// The events that a command raises by its row. Besides, Change Active Mask may hide any mask.
 pub(crate) fn row_events(command: &Command<'_>) -> ArrayVec<Raised, 2>
     ensures { result.items ≡ row_events command.now }
 {
@@ -67,12 +67,12 @@ fn one(id: ObjectId, event: u8) -> ArrayVec<Raised, 2>
     events
 }
 
-fn by_state(id: ObjectId, state: u8, zero: u8, other: u8) -> ArrayVec<Raised, 2>
-    ensures { result.items ≡ by_state id state zero other }
+fn by_state(id: ObjectId, state: u8, off: u8, on: u8) -> ArrayVec<Raised, 2>
+    ensures { result.items ≡ by_state id state off on }
 {
     match state {
-        0 => one(id, zero),
-        1 => one(id, other),
+        0 => one(id, off),
+        1 => one(id, on),
         _ => ArrayVec::new(),
     }
 }

@@ -75,7 +75,7 @@ fn id_at(objects: &Objects, place: usize) -> ObjectId
     objects.entries()[place].0
 }
 
-/// The place of the first object that an object includes, of those with at least this depth.
+/// The place of an object that an object includes, of those with at least this depth.
 fn next(objects: &Objects, depths: &[u8], id: ObjectId, depth: u8) -> Option<usize>
     requires { length depths.now ≡ length objects.now }
     ensures some { IfSome result (λ place. IsNext objects.now depths.now id depth place) }
@@ -120,7 +120,7 @@ fn includes(slot: &Slot) -> bool
     is_inclusion && !slot.id.is_null()
 }
 
-/// The place of the first object that begins a chain that is too long.
+/// The place of an object that begins a chain that is too long.
 fn deepest(depths: &[u8]) -> Option<usize>
     ensures some { IfSome result (λ place. slice_index depths.now place ≡ 17) }
     ensures none { IfNone result ((place : ℕ) → slice_index depths.now place ≢ 17) }

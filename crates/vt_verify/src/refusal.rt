@@ -9,8 +9,8 @@ use std::alloc::AllocError;
 use std::fmt;
 use vt_objects::ObjectId;
 
-/// The first rule that a pool breaks, and its first culprit by rising ID (docs/PROFILE.md, "Verification of a pool").
-/// It prints the line of its report.
+/// The first rule that a pool breaks, and its first culprit by rising ID, or a chain or a circle that there is
+/// (docs/PROFILE.md, "Verification of a pool"). It prints the line of its report; want of memory has none.
 #[derive(Debug, Drop)]
 pub enum Refusal {
     /// No object is a working set.
@@ -19,8 +19,8 @@ pub enum Refusal {
     TwoWorkingSets,
     /// A slot of `parent` names an ID that is not there, or NULL where NULL may not stand.
     Missing { parent: ObjectId, id: ObjectId },
-    /// A slot of `parent` names an object of another kind than may stand there, or a pointer to one, whose value
-    /// `id` is then.
+    /// A slot of `parent` names an object of another kind than may stand there, or a pointer to such an object; `id`
+    /// is then the pointer's value.
     WrongKind { parent: ObjectId, id: ObjectId },
     /// A chain of 17 inclusions: each ID includes the next.
     TooDeep { chain: ArrayVec<ObjectId, 18> },
@@ -36,7 +36,7 @@ pub enum Refusal {
     MacroValue { id: ObjectId, at: usize },
     /// Each macro of the path triggers the next, and the last one the first, which is the least on any circle.
     MacroCircle { path: ArrayVec<u8, 256> },
-    /// A macro, or an event of an object, can cost more than 65,535 steps.
+    /// A macro can cost more than 65,535 steps, or where none can, an event of an object: `id` is the macro or the object.
     OverBudget { id: ObjectId },
     /// A growth was refused.
     OutOfMemory,
@@ -87,7 +87,7 @@ impl fmt::Display for Refusal {
                 write!(f, "refused 11 MacroCircle{macros}")
             }
             Refusal::OverBudget { id } => write!(f, "refused 12 OverBudget {}", id.raw()),
-            Refusal::OutOfMemory => write!(f, "refused 13 OutOfMemory"),
+            Refusal::OutOfMemory => write!(f, "out of memory"),
         }
     }
 }

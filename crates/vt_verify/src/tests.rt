@@ -33,10 +33,15 @@ fn put(bytes: &mut Vec<u8>, parts: &[&[u8]]) -> Result<(), AllocError> {
 fn reports(alloc: Global, records: &[&[u8]], wanted: &str) -> Result<bool, Fail> {
     let mut bytes = Vec::new(alloc);
     put(&mut bytes, records)?;
-    let pool = read_pool(alloc, &bytes)?;
+    prints(alloc, &bytes, wanted)
+}
+
+/// Whether the bytes of a pool have this report.
+fn prints(alloc: Global, bytes: &[u8], wanted: &str) -> Result<bool, Fail> {
+    let pool = read_pool(alloc, bytes)?;
     let mut text = Vec::new(alloc);
     match verify(alloc, &pool) {
-        Ok(accepted) => accepted.report(alloc, &mut text)?,
+        Ok(accepted) => accepted.report(&mut text)?,
         Err(refusal) => {
             let line = format!(in alloc; "{refusal}\n")?;
             text.extend_from_slice(line.as_bytes())?;

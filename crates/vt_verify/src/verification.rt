@@ -24,11 +24,12 @@ use vt_rank::{Costs, OverBudget, costs, rank};
 /// The most that a macro or an event may cost.
 const GREATEST_BUDGET: u32 = 65_535;
 
-/// Verifies a pool. A refusal names the first rule that it breaks, and of that the first culprit.
+/// Verifies a pool. A refusal names the first rule that it breaks, and of that the first culprit, or a chain or a
+/// circle that there is.
 pub fn verify(alloc: Global, pool: &Pool<'_>) -> Result<Accepted, Refusal>
     // What is accepted are the objects of the pool, and they meet all rules.
     ensures accepted { IfOk result (λ accepted. (accepted ≡ by_rising_id pool.now) × IsAcceptable accepted) }
-    // A refusal names the first rule that fails, and its first culprit.
+    // A refusal names the first rule that fails, and its first culprit, or a chain or a circle.
     ensures refused { IfErr result (IsRefused (by_rising_id pool.now)) }
 {
     let objects = Objects::of_pool(alloc, pool)?;

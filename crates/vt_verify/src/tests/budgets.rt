@@ -1,7 +1,9 @@
 //! Budgets, up to the greatest.
 
-use super::{CONTAINER, MASK, WORKING_SET, put};
-use crate::{Refusal, verify};
+ghost use Rattle.std.specs.Prelude.{◌≤◌};
+
+use super::{CONTAINER, MASK, WORKING_SET, prints, put};
+use crate::verify;
 use std::alloc::Global;
 use std::test::Fail;
 use vt_objects::ObjectId;
@@ -9,7 +11,9 @@ use vt_pool::read_pool;
 
 /// So many fonts 301, 302 and on, and macros 1, 2 and on: font 300 + k lists macro k at event 11, and each macro but
 /// the last changes the next font twice.
-fn doubling(alloc: Global, count: u8) -> Result<Vec<u8>, Fail> {
+fn doubling(alloc: Global, count: u8) -> Result<Vec<u8>, Fail>
+    requires { count ≤ 17 }
+{
     let mut bytes = Vec::new(alloc);
     put(&mut bytes, &[WORKING_SET, MASK, CONTAINER])?;
     for k in 1..count + 1 {
@@ -43,10 +47,6 @@ fn greatest_budget(rt: HostRuntime) -> Result<(), Fail> {
 #[test]
 fn over_budget(rt: HostRuntime) -> Result<(), Fail> {
     let bytes = doubling(rt.alloc(), 17)?;
-    let pool = read_pool(rt.alloc(), &bytes)?;
-    let Err(Refusal::OverBudget { id }) = verify(rt.alloc(), &pool) else {
-        return Err(Fail::new("not over the budget"));
-    };
-    assert_eq!(rt; id.raw(), 1);
+    assert!(rt; prints(rt.alloc(), &bytes, "refused 12 OverBudget 1\n")?);
     Ok(())
 }

@@ -15,13 +15,13 @@ fn working_sets(rt: HostRuntime) -> Result<(), Fail> {
 /// The Data Mask 1000 with a NULL child.
 const NULL_CHILD: &[u8] = &[0xE8, 3, 1, 0, 0xFF, 0xFF, 1, 0, 0xFF, 0xFF, 10, 0, 5, 0];
 
-/// The Font 200, which is drawn nowhere.
+/// The Font 200, which may be no child.
 const FONT: &[u8] = &[200, 0, 23, 0, 0, 0, 0, 0];
 
 /// The Data Mask 1000 with the child 200.
 const CHILD_200: &[u8] = &[0xE8, 3, 1, 0, 0xFF, 0xFF, 1, 0, 200, 0, 10, 0, 5, 0];
 
-/// The Object Pointers 200, without a value, to the Font 100, and to itself.
+/// The Object Pointers 200, without a value, to the Font 201, and to itself.
 const POINTER: &[u8] = &[200, 0, 27, 0xFF, 0xFF];
 
 const TO_FONT: &[u8] = &[200, 0, 27, 201, 0];
@@ -53,7 +53,7 @@ fn references(rt: HostRuntime) -> Result<(), Fail> {
 }
 
 /// Macros 9: Set Audio Volume less its last byte, Delete Object Pool after Set Audio Volume, and what hides the
-/// container 100, the font 200 and what is not there.
+/// container 100, the font 200, NULL, and what is not there.
 const CUT: &[u8] = &[9, 0, 28, 7, 0, 0xA4, 50, 0xFF, 0xFF, 0xFF, 0xFF, 0xFF];
 
 const DELETES: &[u8] = &[
@@ -65,6 +65,8 @@ const HIDES: &[u8] = &[9, 0, 28, 8, 0, 0xA0, 100, 0, 0, 0xFF, 0xFF, 0xFF, 0xFF];
 
 const HIDES_FONT: &[u8] = &[9, 0, 28, 8, 0, 0xA0, 200, 0, 0, 0xFF, 0xFF, 0xFF, 0xFF];
 
+const HIDES_NOTHING: &[u8] = &[9, 0, 28, 8, 0, 0xA0, 77, 0, 0, 0xFF, 0xFF, 0xFF, 0xFF];
+
 const HIDES_NULL: &[u8] = &[9, 0, 28, 8, 0, 0xA0, 0xFF, 0xFF, 0, 0xFF, 0xFF, 0xFF, 0xFF];
 
 #[test]
@@ -75,6 +77,7 @@ fn macros(rt: HostRuntime) -> Result<(), Fail> {
     assert!(rt; reports(alloc, &pool(DELETES), "refused 7 MacroCommand 9 8\n")?);
     assert!(rt; reports(alloc, &pool(HIDES), "accepted 5 objects\n")?);
     assert!(rt; reports(alloc, &pool(HIDES_FONT), "refused 9 MacroKind 9 200\n")?);
+    assert!(rt; reports(alloc, &pool(HIDES_NOTHING), "refused 8 MacroMissing 9 77\n")?);
     assert!(rt; reports(alloc, &pool(HIDES_NULL), "refused 8 MacroMissing 9 65535\n")?);
     Ok(())
 }

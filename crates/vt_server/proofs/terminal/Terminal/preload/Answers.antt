@@ -11,7 +11,7 @@ use Rattle.vt_server.proofs.terminal.Terminal.preload.Goals as goal
 pub returns-clause-ok : goal.returns-clause-ok
 returns-clause-ok c =
     let s = state_of c.args.self.now in
-    let same : ghosts.contents c.in_ok-objects-2.objects ≡ contents c.args.pool.now = search rules in
+    let same : ghosts.contents c.in_ok-objects.objects ≡ contents c.args.pool.now = search rules in
     (λ i. record s {
       sets = c.in_ok-preload.ensures.ok i;
       pools = (c.put.ensures ∙ ap (λ (o : Contents). with_pool_at c.args.address (Some o) (pools_of c.args.self.now.pools)) same) i;
