@@ -1,13 +1,13 @@
 -- From a pool's file to the terminal that a replay begins with, and from its log to what is written.
 use Rattle.std.proofs.Common.{◌≡◌, ◌∙◌, ℕ, false, List, [], Option, Some, None, IfSome, sym, ap, subst}
 use Rattle.std.specs.Io.KnownBytes.{Appends, Keeps}
-use Rattle.vt_pool.specs.Pools.{Entry, AreRecords, IsInForce, IsFault, contents, joined}
+use Rattle.vt_pool.specs.Pools.{Entry, AreRecords, IsInForce, contents, joined}
 use Rattle.std.specs.FinMap as finite
 use Rattle.std.specs.FinMap.{nat_cmp-IsAntisymmetric}
 use Rattle.std.proofs.lemmas.Cmp.{nat_cmp_total}
 use Rattle.vt_objects.specs.Stores.{Contents}
 use Rattle.vt_verify.specs.Shapes.{by_rising_id}
-use Rattle.vt_verify.specs.Rules.{IsAcceptable, IsRefused}
+use Rattle.vt_verify.specs.Rules.{IsAcceptable, IsRefused, IsWantOfMemory}
 use Rattle.vt_verify.specs.declared.refusal.Refusal.{Refusal}
 use Rattle.vt_replay.specs.declared.program.Fault.{Fault}
 use Rattle.vt_replay.specs.declared.program.Fault.TheVariants as fault
@@ -15,7 +15,7 @@ use Rattle.vt_replay.specs.declared.counts.Counts.{Counts}
 use Rattle.vt_replay.specs.declared.options.Options.{Options}
 use Rattle.vt_replay.specs.declared.options.Preload.{Preload}
 use Rattle.vt_replay.specs.Replays.{IsReplay}
-use Rattle.vt_replay.specs.Runs.{Files, IsLoaded, IsPoolOf, IsAcceptedPoolOf, IsRefusedPool, IsFaultOfPool, IsLoadFault, IsStart, WritesReplay, new_state}
+use Rattle.vt_replay.specs.Runs.{Files, IsLoaded, IsPoolOf, IsAcceptedPoolOf, IsNoPool, IsRefusedPool, IsFaultOfPool, IsLoadFault, IsStart, WritesReplay, new_state}
 use Rattle.vt_server.specs.Terminals.{State}
 
 -- a map is that of its entries
@@ -43,9 +43,9 @@ accepted_pool read pool accepted p is all =
     )
 
 pub refused_pool : (read : List ℕ) (pool : List Entry) (why : Refusal) → (records : List Entry) × AreRecords records × (read ≡ joined records) × IsInForce records pool
-    → IsRefused (by_rising_id pool) why → IsRefusedPool read why
+    → IsRefused (by_rising_id pool) why → (IsWantOfMemory why → ⊥) → IsRefusedPool read why
 unfolding by_rising_id
-refused_pool read pool why p refused = record { objects = contents pool; pool = pool_of read pool p; refused = refused }
+refused_pool read pool why p refused named = record { objects = contents pool; pool = pool_of read pool p; refused = refused; named = named }
 
 -- from the bytes that were read to those of the file
 pub pool_read : (file : Option (List ℕ)) (read : List ℕ) (objects : Contents) → IfSome file (λ bytes. read ≡ bytes) → IsAcceptedPoolOf read objects
@@ -59,7 +59,7 @@ fault_read_by (Some bytes) read P same is = subst P same is
 
 pub fault_read : (files : Files) (p : Preload) (read : List ℕ) (why : Fault) → IfSome (files p.pool.now) (λ bytes. read ≡ bytes) → IsFaultOfPool read why → IsLoadFault files p why
 fault_read files p read (fault.File path cause) same is = absurd is
-fault_read files p read (fault.Pool why) same is = fault_read_by (files p.pool.now) read (λ bytes. IsFault bytes why) same is
+fault_read files p read (fault.Pool why) same is = fault_read_by (files p.pool.now) read (λ bytes. IsNoPool bytes why) same is
 fault_read files p read (fault.Refused why) same is = fault_read_by (files p.pool.now) read (λ bytes. IsRefusedPool bytes why) same is
 fault_read files p read fault.Memory same is = tt
 fault_read files p read (fault.Replay why) same is = absurd is

@@ -8,9 +8,11 @@ use Rattle.clap.specs.declared.error.kind.ErrorKind.TheVariants.{DisplayHelp, Di
 use Rattle.vt_objects.specs.Stores.{Contents}
 use Rattle.vt_pool.specs.declared.fault.PoolFault.{PoolFault}
 use Rattle.vt_pool.specs.Pools.{Entry, AreRecords, IsFault, contents, joined}
+use Rattle.vt_pool.specs.Pools as pools
 use Rattle.std.specs.FinMap as finite
 use Rattle.vt_verify.specs.declared.refusal.Refusal.{Refusal as PoolRefusal}
 use Rattle.vt_verify.specs.Rules.{IsAcceptable, IsRefused}
+use Rattle.vt_verify.specs.Rules as rules
 use Rattle.vt_verify.specs.Reports as report
 use Rattle.vt_replay.specs.declared.counts.Counts.{Counts}
 use Rattle.vt_replay.specs.declared.fault.ReplayFault.TheVariants as replay_fault
@@ -44,11 +46,17 @@ pub record IsPoolOf (bytes : List ℕ) (objects : Contents) : Type 0 where
 abbrev pub IsAcceptedPoolOf : List ℕ → Contents → Type 0
 IsAcceptedPoolOf bytes objects = IsPoolOf bytes objects × IsAcceptable (finite.entries objects)
 
--- the bytes are a pool that is refused
+-- The bytes are no pool, by a fault of theirs. Want of memory is none.
+pub record IsNoPool (bytes : List ℕ) (why : PoolFault) : Type 0 where
+  pub faulty : IsFault bytes why
+  pub named : pools.IsWantOfMemory why → ⊥
+
+-- The bytes are a pool that is refused by a rule. Want of memory is none.
 pub record IsRefusedPool (bytes : List ℕ) (why : PoolRefusal) : Type 0 where
   pub objects : Contents
   pub pool : IsPoolOf bytes objects
   pub refused : IsRefused (finite.entries objects) why
+  pub named : rules.IsWantOfMemory why → ⊥
 
 -- a terminal that has heard nothing, with its address and NAME
 abbrev pub new_state : ℕ → ℕ → State
@@ -102,14 +110,14 @@ IsFileFault path (fault.Replay why) = ⊥
 -- why the bytes of a pool give no accepted pool
 abbrev pub IsFaultOfPool : List ℕ → Fault → Type 0
 IsFaultOfPool bytes (fault.File path cause) = ⊥
-IsFaultOfPool bytes (fault.Pool why) = IsFault bytes why
+IsFaultOfPool bytes (fault.Pool why) = IsNoPool bytes why
 IsFaultOfPool bytes (fault.Refused why) = IsRefusedPool bytes why
 IsFaultOfPool bytes fault.Memory = Unit {0}
 IsFaultOfPool bytes (fault.Replay why) = ⊥
 
 abbrev pub IsLoadFault : Files → Preload → Fault → Type 0
 IsLoadFault files p (fault.File path cause) = path ≡ p.pool
-IsLoadFault files p (fault.Pool why) = IfSome (files p.pool.now) (λ bytes. IsFault bytes why)
+IsLoadFault files p (fault.Pool why) = IfSome (files p.pool.now) (λ bytes. IsNoPool bytes why)
 IsLoadFault files p (fault.Refused why) = IfSome (files p.pool.now) (λ bytes. IsRefusedPool bytes why)
 IsLoadFault files p fault.Memory = Unit {0}
 IsLoadFault files p (fault.Replay why) = ⊥

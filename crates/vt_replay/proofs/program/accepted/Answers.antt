@@ -1,3 +1,4 @@
+use Rattle.std.proofs.Common.{rules}
 use Rattle.vt_replay.proofs.Loading.{accepted_pool, refused_pool}
 use Rattle.vt_replay.proofs.program.accepted.Goals as goal
 
@@ -6,4 +7,4 @@ returns-in-Ok-verify-clause-pool c =
     accepted_pool c.args.bytes.now c.in-Ok.pool c.in-Ok-verify.accepted c.in-Ok.ensures.pool c.in-Ok-verify.ensures.accepted.0 c.in-Ok-verify.ensures.accepted.1
 
 pub returns : goal.returns
-returns c = record { pool = tt; fault = refused_pool c.args.bytes.now c.in-Ok.pool c.in-Err-verify.refusal c.in-Ok.ensures.pool c.in-Err-verify.ensures.refused }
+returns c = record { pool = tt; fault = refused_pool c.args.bytes.now c.in-Ok.pool c.in-Err-verify.refusal c.in-Ok.ensures.pool c.in-Err-verify.ensures.refused (λ w. search rules) }
