@@ -8,205 +8,246 @@ ghost use Rattle.vt_objects.specs.Writing.{AttributesAreFields};
 use crate::fields::{Attribute, Field, Values};
 use crate::kind::Kind;
 use crate::place::Place;
-use Field::{
-    Acoustic, ArcColour, BarWidth, Border, BorderColour, Colour, Decimals, Direction, End, Fill,
-    Font, Format, Height, InputAttributes, Justification, KeyCode, LineArt, LineAttributes, Max,
-    Min, NeedleColour, Offset, Options, Pattern, Priority, Scale, Selectable, Size, SoftKeyMask,
-    Start, Style, Suppression, Target, TargetColour, TargetVariable, Ticks, Transparency, Type,
-    ValidationType, Value, Variable, Width,
+use Values::{Byte, Decimals, Long, Priority, Reference, Scale, SignedLong, Word};
+
+/// A list of attributes: each is a field and the values that it takes.
+macro_rules! attributes {
+    ($($field:ident: $values:expr),+ $(,)?) => {
+        &[$(Attribute { field: Field::$field, values: $values }),+]
+    };
+}
+
+const FONT_PLACE: Values = Reference(Place::Font);
+
+const VARIABLE: Values = Reference(Place::Variable);
+
+const LINE_ATTRIBUTES_PLACE: Values = Reference(Place::LineAttributes);
+
+const FILL: Values = Reference(Place::Fill);
+
+const TARGET_VARIABLE: Values = Reference(Place::TargetVariable);
+
+const WORKING_SET: &[Attribute] = attributes![Colour: Byte, Selectable: Byte];
+
+const DATA_MASK: &[Attribute] =
+    attributes![Colour: Byte, SoftKeyMask: Reference(Place::SoftKeyMask)];
+
+const ALARM_MASK: &[Attribute] = attributes![
+    Colour: Byte,
+    SoftKeyMask: Reference(Place::SoftKeyMask),
+    Priority: Priority,
+    Acoustic: Byte,
+];
+
+const CONTAINER: &[Attribute] = attributes![Width: Word, Height: Word];
+
+const SOFT_KEY_MASK: &[Attribute] = attributes![Colour: Byte];
+
+const KEY: &[Attribute] = attributes![Colour: Byte, KeyCode: Byte];
+
+const BUTTON: &[Attribute] = attributes![
+    Width: Word,
+    Height: Word,
+    Colour: Byte,
+    Border: Byte,
+    KeyCode: Byte,
+    Options: Byte,
+];
+
+const INPUT_BOOLEAN: &[Attribute] =
+    attributes![Colour: Byte, Width: Word, Font: FONT_PLACE, Variable: VARIABLE];
+
+const INPUT_STRING: &[Attribute] = attributes![
+    Width: Word,
+    Height: Word,
+    Colour: Byte,
+    Font: FONT_PLACE,
+    InputAttributes: Reference(Place::InputAttributes),
+    Options: Byte,
+    Variable: VARIABLE,
+    Justification: Byte,
+];
+
+const INPUT_NUMBER: &[Attribute] = attributes![
+    Width: Word,
+    Height: Word,
+    Colour: Byte,
+    Font: FONT_PLACE,
+    Options: Byte,
+    Variable: VARIABLE,
+    Min: Long,
+    Max: Long,
+    Offset: SignedLong,
+    Scale: Scale,
+    Decimals: Decimals,
+    Format: Byte,
+    Justification: Byte,
+];
+
+const INPUT_LIST: &[Attribute] = attributes![Width: Word, Height: Word, Variable: VARIABLE];
+
+const OUTPUT_STRING: &[Attribute] = attributes![
+    Width: Word,
+    Height: Word,
+    Colour: Byte,
+    Font: FONT_PLACE,
+    Options: Byte,
+    Variable: VARIABLE,
+    Justification: Byte,
+];
+
+const OUTPUT_NUMBER: &[Attribute] = attributes![
+    Width: Word,
+    Height: Word,
+    Colour: Byte,
+    Font: FONT_PLACE,
+    Options: Byte,
+    Variable: VARIABLE,
+    Offset: SignedLong,
+    Scale: Scale,
+    Decimals: Decimals,
+    Format: Byte,
+    Justification: Byte,
+];
+
+const LINE: &[Attribute] = attributes![
+    LineAttributes: LINE_ATTRIBUTES_PLACE,
+    Width: Word,
+    Height: Word,
+    Direction: Byte,
+];
+
+const RECTANGLE: &[Attribute] = attributes![
+    LineAttributes: LINE_ATTRIBUTES_PLACE,
+    Width: Word,
+    Height: Word,
+    Suppression: Byte,
+    Fill: FILL,
+];
+
+const ELLIPSE: &[Attribute] = attributes![
+    LineAttributes: LINE_ATTRIBUTES_PLACE,
+    Width: Word,
+    Height: Word,
+    Type: Byte,
+    Start: Byte,
+    End: Byte,
+    Fill: FILL,
+];
+
+const POLYGON: &[Attribute] = attributes![
+    Width: Word,
+    Height: Word,
+    LineAttributes: LINE_ATTRIBUTES_PLACE,
+    Fill: FILL,
+    Type: Byte,
+];
+
+const METER: &[Attribute] = attributes![
+    Width: Word,
+    NeedleColour: Byte,
+    BorderColour: Byte,
+    ArcColour: Byte,
+    Options: Byte,
+    Ticks: Byte,
+    Start: Byte,
+    End: Byte,
+    Min: Word,
+    Max: Word,
+    Variable: VARIABLE,
+];
+
+const LINEAR_BAR: &[Attribute] = attributes![
+    Width: Word,
+    Height: Word,
+    Colour: Byte,
+    TargetColour: Byte,
+    Options: Byte,
+    Ticks: Byte,
+    Min: Word,
+    Max: Word,
+    Variable: VARIABLE,
+    TargetVariable: TARGET_VARIABLE,
+    Target: Word,
+];
+
+const ARCHED_BAR: &[Attribute] = attributes![
+    Width: Word,
+    Height: Word,
+    Colour: Byte,
+    TargetColour: Byte,
+    Options: Byte,
+    Start: Byte,
+    End: Byte,
+    BarWidth: Word,
+    Min: Word,
+    Max: Word,
+    Variable: VARIABLE,
+    TargetVariable: TARGET_VARIABLE,
+    Target: Word,
+];
+
+const PICTURE: &[Attribute] = attributes![Width: Word, Options: Byte, Transparency: Byte];
+
+const FONT: &[Attribute] = attributes![Colour: Byte, Size: Byte, Type: Byte, Style: Byte];
+
+const LINE_ATTRIBUTES: &[Attribute] = attributes![Colour: Byte, Width: Byte, LineArt: Word];
+
+const FILL_ATTRIBUTES: &[Attribute] =
+    attributes![Type: Byte, Colour: Byte, Pattern: Reference(Place::Pattern)];
+
+const INPUT_ATTRIBUTES: &[Attribute] = attributes![ValidationType: Byte];
+
+const OBJECT_POINTER: &[Attribute] = attributes![Value: Reference(Place::Value)];
+
+/// The options of an Input List, whose number is 5.
+const OPTIONS_OF_A_LIST: Attribute = Attribute {
+    field: Field::Options,
+    values: Byte,
 };
 
 /// The attribute of a kind that has this number, if there is one.
 pub fn attribute(kind: Kind, number: u8) -> Option<Attribute>
     ensures { result ≡ attribute_at kind number }
 {
-    let font = reference(Font, Place::Font);
-    let variable = reference(Variable, Place::Variable);
-    let target_variable = reference(TargetVariable, Place::TargetVariable);
-    let soft_key_mask = reference(SoftKeyMask, Place::SoftKeyMask);
-    let input_attributes = reference(InputAttributes, Place::InputAttributes);
-    let line_attributes = reference(LineAttributes, Place::LineAttributes);
-    let fill = reference(Fill, Place::Fill);
-    let scale = taking(Scale, Values::Scale);
-    let decimals = taking(Decimals, Values::Decimals);
     match kind {
-        Kind::WorkingSet => numbered(&[byte(Colour), byte(Selectable)], number),
-        Kind::DataMask => numbered(&[byte(Colour), soft_key_mask], number),
-        Kind::AlarmMask => numbered(
-            &[
-                byte(Colour),
-                soft_key_mask,
-                taking(Priority, Values::Priority),
-                byte(Acoustic),
-            ],
-            number,
-        ),
-        Kind::Container => numbered(&[word(Width), word(Height)], number),
-        Kind::SoftKeyMask => numbered(&[byte(Colour)], number),
-        Kind::Key => numbered(&[byte(Colour), byte(KeyCode)], number),
-        Kind::Button => numbered(
-            &[
-                word(Width),
-                word(Height),
-                byte(Colour),
-                byte(Border),
-                byte(KeyCode),
-                byte(Options),
-            ],
-            number,
-        ),
-        Kind::InputBoolean => numbered(&[byte(Colour), word(Width), font, variable], number),
-        Kind::InputString => numbered(
-            &[
-                word(Width),
-                word(Height),
-                byte(Colour),
-                font,
-                input_attributes,
-                byte(Options),
-                variable,
-                byte(Justification),
-            ],
-            number,
-        ),
-        Kind::InputNumber => numbered(
-            &[
-                word(Width),
-                word(Height),
-                byte(Colour),
-                font,
-                byte(Options),
-                variable,
-                long(Min),
-                long(Max),
-                signed_long(Offset),
-                scale,
-                decimals,
-                byte(Format),
-                byte(Justification),
-            ],
-            number,
-        ),
-        Kind::InputList if number == 5 => Some(byte(Options)),
-        Kind::InputList => numbered(&[word(Width), word(Height), variable], number),
-        Kind::OutputString => numbered(
-            &[
-                word(Width),
-                word(Height),
-                byte(Colour),
-                font,
-                byte(Options),
-                variable,
-                byte(Justification),
-            ],
-            number,
-        ),
-        Kind::OutputNumber => numbered(
-            &[
-                word(Width),
-                word(Height),
-                byte(Colour),
-                font,
-                byte(Options),
-                variable,
-                signed_long(Offset),
-                scale,
-                decimals,
-                byte(Format),
-                byte(Justification),
-            ],
-            number,
-        ),
-        Kind::Line => numbered(
-            &[line_attributes, word(Width), word(Height), byte(Direction)],
-            number,
-        ),
-        Kind::Rectangle => numbered(
-            &[
-                line_attributes,
-                word(Width),
-                word(Height),
-                byte(Suppression),
-                fill,
-            ],
-            number,
-        ),
-        Kind::Ellipse => numbered(
-            &[
-                line_attributes,
-                word(Width),
-                word(Height),
-                byte(Type),
-                byte(Start),
-                byte(End),
-                fill,
-            ],
-            number,
-        ),
-        Kind::Polygon => numbered(
-            &[word(Width), word(Height), line_attributes, fill, byte(Type)],
-            number,
-        ),
-        Kind::Meter => numbered(
-            &[
-                word(Width),
-                byte(NeedleColour),
-                byte(BorderColour),
-                byte(ArcColour),
-                byte(Options),
-                byte(Ticks),
-                byte(Start),
-                byte(End),
-                word(Min),
-                word(Max),
-                variable,
-            ],
-            number,
-        ),
-        Kind::LinearBar => numbered(
-            &[
-                word(Width),
-                word(Height),
-                byte(Colour),
-                byte(TargetColour),
-                byte(Options),
-                byte(Ticks),
-                word(Min),
-                word(Max),
-                variable,
-                target_variable,
-                word(Target),
-            ],
-            number,
-        ),
-        Kind::ArchedBar => numbered(
-            &[
-                word(Width),
-                word(Height),
-                byte(Colour),
-                byte(TargetColour),
-                byte(Options),
-                byte(Start),
-                byte(End),
-                word(BarWidth),
-                word(Min),
-                word(Max),
-                variable,
-                target_variable,
-                word(Target),
-            ],
-            number,
-        ),
-        Kind::Picture => numbered(&[word(Width), byte(Options), byte(Transparency)], number),
-        Kind::Font => numbered(&[byte(Colour), byte(Size), byte(Type), byte(Style)], number),
-        Kind::LineAttributes => numbered(&[byte(Colour), byte(Width), word(LineArt)], number),
-        Kind::FillAttributes => numbered(
-            &[byte(Type), byte(Colour), reference(Pattern, Place::Pattern)],
-            number,
-        ),
-        Kind::InputAttributes => numbered(&[byte(ValidationType)], number),
-        Kind::ObjectPointer => numbered(&[reference(Value, Place::Value)], number),
-        Kind::NumberVariable | Kind::StringVariable | Kind::Macro => None,
+        Kind::InputList if number == 5 => Some(OPTIONS_OF_A_LIST),
+        _ => numbered(attributes_of(kind), number),
+    }
+}
+
+/// The attributes of a kind, numbered from 1. Of an Input List they are those before the number that is left out.
+fn attributes_of(kind: Kind) -> &'static [Attribute]
+    ensures { result.now ≡ table.attributes_of kind }
+{
+    match kind {
+        Kind::WorkingSet => WORKING_SET,
+        Kind::DataMask => DATA_MASK,
+        Kind::AlarmMask => ALARM_MASK,
+        Kind::Container => CONTAINER,
+        Kind::SoftKeyMask => SOFT_KEY_MASK,
+        Kind::Key => KEY,
+        Kind::Button => BUTTON,
+        Kind::InputBoolean => INPUT_BOOLEAN,
+        Kind::InputString => INPUT_STRING,
+        Kind::InputNumber => INPUT_NUMBER,
+        Kind::InputList => INPUT_LIST,
+        Kind::OutputString => OUTPUT_STRING,
+        Kind::OutputNumber => OUTPUT_NUMBER,
+        Kind::Line => LINE,
+        Kind::Rectangle => RECTANGLE,
+        Kind::Ellipse => ELLIPSE,
+        Kind::Polygon => POLYGON,
+        Kind::Meter => METER,
+        Kind::LinearBar => LINEAR_BAR,
+        Kind::ArchedBar => ARCHED_BAR,
+        Kind::Picture => PICTURE,
+        Kind::Font => FONT,
+        Kind::LineAttributes => LINE_ATTRIBUTES,
+        Kind::FillAttributes => FILL_ATTRIBUTES,
+        Kind::InputAttributes => INPUT_ATTRIBUTES,
+        Kind::ObjectPointer => OBJECT_POINTER,
+        Kind::NumberVariable | Kind::StringVariable | Kind::Macro => &[],
     }
 }
 
@@ -216,42 +257,6 @@ fn numbered(attributes: &[Attribute], number: u8) -> Option<Attribute>
 {
     let index = usize::from(number).checked_sub(1)?;
     attributes.get(index).copied()
-}
-
-fn taking(field: Field, values: Values) -> Attribute
-    ensures { result ≡ table.taking field values }
-{
-    Attribute { field, values }
-}
-
-fn byte(field: Field) -> Attribute
-    ensures { result ≡ table.byte field }
-{
-    taking(field, Values::Byte)
-}
-
-fn word(field: Field) -> Attribute
-    ensures { result ≡ table.word field }
-{
-    taking(field, Values::Word)
-}
-
-fn long(field: Field) -> Attribute
-    ensures { result ≡ table.long field }
-{
-    taking(field, Values::Long)
-}
-
-fn signed_long(field: Field) -> Attribute
-    ensures { result ≡ table.signed_long field }
-{
-    taking(field, Values::SignedLong)
-}
-
-fn reference(field: Field, place: Place) -> Attribute
-    ensures { result ≡ table.reference field place }
-{
-    taking(field, Values::Reference(place))
 }
 
 /// The law that the attributes of each kind stand in fields of its record, in order, and that such a field gets the

@@ -19,7 +19,6 @@ use std::alloc::{AllocError, Global};
 use std::convert::AsSlice;
 
 /// An object. `B` holds its texts, picture and macro bytes: `&[u8]` in a pool, `Vec<u8>` in a store.
-#[derive(Drop)]
 pub enum Object<B: AsSlice<u8>> {
     WorkingSet(WorkingSet),
     DataMask(DataMask),
@@ -50,6 +49,44 @@ pub enum Object<B: AsSlice<u8>> {
     InputAttributes(InputAttributes<B>),
     ObjectPointer(ObjectPointer),
     Macro(Macro<B>),
+}
+
+// Written out and not derived, so that how each kind is let go is proved here, once, and not in each crate
+// that lets an object go.
+impl<B: AsSlice<u8> + Drop> Drop for Object<B> {
+    fn drop(self) {
+        match self {
+            Object::WorkingSet(_object) => {}
+            Object::DataMask(_object) => {}
+            Object::AlarmMask(_object) => {}
+            Object::Container(_object) => {}
+            Object::SoftKeyMask(_object) => {}
+            Object::Key(_object) => {}
+            Object::Button(_object) => {}
+            Object::InputBoolean(_object) => {}
+            Object::InputString(_object) => {}
+            Object::InputNumber(_object) => {}
+            Object::InputList(_object) => {}
+            Object::OutputString(_object) => {}
+            Object::OutputNumber(_object) => {}
+            Object::Line(_object) => {}
+            Object::Rectangle(_object) => {}
+            Object::Ellipse(_object) => {}
+            Object::Polygon(_object) => {}
+            Object::Meter(_object) => {}
+            Object::LinearBar(_object) => {}
+            Object::ArchedBar(_object) => {}
+            Object::Picture(_object) => {}
+            Object::NumberVariable(_object) => {}
+            Object::StringVariable(_object) => {}
+            Object::Font(_object) => {}
+            Object::LineAttributes(_object) => {}
+            Object::FillAttributes(_object) => {}
+            Object::InputAttributes(_object) => {}
+            Object::ObjectPointer(_object) => {}
+            Object::Macro(_object) => {}
+        }
+    }
 }
 
 impl<B: AsSlice<u8>> Object<B> {
