@@ -6,8 +6,10 @@ use super::*;
 // The NAME of a terminal, the first of the table.
 const NAME: u64 = 0x2000_1D00_0000_0001;
 
-// Each NAME, and its numbers from the lowest bits to the highest.
-const NAMES: [(u64, u32, u16, [u8; 3], bool, [u8; 3], bool); 5] = [
+// A NAME, and its numbers from the lowest bits to the highest.
+type Numbers = (u64, u32, u16, [u8; 3], bool, [u8; 3], bool);
+
+const NAMES: [Numbers; 5] = [
     (NAME, 1, 0, [0, 0, 29], false, [0, 0, 2], false),
     (
         0x2000_8000_0000_0001,
@@ -47,34 +49,30 @@ const NAMES: [(u64, u32, u16, [u8; 3], bool, [u8; 3], bool); 5] = [
     ),
 ];
 
-#[test]
-fn numbers_of_names(rt: HostRuntime) {
-    for (raw, identity, manufacturer, low, reserved, high, is_self_configurable) in NAMES {
-        let name = Name::from_raw(raw);
-        assert_eq!(rt; name.raw(), raw);
-        assert_eq!(rt; name.identity(), identity, "{raw:X}");
-        assert_eq!(rt; name.manufacturer(), manufacturer, "{raw:X}");
-        assert_eq!(rt;
-            [
-                name.ecu_instance(),
-                name.function_instance(),
-                name.function()
-            ],
-            low,
-            "{raw:X}"
-        );
-        assert_eq!(rt; name.reserved(), reserved, "{raw:X}");
-        let rest = [
+fn numbers_of(name: Name) -> Numbers {
+    (
+        name.raw(),
+        name.identity(),
+        name.manufacturer(),
+        [
+            name.ecu_instance(),
+            name.function_instance(),
+            name.function(),
+        ],
+        name.reserved(),
+        [
             name.device_class(),
             name.device_class_instance(),
             name.industry_group(),
-        ];
-        assert_eq!(rt; rest, high, "{raw:X}");
-        assert_eq!(rt;
-            name.is_self_configurable(),
-            is_self_configurable,
-            "{raw:X}"
-        );
+        ],
+        name.is_self_configurable(),
+    )
+}
+
+#[test]
+fn numbers_of_names(rt: HostRuntime) {
+    for numbers in NAMES {
+        assert_eq!(rt; numbers_of(Name::from_raw(numbers.0)), numbers);
     }
 }
 

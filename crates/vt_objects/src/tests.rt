@@ -1,16 +1,13 @@
 mod attributes;
 mod changes;
 mod commands;
-mod copies;
 mod decimals;
 mod kind_sets;
-mod objects;
 mod pieces;
-mod references;
 mod values;
 
 use super::*;
-use std::alloc::Global;
+use std::alloc::{AllocGlobal, Global};
 use std::convert::AsSlice;
 use std::process::Abort;
 use std::test::Fail;
@@ -57,14 +54,22 @@ const KINDS: [(Kind, u8, &[u8]); 29] = [
     (Kind::Macro, 28, b"Macro"),
 ];
 
+fn are_kinds(
+    rt: &(impl Abort + AllocGlobal),
+    kinds: &[(Kind, u8, &[u8])],
+) -> Result<(), OutOfMemory> {
+    for (kind, number, name) in kinds {
+        assert_eq!(rt; kind.number(), *number, "{kind}");
+        assert_eq!(rt; Kind::from_number(*number), Some(*kind), "{kind}");
+        let text = format!(in rt.alloc(); "{kind}")?;
+        assert_eq!(rt; text.as_bytes(), *name, "{kind}");
+    }
+    Ok(())
+}
+
 #[test]
 fn kinds(rt: HostRuntime) -> Result<(), Fail> {
-    for (kind, number, name) in KINDS {
-        assert_eq!(rt; kind.number(), number, "{kind}");
-        assert_eq!(rt; Kind::from_number(number), Some(kind), "{kind}");
-        let text = format!(in rt.alloc(); "{kind}")?;
-        assert_eq!(rt; text.as_bytes(), name, "{kind}");
-    }
+    are_kinds(&rt, &KINDS)?;
     for number in [29, 33, 34, 255] {
         assert_eq!(rt; Kind::from_number(number), None, "{number}");
     }
@@ -81,13 +86,6 @@ const MACROS: [MacroEntry; 2] = [
         macro_id: 255,
     },
 ];
-
-const LANGUAGE: Language = Language {
-    first: b'e',
-    second: b'n',
-};
-
-const POINT: Point = Point { x: 3, y: 65_535 };
 
 #[test]
 fn entries(rt: HostRuntime) -> Result<(), Fail> {
@@ -159,10 +157,6 @@ fn child(raw: u16, x: i16, y: i16) -> Child {
 fn two_children(alloc: Global) -> Result<Entries<Child>, OutOfMemory> {
     let list = vec![in alloc; child(100, 10, 5), child(101, -1, i16::MIN)]?;
     Ok(Entries::from_vec(list))
-}
-
-fn two_macros(alloc: Global) -> Result<Entries<MacroEntry>, OutOfMemory> {
-    Ok(Entries::from_vec(MACROS.to_vec(alloc)?))
 }
 
 fn number<B: AsSlice<u8>>(value: u32) -> Object<B> {

@@ -2,7 +2,7 @@ mod each_kind;
 
 use super::*;
 use std::test::Fail;
-use vt_objects::{Child, Language, LongText, MacroEntry, Object, ObjectId, StringVariable};
+use vt_objects::{LongText, Object, ObjectId, StringVariable};
 
 /// A Working Set 0, a Data Mask 1000 and a Container 100, in three records from 0, 10 and 24.
 const POOL: [u8; 34] = [
@@ -14,12 +14,6 @@ const POOL: [u8; 34] = [
 /// A Number Variable 5 of 1, another one 6 of 2, and again 5, of 3.
 const AGAIN: [u8; 21] = [
     5, 0, 21, 1, 0, 0, 0, 6, 0, 21, 2, 0, 0, 0, 5, 0, 21, 3, 0, 0, 0,
-];
-
-/// A Container 9 with a child and a macro, and a Working Set 0 with a macro and two languages.
-const LISTS: [u8; 34] = [
-    9, 0, 3, 1, 0, 2, 0, 0, 1, 1, 7, 0, 0xFE, 0xFF, 3, 0, 8, 4, // the Container
-    0, 0, 0, 0, 1, 0xE8, 3, 0, 1, 2, 8, 4, 101, 110, 100, 101, // the Working Set
 ];
 
 /// An Output Number 9 with the bytes of 0.5 for a scale, from byte 21.
@@ -51,78 +45,8 @@ fn is_text(object: Option<&Object<&[u8]>>, want: &[u8]) -> bool {
 }
 
 #[test]
-fn objects_in_order(rt: HostRuntime) -> Result<(), Fail> {
-    let pool = read_pool(rt.alloc(), &POOL)?;
-    let [a, b, c] = pool.objects() else {
-        return Err(Fail::new("not three objects"));
-    };
-    assert_eq!(rt; [a.0.raw(), b.0.raw(), c.0.raw()], [0, 1000, 100]);
-    let Object::WorkingSet(set) = &a.1 else {
-        return Err(Fail::new("not a working set"));
-    };
-    assert_eq!(rt; [set.colour, set.selectable], [0, 1]);
-    assert_eq!(rt; set.active_mask.raw(), 1000);
-    assert!(rt; set.children.is_empty() && set.macros.is_empty() && set.languages.is_empty());
-    let Object::DataMask(mask) = &b.1 else {
-        return Err(Fail::new("not a data mask"));
-    };
-    let child = Child {
-        id: ObjectId::from_raw(100),
-        x: 10,
-        y: 5,
-    };
-    assert_eq!(rt; mask.colour, 0);
-    assert!(rt; mask.soft_key_mask.is_null() && mask.macros.is_empty());
-    assert_eq!(rt; mask.children.as_slice(), [child].as_slice());
-    let Object::Container(container) = &c.1 else {
-        return Err(Fail::new("not a container"));
-    };
-    assert_eq!(rt; [container.width, container.height], [50, 20]);
-    assert_eq!(rt; container.hidden, 0);
-    assert!(rt; container.children.is_empty() && container.macros.is_empty());
-    Ok(())
-}
-
-#[test]
-fn lists_in_order(rt: HostRuntime) -> Result<(), Fail> {
-    let pool = read_pool(rt.alloc(), &LISTS)?;
-    let [a, b] = pool.objects() else {
-        return Err(Fail::new("not two objects"));
-    };
-    let entry = MacroEntry {
-        event: 8,
-        macro_id: 4,
-    };
-    let Object::Container(container) = &a.1 else {
-        return Err(Fail::new("not a container"));
-    };
-    let child = Child {
-        id: ObjectId::from_raw(7),
-        x: -2,
-        y: 3,
-    };
-    assert_eq!(rt; container.children.as_slice(), [child].as_slice());
-    assert_eq!(rt; container.macros.as_slice(), [entry].as_slice());
-    let Object::WorkingSet(set) = &b.1 else {
-        return Err(Fail::new("not a working set"));
-    };
-    let english = Language {
-        first: b'e',
-        second: b'n',
-    };
-    let german = Language {
-        first: b'd',
-        second: b'e',
-    };
-    assert!(rt; set.children.is_empty());
-    assert_eq!(rt; set.macros.as_slice(), [entry].as_slice());
-    assert_eq!(rt; set.languages.as_slice(), [english, german].as_slice());
-    Ok(())
-}
-
-#[test]
 fn written_again(rt: HostRuntime) -> Result<(), Fail> {
-    for bytes in [POOL.as_slice(), LISTS.as_slice(), TEXT.as_slice()] {
+    for bytes in [POOL.as_slice(), TEXT.as_slice()] {
         let pool = read_pool(rt.alloc(), bytes)?;
         let mut out = Vec::new(rt.alloc());
         for (id, object) in pool.objects() {

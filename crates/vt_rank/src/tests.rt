@@ -1,4 +1,5 @@
 use super::*;
+use arrayvec::ArrayVec;
 use std::alloc::{AllocError, Global};
 use std::test::Fail;
 
@@ -46,52 +47,43 @@ fn line_of(alloc: Global, last: &[u8]) -> Result<Graph, AllocError> {
     })
 }
 
-#[test]
-fn shared_target(rt: HostRuntime) -> Result<(), Fail> {
-    let graph = graph_of(rt.alloc(), &[&[], &[3], &[3], &[]])?;
-    let Ok(ranks) = rank(&graph) else {
-        return Err(Fail::new("a circle"));
-    };
-    assert!(rt; ranks.of(3) < ranks.of(1) && ranks.of(3) < ranks.of(2));
-    Ok(())
+/// The path of the circle that is answered, none where the nodes have ranks.
+fn circle_of(graph: &Graph) -> ArrayVec<u8, 256> {
+    match rank(graph) {
+        Ok(_) => ArrayVec::new(),
+        Err(circle) => circle.path,
+    }
 }
 
-#[test]
-fn self_loop(rt: HostRuntime) -> Result<(), Fail> {
-    let graph = graph_of(rt.alloc(), &[&[], &[], &[2]])?;
-    let Err(circle) = rank(&graph) else {
-        return Err(Fail::new("no circle"));
-    };
-    assert_eq!(rt; circle.path.as_slice(), [2].as_slice());
-    Ok(())
-}
-
-#[test]
-fn least_node_on_the_second_circle(rt: HostRuntime) -> Result<(), Fail> {
+// The nodes that each node triggers, and the circle that is answered.
+const CIRCLES: [(&[&[u8]], &[u8]); 5] = [
+    // Two nodes share a target.
+    (&[&[], &[3], &[3], &[]], &[]),
+    (&[&[], &[], &[2]], &[2]),
     // 0 leads to 5 and 6, which lie on one circle; 2 and 9 lie on another.
-    let graph = graph_of(
-        rt.alloc(),
+    (
         &[&[5], &[], &[9], &[], &[], &[6], &[5], &[], &[], &[2]],
-    )?;
-    let Err(circle) = rank(&graph) else {
-        return Err(Fail::new("no circle"));
-    };
-    assert_eq!(rt; circle.path.as_slice(), [2, 9].as_slice());
+        &[2, 9],
+    ),
+    (&[&[1], &[2], &[3], &[1]], &[1, 2, 3]),
+    // 1 and 2 lead from the circle of 5 and 6 to that of 7 and 8, and lie on none.
+    (
+        &[&[1], &[2], &[7], &[], &[], &[6], &[1, 5], &[8], &[7]],
+        &[5, 6],
+    ),
+];
+
+#[test]
+fn least_circles(rt: HostRuntime) -> Result<(), Fail> {
+    for (targets, wanted) in CIRCLES {
+        let graph = graph_of(rt.alloc(), targets)?;
+        assert_eq!(rt; circle_of(&graph).as_slice(), wanted);
+    }
     Ok(())
 }
 
 #[test]
-fn leads_to_a_circle(rt: HostRuntime) -> Result<(), Fail> {
-    let graph = graph_of(rt.alloc(), &[&[1], &[2], &[3], &[1]])?;
-    let Err(circle) = rank(&graph) else {
-        return Err(Fail::new("no circle"));
-    };
-    assert_eq!(rt; circle.path.as_slice(), [1, 2, 3].as_slice());
-    Ok(())
-}
-
-#[test]
-fn line_of_256(rt: HostRuntime) -> Result<(), Fail> {
+fn ranks_of_a_line(rt: HostRuntime) -> Result<(), Fail> {
     let graph = line_of(rt.alloc(), &[])?;
     let Ok(ranks) = rank(&graph) else {
         return Err(Fail::new("a circle"));
@@ -104,44 +96,21 @@ fn line_of_256(rt: HostRuntime) -> Result<(), Fail> {
 
 #[test]
 fn ring_of_256(rt: HostRuntime) -> Result<(), Fail> {
-    let graph = line_of(rt.alloc(), &[0])?;
-    let Err(circle) = rank(&graph) else {
-        return Err(Fail::new("no circle"));
-    };
-    assert_eq!(rt; circle.path.len(), 256);
-    let mut node = 0u8;
-    for on_path in circle.path.as_slice() {
-        assert_eq!(rt; *on_path, node);
-        node = node.wrapping_add(1);
+    let path = circle_of(&line_of(rt.alloc(), &[0])?);
+    assert_eq!(rt; path.len(), 256);
+    for (node, on_path) in path.as_slice().iter().enumerate() {
+        assert_eq!(rt; usize::from(*on_path), node);
     }
-    Ok(())
-}
-
-#[test]
-fn between_two_circles(rt: HostRuntime) -> Result<(), Fail> {
-    // 1 and 2 lead from the circle of 5 and 6 to that of 7 and 8, and lie on none.
-    let graph = graph_of(
-        rt.alloc(),
-        &[&[1], &[2], &[7], &[], &[], &[6], &[1, 5], &[8], &[7]],
-    )?;
-    let Err(circle) = rank(&graph) else {
-        return Err(Fail::new("no circle"));
-    };
-    assert_eq!(rt; circle.path.as_slice(), [5, 6].as_slice());
     Ok(())
 }
 
 #[test]
 fn circle_through_most(rt: HostRuntime) -> Result<(), Fail> {
     let mut graph = graph_of(rt.alloc(), &[&[], &[3], &[]])?;
-    graph
-        .nodes
-        .push(vec![in rt.alloc(); Item::Most, Item::Step, Item::Most]?)?;
+    let items = vec![in rt.alloc(); Item::Most, Item::Step, Item::Most]?;
+    graph.nodes.push(items)?;
     graph.groups.push(Vec::from_slice(rt.alloc(), &[2, 1])?)?;
     graph.most = Vec::from_slice(rt.alloc(), &[0, 3])?;
-    let Err(circle) = rank(&graph) else {
-        return Err(Fail::new("no circle"));
-    };
-    assert_eq!(rt; circle.path.as_slice(), [1, 3].as_slice());
+    assert_eq!(rt; circle_of(&graph).as_slice(), [1, 3].as_slice());
     Ok(())
 }

@@ -64,6 +64,47 @@ fn three_objects(rt: HostRuntime) -> Result<(), Fail> {
     Ok(())
 }
 
+/// One object of each kind, 0 to 28, under the IDs 0 to 28, with no reference but NULL.
+const EACH_KIND: &[u8] = &[
+    0, 0, 0, 0, 1, 0xFF, 0xFF, 0, 0, 0, // Working Set
+    1, 0, 1, 0, 0xFF, 0xFF, 0, 0, // Data Mask
+    2, 0, 2, 0, 0xFF, 0xFF, 0, 0, 0, 0, // Alarm Mask
+    3, 0, 3, 9, 0, 9, 0, 0, 0, 0, // Container
+    4, 0, 4, 0, 0, 0, // Soft Key Mask
+    5, 0, 5, 0, 1, 0, 0, // Key
+    6, 0, 6, 9, 0, 9, 0, 0, 0, 1, 0, 0, 0, // Button
+    7, 0, 7, 0, 9, 0, 0xFF, 0xFF, 0xFF, 0xFF, 0, 1, 0, // Input Boolean
+    8, 0, 8, 9, 0, 9, 0, 0, 0xFF, 0xFF, 0xFF, 0xFF, 0, 0xFF, 0xFF, 0, 2, 65, 66, 1, 0, // Input String
+    9, 0, 9, 9, 0, 9, 0, 0, 0xFF, 0xFF, 0, 0xFF, 0xFF, 1, 0, 0, 0, 0, 0, 0, 0, 9, 0, 0, 0, 0, 0, 0,
+    0, 0, 0, 128, 63, 0, 0, 0, 1, 0, // Input Number
+    10, 0, 10, 9, 0, 9, 0, 0xFF, 0xFF, 0, 1, 0, 0, 0xFF, 0xFF, // Input List
+    11, 0, 11, 9, 0, 9, 0, 0, 0xFF, 0xFF, 0, 0xFF, 0xFF, 0, 2, 0, 65, 66, 0, // Output String
+    12, 0, 12, 9, 0, 9, 0, 0, 0xFF, 0xFF, 0, 0xFF, 0xFF, 1, 0, 0, 0, 0, 0, 0, 0, 0, 0, 128, 63, 0,
+    0, 0, 0, // Output Number
+    13, 0, 13, 0xFF, 0xFF, 9, 0, 9, 0, 0, 0, // Line
+    14, 0, 14, 0xFF, 0xFF, 9, 0, 9, 0, 0, 0xFF, 0xFF, 0, // Rectangle
+    15, 0, 15, 0xFF, 0xFF, 9, 0, 9, 0, 0, 0, 90, 0xFF, 0xFF, 0, // Ellipse
+    16, 0, 16, 9, 0, 9, 0, 0xFF, 0xFF, 0xFF, 0xFF, 0, 1, 0, 3, 0, 4, 0, // Polygon
+    17, 0, 17, 9, 0, 1, 2, 3, 0, 4, 0, 90, 0, 0, 9, 0, 0xFF, 0xFF, 5, 0, 0, // Meter
+    18, 0, 18, 9, 0, 9, 0, 1, 2, 0, 4, 0, 0, 9, 0, 0xFF, 0xFF, 5, 0, 0xFF, 0xFF, 6, 0, 0, // Linear Bar
+    19, 0, 19, 9, 0, 9, 0, 1, 2, 0, 0, 90, 3, 0, 0, 0, 9, 0, 0xFF, 0xFF, 5, 0, 0xFF, 0xFF, 6, 0, 0, // Arched Bar
+    20, 0, 20, 9, 0, 3, 0, 3, 0, 0, 0, 0, 2, 0, 0, 0, 0, 7, 8, // Picture
+    21, 0, 21, 1, 0, 0, 0, // Number Variable
+    22, 0, 22, 2, 0, 65, 66, // String Variable
+    23, 0, 23, 0, 0, 0, 0, 0, // Font
+    24, 0, 24, 0, 1, 0xFF, 0xFF, 0, // Line Attributes
+    25, 0, 25, 0, 0, 0xFF, 0xFF, 0, // Fill Attributes
+    26, 0, 26, 0, 1, 65, 0, // Input Attributes
+    27, 0, 27, 0xFF, 0xFF, // Object Pointer
+    28, 0, 28, 0, 0, // Macro
+];
+
+#[test]
+fn one_object_of_each_kind(rt: HostRuntime) -> Result<(), Fail> {
+    assert!(rt; reports(rt.alloc(), &[EACH_KIND], "accepted 29 objects\n")?);
+    Ok(())
+}
+
 #[test]
 fn missing_container(rt: HostRuntime) -> Result<(), Fail> {
     assert!(rt;

@@ -1,4 +1,5 @@
 use super::*;
+use std::alloc::Global;
 use std::test::Fail;
 
 const OWN: u8 = 0x26;
@@ -16,18 +17,24 @@ const ANSWERS: [(u8, u64, Heard); 9] = [
     (255, u64::MAX, Heard::Nothing),
 ];
 
+/// Whether a first claim means this, before it is heard and then, and records its address.
+fn means(alloc: Global, address: u8, raw: u64, wanted: Heard) -> Result<bool, OutOfMemory> {
+    let mut claims = Claims::new(alloc, OWN, Name::from_raw(NAME));
+    let name = Name::from_raw(raw);
+    let is_new = claims.answer(address, name) == wanted && claims.address_of(name).is_none();
+    let is_heard = claims.hear(address, name)? == wanted;
+    let taken = (address != 254).then_some(address);
+    let is_own = claims.own() == OWN && claims.name() == Name::from_raw(NAME);
+    Ok(is_new && is_heard && is_own && claims.address_of(name) == taken)
+}
+
 #[test]
 fn claims_of_the_own_address(rt: HostRuntime) -> Result<(), Fail> {
     for (address, raw, wanted) in ANSWERS {
-        let mut claims = Claims::new(rt.alloc(), OWN, Name::from_raw(NAME));
-        let name = Name::from_raw(raw);
-        assert_eq!(rt; claims.answer(address, name), wanted, "{address} {raw:X}");
-        assert_eq!(rt; claims.address_of(name), None, "{address} {raw:X}");
-        assert_eq!(rt; claims.hear(address, name)?, wanted, "{address} {raw:X}");
-        let taken = (address != 254).then_some(address);
-        assert_eq!(rt; claims.address_of(name), taken, "{address} {raw:X}");
-        assert_eq!(rt; claims.own(), OWN);
-        assert_eq!(rt; claims.name(), Name::from_raw(NAME));
+        assert!(rt;
+            means(rt.alloc(), address, raw, wanted)?,
+            "{address} {raw:X}"
+        );
     }
     Ok(())
 }

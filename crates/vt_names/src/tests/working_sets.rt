@@ -1,4 +1,5 @@
 use super::*;
+use std::alloc::Global;
 use std::test::Fail;
 
 // What a set is to be: its address, its NAME, its count and its members.
@@ -64,54 +65,55 @@ fn counts_at_their_bounds(rt: HostRuntime) -> Result<(), Fail> {
     Ok(())
 }
 
-#[test]
-fn sets_in_their_order(rt: HostRuntime) -> Result<(), Fail> {
-    let mut registry = Registry::new(rt.alloc());
-    assert!(rt; are_sets(&registry, &[]));
-    assert_eq!(rt;
-        registry.master(0x82, None, 1),
-        Err(RegistryFault::NotClaimed)
-    );
+/// Sets of 82 with a member, 80 and FF, registered in this order.
+fn three_sets(alloc: Global) -> Result<Registry, RegistryFault> {
+    let mut registry = Registry::new(alloc);
     registry.master(0x82, Some(Name::from_raw(2)), 3)?;
     registry.master(0x80, Some(Name::from_raw(5)), 1)?;
     registry.member(0x82, Name::from_raw(9))?;
     registry.master(0xFF, Some(Name::from_raw(7)), 1)?;
-    let all: [Wanted<'_>; 3] = [
+    Ok(registry)
+}
+
+#[test]
+fn sets_in_their_order(rt: HostRuntime) -> Result<(), Fail> {
+    assert!(rt; are_sets(&Registry::new(rt.alloc()), &[]));
+    let mut registry = three_sets(rt.alloc())?;
+    // A master without a holder changes nothing.
+    let refused = registry.master(0x80, None, 9);
+    assert_eq!(rt; refused, Err(RegistryFault::NotClaimed));
+    let wanted: [Wanted<'_>; 3] = [
         (0x82, Some(2), 3, &[9]),
         (0x80, Some(5), 1, &[]),
         (0xFF, Some(7), 1, &[]),
     ];
-    assert!(rt; are_sets(&registry, &all));
-    // A second master message keeps the place and clears the members; one without a holder changes nothing.
+    assert!(rt; are_sets(&registry, &wanted));
+    Ok(())
+}
+
+#[test]
+fn a_second_master_message_keeps_the_place(rt: HostRuntime) -> Result<(), Fail> {
+    let mut registry = three_sets(rt.alloc())?;
     registry.master(0x82, Some(Name::from_raw(2)), 2)?;
-    assert_eq!(rt;
-        registry.master(0x80, None, 9),
-        Err(RegistryFault::NotClaimed)
-    );
-    let again: [Wanted<'_>; 3] = [
+    let wanted: [Wanted<'_>; 3] = [
         (0x82, Some(2), 2, &[]),
         (0x80, Some(5), 1, &[]),
         (0xFF, Some(7), 1, &[]),
     ];
-    assert!(rt; are_sets(&registry, &again));
-    // What is closed leaves the others in their order, and comes last when it is registered again.
+    assert!(rt; are_sets(&registry, &wanted));
+    Ok(())
+}
+
+#[test]
+fn a_set_closed_and_registered_again_comes_last(rt: HostRuntime) -> Result<(), Fail> {
+    let mut registry = three_sets(rt.alloc())?;
     assert!(rt; registry.close(0x82));
     assert!(rt; !registry.close(0x82));
-    assert!(rt;
-        are_sets(
-            &registry,
-            &[(0x80, Some(5), 1, &[]), (0xFF, Some(7), 1, &[])]
-        )
-    );
     registry.reserve(0x82)?;
     registry.close(0x80);
     registry.master(0x82, Some(Name::from_raw(2)), 1)?;
-    assert!(rt;
-        are_sets(
-            &registry,
-            &[(0xFF, Some(7), 1, &[]), (0x82, Some(2), 1, &[])]
-        )
-    );
+    let wanted: [Wanted<'_>; 2] = [(0xFF, Some(7), 1, &[]), (0x82, Some(2), 1, &[])];
+    assert!(rt; are_sets(&registry, &wanted));
     Ok(())
 }
 

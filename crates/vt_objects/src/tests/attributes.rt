@@ -3,6 +3,7 @@
 use crate::Field::*;
 use crate::Values::{Byte, Long, Reference, SignedLong, Word};
 use crate::{Attribute, Field, Kind, Place, Values, attribute};
+use std::process::Abort;
 
 // The attributes of each kind by their numbers, from 1.
 const ATTRIBUTES: [(Kind, &[Option<(Field, Values)>]); 29] = [
@@ -255,10 +256,9 @@ const ATTRIBUTES: [(Kind, &[Option<(Field, Values)>]); 29] = [
     (Kind::Macro, &[]),
 ];
 
-#[test]
-fn attributes_of_each_kind(rt: HostRuntime) {
-    for (kind, wanted) in ATTRIBUTES {
-        assert_eq!(rt; attribute(kind, 0), None, "{kind}");
+fn are_attributes(rt: &impl Abort, attributes: &[(Kind, &[Option<(Field, Values)>])]) {
+    for (kind, wanted) in attributes {
+        assert_eq!(rt; attribute(*kind, 0), None, "{kind}");
         for number in 1..=255u8 {
             let wanted = match wanted.get(usize::from(number) - 1) {
                 Some(Some((field, values))) => Some(Attribute {
@@ -267,7 +267,12 @@ fn attributes_of_each_kind(rt: HostRuntime) {
                 }),
                 _ => None,
             };
-            assert_eq!(rt; attribute(kind, number), wanted, "{kind} {number}");
+            assert_eq!(rt; attribute(*kind, number), wanted, "{kind} {number}");
         }
     }
+}
+
+#[test]
+fn attributes_of_each_kind(rt: HostRuntime) {
+    are_attributes(&rt, &ATTRIBUTES);
 }

@@ -1,6 +1,7 @@
 //! Numbers as they are shown.
 
 use crate::{Decimal, Decimals, Scale};
+use std::process::Abort;
 
 // Value, offset, scale and decimals, and what is shown.
 const SHOWN: [(u32, i32, Scale, u8, &[u8]); 81] = [
@@ -117,19 +118,23 @@ const SHOWN: [(u32, i32, Scale, u8, &[u8]); 81] = [
     (7, 0, Scale::Thousandth, 7, b"0.0070000"),
 ];
 
-#[test]
-fn shows_numbers(rt: HostRuntime) {
-    for (value, offset, scale, decimals, wanted) in SHOWN {
-        let Some(decimals) = Decimals::new(decimals) else {
+fn are_shown(rt: &impl Abort, numbers: &[(u32, i32, Scale, u8, &[u8])]) {
+    for (value, offset, scale, decimals, wanted) in numbers {
+        let Some(decimals) = Decimals::new(*decimals) else {
             panic!(rt; "too many decimals");
         };
         let decimal = Decimal {
-            value,
-            offset,
-            scale,
+            value: *value,
+            offset: *offset,
+            scale: *scale,
             decimals,
         };
         let text = decimal.shown();
-        assert_eq!(rt; text.as_str().as_bytes(), wanted, "{value} {offset}");
+        assert_eq!(rt; text.as_str().as_bytes(), *wanted, "{value} {offset}");
     }
+}
+
+#[test]
+fn shows_numbers(rt: HostRuntime) {
+    are_shown(&rt, &SHOWN);
 }

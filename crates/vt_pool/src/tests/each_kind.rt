@@ -1,6 +1,7 @@
 //! One record of each kind, 0 to 28, under the IDs 256 to 284, whose fields are bytes that count up from 16.
 
 mod fields;
+mod references;
 
 use crate::{PoolFault, read_pool, write_object};
 use fields::is_as_written;

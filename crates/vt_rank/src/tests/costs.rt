@@ -56,84 +56,50 @@ fn costs_of(graph: &Graph, cap: u32) -> Result<Result<Costs, OverBudget>, Fail> 
     }
 }
 
+/// What a node costs, or what is over the cap.
+fn cost_of(graph: &Graph, cap: u32, node: u8) -> Result<Result<u32, OverBudget>, Fail> {
+    Ok(match costs_of(graph, cap)? {
+        Ok(costs) => Ok(costs.node(node)),
+        Err(over) => Err(over),
+    })
+}
+
+// How many nodes double, the cap, and what the first of them costs.
+const DOUBLING: [(u8, u32, Result<u32, OverBudget>); 8] = [
+    (16, 65_535, Ok(65_534)),
+    (17, 65_535, Err(OverBudget::Node(1))),
+    (17, 1_000_000, Ok(131_070)),
+    (5, 30, Ok(30)),
+    (5, 29, Err(OverBudget::Node(1))),
+    (5, 0, Err(OverBudget::Node(1))),
+    (32, u32::MAX, Ok(u32::MAX - 1)),
+    (200, u32::MAX, Err(OverBudget::Node(1))),
+];
+
 #[test]
-fn sixteen_that_double(rt: HostRuntime) -> Result<(), Fail> {
-    let graph = doubling(rt.alloc(), 16)?;
-    let Ok(costs) = costs_of(&graph, 65_535)? else {
-        return Err(Fail::new("over the cap"));
-    };
-    assert_eq!(rt; costs.node(1), 65_534);
-    assert_eq!(rt; costs.node(15), 2);
-    assert_eq!(rt; costs.node(16), 0);
+fn nodes_that_double(rt: HostRuntime) -> Result<(), Fail> {
+    for (count, cap, wanted) in DOUBLING {
+        let graph = doubling(rt.alloc(), count)?;
+        assert_eq!(rt; cost_of(&graph, cap, 1)?, wanted, "{count}");
+    }
     Ok(())
 }
 
-#[test]
-fn seventeen_that_double(rt: HostRuntime) -> Result<(), Fail> {
-    let graph = doubling(rt.alloc(), 17)?;
-    assert_eq!(rt; costs_of(&graph, 65_535)?.err(), Some(OverBudget::Node(1)));
-    let Ok(costs) = costs_of(&graph, 1_000_000)? else {
-        return Err(Fail::new("over the cap"));
-    };
-    assert_eq!(rt; costs.node(1), 131_070);
-    Ok(())
-}
+// The groups of the graph, those of `Most`, the cap, and what node 0 costs. Nodes 1, 2 and 3 cost 1, 2 and 5.
+const STEPPING: [(&[&[u8]], &[usize], u32, Result<u32, OverBudget>); 5] = [
+    (&[&[1, 1, 2], &[3], &[2, 2]], &[0, 2], 65_535, Ok(5)),
+    (&[&[1, 1, 2], &[3], &[2, 2]], &[0, 1, 2], 65_535, Ok(6)),
+    (&[&[1]], &[], 65_535, Ok(1)),
+    (&[&[3], &[3, 1], &[3, 3]], &[], 5, Err(OverBudget::Group(1))),
+    (&[&[3], &[3, 1], &[3, 3]], &[], 4, Err(OverBudget::Node(3))),
+];
 
 #[test]
-fn cap_itself_is_within(rt: HostRuntime) -> Result<(), Fail> {
-    let graph = doubling(rt.alloc(), 5)?;
-    assert!(rt; costs_of(&graph, 30)?.is_ok());
-    assert_eq!(rt; costs_of(&graph, 29)?.err(), Some(OverBudget::Node(1)));
-    assert_eq!(rt; costs_of(&graph, 0)?.err(), Some(OverBudget::Node(1)));
-    Ok(())
-}
-
-#[test]
-fn past_32_bits(rt: HostRuntime) -> Result<(), Fail> {
-    let graph = doubling(rt.alloc(), 32)?;
-    let Ok(costs) = costs_of(&graph, u32::MAX)? else {
-        return Err(Fail::new("over the cap"));
-    };
-    assert_eq!(rt; costs.node(1), u32::MAX - 1);
-    let graph = doubling(rt.alloc(), 200)?;
-    assert_eq!(rt;
-        costs_of(&graph, u32::MAX)?.err(),
-        Some(OverBudget::Node(1))
-    );
-    Ok(())
-}
-
-#[test]
-fn most_of_groups(rt: HostRuntime) -> Result<(), Fail> {
-    let groups: [&[u8]; 3] = [&[1, 1, 2], &[3], &[2, 2]];
-    let graph = stepping(rt.alloc(), [1, 2, 5], &groups, &[0, 2])?;
-    let Ok(costs) = costs_of(&graph, 65_535)? else {
-        return Err(Fail::new("over the cap"));
-    };
-    assert_eq!(rt; costs.node(0), 5);
-    let graph = stepping(rt.alloc(), [1, 2, 5], &groups, &[0, 1, 2])?;
-    let Ok(costs) = costs_of(&graph, 65_535)? else {
-        return Err(Fail::new("over the cap"));
-    };
-    assert_eq!(rt; costs.node(0), 6);
-    Ok(())
-}
-
-#[test]
-fn most_of_no_group(rt: HostRuntime) -> Result<(), Fail> {
-    let graph = stepping(rt.alloc(), [1, 2, 5], &[&[1]], &[])?;
-    let Ok(costs) = costs_of(&graph, 65_535)? else {
-        return Err(Fail::new("over the cap"));
-    };
-    assert_eq!(rt; costs.node(0), 1);
-    Ok(())
-}
-
-#[test]
-fn group_over_where_no_node_is(rt: HostRuntime) -> Result<(), Fail> {
-    let graph = stepping(rt.alloc(), [1, 2, 5], &[&[3], &[3, 1], &[3, 3]], &[])?;
-    assert_eq!(rt; costs_of(&graph, 5)?.err(), Some(OverBudget::Group(1)));
-    assert_eq!(rt; costs_of(&graph, 4)?.err(), Some(OverBudget::Node(3)));
+fn nodes_that_step(rt: HostRuntime) -> Result<(), Fail> {
+    for (groups, most, cap, wanted) in STEPPING {
+        let graph = stepping(rt.alloc(), [1, 2, 5], groups, most)?;
+        assert_eq!(rt; cost_of(&graph, cap, 0)?, wanted);
+    }
     Ok(())
 }
 
@@ -167,10 +133,7 @@ fn line_of_256_costs(rt: HostRuntime) -> Result<(), Fail> {
 #[test]
 fn empty_graph(rt: HostRuntime) -> Result<(), Fail> {
     let graph = graph_of(rt.alloc(), &[])?;
-    let Ok(costs) = costs_of(&graph, 0)? else {
-        return Err(Fail::new("over the cap"));
-    };
-    assert_eq!(rt; costs.node(255), 0);
+    assert_eq!(rt; cost_of(&graph, 0, 255)?, Ok(0));
     Ok(())
 }
 
@@ -188,14 +151,10 @@ fn entries_past_the_nodes(rt: HostRuntime) -> Result<(), Fail> {
 #[test]
 fn groups_that_are_not_there(rt: HostRuntime) -> Result<(), Fail> {
     let mut graph = stepping(rt.alloc(), [1, 2, 5], &[&[1]], &[7, 0])?;
-    graph
-        .nodes
-        .push(vec![in rt.alloc(); Item::Group(7), Item::Group(0)]?)?;
-    let Ok(costs) = costs_of(&graph, 65_535)? else {
-        return Err(Fail::new("over the cap"));
-    };
-    assert_eq!(rt; costs.node(0), 2);
-    assert_eq!(rt; costs.node(4), 1);
+    let items = vec![in rt.alloc(); Item::Group(7), Item::Group(0)]?;
+    graph.nodes.push(items)?;
+    assert_eq!(rt; cost_of(&graph, 65_535, 0)?, Ok(2));
+    assert_eq!(rt; cost_of(&graph, 65_535, 4)?, Ok(1));
     Ok(())
 }
 
@@ -203,9 +162,6 @@ fn groups_that_are_not_there(rt: HostRuntime) -> Result<(), Fail> {
 fn group_past_32_bits(rt: HostRuntime) -> Result<(), Fail> {
     let mut graph = doubling(rt.alloc(), 32)?;
     graph.groups.push(Vec::from_slice(rt.alloc(), &[1, 1, 1])?)?;
-    assert_eq!(rt;
-        costs_of(&graph, u32::MAX)?.err(),
-        Some(OverBudget::Group(32))
-    );
+    assert_eq!(rt; cost_of(&graph, u32::MAX, 1)?, Err(OverBudget::Group(32)));
     Ok(())
 }
