@@ -2,9 +2,9 @@
 use Rattle.std.proofs.Common.{◌≡◌, ℕ, zero, suc, ◌+◌, ◌-◌, ◌*◌, ◌/◌, ◌%◌, ◌^◌, ◌<◌, ◌≤◌, ℤ, pos, negsuc, ◌-ℤ◌, ◌*ℤ◌, neg_ℤ, nat_abs, Bool, true, false, cond, ltb, ◌&&◌, List, [], ◌++◌, codes, refl, sym, ap, subst, ◌∙◌, arith, inl, inr}
 use Rattle.std.proofs.Math.Nat.{mod-lt, div-add-mod, div-le_of_le-mul}
 use Rattle.std.proofs.lemmas.Bool.{ltb-true, ltb-false, le-ltb, lt-ltb, cases_lt}
-use Rattle.std.specs.Prelude.{int_lt}
+use Rattle.std.specs.Prelude.{int_lt, nat_lt}
 use Rattle.std.specs.Fmt.{decimal}
-use Rattle.vt_objects.specs.Decimals.{IsRounded, IsShown, decimal_text, fraction_text}
+use Rattle.vt_objects.specs.Decimals.{IsRounded, IsShown, decimal_text, fraction_text, signed_text, shown_text}
 
 -- ---- how far two whole numbers are apart
 
@@ -117,3 +117,15 @@ is_shown (negsuc n) places decimals m q negative text size some is sign digits =
       is = rounded_neg (suc n) places decimals q (subst (λ (k : ℕ). IsNearest (k * 10 ^ decimals) (10 ^ places) q) size near);
       digits = digits ∙ ap (λ (b : Bool). text_of b decimals q) sign ∙ sym (text_neg decimals q);
     }
+
+-- the text that is written is the one that is computed
+pub shown_text_is : (n : ℤ) (places decimals m q : ℕ) (negative : Bool) (text : List ℕ) → m ≡ nat_abs n
+    → q ≡ (2 * (m * 10 ^ decimals) + 10 ^ places) / (2 * 10 ^ places)
+    → negative ≡ (int_lt n (pos 0) && nat_lt 0 q)
+    → text ≡ cond negative (codes "-") [] ++ decimal (q / 10 ^ decimals) ++ fraction_text decimals q
+    → text ≡ shown_text n places decimals
+unfolding shown_text
+shown_text_is n places decimals m q negative text size nearest sign digits =
+    digits
+    ∙ ap (λ (b : Bool). cond b (codes "-") [] ++ decimal (q / 10 ^ decimals) ++ fraction_text decimals q) sign
+    ∙ ap (signed_text n decimals) (nearest ∙ ap (λ (k : ℕ). (2 * (k * 10 ^ decimals) + 10 ^ places) / (2 * 10 ^ places)) size)

@@ -1,5 +1,5 @@
 -- The shown number of an input or output number (docs/PROFILE.md, "Shown numbers").
-use Rattle.std.specs.Prelude.{◌≡◌, ◌≤◌, ℕ, ℤ, pos, ◌-◌, ◌*◌, ◌/◌, ◌%◌, ◌^◌, ◌-ℤ◌, ◌*ℤ◌, nat_abs, int_lt, List, [], ◌++◌, length, replicate, codes, ◌==◌, if◌then◌else◌}
+use Rattle.std.specs.Prelude.{◌≡◌, ◌≤◌, ℕ, ℤ, pos, ◌-◌, ◌+◌, ◌*◌, ◌/◌, ◌%◌, ◌^◌, ◌-ℤ◌, ◌*ℤ◌, nat_abs, nat_lt, int_lt, ◌&&◌, List, [], ◌++◌, length, replicate, codes, ◌==◌, if◌then◌else◌}
 use Rattle.std.specs.Fmt.{decimal}
 
 -- The whole number r is n times 10 to the decimals, divided by 10 to the scale's places, and rounded: it is as near as
@@ -31,3 +31,17 @@ pub record IsShown (n : ℤ) (places decimals : ℕ) (text : List ℕ) : Type 0 
 -- A number is shown in one way alone.
 abbrev pub ShownIsOne : Type 0
 ShownIsOne = (n : ℤ) (places decimals : ℕ) (a b : List ℕ) → IsShown n places decimals a → IsShown n places decimals b → a ≡ b
+
+-- ---- the same text, computed
+
+-- The number without its sign times 10 to the decimals, divided by 10 to the scale's places, rounded half up.
+abbrev pub magnitude : ℤ → ℕ → ℕ → ℕ
+magnitude n places decimals = (2 * (nat_abs n * 10 ^ decimals) + 10 ^ places) / (2 * 10 ^ places)
+
+-- a magnitude with so many decimals, below zero where it is not 0
+abbrev pub signed_text : ℤ → ℕ → ℕ → List ℕ
+signed_text n decimals q =
+    (if int_lt n (pos 0) && nat_lt 0 q then codes "-" else []) ++ decimal (q / 10 ^ decimals) ++ fraction_text decimals q
+
+unfoldable pub shown_text : ℤ → ℕ → ℕ → List ℕ
+shown_text n places decimals = signed_text n decimals (magnitude n places decimals)

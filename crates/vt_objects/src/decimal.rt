@@ -4,7 +4,7 @@ ghost use Rattle.std.specs.Prelude.{◌≡◌, ◌<◌, ◌≤◌, ◌+◌, ◌*
 ghost use Rattle.std.specs.Fmt.{decimal};
 ghost use Rattle.arrayvec.specs.ArrayString.{array_string_len};
 ghost use Rattle.vt_objects.specs.Scales.{scale_places};
-ghost use Rattle.vt_objects.specs.Decimals.{IsShown, ShownIsOne, filled, fraction_text};
+ghost use Rattle.vt_objects.specs.Decimals.{IsShown, ShownIsOne, shown_text, filled, fraction_text};
 
 use crate::scale::{Decimals, Scale};
 use arrayvec::ArrayString;
@@ -25,6 +25,7 @@ impl Decimal {
     /// digits with just as many decimals as are asked for.
     pub fn shown(&self) -> ArrayString<20>
         ensures text { IsShown (pos self.now.value +ℤ self.now.offset) (scale_places self.now.scale) self.now.decimals result.bytes }
+        ensures computed { result.bytes ≡ shown_text (pos self.now.value +ℤ self.now.offset) (scale_places self.now.scale) self.now.decimals }
         ensures most { length result.bytes ≤ 19 }
     {
         let decimals = self.decimals.count();
