@@ -34,6 +34,8 @@ mod scale;
 mod shapes;
 mod short_text;
 mod slot;
+mod sorted_store;
+mod sorting;
 mod store;
 mod variables;
 
@@ -66,6 +68,7 @@ pub use scale::{Decimals, Scale};
 pub use shapes::{Ellipse, Line, Polygon, Rectangle};
 pub use short_text::ShortText;
 pub use slot::{Slot, Slots};
+pub use sorted_store::SortedStore;
 pub use store::Store;
 pub use variables::{NumberVariable, ObjectPointer, StringVariable};
 

@@ -1,3 +1,6 @@
+ghost use Rattle.std.specs.Prelude.{◌≡◌, IfOk, map};
+ghost use Rattle.vt_objects.specs.Stores.{AreNamed, shown};
+
 mod attributes;
 mod changes;
 mod commands;
@@ -145,7 +148,9 @@ fn texts(rt: HostRuntime) -> Result<(), Fail> {
     Ok(())
 }
 
-fn object_id(raw: u16) -> ObjectId {
+fn object_id(raw: u16) -> ObjectId
+    ensures { result ≡ raw }
+{
     ObjectId::from_raw(raw)
 }
 
@@ -182,34 +187,54 @@ fn set_value<S: Store>(store: &mut S, id: u16, value: u32) -> bool {
     }
 }
 
-fn store_of<S: Store>(alloc: Global, values: &[(u16, u32)]) -> Result<S, OutOfMemory> {
-    let mut objects = Vec::new(alloc);
-    for (id, value) in values {
-        objects.push((ObjectId::from_raw(*id), number(*value)))?;
-    }
-    S::from_objects(alloc, &objects)
+/// Number Variables 7, 0 and 65534 of 70, 1 and 5.
+fn three_numbers(alloc: Global) -> Result<Vec<(ObjectId, Object<Vec<u8>>)>, OutOfMemory>
+    ensures { IfOk result (λ objects. AreNamed (map shown objects.items)) }
+{
+    let middle = (object_id(7), number(70));
+    let first = (object_id(0), number(1));
+    let last = (object_id(65_534), number(5));
+    Ok(vec![in alloc; middle, first, last]?)
 }
 
-#[test]
-fn stores(rt: HostRuntime) -> Result<(), Fail> {
-    let mut store: ListStore = store_of(rt.alloc(), &[(7, 70), (0, 1), (65_534, 5)])?;
-    assert_eq!(rt; value_of(&store, 0), Some(1));
-    assert!(rt; set_value(&mut store, 0, 2));
-    assert!(rt; !set_value(&mut store, 8, 3));
-    for (id, wanted) in [(7, Some(70)), (0, Some(2)), (65_534, Some(5)), (8, None)] {
-        assert_eq!(rt; value_of(&store, id), wanted, "the value of {id}");
+fn id_at<S: Store>(store: &S, place: usize) -> Option<u16> {
+    match store.entry_at(place) {
+        None => None,
+        Some((id, _)) => Some(id.raw()),
     }
-    assert!(rt; store.get(ObjectId::from_raw(8)).is_none());
-    assert!(rt; store.get_mut(ObjectId::from_raw(8)).is_none());
+}
+
+/// Finds and changes those numbers in a store.
+fn changes_numbers<S: Store>(rt: &(impl Abort + AllocGlobal)) -> Result<(), OutOfMemory> {
+    let objects = three_numbers(rt.alloc())?;
+    let mut store = S::from_objects(rt.alloc(), &objects)?;
+    assert!(rt; set_value(&mut store, 0, 2) && set_value(&mut store, 65_534, 6));
+    assert!(rt; !set_value(&mut store, 8, 3) && !set_value(&mut store, 65_535, 3));
+    for (id, place, value) in [
+        (0, Some(0), Some(2)),
+        (7, Some(1), Some(70)),
+        (8, None, None),
+        (65_534, Some(2), Some(6)),
+        (65_535, None, None),
+    ] {
+        assert_eq!(rt; value_of(&store, id), value, "the value of {id}");
+        assert_eq!(rt; store.place(object_id(id)), place, "the place of {id}");
+    }
+    assert_eq!(rt; store.count(), 3);
+    for (place, id) in [(0, Some(0)), (1, Some(7)), (2, Some(65_534)), (3, None)] {
+        assert_eq!(rt; id_at(&store, place), id, "at {place}");
+    }
     Ok(())
 }
 
 #[test]
-fn stores_with_an_id_twice(rt: HostRuntime) -> Result<(), Fail> {
-    let mut store: ListStore = store_of(rt.alloc(), &[(7, 70), (8, 80), (7, 71)])?;
-    assert_eq!(rt; value_of(&store, 7), Some(70));
-    assert!(rt; set_value(&mut store, 7, 1));
-    assert_eq!(rt; value_of(&store, 7), Some(1));
-    assert_eq!(rt; value_of(&store, 8), Some(80));
+fn stores_searched_from_the_front(rt: HostRuntime) -> Result<(), Fail> {
+    changes_numbers::<ListStore>(&rt)?;
+    Ok(())
+}
+
+#[test]
+fn stores_searched_by_halves(rt: HostRuntime) -> Result<(), Fail> {
+    changes_numbers::<SortedStore>(&rt)?;
     Ok(())
 }

@@ -5,8 +5,7 @@ use Rattle.vt_pool.specs.Pools.{Entry, AreRecords, IsInForce, contents, joined}
 use Rattle.std.specs.FinMap as finite
 use Rattle.std.specs.FinMap.{nat_cmp-IsAntisymmetric}
 use Rattle.std.proofs.lemmas.Cmp.{nat_cmp_total}
-use Rattle.vt_objects.specs.Stores.{Contents}
-use Rattle.vt_verify.specs.Shapes.{by_rising_id}
+use Rattle.vt_objects.specs.Stores.{Contents, by_rising_id}
 use Rattle.vt_verify.specs.Rules.{IsAcceptable, IsRefused, IsWantOfMemory}
 use Rattle.vt_verify.specs.declared.refusal.Refusal.{Refusal}
 use Rattle.vt_replay.specs.declared.program.Fault.{Fault}

@@ -3,10 +3,9 @@ use Rattle.std.proofs.Common.{◌≡◌, ◌≢◌, ℕ, Bool, true, false, cond
 use Rattle.std.proofs.lemmas.Bool.{eqb-true, false≢true, cases_lt}
 use Rattle.std.specs.Option.{option_map}
 use Rattle.std.proofs.Math.ListN.{get_or-eq_default}
-use Rattle.vt_objects.specs.declared.list_store.ListStore.{ListStore}
-use Rattle.vt_objects.specs.contracts.list_store.ListStoreStore.TheImpl.{ghosts}
+use Rattle.vt_objects.specs.declared.sorted_store.SortedStore.{SortedStore}
+use Rattle.vt_objects.specs.Stores.{Contents, map_of}
 use Rattle.vt_names.specs.Registry.{Set, set_at, with_set, without}
-use Rattle.vt_objects.specs.Stores.{Contents}
 use Rattle.vt_server.specs.Parts.{After, Local, unchanged, local}
 use Rattle.vt_server.specs.Terminals.{State, to_one, part, put, take, takes, say, with_set_at, with_pool_at}
 
@@ -104,11 +103,11 @@ pools-twice a pools x y = λ i b. at b i
     at b = cases b (eqb b a)
 
 -- places that are all empty hold no pool
-pub no-pools : (places : List (Option ListStore)) → length places ≡ 256 → ((q : ℕ) → q < 256 → get_or places q None ≡ None)
-    → (address : ℕ) → option_map ghosts.contents (get_or places address None) ≡ None
-no-pools places long empty address = elim (cases_lt address (length places)) as (λ _. option_map ghosts.contents (get_or places address None) ≡ None) [
-  | inl h ↦ ap (option_map ghosts.contents) (empty address (subst (λ n. address < n) long h))
-  | inr h ↦ ap (option_map ghosts.contents) (get_or-eq_default places None h)
+pub no-pools : (places : List (Option SortedStore)) → length places ≡ 256 → ((q : ℕ) → q < 256 → get_or places q None ≡ None)
+    → (address : ℕ) → option_map map_of (get_or places address None) ≡ None
+no-pools places long empty address = elim (cases_lt address (length places)) as (λ _. option_map map_of (get_or places address None) ≡ None) [
+  | inl h ↦ ap (option_map map_of) (empty address (subst (λ n. address < n) long h))
+  | inr h ↦ ap (option_map map_of) (get_or-eq_default places None h)
 ]
 
 -- ---- states

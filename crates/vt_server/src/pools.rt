@@ -2,18 +2,18 @@
 
 ghost use Rattle.std.specs.Prelude.{◌≡◌, ℕ, None, Some};
 ghost use Rattle.std.specs.Option.{option_map};
-ghost use Rattle.vt_objects.specs.contracts.list_store.ListStoreStore.TheImpl.{ghosts};
+ghost use Rattle.vt_objects.specs.Stores.{map_of};
 ghost use Rattle.vt_server.specs.Hiding.{hide_effect, after_effect, error_of};
 ghost use Rattle.vt_server.specs.States.{pools_of};
 ghost use Rattle.vt_server.specs.Terminals.{with_pool_at};
 
 use crate::hiding::{HideRefusal, hide_show};
-use vt_objects::{ListStore, ObjectId};
+use vt_objects::{ObjectId, SortedStore};
 
 /// At most one pool for each of the 256 addresses.
 #[derive(Drop)]
 pub(crate) struct Pools {
-    places: [Option<ListStore>; 256],
+    places: [Option<SortedStore>; 256],
 }
 
 impl Pools {
@@ -26,15 +26,15 @@ impl Pools {
     }
 
     /// Takes the pool of an address out.
-    pub(crate) fn take(&mut self, address: u8) -> Option<ListStore>
-        ensures found { option_map ghosts.contents result ≡ pools_of self.old address }
+    pub(crate) fn take(&mut self, address: u8) -> Option<SortedStore>
+        ensures found { option_map map_of result ≡ pools_of self.old address }
         ensures left { pools_of self.new ≡ with_pool_at address None (pools_of self.old) }
     {
         self.places[usize::from(address)].take()
     }
 
-    pub(crate) fn put(&mut self, address: u8, pool: ListStore)
-        ensures { pools_of self.new ≡ with_pool_at address (Some (ghosts.contents pool)) (pools_of self.old) }
+    pub(crate) fn put(&mut self, address: u8, pool: SortedStore)
+        ensures { pools_of self.new ≡ with_pool_at address (Some (map_of pool)) (pools_of self.old) }
     {
         self.places[usize::from(address)] = Some(pool);
     }

@@ -14,7 +14,7 @@ use crate::pools::Pools;
 use std::alloc::Global;
 use thiserror::Error;
 use vt_names::{Claims, Name, Registry};
-use vt_objects::{ListStore, Store};
+use vt_objects::{SortedStore, Store};
 use vt_verify::Accepted;
 
 /// A terminal at an address of its own: its working sets, their pools, and what it has heard of the
@@ -72,7 +72,7 @@ impl Terminal {
         ensures ok { OnOk result (state_of self.new ≡ spec.take (state_of self.old) address (Preloads (contents pool.now))) }
         ensures err { OnErr result (state_of self.new ≡ state_of self.old) }
     {
-        let objects = ListStore::from_objects(self.alloc, pool.objects())?;
+        let objects = SortedStore::from_objects(self.alloc, pool.objects())?;
         self.registry.preload(address)?;
         self.pools.put(address, objects);
         Ok(())

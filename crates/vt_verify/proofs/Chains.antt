@@ -11,17 +11,17 @@ use Rattle.std.proofs.lemmas.List.Elements.{Contains-append_left, Contains-appen
 use Rattle.vt_objects.specs.declared.slot.Slot.{Slot}
 use Rattle.vt_objects.specs.declared.object.Object.{Object}
 use Rattle.vt_objects.specs.Records.{Seen, seen, kind_of}
-use Rattle.vt_objects.specs.Stores.{shown}
+use Rattle.vt_objects.specs.Stores.{shown, Objects, object_at}
 use Rattle.vt_objects.specs.References.{slots_of}
 use Rattle.vt_verify.specs.Lists.{first_failing}
-use Rattle.vt_verify.specs.Shapes.{Objects, Shape, shape_of, object_at, kind_at}
+use Rattle.vt_verify.specs.Shapes.{Shape, shape_of, kind_at}
 use Rattle.vt_verify.specs.References.{is_there, of_slot, slot_references}
 use Rattle.vt_verify.specs.Inclusions.{is_inclusion, includes, included_by, included, IsChain}
 use Rattle.vt_verify.specs.Depths.{Begins, Stands}
 use Rattle.vt_verify.specs.Rules as rules
 use Rattle.vt_verify.proofs.Passes.{all_pass}
-use Rattle.vt_verify.proofs.Rising.{three, both_true}
-use Rattle.vt_verify.proofs.Searching.{is_equal, get_at}
+use Rattle.vt_objects.proofs.Rising.{three, both_true}
+use Rattle.vt_objects.proofs.Searching.{is_equal, get_at}
 use Rattle.vt_verify.proofs.Shapes.{kind_found, seen_slots}
 
 -- ---- elements

@@ -5,7 +5,7 @@ use Rattle.std.proofs.lemmas.List.{length-set, get_or-set_same, get_or-set_other
 use Rattle.std.proofs.Math.ListN.{get_or-eq_default}
 use Rattle.std.proofs.lemmas.Option.{slice_get_past}
 use Rattle.std.specs.Prelude.{Contains, IfSome, IfNone, is_some}
-use Rattle.vt_verify.specs.Shapes.{Objects, object_at}
+use Rattle.vt_objects.specs.Stores.{Objects, object_at}
 use Rattle.vt_verify.specs.Inclusions.{included, IsShallow}
 use Rattle.vt_verify.specs.Depths.{Begins, IsDepth, Stands, AreDepths, AreWithin, IsNext, IsShort, IncludesShort, HasNext, HasNoNext}
 use Rattle.vt_verify.specs.Rules as rules

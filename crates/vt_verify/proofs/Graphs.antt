@@ -22,7 +22,7 @@ use Rattle.vt_verify.specs.Triggers.{raise, row_events, changes_mask, hidden, ma
 use Rattle.vt_verify.specs.Rules.{IsLeastCircle}
 use Rattle.vt_verify.specs.TriggerGraphs.{AreTriggers, is_event_of, has, if_any, if_listed, event_numbers, listed_events, group_of_event, groups_of, command_items}
 use Rattle.vt_verify.proofs.Passes.{each_of_each}
-use Rattle.vt_verify.proofs.Rising.{both_true}
+use Rattle.vt_objects.proofs.Rising.{both_true}
 use Rattle.vt_verify.proofs.Listings.{tied_same, from, numbers_are}
 
 -- functions that are equal at each place

@@ -1,5 +1,6 @@
 pub mod Acceptance
 pub mod Chains
+pub mod Copies
 pub mod Costs
 pub mod Cuts
 pub mod Depths
@@ -10,6 +11,4 @@ pub mod Passes
 pub mod Pieces
 pub mod Refusals
 pub mod ReportLines
-pub mod Rising
-pub mod Searching
 pub mod Shapes

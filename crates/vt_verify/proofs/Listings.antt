@@ -19,18 +19,18 @@ use Rattle.vt_objects.specs.Pieces.{cut}
 use Rattle.vt_objects.specs.Records.{Seen, seen, kind_of, macros_of}
 use Rattle.vt_objects.specs.declared.entries.MacroEntry.{MacroEntry}
 use Rattle.vt_objects.specs.declared.kind.Kind.{Kind}
-use Rattle.vt_objects.specs.Stores.{shown}
+use Rattle.vt_objects.specs.Stores.{shown, Objects, IsRising}
 use Rattle.vt_rank.specs.declared.graph.Item.{Item}
 use Rattle.vt_rank.specs.declared.graph.Item.TheVariants as items
 use Rattle.vt_verify.specs.declared.events.Raised.{Raised}
 use Rattle.vt_verify.specs.Lists.{first_failing}
-use Rattle.vt_verify.specs.Shapes.{Objects, IsRising, Shape, Fixed, fixed, shape_of, fixed_at}
+use Rattle.vt_verify.specs.Shapes.{Shape, Fixed, fixed, shape_of, fixed_at}
 use Rattle.vt_verify.specs.Macros.{bytes_in, named_macro, macros, is_whole, commands_of, commands}
 use Rattle.vt_verify.specs.Triggers.{raise, is_mask, masks, listed, listed_in}
 use Rattle.vt_verify.specs.Targets.{is_event}
 use Rattle.vt_verify.proofs.Passes.{all_pass, each_of_each}
 use Rattle.vt_verify.proofs.Shapes.{seen_kind, seen_macros}
-use Rattle.vt_verify.proofs.Rising.{Three, three, below, same, above, equal, greater, both_true}
+use Rattle.vt_objects.proofs.Rising.{Three, three, below, same, above, equal, greater, both_true}
 use Rattle.vt_verify.specs.TriggerGraphs.{is_event_of, has, macros_at, non_empty, if_any, if_listed, event_numbers, listed_events, group_of_event, groups_of}
 
 is_equal : (o : Ordering) → is_eq o ≡ true → o ≡ Equal

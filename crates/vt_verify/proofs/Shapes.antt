@@ -6,7 +6,8 @@ use Rattle.vt_objects.specs.declared.object.Object.{Object}
 use Rattle.vt_objects.specs.declared.object.Object.TheVariants as objects
 use Rattle.vt_objects.specs.Records.{Seen, seen, kind_of, macros_of}
 use Rattle.vt_objects.specs.References.{slots_of}
-use Rattle.vt_verify.specs.Shapes.{Objects, object_at, Fixed, fixed, shape_of, fixed_at, kind_at}
+use Rattle.vt_verify.specs.Shapes.{Fixed, fixed, shape_of, fixed_at, kind_at}
+use Rattle.vt_objects.specs.Stores.{Objects, object_at}
 
 pub seen_kind : {B : Type 0} (o : Object B) → kind_of (seen o) ≡ kind_of o
 seen_kind (objects.WorkingSet o) = refl

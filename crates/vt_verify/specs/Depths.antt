@@ -1,8 +1,7 @@
 -- How many inclusions in a row the objects begin, as far as was looked.
 use Rattle.std.specs.Prelude.{◌≡◌, ◌≤◌, ◌<◌, ℕ, zero, suc, List, length, slice_get, slice_index, Some, None, Contains}
 use Rattle.vt_objects.specs.Records.{Seen}
-use Rattle.vt_verify.specs.Shapes.{Objects, object_at}
-use Rattle.vt_verify.specs.Places.{IsPlace}
+use Rattle.vt_objects.specs.Stores.{Objects, object_at, IsPlace}
 use Rattle.vt_verify.specs.Inclusions.{included}
 
 -- a chain of so many inclusions begins with the ID

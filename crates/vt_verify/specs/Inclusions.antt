@@ -5,7 +5,7 @@ use Rattle.vt_objects.specs.declared.place.Place.TheVariants as places
 use Rattle.vt_objects.specs.declared.slot.Slot.{Slot}
 use Rattle.vt_objects.specs.Records.{Seen}
 use Rattle.vt_objects.specs.References.{slots_of}
-use Rattle.vt_verify.specs.Shapes.{Objects, object_at}
+use Rattle.vt_objects.specs.Stores.{Objects, object_at}
 
 -- children, keys, items, and the value of a pointer
 abbrev pub is_inclusion : Place → Bool

@@ -1,6 +1,5 @@
 pub mod Lists
 pub mod Shapes
-pub mod Places
 pub mod References
 pub mod Inclusions
 pub mod Depths

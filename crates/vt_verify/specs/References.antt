@@ -11,7 +11,8 @@ use Rattle.vt_objects.specs.References.{slots_of, members}
 use Rattle.vt_verify.specs.declared.reference.Reference.{Reference}
 use Rattle.vt_verify.specs.declared.reference.Test.{Test}
 use Rattle.vt_verify.specs.declared.reference.Test.TheVariants.{IsThere, Fits}
-use Rattle.vt_verify.specs.Shapes.{Objects, object_at, Shape, kind_at}
+use Rattle.vt_verify.specs.Shapes.{Shape, kind_at}
+use Rattle.vt_objects.specs.Stores.{Objects, object_at}
 
 abbrev pub is_member : Kinds → Kind → Bool
 is_member kinds kind = list_any (λ member. kind_number member == kind_number kind) (members kinds)

@@ -1,6 +1,6 @@
 -- What a pool has to meet, in the order in which it is tested, and what a refusal says (docs/PROFILE.md,
 -- "Verification of a pool").
-use Rattle.std.specs.Prelude.{◌≡◌, ◌≤◌, ◌<◌, ℕ, Bool, true, false, List, [], ◌∷◌, filter, length, take, slice_index, Option, Some, None}
+use Rattle.std.specs.Prelude.{◌≡◌, ◌≤◌, ◌<◌, ℕ, Bool, true, false, List, [], ◌∷◌, filter, length, take, slice_index, Option, Some, None, IfSome}
 use Rattle.std.specs.List.{flat_map, AllByRecursion}
 use Rattle.vt_objects.specs.declared.kind.Kind.{Kind}
 use Rattle.vt_objects.specs.declared.kind.Kind.TheVariants as kinds
@@ -9,7 +9,8 @@ use Rattle.vt_verify.specs.declared.reference.Reference.{Reference}
 use Rattle.vt_verify.specs.declared.refusal.Refusal.{Refusal}
 use Rattle.vt_verify.specs.declared.refusal.Refusal.TheVariants as refusals
 use Rattle.vt_verify.specs.Lists.{first_failing}
-use Rattle.vt_verify.specs.Shapes.{Objects, Shape, shape_of}
+use Rattle.vt_verify.specs.Shapes.{Shape, shape_of}
+use Rattle.vt_objects.specs.Stores.{Objects}
 use Rattle.vt_verify.specs.References.{references, is_there, fits, values_of}
 use Rattle.vt_verify.specs.Inclusions.{IsShallow, IsTooDeep}
 use Rattle.vt_verify.specs.Macros.{Piece, macros, is_whole, pieces, is_allowed}
@@ -99,8 +100,19 @@ Holds objects TriggersAreNoCircle = HasNoCircle (triggered (shape_of objects))
 Holds objects BudgetsAreWithin = IsWithinBudget (shape_of objects)
 
 -- A pool is acceptable where all rules hold.
-abbrev pub IsAcceptable : Objects → Type 0
-IsAcceptable objects = AllByRecursion (Holds objects) rules
+pub record IsAcceptable (objects : Objects) : Type 0 where
+  pub working_set : Holds objects HasWorkingSet
+  pub one_working_set : Holds objects HasOneWorkingSet
+  pub references_there : Holds objects ReferencesAreThere
+  pub references_fit : Holds objects ReferencesFit
+  pub chains_short : Holds objects ChainsAreShort
+  pub macros_whole : Holds objects MacrosAreWhole
+  pub commands_allowed : Holds objects CommandsAreAllowed
+  pub targets_there : Holds objects TargetsAreThere
+  pub targets_fit : Holds objects TargetsFit
+  pub attributes_there : Holds objects AttributesAreThere
+  pub no_circle : Holds objects TriggersAreNoCircle
+  pub within_budget : Holds objects BudgetsAreWithin
 
 -- ---- refusals
 
@@ -161,3 +173,29 @@ IsWantOfMemory refusal = ⊥
 -- Of a pool that is acceptable no refusal says anything but want of memory.
 abbrev pub RefusalsAreTrue : Type 0
 RefusalsAreTrue = (objects : Objects) (refusal : Refusal) → IsAcceptable objects → IsRefused objects refusal → IsWantOfMemory refusal
+
+-- ---- the rule that a refusal names
+
+-- want of memory names none
+abbrev pub rule_of : Refusal → Option Rule
+rule_of refusals.NoWorkingSet = Some HasWorkingSet
+rule_of refusals.TwoWorkingSets = Some HasOneWorkingSet
+rule_of (refusals.Missing parent id) = Some ReferencesAreThere
+rule_of (refusals.WrongKind parent id) = Some ReferencesFit
+rule_of (refusals.TooDeep chain) = Some ChainsAreShort
+rule_of (refusals.MacroBytes id) = Some MacrosAreWhole
+rule_of (refusals.MacroCommand id at) = Some CommandsAreAllowed
+rule_of (refusals.MacroMissing parent id) = Some TargetsAreThere
+rule_of (refusals.MacroKind parent id) = Some TargetsFit
+rule_of (refusals.MacroValue id at) = Some AttributesAreThere
+rule_of (refusals.MacroCircle path) = Some TriggersAreNoCircle
+rule_of (refusals.OverBudget id) = Some BudgetsAreWithin
+rule_of refusals.OutOfMemory = None
+
+-- The rule that a refusal names fails, and those before it hold.
+pub record IsFirstToFail (objects : Objects) (rule : Rule) : Type 0 where
+  pub before : HoldBefore objects rule
+  pub fails : Holds objects rule → ⊥
+
+abbrev pub FirstRulesFail : Type 0
+FirstRulesFail = (objects : Objects) (refusal : Refusal) → IsRefused objects refusal → IfSome (rule_of refusal) (IsFirstToFail objects)

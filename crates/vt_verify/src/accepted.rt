@@ -2,31 +2,31 @@
 
 ghost use Rattle.std.specs.Prelude.{◌≡◌, ◌++◌, map, string_bytes, IfOk, OnOk, OnErr};
 ghost use Rattle.std.specs.List.{flat_map};
-ghost use Rattle.vt_objects.specs.Stores.{shown};
-ghost use Rattle.vt_verify.specs.Shapes.{IsRising, shape_of};
+ghost use Rattle.vt_objects.specs.Stores.{shown, AreStored};
+ghost use Rattle.vt_verify.specs.Shapes.{shape_of};
 ghost use Rattle.vt_verify.specs.Budgets.{CostsAreTotals, budget};
 ghost use Rattle.vt_verify.specs.Rules.{IsAcceptable};
 ghost use Rattle.vt_verify.specs.Reports.{report_text, budget_line};
 
 use crate::events::Raised;
-use crate::objects::Objects;
 use crate::triggers::Triggers;
 use std::alloc::{AllocError, Global};
 use std::marker::Model;
-use vt_objects::{Object, ObjectId};
+use vt_objects::{Object, ObjectId, SortedStore};
 use vt_rank::Costs;
 
 /// The objects of a pool that meets all rules, in memory of their own, and what their events can cost.
 #[derive(Drop)]
 pub struct Accepted {
-    pub(crate) objects: Objects,
+    pub(crate) objects: SortedStore,
     pub(crate) triggers: Triggers,
     pub(crate) costs: Costs,
 }
 
 impl Model for Accepted {
     ghost use Rattle.vt_rank.specs.Costs.{AreCosts};
-    ghost use Rattle.vt_verify.specs.Shapes.{Objects, IsRising, shape_of};
+    ghost use Rattle.vt_verify.specs.Shapes.{shape_of};
+    ghost use Rattle.vt_objects.specs.Stores.{Objects, AreStored};
     ghost use Rattle.vt_verify.specs.Rules.{IsAcceptable};
     ghost use Rattle.vt_verify.specs.Budgets.{CostsAreTotals};
     ghost use Rattle.vt_verify.specs.TriggerGraphs.{AreTriggers};
@@ -35,7 +35,7 @@ impl Model for Accepted {
 
     ghost view = { λ a. a.objects };
 
-    ghost invariant = { λ a. IsRising a.objects × IsAcceptable a.objects
+    ghost invariant = { λ a. AreStored a.objects × IsAcceptable a.objects
         × AreTriggers (shape_of a.objects) a.triggers.events.keys a.triggers.graph
         × AreCosts a.triggers.graph a.costs × CostsAreTotals (shape_of a.objects) };
 }
@@ -44,8 +44,11 @@ impl Accepted {
     /// The objects by rising ID.
     pub fn objects(&self) -> &[(ObjectId, Object<Vec<u8>>)]
         ensures all { map shown result.now ≡ self.now }
-        ensures rising { IsRising self.now }
+        // The IDs rise, and none is NULL.
+        ensures stored { AreStored self.now }
         ensures acceptable { IsAcceptable self.now }
+        // Each macro costs what its commands cost.
+        ensures totals { CostsAreTotals (shape_of self.now) }
     {
         self.objects.entries()
     }

@@ -2,14 +2,13 @@
 
 ghost use Rattle.std.specs.Prelude.{◌≡◌, ◌≢◌, ◌≤◌, ◌<◌, ◌+◌, ℕ, true, false, None, IfOk, IfSome, IfNone, length, slice_index};
 ghost use Rattle.vt_verify.specs.Inclusions.{IsShallow, IsTooDeep, includes};
-ghost use Rattle.vt_verify.specs.Places.{IsPlace};
+ghost use Rattle.vt_objects.specs.Stores.{IsPlace};
 ghost use Rattle.vt_verify.specs.Depths.{AreDepths, AreWithin, Stands, IsNext, IsShort, IncludesShort, HasNext, HasNoNext};
 ghost use Rattle.vt_verify.specs.Rules as rules;
 
-use crate::objects::Objects;
 use arrayvec::ArrayVec;
 use std::alloc::{AllocError, Global};
-use vt_objects::{ObjectId, Place, Slot, slots};
+use vt_objects::{ObjectId, Place, Slot, SortedStore, Store, slots};
 
 /// The inclusions of a chain that is too long.
 const TOO_MANY: u8 = 17;
@@ -17,7 +16,7 @@ const TOO_MANY: u8 = 17;
 /// A chain of 17 inclusions, if there is one.
 pub(crate) fn too_deep(
     alloc: Global,
-    objects: &Objects,
+    objects: &SortedStore,
 ) -> Result<Option<ArrayVec<ObjectId, 18>>, AllocError>
     requires { rules.missing objects.now ≡ None }
     ensures chain { IfOk result (λ chain. IfSome chain (λ ids. IsTooDeep objects.now ids.items)) }
@@ -37,7 +36,7 @@ pub(crate) fn too_deep(
 
 /// Finds which objects begin one inclusion more than `depth` in a row; whether any does. The depth of an object is how
 /// many inclusions in a row it begins, as far as was looked.
-fn deepen(objects: &Objects, depths: &mut [u8], depth: u8) -> bool
+fn deepen(objects: &SortedStore, depths: &mut [u8], depth: u8) -> bool
     requires missing { rules.missing objects.now ≡ None }
     requires depths { AreDepths objects.now depth depths.old }
     requires depth { depth < 17 }
@@ -55,7 +54,7 @@ fn deepen(objects: &Objects, depths: &mut [u8], depth: u8) -> bool
 }
 
 /// Whether the object at a place has this depth and includes one that has.
-fn begins_more(objects: &Objects, depths: &[u8], place: usize, depth: u8) -> bool
+fn begins_more(objects: &SortedStore, depths: &[u8], place: usize, depth: u8) -> bool
     requires each { length depths.now ≡ length objects.now }
     requires place { place < length depths.now }
     ensures more { result ≡ true → HasNext objects.now depths.now place depth }
@@ -68,7 +67,7 @@ fn begins_more(objects: &Objects, depths: &[u8], place: usize, depth: u8) -> boo
 }
 
 /// The ID of the object at a place.
-fn id_at(objects: &Objects, place: usize) -> ObjectId
+fn id_at(objects: &SortedStore, place: usize) -> ObjectId
     requires { place < length objects.now }
     ensures { Stands objects.now place result }
 {
@@ -76,7 +75,7 @@ fn id_at(objects: &Objects, place: usize) -> ObjectId
 }
 
 /// The place of an object that an object includes, of those with at least this depth.
-fn next(objects: &Objects, depths: &[u8], id: ObjectId, depth: u8) -> Option<usize>
+fn next(objects: &SortedStore, depths: &[u8], id: ObjectId, depth: u8) -> Option<usize>
     requires { length depths.now ≡ length objects.now }
     ensures some { IfSome result (λ place. IsNext objects.now depths.now id depth place) }
     ensures none { IfNone result (IncludesShort objects.now depths.now id depth) }
@@ -96,7 +95,7 @@ fn next(objects: &Objects, depths: &[u8], id: ObjectId, depth: u8) -> Option<usi
 }
 
 /// The place of an object, if it has at least this depth.
-fn deep_at(objects: &Objects, depths: &[u8], id: ObjectId, depth: u8) -> Option<usize>
+fn deep_at(objects: &SortedStore, depths: &[u8], id: ObjectId, depth: u8) -> Option<usize>
     requires { length depths.now ≡ length objects.now }
     ensures some { IfSome result (λ place. IsPlace objects.now id place) }
     ensures deep { IfSome result (λ place. depth ≤ slice_index depths.now place) }
@@ -129,7 +128,7 @@ fn deepest(depths: &[u8]) -> Option<usize>
 }
 
 /// The chain from a place whose object begins one that is too long.
-fn chain(objects: &Objects, depths: &[u8], first: usize) -> ArrayVec<ObjectId, 18>
+fn chain(objects: &SortedStore, depths: &[u8], first: usize) -> ArrayVec<ObjectId, 18>
     requires missing { rules.missing objects.now ≡ None }
     requires depths { AreDepths objects.now 17 depths.now }
     requires first { slice_index depths.now first ≡ 17 }

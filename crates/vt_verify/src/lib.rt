@@ -20,7 +20,7 @@ mod verification;
 
 pub use accepted::Accepted;
 pub use refusal::Refusal;
-pub use verification::{refusals_are_true, verify};
+pub use verification::{first_rules_fail, refusals_are_true, verify};
 
 /// A growth that was refused.
 pub use std::alloc::AllocError as OutOfMemory;

@@ -12,12 +12,11 @@ ghost use Rattle.vt_verify.specs.Targets.{piece_passes};
 ghost use Rattle.vt_verify.specs.Rules as rules;
 
 use crate::commands::{macro_command, named_macro};
-use crate::objects::Objects;
 use crate::targets::has_attribute;
-use vt_objects::{Object, ObjectId, cut_is_one, split_command};
+use vt_objects::{Object, ObjectId, SortedStore, cut_is_one, split_command};
 
 /// The first macro, by rising ID, whose bytes end inside a command.
-pub(crate) fn cut_short(objects: &Objects) -> Option<ObjectId>
+pub(crate) fn cut_short(objects: &SortedStore) -> Option<ObjectId>
     ensures { result ≡ option_map (λ m. m.0) (rules.cut_short (shape_of objects.now)) }
 {
     for (id, object) in objects.entries() {
@@ -59,7 +58,7 @@ pub(crate) enum PieceTest {
 }
 
 /// The first piece of a macro, by rising ID, that fails a test: the macro, and where in its bytes the piece stands.
-pub(crate) fn failing_piece(objects: &Objects, test: PieceTest) -> Option<(ObjectId, usize)>
+pub(crate) fn failing_piece(objects: &SortedStore, test: PieceTest) -> Option<(ObjectId, usize)>
     requires { rules.cut_short (shape_of objects.now) ≡ None }
     ensures { result ≡ option_map (λ p. (p.id, p.at)) (first_failing (piece_passes test (shape_of objects.now)) (pieces (shape_of objects.now))) }
 {
@@ -72,7 +71,7 @@ pub(crate) fn failing_piece(objects: &Objects, test: PieceTest) -> Option<(Objec
 }
 
 fn failing_of(
-    objects: &Objects,
+    objects: &SortedStore,
     id: ObjectId,
     object: &Object<Vec<u8>>,
     test: PieceTest,
@@ -87,7 +86,7 @@ fn failing_of(
 }
 
 fn failing_in(
-    objects: &Objects,
+    objects: &SortedStore,
     id: ObjectId,
     bytes: &[u8],
     test: PieceTest,
@@ -107,7 +106,7 @@ fn failing_in(
     None
 }
 
-fn passes(objects: &Objects, piece: &[u8], test: PieceTest) -> bool
+fn passes(objects: &SortedStore, piece: &[u8], test: PieceTest) -> bool
     ensures { result ≡ piece_passes test (shape_of objects.now) (record { id = 0; at = 0; bytes = piece.now }) }
 {
     match (test, macro_command(piece)) {

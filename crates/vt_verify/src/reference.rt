@@ -5,8 +5,8 @@ ghost use Rattle.vt_verify.specs.Shapes.{shape_of};
 ghost use Rattle.vt_verify.specs.References.{of_slot, is_there, fits, passes};
 ghost use Rattle.vt_verify.specs.Targets.{object, object_or_null};
 
-use crate::objects::Objects;
-use vt_objects::{Kinds, ObjectId, Slot};
+use crate::objects::kind_at;
+use vt_objects::{Kinds, ObjectId, Slot, SortedStore};
 
 /// An ID that an object names, and what may stand there.
 #[derive(Clone, Copy, Debug, PartialEq, Eq)]
@@ -68,7 +68,7 @@ impl Reference {
     }
 
     /// Whether the reference passes a test.
-    pub(crate) fn passes(&self, test: Test, objects: &Objects) -> bool
+    pub(crate) fn passes(&self, test: Test, objects: &SortedStore) -> bool
         ensures { result ≡ passes test (shape_of objects.now) self.now }
     {
         match test {
@@ -77,22 +77,22 @@ impl Reference {
         }
     }
 
-    fn is_there(&self, objects: &Objects) -> bool
+    fn is_there(&self, objects: &SortedStore) -> bool
         ensures { result ≡ is_there (shape_of objects.now) self.now }
     {
         if self.id.is_null() {
             return self.null;
         }
-        objects.kind(self.id).is_some()
+        kind_at(objects, self.id).is_some()
     }
 
-    fn fits(&self, objects: &Objects) -> bool
+    fn fits(&self, objects: &SortedStore) -> bool
         ensures { result ≡ fits (shape_of objects.now) self.now }
     {
         if self.id.is_null() {
             return true;
         }
-        match objects.kind(self.id) {
+        match kind_at(objects, self.id) {
             None => true,
             Some(kind) => self.kinds.contains(kind),
         }

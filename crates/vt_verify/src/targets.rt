@@ -14,15 +14,15 @@ ghost use Rattle.vt_verify.specs.Rules as rules;
 
 use crate::commands::{macro_command, named_macro};
 use crate::events::is_event;
-use crate::objects::Objects;
+use crate::objects::kind_at;
 use crate::reference::{Reference, Test};
 use vt_objects::{
-    Command, Kind, Kinds, MacroEntry, Object, ObjectId, Values, attribute, cut_is_one,
+    Command, Kind, Kinds, MacroEntry, Object, ObjectId, SortedStore, Values, attribute, cut_is_one,
     split_command,
 };
 
 /// The first reference of an entry or a command, by rising ID, that fails a test.
-pub(crate) fn failing_target(objects: &Objects, test: Test) -> Option<Reference>
+pub(crate) fn failing_target(objects: &SortedStore, test: Test) -> Option<Reference>
     requires { rules.cut_short (shape_of objects.now) ≡ None }
     ensures { result ≡ first_failing (passes test (shape_of objects.now)) (macro_references (shape_of objects.now)) }
 {
@@ -35,7 +35,7 @@ pub(crate) fn failing_target(objects: &Objects, test: Test) -> Option<Reference>
 }
 
 fn failing_of(
-    objects: &Objects,
+    objects: &SortedStore,
     id: ObjectId,
     object: &Object<Vec<u8>>,
     test: Test,
@@ -51,7 +51,7 @@ fn failing_of(
 
 /// The first macro entry that fails a test. Entries of events that there are not are not looked at.
 fn failing_entry(
-    objects: &Objects,
+    objects: &SortedStore,
     id: ObjectId,
     entries: &[MacroEntry],
     test: Test,
@@ -70,7 +70,12 @@ fn failing_entry(
     None
 }
 
-fn failing_command(objects: &Objects, id: ObjectId, bytes: &[u8], test: Test) -> Option<Reference>
+fn failing_command(
+    objects: &SortedStore,
+    id: ObjectId,
+    bytes: &[u8],
+    test: Test,
+) -> Option<Reference>
     requires { IsTrue (is_some (cut bytes.now)) }
     ensures { result ≡ first_failing (passes test (shape_of objects.now)) (flat_map (targets (shape_of objects.now) id) (commands_of bytes.now)) }
 {
@@ -87,7 +92,7 @@ fn failing_command(objects: &Objects, id: ObjectId, bytes: &[u8], test: Test) ->
 }
 
 /// The first target of a piece of a macro's bytes that fails a test.
-fn failing_in(objects: &Objects, id: ObjectId, piece: &[u8], test: Test) -> Option<Reference>
+fn failing_in(objects: &SortedStore, id: ObjectId, piece: &[u8], test: Test) -> Option<Reference>
     ensures { result ≡ first_failing (passes test (shape_of objects.now)) (flat_map (targets (shape_of objects.now) id) (option_to_list (macro_command piece.now))) }
 {
     let command = macro_command(piece)?;
@@ -99,7 +104,7 @@ fn failing_in(objects: &Objects, id: ObjectId, piece: &[u8], test: Test) -> Opti
 }
 
 /// The reference, if there is one and it fails a test.
-fn failing(objects: &Objects, reference: Option<Reference>, test: Test) -> Option<Reference>
+fn failing(objects: &SortedStore, reference: Option<Reference>, test: Test) -> Option<Reference>
     ensures { result ≡ first_failing (passes test (shape_of objects.now)) (option_to_list reference) }
 {
     let reference = reference?;
@@ -111,7 +116,7 @@ fn failing(objects: &Objects, reference: Option<Reference>, test: Test) -> Optio
 
 /// The IDs that a command of a macro names, in the order of its bytes: two at most.
 pub(crate) fn targets(
-    objects: &Objects,
+    objects: &SortedStore,
     parent: ObjectId,
     command: &Command<'_>,
 ) -> (Option<Reference>, Option<Reference>)
@@ -163,10 +168,15 @@ pub(crate) fn targets(
 }
 
 /// The value that Change Numeric Value gives a pointer.
-fn pointer_value(objects: &Objects, parent: ObjectId, id: ObjectId, value: u32) -> Option<Reference>
+fn pointer_value(
+    objects: &SortedStore,
+    parent: ObjectId,
+    id: ObjectId,
+    value: u32,
+) -> Option<Reference>
     ensures { option_to_list result ≡ pointer_value parent (kind_at (shape_of objects.now) id) value }
 {
-    match objects.kind(id)? {
+    match kind_at(objects, id)? {
         Kind::ObjectPointer => {
             let named = ObjectId::from_raw((value % 65_536) as u16);
             Some(Reference::to_object_or_null(parent, named, Kinds::AllButPointers))
@@ -177,7 +187,7 @@ fn pointer_value(objects: &Objects, parent: ObjectId, id: ObjectId, value: u32) 
 
 /// The value that Change Attribute gives an attribute that is a reference.
 fn attribute_value(
-    objects: &Objects,
+    objects: &SortedStore,
     parent: ObjectId,
     id: ObjectId,
     number: u8,
@@ -185,7 +195,7 @@ fn attribute_value(
 ) -> Option<Reference>
     ensures { option_to_list result ≡ attribute_target parent (kind_at (shape_of objects.now) id) number value }
 {
-    let kind = objects.kind(id)?;
+    let kind = kind_at(objects, id)?;
     let values = attribute(kind, number)?.values;
     match values {
         Values::Reference(place) => Some(Reference {
@@ -199,13 +209,13 @@ fn attribute_value(
 }
 
 /// Whether the kind of its object has the attribute that a command changes.
-pub(crate) fn has_attribute(objects: &Objects, command: &Command<'_>) -> bool
+pub(crate) fn has_attribute(objects: &SortedStore, command: &Command<'_>) -> bool
     ensures { result ≡ command_has_attribute (shape_of objects.now) (Some command.now) }
 {
     let Command::ChangeAttribute { id, number, .. } = *command else {
         return true;
     };
-    match objects.kind(id) {
+    match kind_at(objects, id) {
         None => true,
         Some(kind) => attribute(kind, number).is_some(),
     }

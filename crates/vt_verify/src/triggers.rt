@@ -13,10 +13,11 @@ ghost use Rattle.vt_verify.specs.Rules as rules;
 
 use crate::commands::{macro_command, named_macro};
 use crate::events::{LAST_EVENT, Raised, row_events};
-use crate::objects::Objects;
 use indexmap::IndexSet;
 use std::alloc::{AllocError, Global};
-use vt_objects::{Command, Kind, MacroEntry, ObjectId, cut_is_one, split_command};
+use vt_objects::{
+    Command, Kind, MacroEntry, ObjectId, SortedStore, Store, cut_is_one, split_command,
+};
 use vt_rank::{Graph, Item};
 
 /// The event that hides a mask.
@@ -32,7 +33,7 @@ pub(crate) struct Triggers {
 
 impl Triggers {
     /// The triggers of the macros of these objects.
-    pub(crate) fn of_objects(alloc: Global, objects: &Objects) -> Result<Triggers, AllocError>
+    pub(crate) fn of_objects(alloc: Global, objects: &SortedStore) -> Result<Triggers, AllocError>
         requires { rules.cut_short (shape_of objects.now) ≡ None }
         ensures { IfOk result (λ t. AreTriggers (shape_of objects.now) t.events.keys t.graph) }
     {
@@ -51,13 +52,11 @@ impl Triggers {
 /// The events at which objects list macros, by rising ID and number, and the macros of each.
 fn listings(
     alloc: Global,
-    objects: &Objects,
+    objects: &SortedStore,
 ) -> Result<(IndexSet<Raised>, Vec<Vec<u8>>), AllocError>
     ensures events { IfOk result (λ r. r.0.keys ≡ listed_events (shape_of objects.now)) }
     ensures groups { IfOk result (λ r. lists r.1 ≡ map (listed (shape_of objects.now)) (listed_events (shape_of objects.now))) }
 {
-    // IDs rise, so that no event is there twice.
-    objects.ids_rise();
     let mut events = IndexSet::new(alloc);
     let mut groups = Vec::new(alloc);
     for (id, object) in objects.entries() {
@@ -121,7 +120,7 @@ fn listed_at(alloc: Global, entries: &[MacroEntry], event: u8) -> Result<Vec<u8>
 /// The items of each macro that may be named.
 fn nodes(
     alloc: Global,
-    objects: &Objects,
+    objects: &SortedStore,
     events: &IndexSet<Raised>,
 ) -> Result<Vec<Vec<Item>>, AllocError>
     requires { rules.cut_short (shape_of objects.now) ≡ None }
@@ -136,7 +135,7 @@ fn nodes(
 
 fn items(
     alloc: Global,
-    objects: &Objects,
+    objects: &SortedStore,
     events: &IndexSet<Raised>,
     id: ObjectId,
 ) -> Result<Vec<Item>, AllocError>
@@ -164,7 +163,7 @@ fn items_of(alloc: Global, events: &IndexSet<Raised>, bytes: &[u8]) -> Result<Ve
     Ok(items)
 }
 
-fn macro_bytes(objects: &Objects, id: ObjectId) -> Option<&[u8]>
+fn macro_bytes(objects: &SortedStore, id: ObjectId) -> Option<&[u8]>
     ensures { option_to_list (option_map (λ bytes. bytes.now) result) ≡ flat_map (λ f. option_to_list (bytes_in id f)) (option_to_list (fixed_at (shape_of objects.now) id)) }
 {
     match objects.get(id) {
@@ -241,7 +240,7 @@ fn group_of(events: &IndexSet<Raised>, raised: Raised) -> Option<usize>
 /// The groups of the macros that masks list where they are hidden.
 fn hidden(
     alloc: Global,
-    objects: &Objects,
+    objects: &SortedStore,
     events: &IndexSet<Raised>,
 ) -> Result<Vec<usize>, AllocError>
     ensures { IfOk result (λ groups. groups.items ≡ groups_of events.now.keys (map (λ mask. raise mask 4) (masks (shape_of objects.now)))) }

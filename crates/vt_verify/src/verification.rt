@@ -2,22 +2,23 @@
 
 ghost use Rattle.std.specs.Prelude.{◌≡◌, OnOk, IfOk, IfErr};
 ghost use Rattle.vt_rank.specs.Costs.{AreCosts};
-ghost use Rattle.vt_verify.specs.Shapes.{by_rising_id, shape_of};
+ghost use Rattle.vt_verify.specs.Shapes.{shape_of};
+ghost use Rattle.vt_objects.specs.Stores.{AreStored, by_rising_id};
 ghost use Rattle.vt_verify.specs.Budgets.{CostsAreTotals};
 ghost use Rattle.vt_verify.specs.TriggerGraphs.{AreTriggers};
-ghost use Rattle.vt_verify.specs.Rules.{IsAcceptable, IsRefused, RefusalsAreTrue, HoldBefore, ReferencesAreThere, ChainsAreShort, MacrosAreWhole, TargetsAreThere, TriggersAreNoCircle};
+ghost use Rattle.vt_verify.specs.Rules.{IsAcceptable, IsRefused, RefusalsAreTrue, FirstRulesFail, HoldBefore, ReferencesAreThere, ChainsAreShort, MacrosAreWhole, TargetsAreThere, TriggersAreNoCircle};
 
 use crate::accepted::Accepted;
 use crate::inclusions::too_deep;
 use crate::macros::{PieceTest, cut_short, failing_piece};
-use crate::objects::Objects;
+use crate::objects::sorted;
 use crate::reference::Test;
 use crate::references::{missing, wrong_kind};
 use crate::refusal::Refusal;
 use crate::targets::failing_target;
 use crate::triggers::Triggers;
 use std::alloc::Global;
-use vt_objects::{Kind, ObjectId};
+use vt_objects::{Kind, ObjectId, SortedStore};
 use vt_pool::Pool;
 use vt_rank::{Costs, OverBudget, costs, rank};
 
@@ -32,7 +33,7 @@ pub fn verify(alloc: Global, pool: &Pool<'_>) -> Result<Accepted, Refusal>
     // A refusal names the first rule that fails, and its first culprit, or a chain or a circle.
     ensures refused { IfErr result (IsRefused (by_rising_id pool.now)) }
 {
-    let objects = Objects::of_pool(alloc, pool)?;
+    let objects = sorted(alloc, pool)?;
     check_working_sets(&objects)?;
     check_references(&objects)?;
     check_inclusions(alloc, &objects)?;
@@ -47,7 +48,7 @@ pub fn verify(alloc: Global, pool: &Pool<'_>) -> Result<Accepted, Refusal>
     })
 }
 
-fn check_working_sets(objects: &Objects) -> Result<(), Refusal>
+fn check_working_sets(objects: &SortedStore) -> Result<(), Refusal>
     ensures ok { OnOk result (HoldBefore objects.now ReferencesAreThere) }
     ensures refused { IfErr result (IsRefused objects.now) }
 {
@@ -64,7 +65,7 @@ fn check_working_sets(objects: &Objects) -> Result<(), Refusal>
     }
 }
 
-fn check_references(objects: &Objects) -> Result<(), Refusal>
+fn check_references(objects: &SortedStore) -> Result<(), Refusal>
     requires { HoldBefore objects.now ReferencesAreThere }
     ensures ok { OnOk result (HoldBefore objects.now ChainsAreShort) }
     ensures refused { IfErr result (IsRefused objects.now) }
@@ -84,7 +85,7 @@ fn check_references(objects: &Objects) -> Result<(), Refusal>
     }
 }
 
-fn check_inclusions(alloc: Global, objects: &Objects) -> Result<(), Refusal>
+fn check_inclusions(alloc: Global, objects: &SortedStore) -> Result<(), Refusal>
     requires { HoldBefore objects.now ChainsAreShort }
     ensures ok { OnOk result (HoldBefore objects.now MacrosAreWhole) }
     ensures refused { IfErr result (IsRefused objects.now) }
@@ -95,7 +96,7 @@ fn check_inclusions(alloc: Global, objects: &Objects) -> Result<(), Refusal>
     }
 }
 
-fn check_macros(objects: &Objects) -> Result<(), Refusal>
+fn check_macros(objects: &SortedStore) -> Result<(), Refusal>
     requires { HoldBefore objects.now MacrosAreWhole }
     ensures ok { OnOk result (HoldBefore objects.now TargetsAreThere) }
     ensures refused { IfErr result (IsRefused objects.now) }
@@ -109,7 +110,7 @@ fn check_macros(objects: &Objects) -> Result<(), Refusal>
     }
 }
 
-fn check_targets(objects: &Objects) -> Result<(), Refusal>
+fn check_targets(objects: &SortedStore) -> Result<(), Refusal>
     requires { HoldBefore objects.now TargetsAreThere }
     ensures ok { OnOk result (HoldBefore objects.now TriggersAreNoCircle) }
     ensures refused { IfErr result (IsRefused objects.now) }
@@ -132,7 +133,8 @@ fn check_targets(objects: &Objects) -> Result<(), Refusal>
     }
 }
 
-fn check_costs(objects: &Objects, triggers: &Triggers) -> Result<Costs, Refusal>
+fn check_costs(objects: &SortedStore, triggers: &Triggers) -> Result<Costs, Refusal>
+    requires stored { AreStored objects.now }
     requires before { HoldBefore objects.now TriggersAreNoCircle }
     requires triggers { AreTriggers (shape_of objects.now) triggers.now.events.keys triggers.now.graph }
     ensures ok { OnOk result (IsAcceptable objects.now) }
@@ -140,7 +142,6 @@ fn check_costs(objects: &Objects, triggers: &Triggers) -> Result<Costs, Refusal>
     ensures totals { IfOk result (λ _. CostsAreTotals (shape_of objects.now)) }
     ensures refused { IfErr result (IsRefused objects.now) }
 {
-    objects.ids_rise();
     let ranks = match rank(&triggers.graph) {
         Ok(ranks) => ranks,
         Err(circle) => return Err(Refusal::MacroCircle { path: circle.path }),
@@ -159,4 +160,9 @@ fn check_costs(objects: &Objects, triggers: &Triggers) -> Result<Costs, Refusal>
 /// The law that a pool which meets all rules is refused for none of them: `verify` refuses it only where memory runs out.
 pub fn refusals_are_true()
     ensures { RefusalsAreTrue }
+{}
+
+/// The law that a refusal names the first rule that fails: it fails, and those before it hold.
+pub fn first_rules_fail()
+    ensures { FirstRulesFail }
 {}

@@ -1,8 +1,12 @@
 //! Changes of an object where it lies.
 
+ghost use Rattle.std.specs.Prelude.{IfOk, map};
+ghost use Rattle.vt_objects.specs.Stores.{AreNamed, shown};
+
 use super::{child, object_id, two_children};
 use crate::{
-    Child, Container, Entries, ListStore, LongText, Object, ObjectId, OutOfMemory, ShortText, Store,
+    Child, Container, Entries, LongText, Object, ObjectId, OutOfMemory, ShortText, SortedStore,
+    Store,
 };
 use std::alloc::Global;
 use std::test::Fail;
@@ -69,13 +73,20 @@ fn container(alloc: Global) -> Result<Object<Vec<u8>>, OutOfMemory> {
     }))
 }
 
+/// The same container under the IDs 7 and 8.
+fn two_containers(alloc: Global) -> Result<Vec<(ObjectId, Object<Vec<u8>>)>, OutOfMemory>
+    ensures { IfOk result (λ objects. AreNamed (map shown objects.items)) }
+{
+    let first = (object_id(7), container(alloc)?);
+    let second = (object_id(8), container(alloc)?);
+    Ok(vec![in alloc; first, second]?)
+}
+
 #[test]
 fn an_entry_of_an_object_in_a_store(rt: HostRuntime) -> Result<(), Fail> {
     let alloc = rt.alloc();
-    let mut objects = Vec::new(alloc);
-    objects.push((object_id(7), container(alloc)?))?;
-    objects.push((object_id(8), container(alloc)?))?;
-    let mut store = ListStore::from_objects(alloc, &objects)?;
+    let objects = two_containers(alloc)?;
+    let mut store = SortedStore::from_objects(alloc, &objects)?;
     move_first(&mut store, object_id(8), -1, 6);
     for (id, wanted) in [(7, child(100, 10, 5)), (8, child(100, -1, 6))] {
         match store.get(object_id(id)) {

@@ -9,7 +9,7 @@ use Rattle.vt_verify.proofs.inclusions.next.Goals as goal
 pub loop-slot-init : goal.loop-slot-init
 loop-slot-init c =
     let is : included c.args.objects.now c.args.id ≡ ids_of c.into_iter-slot-iterator.result =
-    included_is c.args.objects.now c.args.id c.in-Some.object.now c.in-Some.ensures
+    included_is c.args.objects.now c.args.id c.in-Some.object.now c.in-Some.ensures.found
     ∙ ap ids_of (sym (c.into_iter-slot-iterator.ensures.into_iter_gives ∙ c.slots-slot-items.ensures)) in (
       tt,
       tt,

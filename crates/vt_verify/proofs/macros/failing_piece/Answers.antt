@@ -2,7 +2,8 @@ use Rattle.std.proofs.Common.{ℕ, List, sym, ap, ◌∙◌}
 use Rattle.std.specs.List.{flat_map}
 use Rattle.std.specs.Option.{option_map}
 use Rattle.vt_verify.specs.Lists.{first_failing}
-use Rattle.vt_verify.specs.Shapes.{Objects, Fixed, fixed, shape_of}
+use Rattle.vt_verify.specs.Shapes.{Fixed, fixed, shape_of}
+use Rattle.vt_objects.specs.Stores.{Objects}
 use Rattle.vt_verify.specs.Macros.{Piece, named_macro, is_whole, pieces_of}
 use Rattle.vt_verify.specs.Targets.{piece_passes}
 use Rattle.vt_verify.proofs.Passes.{over_objects, each_of_each, all_pass_at, told_fails, told_passes}
@@ -11,8 +12,8 @@ use Rattle.vt_verify.proofs.macros.failing_piece.Goals as goal
 pub loop-id-init : goal.loop-id-init
 loop-id-init c =
     let test = piece_passes c.args.test (shape_of c.args.objects.now) in
-    let back = sym c.entries-id-items.ensures in (
-      c.entries-id-items.ensures,
+    let back = sym c.entries-id-items.ensures.all in (
+      c.entries-id-items.ensures.all,
       sym (ap (first_failing is_whole)
           (over_objects named_macro c.args.objects.now ∙ ap (λ (objects : Objects). flat_map (λ e. named_macro (e.0, fixed e.1)) objects) back)) ∙ c.requires,
       ap (λ (ps : List Piece). option_map {U = ℕ × ℕ} (λ p. (p.id, p.at)) (first_failing test ps))

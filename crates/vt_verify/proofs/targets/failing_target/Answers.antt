@@ -1,7 +1,8 @@
 use Rattle.std.proofs.Common.{sym, ap, ◌∙◌}
 use Rattle.std.specs.List.{flat_map}
 use Rattle.vt_verify.specs.Lists.{first_failing}
-use Rattle.vt_verify.specs.Shapes.{Objects, fixed, shape_of}
+use Rattle.vt_verify.specs.Shapes.{fixed, shape_of}
+use Rattle.vt_objects.specs.Stores.{Objects}
 use Rattle.vt_verify.specs.References.{passes}
 use Rattle.vt_verify.specs.Macros.{named_macro, is_whole}
 use Rattle.vt_verify.specs.Targets.{own_references}
@@ -11,8 +12,8 @@ use Rattle.vt_verify.proofs.targets.failing_target.Goals as goal
 pub loop-id-init : goal.loop-id-init
 loop-id-init c =
     let test = passes c.args.test (shape_of c.args.objects.now) in
-    let back = sym c.entries-id-items.ensures in (
-      c.entries-id-items.ensures,
+    let back = sym c.entries-id-items.ensures.all in (
+      c.entries-id-items.ensures.all,
       sym (ap (first_failing is_whole)
           (over_objects named_macro c.args.objects.now ∙ ap (λ (objects : Objects). flat_map (λ e. named_macro (e.0, fixed e.1)) objects) back)) ∙ c.requires,
       ap (first_failing test)

@@ -2,9 +2,9 @@ use Rattle.std.proofs.Common.{ℕ, List, ◌++◌, ◌≤◌, length, map, sym, 
 use Rattle.std.proofs.lemmas.List.{take_all}
 use Rattle.std.specs.List.{flat_map}
 use Rattle.vt_objects.specs.declared.entries.MacroEntry.{MacroEntry}
-use Rattle.vt_objects.specs.Stores.{shown}
+use Rattle.vt_objects.specs.Stores.{shown, Objects, IsRising}
 use Rattle.vt_verify.specs.declared.events.Raised.{Raised}
-use Rattle.vt_verify.specs.Shapes.{Objects, IsRising, shape_of}
+use Rattle.vt_verify.specs.Shapes.{shape_of}
 use Rattle.vt_verify.specs.Triggers.{raise}
 use Rattle.vt_verify.specs.TriggerGraphs.{has, if_any, non_empty, macros_at, event_numbers}
 use Rattle.vt_verify.proofs.Listings.{events_of, macros_of_events, not_yet, one_more, events_seen, groups_seen, events_listed, groups_listed}
@@ -14,7 +14,7 @@ pub put_listings-requires : goal.put_listings-requires
 put_listings-requires c event =
     ap (λ (keys : List Raised). has keys (raise c.loop-id-item.result.0 event)) c.loop-id.invariant.1
     ∙ not_yet c.entries-id-items.result.now c.loop-id.id-index c.loop-id-item.result event c.loop-id-test.true c.loop-id-item.is
-    (subst IsRising (sym c.entries-id-items.ensures) c.ids_rise.ensures)
+    (subst IsRising (sym c.entries-id-items.ensures.all) c.entries-id-items.ensures.stored.rising)
 
 pub loop-id-preserved : goal.loop-id-preserved
 loop-id-preserved c =
@@ -38,13 +38,13 @@ returns-clause-events c =
     let items = c.entries-id-items.result.now in
     let end : length items ≤ c.loop-id.id-index = omega (arith, c.loop-id-test.false) in
     c.loop-id.invariant.1
-    ∙ ap (λ (objects : Objects). flat_map events_of (shape_of objects)) (ap (map shown) (take_all c.loop-id.id-index items end) ∙ c.entries-id-items.ensures)
-    ∙ events_listed c.args.objects.now c.ids_rise.ensures
+    ∙ ap (λ (objects : Objects). flat_map events_of (shape_of objects)) (ap (map shown) (take_all c.loop-id.id-index items end) ∙ c.entries-id-items.ensures.all)
+    ∙ events_listed c.args.objects.now c.entries-id-items.ensures.stored.rising
 
 pub returns-clause-groups : goal.returns-clause-groups
 returns-clause-groups c =
     let items = c.entries-id-items.result.now in
     let end : length items ≤ c.loop-id.id-index = omega (arith, c.loop-id-test.false) in
     c.loop-id.invariant.2
-    ∙ ap (λ (objects : Objects). flat_map macros_of_events (shape_of objects)) (ap (map shown) (take_all c.loop-id.id-index items end) ∙ c.entries-id-items.ensures)
-    ∙ groups_listed c.args.objects.now c.ids_rise.ensures
+    ∙ ap (λ (objects : Objects). flat_map macros_of_events (shape_of objects)) (ap (map shown) (take_all c.loop-id.id-index items end) ∙ c.entries-id-items.ensures.all)
+    ∙ groups_listed c.args.objects.now c.entries-id-items.ensures.stored.rising

@@ -13,9 +13,9 @@ returns-in-Some c =
     ap option_to_list c.named_macro.ensures
     ∙ sym (append-nil (option_to_list (bytes_in c.args.id (fixed (seen c.in-Some.object.now)))))
     ∙ ap (λ (found : Option Fixed). flat_map (λ f. option_to_list (bytes_in c.args.id f)) (option_to_list found))
-    (sym (fixed_found c.args.objects.now c.args.id ∙ ap (option_map fixed) (sym c.in-Some.ensures)))
+    (sym (fixed_found c.args.objects.now c.args.id ∙ ap (option_map fixed) (sym c.in-Some.ensures.found)))
 
 pub returns-in-None : goal.returns-in-None
 returns-in-None c =
     ap (λ (found : Option Fixed). flat_map (λ f. option_to_list (bytes_in c.args.id f)) (option_to_list found))
-    (sym (fixed_found c.args.objects.now c.args.id ∙ ap (option_map fixed) (sym c.in-None.ensures)))
+    (sym (fixed_found c.args.objects.now c.args.id ∙ ap (option_map fixed) (sym c.in-None.ensures.found)))

@@ -47,6 +47,6 @@ returns-in-Err-Group-clause-refused c =
     let first = subst (IsFirstOver c.args.triggers.now.graph 65535) c.in-Err-Group.field-0-is c.in-Err-Group.ensures.over in
     let none = no_circle (shape_of c.args.objects.now) c.args.triggers.now.events.keys c.args.triggers.now.graph c.requires.triggers c.in-Ok.ensures.none in (
       before_budgets c.args.objects.now c.requires.before none,
-      first_over c.args.objects.now c.args.triggers.now.events.keys c.args.triggers.now.graph c.ids_rise.ensures c.requires.triggers c.in-Err-Group.group c.index.result.now
+      first_over c.args.objects.now c.args.triggers.now.events.keys c.args.triggers.now.graph c.requires.stored.rising c.requires.triggers c.in-Err-Group.group c.index.result.now
           c.index.ensures first,
     )

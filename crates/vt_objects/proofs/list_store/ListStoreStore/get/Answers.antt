@@ -1,17 +1,28 @@
-use Rattle.std.proofs.Common.{sym, arith}
-use Rattle.vt_objects.proofs.Places.{first_at, placed, not_placed, got}
+use Rattle.std.proofs.Common.{arith}
+use Rattle.vt_objects.proofs.Stored.{absent, placed, within_place, got_none, got_some, null_free_in}
+use Rattle.vt_objects.proofs.FromFront.{front_absent, front_place}
 use Rattle.vt_objects.proofs.list_store.ListStoreStore.get.Goals as goal
-
-pub returns-in_err-place : goal.returns-in_err-place
-returns-in_err-place c =
-    rw c.from_residual.ensures (sym (not_placed c.args.id c.args.self.now.entries.items c.deref.result.now c.place_of.result c.place_of.ensures c.deref.ensures.value c.in_err-place.was))
 
 pub index-requires : goal.index-requires
 index-requires c =
-    let es = c.args.self.now.entries in
-    omega (arith, es.ok.0, (first_at c.args.id c.in_ok-place.place es.items (placed c.args.id c.in_ok-place.place es.items c.deref.result.now c.place_of.result c.place_of.ensures c.deref.ensures.value c.in_ok-place.was)).within)
+    let es = c.self.inside.entries.items in
+    let at = placed es c.deref.result.now c.args.id c.in-Some.place c.deref.ensures.value (front_place c.args.id c.in-Some.place c.deref.result.now c.place_of.result c.place_of.ensures c.in-Some.is) in
+    let lt = within_place es c.args.id c.in-Some.place at in
+    omega (arith, lt)
 
-pub returns : goal.returns
-returns c =
-    let es = c.args.self.now.entries in
-    got c.args.id c.in_ok-place.place es.items c.index.result.now (placed c.args.id c.in_ok-place.place es.items c.deref.result.now c.place_of.result c.place_of.ensures c.deref.ensures.value c.in_ok-place.was) c.index.ensures
+pub returns-in-None : goal.returns-in-None
+returns-in-None c =
+    let es = c.self.inside.entries.items in
+    record {
+      value = got_none es c.args.self.now c.args.id c.self.view_is c.self.invariant (absent es c.deref.result.now c.args.id c.deref.ensures.value (front_absent c.args.id c.deref.result.now c.place_of.result c.place_of.ensures c.in-None.is));
+      named = null_free_in es c.args.self.now c.self.view_is c.self.invariant;
+    }
+
+pub returns-in-Some : goal.returns-in-Some
+returns-in-Some c =
+    let es = c.self.inside.entries.items in
+    record {
+      value = got_some es c.args.self.now c.args.id c.in-Some.place c.index.result.now c.self.view_is c.self.invariant
+          (placed es c.deref.result.now c.args.id c.in-Some.place c.deref.ensures.value (front_place c.args.id c.in-Some.place c.deref.result.now c.place_of.result c.place_of.ensures c.in-Some.is)) c.index.ensures;
+      named = null_free_in es c.args.self.now c.self.view_is c.self.invariant;
+    }

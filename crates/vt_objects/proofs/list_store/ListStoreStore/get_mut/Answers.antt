@@ -1,23 +1,35 @@
-use Rattle.std.proofs.Common.{sym, refl, arith}
+use Rattle.std.proofs.Common.{arith, ◌≡◌, refl, sym, ap}
 use Rattle.vt_objects.specs.Records.{seen}
-use Rattle.vt_objects.proofs.Places.{first_at, placed, not_placed, got, wrote, kept}
+use Rattle.vt_objects.specs.Stores.{map_of}
+use Rattle.vt_objects.proofs.Stored.{absent, placed, within_place, id_at_place, got_none, got_some, stored_set, wrote_in, kept_in}
+use Rattle.vt_objects.proofs.FromFront.{front_absent, front_place}
 use Rattle.vt_objects.proofs.list_store.ListStoreStore.get_mut.Goals as goal
 
 pub index_mut-requires : goal.index_mut-requires
 index_mut-requires c =
-    let es = c.args.self.now.entries in
-    omega (arith, es.ok.0, (first_at c.args.id c.in-Some.place es.items (placed c.args.id c.in-Some.place es.items c.deref.result.now c.place_of.result c.place_of.ensures c.deref.ensures.value c.in-Some.is)).within)
+    let es = c.self.inside.entries.items in
+    let at = placed es c.deref.result.now c.args.id c.in-Some.place c.deref.ensures.value (front_place c.args.id c.in-Some.place c.deref.result.now c.place_of.result c.place_of.ensures c.in-Some.is) in
+    let lt = within_place es c.args.id c.in-Some.place at in
+    omega (arith, lt)
+
+pub invariant_of-self-lent : goal.invariant_of-self-lent
+invariant_of-self-lent c w =
+    let es = c.self.inside.entries.items in
+    let at = placed es c.deref.result.now c.args.id c.in-Some.place c.deref.ensures.value (front_place c.args.id c.in-Some.place c.deref.result.now c.place_of.result c.place_of.ensures c.in-Some.is) in
+    stored_set es c.in-Some.place c.index_mut.result.now w c.self.invariant (within_place es c.args.id c.in-Some.place at) c.index_mut.ensures.value
 
 pub returns-in-None : goal.returns-in-None
 returns-in-None c =
-    let es = c.args.self.now.entries.items in
-    let none = not_placed c.args.id es c.deref.result.now c.place_of.result c.place_of.ensures c.deref.ensures.value c.in-None.is in
-    ((refl, λ w. kept c.args.id es (seen w) none, refl), record { writes_back = tt; value = sym none })
+    let es = c.self.inside.entries.items in
+    let none = absent es c.deref.result.now c.args.id c.deref.ensures.value (front_absent c.args.id c.deref.result.now c.place_of.result c.place_of.ensures c.in-None.is) in (
+      (refl, λ w. kept_in es c.args.self.now c.args.id (seen w) c.self.view_is c.self.invariant none, ap map_of c.self.view_is),
+      record { writes_back = tt; value = got_none es c.args.self.now c.args.id c.self.view_is c.self.invariant none },
+    )
 
 pub returns-in-Some : goal.returns-in-Some
 returns-in-Some c =
-    let es = c.args.self.now.entries.items in
-    let at = placed c.args.id c.in-Some.place es c.deref.result.now c.place_of.result c.place_of.ensures c.deref.ensures.value c.in-Some.is in (
-      (refl, λ w. wrote c.args.id c.in-Some.place es c.index_mut.result.now w at c.index_mut.ensures.value, refl),
-      record { writes_back = tt; value = got c.args.id c.in-Some.place es c.index_mut.result.now at c.index_mut.ensures.value },
+    let es = c.self.inside.entries.items in
+    let at = placed es c.deref.result.now c.args.id c.in-Some.place c.deref.ensures.value (front_place c.args.id c.in-Some.place c.deref.result.now c.place_of.result c.place_of.ensures c.in-Some.is) in (
+      (refl, λ w. wrote_in es c.args.self.now c.args.id c.in-Some.place c.index_mut.result.now w c.self.view_is c.self.invariant at c.index_mut.ensures.value, refl),
+      record { writes_back = tt; value = got_some es c.args.self.now c.args.id c.in-Some.place c.index_mut.result.now c.self.view_is c.self.invariant at c.index_mut.ensures.value },
     )

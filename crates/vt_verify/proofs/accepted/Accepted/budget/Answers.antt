@@ -1,5 +1,6 @@
 use Rattle.std.proofs.Common.{sym, ap, ◌∙◌}
-use Rattle.vt_verify.specs.Shapes.{Objects, shape_of}
+use Rattle.vt_verify.specs.Shapes.{shape_of}
+use Rattle.vt_objects.specs.Stores.{Objects}
 use Rattle.vt_verify.specs.Budgets.{budget}
 use Rattle.vt_verify.specs.Triggers.{raise}
 use Rattle.vt_verify.proofs.Listings.{group_is}

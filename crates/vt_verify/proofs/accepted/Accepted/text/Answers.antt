@@ -2,7 +2,8 @@ use Rattle.std.proofs.Common.{◌≡◌, ◌≤◌, List, ◌++◌, Some, length
 use Rattle.std.specs.Prelude.{slice_get}
 use Rattle.std.specs.List.{flat_map}
 use Rattle.vt_verify.specs.declared.events.Raised.{Raised}
-use Rattle.vt_verify.specs.Shapes.{Objects, shape_of}
+use Rattle.vt_verify.specs.Shapes.{shape_of}
+use Rattle.vt_objects.specs.Stores.{Objects}
 use Rattle.vt_verify.specs.TriggerGraphs.{listed_events}
 use Rattle.vt_verify.specs.Reports.{report_text, count_line, event_line, budget_line}
 use Rattle.vt_verify.proofs.ReportLines.{line_added, all_taken}

@@ -14,9 +14,8 @@ use Rattle.std.proofs.Common.{Result, Ok, Err}
 use Rattle.vt_objects.specs.declared.object.Object.{Object}
 use Rattle.vt_objects.specs.Records.{seen}
 use Rattle.vt_objects.specs.Stores.{shown}
-use Rattle.vt_verify.specs.Shapes.{Objects, IsRising, object_at}
-use Rattle.vt_verify.specs.Places.{IsPlace}
-use Rattle.vt_verify.proofs.Rising.{less, equal, greater, Three, below, same, above, three, both_true}
+use Rattle.vt_objects.specs.Stores.{Objects, IsRising, IsPlace, object_at}
+use Rattle.vt_objects.proofs.Rising.{less, equal, greater, Three, below, same, above, three, both_true}
 
 -- two numbers in the order that a test says
 pub is_below : (a b : ℕ) → Three a b → IsTrue (is_lt (nat_cmp a b)) → a < b
@@ -52,7 +51,7 @@ index_by a b id le (same e) (below lt) = absurd (omega (arith, e))
 index_by a b id le (above lt) (same e) = absurd (omega (arith, e))
 index_by a b id le (above lt) (below later) = absurd (omega arith)
 
-other_id : (e id : ℕ) → e ≢ id → Three id e → eq_by_cmp nat_cmp id e ≡ false
+pub other_id : (e id : ℕ) → e ≢ id → Three id e → eq_by_cmp nat_cmp id e ≡ false
 other_id e id differs (below lt) = ap is_eq (less id e lt)
 other_id e id differs (same is) = absurd (differs (sym is))
 other_id e id differs (above lt) = ap is_eq (greater id e lt)
@@ -67,7 +66,7 @@ greater_no : Greater ≡ Equal → ⊥
 greater_no e = absurd cc
 
 module _ {B : Type 0} where
-  above_at : (a : ℕ) (es : List (ℕ × Object B)) (i : ℕ) (d : ℕ × Object B) → IsTrue (below_all nat_cmp a (map shown es)) → i < length es → a < (slice_index_or es i d).0
+  pub above_at : (a : ℕ) (es : List (ℕ × Object B)) (i : ℕ) (d : ℕ × Object B) → IsTrue (below_all nat_cmp a (map shown es)) → i < length es → a < (slice_index_or es i d).0
   above_at a [] i d all lt = absurd (omega arith)
   above_at a (e ∷ es) zero d all lt = is_below a e.0 (three a e.0) (both_true (is_lt (nat_cmp a e.0)) (below_all nat_cmp a (map shown es)) all).0
   above_at a (e ∷ es) (suc i) d all lt = above_at a es i d (both_true (is_lt (nat_cmp a e.0)) (below_all nat_cmp a (map shown es)) all).1 (omega arith)
@@ -97,7 +96,7 @@ module _ {B : Type 0} where
   get_at (e ∷ es) zero d lt = refl
   get_at (e ∷ es) (suc i) d lt = get_at es i d (omega arith)
 
-  found_at : (es : List (ℕ × Object B)) (i : ℕ) (d : ℕ × Object B) → IsRising (map shown es) → i < length es
+  pub found_at : (es : List (ℕ × Object B)) (i : ℕ) (d : ℕ × Object B) → IsRising (map shown es) → i < length es
       → object_at (map shown es) (slice_index_or es i d).0 ≡ Some (seen (slice_index_or es i d).1)
   found_at [] i d rising lt = absurd (omega arith)
   found_at (e ∷ es) zero d rising lt =

@@ -16,9 +16,8 @@ use Rattle.std.specs.List.{AllByRecursion, IsDistinct}
 use Rattle.std.specs.List.Sorted.{ties, IsSortedByKey, IsStableByKey}
 use Rattle.vt_objects.specs.declared.object.Object.{Object}
 use Rattle.vt_objects.specs.Records.{Seen, seen}
-use Rattle.vt_objects.specs.Stores.{shown}
-use Rattle.vt_pool.specs.Pools.{ids, AreObjects}
-use Rattle.vt_verify.specs.Shapes.{Objects, IsRising, by_rising_id, object_at}
+use Rattle.vt_objects.specs.Stores.{shown, ids}
+use Rattle.vt_objects.specs.Stores.{Objects, IsRising, by_rising_id, object_at}
 
 -- ---- orders of numbers
 
@@ -72,7 +71,7 @@ less_than a e x lt (above later) is =
     let never : false ≡ true = subst (λ (o : Ordering). is_lt o ≡ true) (greater e x later) is in
     absurd cc
 
-T_of : (b : Bool) → IsTrue b → T b
+pub T_of : (b : Bool) → IsTrue b → T b
 T_of true is = tt
 T_of false is = absurd cc
 
@@ -223,11 +222,26 @@ module _ {B : Type 0} where
       ∙ found q sorted ∙ ap first (same_of q es sorted len stable) ∙ sym (found q es)
       ∙ sym (finite.get-from_entries nat_cmp_total (map shown es) q)))
 
-  ids_shown : (es : List (ℕ × Object B)) → map (λ e. e.0) es ≡ ids (map shown es)
+  pub ids_shown : (es : List (ℕ × Object B)) → ids (map shown es) ≡ map (λ e. e.0) es
   ids_shown [] = refl
   ids_shown (e ∷ es) = ap (λ (l : List ℕ). e.0 ∷ l) (ids_shown es)
 
-  -- the IDs of a pool are distinct, and so are those of copies of its objects
-  pub distinct_of : (es : List (ℕ × Object B)) (pool : List (ℕ × Seen)) → map shown es ≡ pool → AreObjects pool → IsDistinct eqb (map (λ e. e.0) es)
-  distinct_of es pool is are =
-      subst (IsDistinct eqb) (sym (ids_shown es ∙ ap ids is)) are.distinct
+-- ---- rising IDs are distinct
+
+none_alike : (a : ℕ) (s : Objects) → IsTrue (below_all nat_cmp a s) → AllByRecursion (λ k. eqb a k ≡ false) (ids s)
+none_alike a [] lower = tt
+none_alike a (x ∷ s) lower =
+    let parts = both_true (is_lt (nat_cmp a x.0)) (below_all nat_cmp a s) lower in
+    (ne_eqb a x.0 (λ e. alike (three a x.0) e parts.0), none_alike a s parts.1)
+  where
+    alike : Three a x.0 → a ≡ x.0 → IsTrue (is_lt (nat_cmp a x.0)) → ⊥
+    alike t e is =
+        let never : false ≡ true = subst (λ (o : Ordering). is_lt o ≡ true) (subst (λ (k : ℕ). nat_cmp a k ≡ Equal) e (equal a)) is in
+        absurd cc
+
+pub distinct_rising : (s : Objects) → IsRising s → IsDistinct eqb (ids s)
+unfolding IsDistinct
+distinct_rising [] rising = tt
+distinct_rising (x ∷ s) rising =
+    let parts = both_true (below_all nat_cmp x.0 s) (finite.is_sorted nat_cmp s) rising in
+    (none_alike x.0 s parts.0, distinct_rising s parts.1)

@@ -1,6 +1,0 @@
-use Rattle.std.proofs.Common.{◌≡◌, take, map}
-use Rattle.vt_objects.specs.Stores.{shown}
-use Rattle.vt_objects.proofs.list_store.ListStoreStore.from_objects.Given as goal
-
-abbrev pub invariant-loop-id : goal.invariant-loop-id
-invariant-loop-id l = map shown l.entries.items ≡ map shown (take l.id-index l.objects)

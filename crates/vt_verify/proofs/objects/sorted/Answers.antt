@@ -1,0 +1,13 @@
+use Rattle.std.proofs.Common.{ap, ◌∙◌}
+use Rattle.vt_objects.specs.Stores.{by_rising_id}
+use Rattle.vt_verify.proofs.Copies.{named_of}
+use Rattle.vt_verify.proofs.objects.sorted.Goals as goal
+
+pub from_vec-requires : goal.from_vec-requires
+from_vec-requires c = rw c.in_ok-entries.ensures.entries (named_of c.args.pool.now c.in_ok-entries.ensures.each)
+
+pub returns : goal.returns
+returns c = record {
+  made = c.in_ok-objects.ensures.made ∙ ap by_rising_id c.in_ok-entries.ensures.entries;
+  stored = c.in_ok-objects.ensures.stored;
+}
