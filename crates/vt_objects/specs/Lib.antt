@@ -13,3 +13,4 @@ pub mod Rows
 pub mod Decimals
 pub mod Pieces
 pub mod Texts
+pub mod Events

@@ -5,6 +5,7 @@ mod attributes;
 mod changes;
 mod commands;
 mod decimals;
+mod events;
 mod kind_sets;
 mod pieces;
 mod values;

@@ -12,10 +12,10 @@ use Rattle.vt_rank.specs.declared.graph.Item.TheVariants as items
 use Rattle.vt_rank.specs.Graphs.{group_of}
 use Rattle.vt_rank.specs.Costs as graphs
 use Rattle.vt_rank.specs.Costs.{greatest, group_total, item_cost, node_total, group_cost}
-use Rattle.vt_verify.specs.declared.events.Raised.{Raised}
+use Rattle.vt_verify.specs.declared.listing.Listing.{Listing}
 use Rattle.vt_verify.specs.Shapes.{Shape}
 use Rattle.vt_verify.specs.Macros.{commands}
-use Rattle.vt_verify.specs.Triggers.{raise, row_events, changes_mask, masks, listed}
+use Rattle.vt_verify.specs.Triggers.{listing, row_listings, changes_mask, masks, listed}
 use Rattle.vt_verify.specs.Budgets as pools
 use Rattle.vt_verify.specs.Budgets.{total, hidden_cost, command_cost, macro_cost, budget}
 use Rattle.vt_verify.specs.Rules.{IsWithinBudget}
@@ -55,39 +55,39 @@ module _ (cost : ℕ → ℕ) (g : Graph) where
   greatest_case (Some k) ks l is =
       ap (λ l. max (sum_by cost l) (greatest (group_total cost g) ks)) (sym (append-nil (group_of g k)) ∙ is)
 
-module _ (shape : Shape) (events : List Raised) (g : Graph) (are : AreTriggers shape events g) (cost : ℕ → ℕ) where
-  greatest_is : (qs : List Raised) → greatest (group_total cost g) (groups_of events qs) ≡ greatest (total cost shape) qs
+module _ (shape : Shape) (events : List Listing) (g : Graph) (are : AreTriggers shape events g) (cost : ℕ → ℕ) where
+  greatest_is : (qs : List Listing) → greatest (group_total cost g) (groups_of events qs) ≡ greatest (total cost shape) qs
   greatest_is [] = refl
   greatest_is (q ∷ qs) =
       greatest_case cost g (group_of_event events q) (groups_of events qs) (listed shape q) (group_listed shape events g are q)
       ∙ ap (λ n. max (total cost shape q) n) (greatest_is qs)
 
-  sum_is : (qs : List Raised) → sum_by (group_total cost g) (groups_of events qs) ≡ sum_by (total cost shape) qs
+  sum_is : (qs : List Listing) → sum_by (group_total cost g) (groups_of events qs) ≡ sum_by (total cost shape) qs
   sum_is qs =
       sym (sums_of_sums cost (group_of g) (groups_of events qs))
       ∙ ap (sum_by cost) (groups_listed shape events g are qs)
       ∙ sums_of_sums cost (listed shape) qs
 
-  over_masks : (ms : List ℕ) → greatest (total cost shape) (map (λ mask. raise mask 4) ms) ≡ greatest (λ mask. total cost shape (raise mask 4)) ms
+  over_masks : (ms : List ℕ) → greatest (total cost shape) (map (λ mask. listing mask 4) ms) ≡ greatest (λ mask. total cost shape (listing mask 4)) ms
   over_masks [] = refl
-  over_masks (m ∷ ms) = ap (λ n. max (total cost shape (raise m 4)) n) (over_masks ms)
+  over_masks (m ∷ ms) = ap (λ n. max (total cost shape (listing m 4)) n) (over_masks ms)
 
-  most_is : greatest (group_total cost g) g.most.items ≡ greatest (λ mask. total cost shape (raise mask 4)) (masks shape)
+  most_is : greatest (group_total cost g) g.most.items ≡ greatest (λ mask. total cost shape (listing mask 4)) (masks shape)
   most_is =
       ap (greatest (group_total cost g)) are.most
-      ∙ greatest_is (map (λ mask. raise mask 4) (masks shape)) ∙ over_masks (masks shape)
+      ∙ greatest_is (map (λ mask. listing mask 4) (masks shape)) ∙ over_masks (masks shape)
 
   command_is : (command : Command) → sum_by (item_cost cost g) (command_items events command) ≡ command_cost cost shape command
   command_is command =
       let most = cond (changes_mask command) (items.Most ∷ []) [] in
-      let groups = map items.Group (groups_of events (row_events command)) in
+      let groups = map items.Group (groups_of events (row_listings command)) in
       sum_by-cons (item_cost cost g) items.Step (most ++ groups)
       ∙ ap (λ n. 1 + n)
       (sum_by-append (item_cost cost g) most groups
       ∙ ap₂ (λ (a b : ℕ). a + b)
       (sum_of_most cost g (changes_mask command) ∙ ap (λ (n : ℕ). cond (changes_mask command) n 0) most_is)
-      (sum_of_groups cost g (groups_of events (row_events command)) ∙ sum_is (row_events command)))
-      ∙ sum_of_three (hidden_cost cost shape command) (sum_by (total cost shape) (row_events command))
+      (sum_of_groups cost g (groups_of events (row_listings command)) ∙ sum_is (row_listings command)))
+      ∙ sum_of_three (hidden_cost cost shape command) (sum_by (total cost shape) (row_listings command))
     where
       sum_of_three : (a b : ℕ) → 1 + (a + b) ≡ 1 + a + b
       sum_of_three a b = omega arith
@@ -100,7 +100,7 @@ module _ (shape : Shape) (events : List Raised) (g : Graph) (are : AreTriggers s
     | inr ge ↦ ap (sum_by (item_cost cost g)) (no_items g n ge) ∙ sym (ap (sum_by (command_cost cost shape)) (unnamed shape n ge))
   ]
 
-module _ (shape : Shape) (events : List Raised) (g : Graph) (are : AreTriggers shape events g) where
+module _ (shape : Shape) (events : List Listing) (g : Graph) (are : AreTriggers shape events g) where
   -- ---- what macros cost
 
   none_yet : (n : ℕ) → graphs.cost_within 0 g n ≡ pools.cost_within 0 shape n
@@ -130,31 +130,31 @@ module _ (shape : Shape) (events : List Raised) (g : Graph) (are : AreTriggers s
 
   -- ---- budgets of events
 
-  budget_is : (id event : ℕ) → budget shape id event ≡ sum_by (graphs.cost_of g) (listed shape (raise id event))
+  budget_is : (id event : ℕ) → budget shape id event ≡ sum_by (graphs.cost_of g) (listed shape (listing id event))
   unfolding budget
-  budget_is id event = ap (λ (cost : ℕ → ℕ). sum_by cost (listed shape (raise id event))) (sym costs_are)
+  budget_is id event = ap (λ (cost : ℕ → ℕ). sum_by cost (listed shape (listing id event))) (sym costs_are)
 
   -- a group costs the budget of the event at its place
-  pub group_cost_is : (k : ℕ) (raised : Raised) → k < length events → raised ≡ slice_index_or events k raised → group_cost g k ≡ budget shape raised.id raised.event
+  pub group_cost_is : (k : ℕ) (raised : Listing) → k < length events → raised ≡ slice_index_or events k raised → group_cost g k ≡ budget shape raised.id raised.event
   group_cost_is k raised lt is =
       ap (sum_by (graphs.cost_of g)) (groups_at shape events g are k ∙ get_or-map (listed shape) events k raised [] lt ∙ ap (listed shape) (sym is))
       ∙ sym (budget_is raised.id raised.event)
 
   -- and so does the group of any event
-  pub budget_of : (raised : Raised) (k : ℕ) → group_of_event events raised ≡ Some k → group_cost g k ≡ budget shape raised.id raised.event
+  pub budget_of : (raised : Listing) (k : ℕ) → group_of_event events raised ≡ Some k → group_cost g k ≡ budget shape raised.id raised.event
   budget_of raised k is =
       ap (sum_by (graphs.cost_of g))
       (sym (append-nil (group_of g k)) ∙ ap (λ (o : Option ℕ). flat_map (group_of g) (option_to_list o)) (sym is) ∙ group_listed shape events g are raised)
       ∙ sym (budget_is raised.id raised.event)
 
   -- an event without a group has no macros
-  pub no_budget : (raised : Raised) → group_of_event events raised ≡ None → budget shape raised.id raised.event ≡ 0
+  pub no_budget : (raised : Listing) → group_of_event events raised ≡ None → budget shape raised.id raised.event ≡ 0
   no_budget raised is =
       budget_is raised.id raised.event
       ∙ ap (sum_by (graphs.cost_of g))
       (sym (group_listed shape events g are raised) ∙ ap (λ (o : Option ℕ). flat_map (group_of g) (option_to_list o)) is)
 
-  within_case : (raised : Raised) (cap : ℕ) (found : Option ℕ) → group_of_event events raised ≡ found → ((k : ℕ) → found ≡ Some k → group_cost g k ≤ cap)
+  within_case : (raised : Listing) (cap : ℕ) (found : Option ℕ) → group_of_event events raised ≡ found → ((k : ℕ) → found ≡ Some k → group_cost g k ≤ cap)
       → budget shape raised.id raised.event ≤ cap
   within_case raised cap None is each =
       let none = no_budget raised is in
@@ -165,7 +165,7 @@ module _ (shape : Shape) (events : List Raised) (g : Graph) (are : AreTriggers s
       omega arith
 
   -- where the groups at which an event may be cost no more than a cap, neither does the event
-  pub budget_within : (raised : Raised) (cap : ℕ) → ((k : ℕ) → group_of_event events raised ≡ Some k → group_cost g k ≤ cap) → budget shape raised.id raised.event ≤ cap
+  pub budget_within : (raised : Listing) (cap : ℕ) → ((k : ℕ) → group_of_event events raised ≡ Some k → group_cost g k ≤ cap) → budget shape raised.id raised.event ≤ cap
   budget_within raised cap each = within_case raised cap (group_of_event events raised) refl each
 
   pub costs_within : (cap n : ℕ) → graphs.cost_of g n ≤ cap → pools.cost shape n ≤ cap
@@ -176,5 +176,5 @@ module _ (shape : Shape) (events : List Raised) (g : Graph) (are : AreTriggers s
   pub is_within : graphs.IsWithin g 65535 → IsWithinBudget shape
   is_within within = record {
     costs = λ id. costs_within 65535 id (within.nodes id);
-    budgets = λ id event. budget_within (raise id event) 65535 (λ k found. within.groups k);
+    budgets = λ id event. budget_within (listing id event) 65535 (λ k found. within.groups k);
   }

@@ -11,10 +11,10 @@ use Rattle.vt_rank.specs.declared.graph.Graph.{Graph}
 use Rattle.vt_rank.specs.declared.budget.OverBudget.TheVariants as over
 use Rattle.vt_rank.specs.Costs as graphs
 use Rattle.vt_rank.specs.Costs.{group_cost}
-use Rattle.vt_verify.specs.declared.events.Raised.{Raised}
+use Rattle.vt_verify.specs.declared.listing.Listing.{Listing}
 use Rattle.vt_verify.specs.Shapes.{Shape, shape_of}
 use Rattle.vt_objects.specs.Stores.{Objects, IsRising}
-use Rattle.vt_verify.specs.Triggers.{raise, listed}
+use Rattle.vt_verify.specs.Triggers.{listing, listed}
 use Rattle.vt_verify.specs.Rules.{IsFirstOver}
 use Rattle.vt_verify.specs.Rules.IsFirstOver.{Macro, Object}
 use Rattle.vt_verify.specs.TriggerGraphs.{AreTriggers, is_event_of, if_any, if_listed, event_numbers, listed_events, group_of_event}
@@ -23,17 +23,17 @@ use Rattle.vt_verify.proofs.Listings.{is_below, rising_shape}
 use Rattle.vt_verify.proofs.Graphs.{groups_at}
 use Rattle.vt_verify.proofs.Costs.{cost_is, group_cost_is, budget_within, costs_within}
 
-same_event : (e raised : Raised) → Some e ≡ Some raised → e ≡ raised
-same_event e raised is = ap (λ (o : Option Raised). elim o [ None ↦ e | Some r ↦ r ]) is
+same_event : (e raised : Listing) → Some e ≡ Some raised → e ≡ raised
+same_event e raised is = ap (λ (o : Option Listing). elim o [ None ↦ e | Some r ↦ r ]) is
 
 -- ---- events by rising ID
 
 -- no ID is less than that of the event before, nor the first less than this
-Climbs : ℕ → List Raised → Type 0
+Climbs : ℕ → List Listing → Type 0
 Climbs low [] = Unit {0}
 Climbs low (e ∷ events) = (low ≤ e.id) × Climbs e.id events
 
-climbs_all : (low : ℕ) (events : List Raised) (j : ℕ) (d : Raised) → Climbs low events → j < length events → low ≤ (get_or events j d).id
+climbs_all : (low : ℕ) (events : List Listing) (j : ℕ) (d : Listing) → Climbs low events → j < length events → low ≤ (get_or events j d).id
 unfolding Climbs
 climbs_all low [] j d climbs lt = absurd (omega arith)
 climbs_all low (e ∷ events) zero d climbs lt = climbs.0
@@ -42,7 +42,7 @@ climbs_all low (e ∷ events) (suc j) d climbs lt =
     let later = climbs_all e.id events j d climbs.1 (omega arith) in
     omega arith
 
-climbs_two : (low : ℕ) (events : List Raised) (k j : ℕ) (d : Raised) → Climbs low events → k ≤ j → j < length events → (get_or events k d).id ≤ (get_or events j d).id
+climbs_two : (low : ℕ) (events : List Listing) (k j : ℕ) (d : Listing) → Climbs low events → k ≤ j → j < length events → (get_or events k d).id ≤ (get_or events j d).id
 unfolding Climbs
 climbs_two low [] k j d climbs le lt = absurd (omega arith)
 climbs_two low (e ∷ events) zero zero d climbs le lt = omega arith
@@ -50,18 +50,18 @@ climbs_two low (e ∷ events) zero (suc j) d climbs le lt = climbs_all e.id even
 climbs_two low (e ∷ events) (suc k) zero d climbs le lt = absurd (omega arith)
 climbs_two low (e ∷ events) (suc k) (suc j) d climbs le lt = climbs_two e.id events k j d climbs.1 (omega arith) (omega arith)
 
-any_case : (low id event : ℕ) (ms : List ℕ) (rest : List Raised) → low ≤ id → ((low : ℕ) → low ≤ id → Climbs low rest) → Climbs low (if_any (raise id event) ms ++ rest)
+any_case : (low id event : ℕ) (ms : List ℕ) (rest : List Listing) → low ≤ id → ((low : ℕ) → low ≤ id → Climbs low rest) → Climbs low (if_any (listing id event) ms ++ rest)
 unfolding Climbs
 any_case low id event [] rest le later = later low le
 any_case low id event (m ∷ ms) rest le later = (le, later id (omega arith))
 
-numbers_climb : (shape : Shape) (id : ℕ) (ns : List ℕ) (rest : List Raised) → ((low : ℕ) → low ≤ id → Climbs low rest)
-    → (low : ℕ) → low ≤ id → Climbs low (flat_map (λ event. if_listed shape (raise id event)) ns ++ rest)
+numbers_climb : (shape : Shape) (id : ℕ) (ns : List ℕ) (rest : List Listing) → ((low : ℕ) → low ≤ id → Climbs low rest)
+    → (low : ℕ) → low ≤ id → Climbs low (flat_map (λ event. if_listed shape (listing id event)) ns ++ rest)
 numbers_climb shape id [] rest later low le = later low le
 numbers_climb shape id (n ∷ ns) rest later low le =
     subst (Climbs low)
-    (sym (append_assoc (if_listed shape (raise id n)) (flat_map (λ event. if_listed shape (raise id event)) ns) rest))
-    (any_case low id n (listed shape (raise id n)) (flat_map (λ event. if_listed shape (raise id event)) ns ++ rest) le (numbers_climb shape id ns rest later))
+    (sym (append_assoc (if_listed shape (listing id n)) (flat_map (λ event. if_listed shape (listing id event)) ns) rest))
+    (any_case low id n (listed shape (listing id n)) (flat_map (λ event. if_listed shape (listing id event)) ns ++ rest) le (numbers_climb shape id ns rest later))
 
 all_above : (low id : ℕ) (es : Shape) → low ≤ id → IsTrue (below_all nat_cmp id es) → AllByRecursion (λ e. low ≤ e.0) es
 all_above low id [] le all = tt
@@ -71,12 +71,12 @@ all_above low id (e ∷ es) le all =
     (omega arith, all_above low id es le parts.1)
 
 objects_climb : (shape es : Shape) → IsTrue (finite.is_sorted nat_cmp es) → (low : ℕ) → AllByRecursion (λ e. low ≤ e.0) es
-    → Climbs low (flat_map (λ e. flat_map (λ event. if_listed shape (raise e.0 event)) event_numbers) es)
+    → Climbs low (flat_map (λ e. flat_map (λ event. if_listed shape (listing e.0 event)) event_numbers) es)
 unfolding Climbs
 objects_climb shape [] rising low all = tt
 objects_climb shape (e ∷ es) rising low all =
     let parts = both_true (below_all nat_cmp e.0 es) (finite.is_sorted nat_cmp es) rising in
-    numbers_climb shape e.0 event_numbers (flat_map (λ e. flat_map (λ event. if_listed shape (raise e.0 event)) event_numbers) es)
+    numbers_climb shape e.0 event_numbers (flat_map (λ e. flat_map (λ event. if_listed shape (listing e.0 event)) event_numbers) es)
     (λ low le. objects_climb shape es parts.1 low (all_above low e.0 es le parts.0)) low all.0
 
 all_from_zero : (es : Shape) → AllByRecursion (λ e. 0 ≤ e.0) es
@@ -88,7 +88,7 @@ events_climb shape rising = objects_climb shape shape rising 0 (all_from_zero sh
 
 -- ---- the place of an event
 
-pub there : (events : List Raised) (k : ℕ) (raised : Raised) → slice_get events k ≡ Some raised → (k < length events) × (raised ≡ slice_index_or events k raised)
+pub there : (events : List Listing) (k : ℕ) (raised : Listing) → slice_get events k ≡ Some raised → (k < length events) × (raised ≡ slice_index_or events k raised)
 there [] k raised is = absurd cc
 there (e ∷ events) zero raised is = (omega arith, sym (same_event e raised is))
 there (e ∷ events) (suc k) raised is =
@@ -96,16 +96,16 @@ there (e ∷ events) (suc k) raised is =
     let inside = later.0 in
     (omega arith, later.1)
 
-record IsAtPlace (events : List Raised) (i : ℕ) (q : Raised) (k : ℕ) : Type 0 where
+record IsAtPlace (events : List Listing) (i : ℕ) (q : Listing) (k : ℕ) : Type 0 where
   place : ℕ
   sum : k ≡ i + place
   inside : place < length events
-  same_id : (d : Raised) → (get_or events place d).id ≡ q.id
+  same_id : (d : Listing) → (get_or events place d).id ≡ q.id
 
 same_some : (i k : ℕ) → Some i ≡ Some k → i ≡ k
 same_some i k is = ap (λ (o : Option ℕ). elim o [ None ↦ i | Some n ↦ n ]) is
 
-place_case : (e : Raised) (events : List Raised) (i : ℕ) (q : Raised) (k : ℕ) (rest : Option ℕ) (b : Bool) → is_event_of q e ≡ b
+place_case : (e : Listing) (events : List Listing) (i : ℕ) (q : Listing) (k : ℕ) (rest : Option ℕ) (b : Bool) → is_event_of q e ≡ b
     → (rest ≡ Some k → IsAtPlace events (i + 1) q k) → cond b (Some i) rest ≡ Some k → IsAtPlace (e ∷ events) i q k
 place_case e events i q k rest true is later some =
     let parts = both_true (nat_eq q.id e.id) (nat_eq q.event e.event) is in
@@ -125,12 +125,12 @@ place_case e events i q k rest false is later some =
       same_id = at.same_id;
     }
 
-at_place : (q : Raised) (i : ℕ) (events : List Raised) (k : ℕ) → position_from (is_event_of q) i events ≡ Some k → IsAtPlace events i q k
+at_place : (q : Listing) (i : ℕ) (events : List Listing) (k : ℕ) → position_from (is_event_of q) i events ≡ Some k → IsAtPlace events i q k
 at_place q i [] k some = absurd cc
 at_place q i (e ∷ events) k some =
     place_case e events i q k (position_from (is_event_of q) (i + 1) events) (is_event_of q e) refl (at_place q (i + 1) events k) some
 
-module _ (shape : Shape) (events : List Raised) (g : Graph) (are : AreTriggers shape events g) where
+module _ (shape : Shape) (events : List Listing) (g : Graph) (are : AreTriggers shape events g) where
   -- ---- groups that are there
 
   no_group : (k : ℕ) → length events ≤ k → group_cost g k ≡ 0
@@ -155,33 +155,33 @@ module _ (shape : Shape) (events : List Raised) (g : Graph) (are : AreTriggers s
 
   module _ (rising : IsTrue (finite.is_sorted nat_cmp shape)) where
     -- groups of lesser IDs stand before
-    before : (k : ℕ) (raised : Raised) → k < length events → raised ≡ slice_index_or events k raised
-        → (other event j : ℕ) → other < raised.id → group_of_event events (raise other event) ≡ Some j → j < k
+    before : (k : ℕ) (raised : Listing) → k < length events → raised ≡ slice_index_or events k raised
+        → (other event j : ℕ) → other < raised.id → group_of_event events (listing other event) ≡ Some j → j < k
     before k raised inside is other event j less found =
-        let at = at_place (raise other event) 0 events j found in
+        let at = at_place (listing other event) 0 events j found in
         let climbs = subst (Climbs 0) (sym are.events_are) (events_climb shape rising) in
         let sum = at.sum in
         let within = at.inside in
         let id = at.same_id raised in
-        let here = ap (λ (e : Raised). e.id) is in
+        let here = ap (λ (e : Listing). e.id) is in
         elim (cases_lt at.place k) [
           | inl lt ↦ omega arith
           | inr ge ↦ let two = climbs_two 0 events k at.place raised climbs ge within in absurd (omega arith)
         ]
 
-    pub first_object : (k : ℕ) (raised : Raised) → k < length events → raised ≡ slice_index_or events k raised
+    pub first_object : (k : ℕ) (raised : Listing) → k < length events → raised ≡ slice_index_or events k raised
         → graphs.IsFirstOver g 65535 (over.Group k) → IsFirstOver shape raised.id
     first_object k raised inside is first =
         let same = group_cost_is shape events g are k raised inside is in
         let lt = first.1 in
         Object (λ other. costs_within shape events g are 65535 other (first.0 other)) raised.event (omega arith)
-        (λ other event less. budget_within shape events g are (raise other event) 65535
+        (λ other event less. budget_within shape events g are (listing other event) 65535
         (λ j found. first.2 j (before k raised inside is other event j less found)))
 
 -- ---- what a cap on the graph says of objects whose IDs rise
 
-pub first_over : (objects : Objects) (events : List Raised) (g : Graph) → IsRising objects → AreTriggers (shape_of objects) events g
-    → (k : ℕ) (raised : Raised) → slice_get events k ≡ Some raised → graphs.IsFirstOver g 65535 (over.Group k) → IsFirstOver (shape_of objects) raised.id
+pub first_over : (objects : Objects) (events : List Listing) (g : Graph) → IsRising objects → AreTriggers (shape_of objects) events g
+    → (k : ℕ) (raised : Listing) → slice_get events k ≡ Some raised → graphs.IsFirstOver g 65535 (over.Group k) → IsFirstOver (shape_of objects) raised.id
 first_over objects events g rising are k raised is first =
     let at = there events k raised is in
     first_object (shape_of objects) events g are (rising_shape objects rising) k raised at.0 at.1 first

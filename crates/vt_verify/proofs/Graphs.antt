@@ -14,11 +14,11 @@ use Rattle.vt_rank.specs.declared.graph.Item.TheVariants as items
 use Rattle.vt_rank.specs.Graphs as graphs
 use Rattle.vt_rank.specs.Paths.{IsPath, IsDistinct, IsCircle, HasNoCircle, IsLeastOnCircles}
 use Rattle.vt_rank.specs.Graphs.{lists, items_of, group_of, nodes_of}
-use Rattle.vt_verify.specs.declared.events.Raised.{Raised}
+use Rattle.vt_verify.specs.declared.listing.Listing.{Listing}
 use Rattle.vt_verify.specs.Shapes.{Shape, Fixed, fixed_at}
 use Rattle.vt_verify.specs.Macros.{is_macro, commands_of, commands_in, commands}
 use Rattle.vt_verify.specs.Targets.{is_event}
-use Rattle.vt_verify.specs.Triggers.{raise, row_events, changes_mask, hidden, masks, listed, listed_in, triggered_by, triggered}
+use Rattle.vt_verify.specs.Triggers.{listing, row_listings, changes_mask, hidden, masks, listed, listed_in, triggered_by, triggered}
 use Rattle.vt_verify.specs.Rules.{IsLeastCircle}
 use Rattle.vt_verify.specs.TriggerGraphs.{AreTriggers, is_event_of, has, if_any, if_listed, event_numbers, listed_events, group_of_event, groups_of, command_items}
 use Rattle.vt_verify.proofs.Passes.{each_of_each}
@@ -38,29 +38,29 @@ or_true : (a : Bool) → (a || true) ≡ true
 or_true true = refl
 or_true false = refl
 
-in_front : (q : Raised) (xs ys : List Raised) → has xs q ≡ true → has (xs ++ ys) q ≡ true
+in_front : (q : Listing) (xs ys : List Listing) → has xs q ≡ true → has (xs ++ ys) q ≡ true
 in_front q xs ys is = list_any-append (is_event_of q) xs ys ∙ ap (λ b. b || has ys q) is
 
-behind : (q : Raised) (xs ys : List Raised) → has ys q ≡ true → has (xs ++ ys) q ≡ true
+behind : (q : Listing) (xs ys : List Listing) → has ys q ≡ true → has (xs ++ ys) q ≡ true
 behind q xs ys is = list_any-append (is_event_of q) xs ys ∙ ap (λ b. has xs q || b) is ∙ or_true (has xs q)
 
-itself : (id n : ℕ) → is_event_of (raise id n) (raise id n) ≡ true
+itself : (id n : ℕ) → is_event_of (listing id n) (listing id n) ≡ true
 itself id n = ap₂ (λ (a b : Bool). a && b) (eq-eqb id id refl) (eq-eqb n n refl)
 
-number_case : (shape : Shape) (id n x m : ℕ) (ms : List ℕ) (rest : List Raised) (b : Bool) (more : Bool) → listed shape (raise id n) ≡ m ∷ ms → nat_eq n x ≡ b
-    → (more ≡ true → has rest (raise id n) ≡ true) → (b || more) ≡ true → has (if_listed shape (raise id x) ++ rest) (raise id n) ≡ true
+number_case : (shape : Shape) (id n x m : ℕ) (ms : List ℕ) (rest : List Listing) (b : Bool) (more : Bool) → listed shape (listing id n) ≡ m ∷ ms → nat_eq n x ≡ b
+    → (more ≡ true → has rest (listing id n) ≡ true) → (b || more) ≡ true → has (if_listed shape (listing id x) ++ rest) (listing id n) ≡ true
 number_case shape id n x m ms rest true more is here later any =
-    in_front (raise id n) (if_listed shape (raise id x)) rest
-    (ap (λ (x : ℕ). has (if_listed shape (raise id x)) (raise id n)) (sym (eqb-true n x here))
-    ∙ ap (λ (l : List ℕ). has (if_any (raise id n) l) (raise id n)) is
+    in_front (listing id n) (if_listed shape (listing id x)) rest
+    (ap (λ (x : ℕ). has (if_listed shape (listing id x)) (listing id n)) (sym (eqb-true n x here))
+    ∙ ap (λ (l : List ℕ). has (if_any (listing id n) l) (listing id n)) is
     ∙ ap (λ b. b || false) (itself id n))
-number_case shape id n x m ms rest false more is here later any = behind (raise id n) (if_listed shape (raise id x)) rest (later any)
+number_case shape id n x m ms rest false more is here later any = behind (listing id n) (if_listed shape (listing id x)) rest (later any)
 
-among_numbers : (shape : Shape) (id n m : ℕ) (ms ns : List ℕ) → listed shape (raise id n) ≡ m ∷ ms → list_any (nat_eq n) ns ≡ true
-    → has (flat_map (λ event. if_listed shape (raise id event)) ns) (raise id n) ≡ true
+among_numbers : (shape : Shape) (id n m : ℕ) (ms ns : List ℕ) → listed shape (listing id n) ≡ m ∷ ms → list_any (nat_eq n) ns ≡ true
+    → has (flat_map (λ event. if_listed shape (listing id event)) ns) (listing id n) ≡ true
 among_numbers shape id n m ms [] is any = absurd cc
 among_numbers shape id n m ms (x ∷ ns) is any =
-    number_case shape id n x m ms (flat_map (λ event. if_listed shape (raise id event)) ns) (nat_eq n x) (list_any (nat_eq n) ns) is refl
+    number_case shape id n x m ms (flat_map (λ event. if_listed shape (listing id event)) ns) (nat_eq n x) (list_any (nat_eq n) ns) is refl
     (among_numbers shape id n m ms ns is) any
 
 from_has_case : (n start : ℕ) (more b : Bool) → nat_eq n start ≡ b → ((n ≡ start → ⊥) → more ≡ true) → (b || more) ≡ true
@@ -82,21 +82,21 @@ a_number n is =
     let high = leb-true n 26 parts.1 in
     ap (λ (ns : List ℕ). list_any (nat_eq n) ns) numbers_are ∙ from_has n 26 1 low (omega arith)
 
-object_case : (shape : Shape) (id n m : ℕ) (ms : List ℕ) (e : ℕ × Fixed) (rest : List Raised) (found : Option Fixed) (f : Fixed) (b : Bool)
-    → listed shape (raise id n) ≡ m ∷ ms → IsTrue (is_event n) → (b ≡ true → id ≡ e.0) → (found ≡ Some f → has rest (raise id n) ≡ true)
-    → cond b (Some e.1) found ≡ Some f → has (flat_map (λ event. if_listed shape (raise e.0 event)) event_numbers ++ rest) (raise id n) ≡ true
+object_case : (shape : Shape) (id n m : ℕ) (ms : List ℕ) (e : ℕ × Fixed) (rest : List Listing) (found : Option Fixed) (f : Fixed) (b : Bool)
+    → listed shape (listing id n) ≡ m ∷ ms → IsTrue (is_event n) → (b ≡ true → id ≡ e.0) → (found ≡ Some f → has rest (listing id n) ≡ true)
+    → cond b (Some e.1) found ≡ Some f → has (flat_map (λ event. if_listed shape (listing e.0 event)) event_numbers ++ rest) (listing id n) ≡ true
 object_case shape id n m ms e rest found f true is event alike later some =
-    in_front (raise id n) (flat_map (λ event. if_listed shape (raise e.0 event)) event_numbers) rest
-    (subst (λ (q : ℕ). has (flat_map (λ event. if_listed shape (raise q event)) event_numbers) (raise id n) ≡ true) (alike refl)
+    in_front (listing id n) (flat_map (λ event. if_listed shape (listing e.0 event)) event_numbers) rest
+    (subst (λ (q : ℕ). has (flat_map (λ event. if_listed shape (listing q event)) event_numbers) (listing id n) ≡ true) (alike refl)
     (among_numbers shape id n m ms event_numbers is (a_number n event)))
 object_case shape id n m ms e rest found f false is event alike later some =
-    behind (raise id n) (flat_map (λ event. if_listed shape (raise e.0 event)) event_numbers) rest (later some)
+    behind (listing id n) (flat_map (λ event. if_listed shape (listing e.0 event)) event_numbers) rest (later some)
 
-among_objects : (shape es : Shape) (id n m : ℕ) (ms : List ℕ) (f : Fixed) → listed shape (raise id n) ≡ m ∷ ms → IsTrue (is_event n) → fixed_at es id ≡ Some f
-    → has (flat_map (λ e. flat_map (λ event. if_listed shape (raise e.0 event)) event_numbers) es) (raise id n) ≡ true
+among_objects : (shape es : Shape) (id n m : ℕ) (ms : List ℕ) (f : Fixed) → listed shape (listing id n) ≡ m ∷ ms → IsTrue (is_event n) → fixed_at es id ≡ Some f
+    → has (flat_map (λ e. flat_map (λ event. if_listed shape (listing e.0 event)) event_numbers) es) (listing id n) ≡ true
 among_objects shape [] id n m ms f is event found = absurd cc
 among_objects shape (e ∷ es) id n m ms f is event found =
-    object_case shape id n m ms e (flat_map (λ e. flat_map (λ event. if_listed shape (raise e.0 event)) event_numbers) es) (fixed_at es id) f (eq_by_cmp nat_cmp id e.0)
+    object_case shape id n m ms e (flat_map (λ e. flat_map (λ event. if_listed shape (listing e.0 event)) event_numbers) es) (fixed_at es id) f (eq_by_cmp nat_cmp id e.0)
     is event (tied_same id e.0) (among_objects shape es id n m ms f is event) found
 
 found_case : (n m : ℕ) (ms : List ℕ) (found : Option Fixed) (P : Type 0) → ((f : Fixed) → found ≡ Some f → P) → flat_map (listed_in n) (option_to_list found) ≡ m ∷ ms → P
@@ -107,14 +107,14 @@ event_case : (b : Bool) (m : ℕ) (ms l : List ℕ) (P : Type 0) → (b ≡ true
 event_case true m ms l P here is = here refl is
 event_case false m ms l P here is = absurd cc
 
-listed_is : (shape : Shape) (id n : ℕ) → listed shape (raise id n) ≡ cond (is_event n) (flat_map (listed_in n) (option_to_list (fixed_at shape id))) []
+listed_is : (shape : Shape) (id n : ℕ) → listed shape (listing id n) ≡ cond (is_event n) (flat_map (listed_in n) (option_to_list (fixed_at shape id))) []
 unfolding listed
 listed_is shape id n = refl
 
-has_listed : (shape : Shape) (id n m : ℕ) (ms : List ℕ) → listed shape (raise id n) ≡ m ∷ ms → has (listed_events shape) (raise id n) ≡ true
+has_listed : (shape : Shape) (id n m : ℕ) (ms : List ℕ) → listed shape (listing id n) ≡ m ∷ ms → has (listed_events shape) (listing id n) ≡ true
 has_listed shape id n m ms is =
-    event_case (is_event n) m ms (flat_map (listed_in n) (option_to_list (fixed_at shape id))) (has (listed_events shape) (raise id n) ≡ true)
-    (λ event some. found_case n m ms (fixed_at shape id) (has (listed_events shape) (raise id n) ≡ true)
+    event_case (is_event n) m ms (flat_map (listed_in n) (option_to_list (fixed_at shape id))) (has (listed_events shape) (listing id n) ≡ true)
+    (λ event some. found_case n m ms (fixed_at shape id) (has (listed_events shape) (listing id n) ≡ true)
     (λ f found. among_objects shape shape id n m ms f is event found) some)
     (sym (listed_is shape id n) ∙ is)
 
@@ -123,22 +123,22 @@ unlisted_case [] true listed = refl
 unlisted_case [] false listed = refl
 unlisted_case (m ∷ ms) h listed = ap (λ h. cond h (m ∷ ms) []) (listed m ms refl)
 
-unlisted : (shape : Shape) (q : Raised) → cond (has (listed_events shape) q) (listed shape q) [] ≡ listed shape q
+unlisted : (shape : Shape) (q : Listing) → cond (has (listed_events shape) q) (listed shape q) [] ≡ listed shape q
 unlisted shape q = unlisted_case (listed shape q) (has (listed_events shape) q) (λ m ms is. has_listed shape q.id q.event m ms is)
 
 -- ---- the group of an event has the macros that are listed there
 
-same_event : (shape : Shape) (q e : Raised) → is_event_of q e ≡ true → listed shape e ≡ listed shape q
+same_event : (shape : Shape) (q e : Listing) → is_event_of q e ≡ true → listed shape e ≡ listed shape q
 same_event shape q e is =
     let parts = both_true (nat_eq q.id e.id) (nat_eq q.event e.event) is in
-    ap₂ (λ (id event : ℕ). listed shape (raise id event)) (sym (eqb-true q.id e.id parts.0)) (sym (eqb-true q.event e.event parts.1))
+    ap₂ (λ (id event : ℕ). listed shape (listing id event)) (sym (eqb-true q.id e.id parts.0)) (sym (eqb-true q.event e.event parts.1))
 
 group_case : (all : ℕ → List ℕ) (k : ℕ) (rest : Option ℕ) (l : List ℕ) (b h : Bool) → (b ≡ true → all k ≡ l)
     → flat_map all (option_to_list rest) ≡ cond h l [] → flat_map all (option_to_list (cond b (Some k) rest)) ≡ cond (b || h) l []
 group_case all k rest l true h here later = append-nil (all k) ∙ here refl
 group_case all k rest l false h here later = later
 
-found_group : (shape : Shape) (all : ℕ → List ℕ) (q : Raised) (i : ℕ) (events : List Raised)
+found_group : (shape : Shape) (all : ℕ → List ℕ) (q : Listing) (i : ℕ) (events : List Listing)
     → ((j : ℕ) → all (i + j) ≡ slice_index_or (map (listed shape) events) j [])
     → flat_map all (option_to_list (position_from (is_event_of q) i events)) ≡ cond (has events q) (listed shape q) []
 found_group shape all q i [] at = refl
@@ -158,7 +158,7 @@ most_case : (g : Graph) (b : Bool) → flat_map (nodes_of g) (cond b (items.Most
 most_case g true = append-nil (flat_map (group_of g) g.most.items)
 most_case g false = refl
 
-hidden_case : (f : Raised → List ℕ) (b : Bool) (rs : List Raised) → cond b (flat_map f rs) [] ≡ flat_map f (cond b rs [])
+hidden_case : (f : Listing → List ℕ) (b : Bool) (rs : List Listing) → cond b (flat_map f rs) [] ≡ flat_map f (cond b rs [])
 hidden_case f true rs = refl
 hidden_case f false rs = refl
 
@@ -186,35 +186,35 @@ no_items g n high =
     let short = length-take 256 (lists g.nodes) in
     get_or_past (take 256 (lists g.nodes)) n [] (omega arith)
 
-module _ (shape : Shape) (events : List Raised) (g : Graph) (are : AreTriggers shape events g) where
+module _ (shape : Shape) (events : List Listing) (g : Graph) (are : AreTriggers shape events g) where
   pub groups_at : (k : ℕ) → group_of g k ≡ slice_index_or (map (listed shape) events) k []
   unfolding group_of
   groups_at k = ap (λ (groups : List (List ℕ)). slice_index_or groups k []) are.groups
 
   -- the macros listed at an event, by its group
-  pub group_listed : (q : Raised) → flat_map (group_of g) (option_to_list (group_of_event events q)) ≡ listed shape q
+  pub group_listed : (q : Listing) → flat_map (group_of g) (option_to_list (group_of_event events q)) ≡ listed shape q
   group_listed q =
       found_group shape (group_of g) q 0 events (λ j. let same : 0 + j ≡ j = omega arith in ap (group_of g) same ∙ groups_at j)
-      ∙ ap (λ (events : List Raised). cond (has events q) (listed shape q) []) are.events_are
+      ∙ ap (λ (events : List Listing). cond (has events q) (listed shape q) []) are.events_are
       ∙ unlisted shape q
 
-  pub groups_listed : (qs : List Raised) → flat_map (group_of g) (groups_of events qs) ≡ flat_map (listed shape) qs
+  pub groups_listed : (qs : List Listing) → flat_map (group_of g) (groups_of events qs) ≡ flat_map (listed shape) qs
   groups_listed qs =
-      each_of_each (group_of g) (λ (q : Raised). option_to_list (group_of_event events q)) qs
-      ∙ same_lists (λ (q : Raised). flat_map (group_of g) (option_to_list (group_of_event events q))) (listed shape) qs group_listed
+      each_of_each (group_of g) (λ (q : Listing). option_to_list (group_of_event events q)) qs
+      ∙ same_lists (λ (q : Listing). flat_map (group_of g) (option_to_list (group_of_event events q))) (listed shape) qs group_listed
 
-  most_listed : flat_map (group_of g) g.most.items ≡ flat_map (listed shape) (map (λ mask. raise mask 4) (masks shape))
-  most_listed = ap (flat_map (group_of g)) are.most ∙ groups_listed (map (λ mask. raise mask 4) (masks shape))
+  most_listed : flat_map (group_of g) g.most.items ≡ flat_map (listed shape) (map (λ mask. listing mask 4) (masks shape))
+  most_listed = ap (flat_map (group_of g)) are.most ∙ groups_listed (map (λ mask. listing mask 4) (masks shape))
 
   command_nodes : (command : Command) → flat_map (nodes_of g) (command_items events command) ≡ triggered_by shape command
   command_nodes command =
       let most = cond (changes_mask command) (items.Most ∷ []) [] in
-      flat_map-append (nodes_of g) most (map items.Group (groups_of events (row_events command)))
+      flat_map-append (nodes_of g) most (map items.Group (groups_of events (row_listings command)))
       ∙ ap₂ (λ (xs ys : List ℕ). xs ++ ys)
       (most_case g (changes_mask command) ∙ ap (λ (ns : List ℕ). cond (changes_mask command) ns []) most_listed
-      ∙ hidden_case (listed shape) (changes_mask command) (map (λ mask. raise mask 4) (masks shape)))
-      (group_nodes g (groups_of events (row_events command)) ∙ groups_listed (row_events command))
-      ∙ sym (flat_map-append (listed shape) (hidden shape command) (row_events command))
+      ∙ hidden_case (listed shape) (changes_mask command) (map (λ mask. listing mask 4) (masks shape)))
+      (group_nodes g (groups_of events (row_listings command)) ∙ groups_listed (row_listings command))
+      ∙ sym (flat_map-append (listed shape) (hidden shape command) (row_listings command))
 
   -- the macros that a macro triggers are those of its node
   pub triggered_is : (n : ℕ) → graphs.triggered g n ≡ triggered shape n

@@ -22,11 +22,11 @@ use Rattle.vt_objects.specs.declared.kind.Kind.{Kind}
 use Rattle.vt_objects.specs.Stores.{shown, Objects, IsRising}
 use Rattle.vt_rank.specs.declared.graph.Item.{Item}
 use Rattle.vt_rank.specs.declared.graph.Item.TheVariants as items
-use Rattle.vt_verify.specs.declared.events.Raised.{Raised}
+use Rattle.vt_verify.specs.declared.listing.Listing.{Listing}
 use Rattle.vt_verify.specs.Lists.{first_failing}
 use Rattle.vt_verify.specs.Shapes.{Shape, Fixed, fixed, shape_of, fixed_at}
 use Rattle.vt_verify.specs.Macros.{bytes_in, named_macro, macros, is_whole, commands_of, commands}
-use Rattle.vt_verify.specs.Triggers.{raise, is_mask, masks, listed, listed_in}
+use Rattle.vt_verify.specs.Triggers.{listing, is_mask, masks, listed, listed_in}
 use Rattle.vt_verify.specs.Targets.{is_event}
 use Rattle.vt_verify.proofs.Passes.{all_pass, each_of_each}
 use Rattle.vt_verify.proofs.Shapes.{seen_kind, seen_macros}
@@ -48,7 +48,7 @@ next_is xs i x lt is =
 
 -- ---- the group of an event
 
-pub group_is : (events : List Raised) (raised : Raised) → position (is_event_of raised) events ≡ group_of_event events raised
+pub group_is : (events : List Listing) (raised : Listing) → position (is_event_of raised) events ≡ group_of_event events raised
 group_is events raised = position_from-zero (is_event_of raised) events
 
 -- ---- what is made so far, and what is left
@@ -57,7 +57,7 @@ group_is events raised = position_from-zero (is_event_of raised) events
 pub moved : {A : Type 0} (made next left all : List A) → made ++ (next ++ left) ≡ all → (made ++ next) ++ left ≡ all
 moved made next left all is = append_assoc made next left ∙ is
 
-pub next_group : (events : List Raised) (made : List Item) (raised : Raised) (left : List Raised) (all : List Item)
+pub next_group : (events : List Listing) (made : List Item) (raised : Listing) (left : List Listing) (all : List Item)
     → made ++ map items.Group (groups_of events (raised ∷ left)) ≡ all
     → (made ++ map items.Group (option_to_list (group_of_event events raised))) ++ map items.Group (groups_of events left) ≡ all
 next_group events made raised left all is =
@@ -66,30 +66,30 @@ next_group events made raised left all is =
 
 -- ---- the groups of masks that are hidden
 
-hidden_case : (events : List Raised) (b : Bool) (e : ℕ × Fixed) (rest : Shape)
-    → groups_of events (map (λ mask. raise mask 4) (map (λ e. e.0) (cond b (e ∷ rest) rest)))
-    ≡ cond b (option_to_list (group_of_event events (raise e.0 4))) [] ++ groups_of events (map (λ mask. raise mask 4) (map (λ e. e.0) rest))
+hidden_case : (events : List Listing) (b : Bool) (e : ℕ × Fixed) (rest : Shape)
+    → groups_of events (map (λ mask. listing mask 4) (map (λ e. e.0) (cond b (e ∷ rest) rest)))
+    ≡ cond b (option_to_list (group_of_event events (listing e.0 4))) [] ++ groups_of events (map (λ mask. listing mask 4) (map (λ e. e.0) rest))
 hidden_case events true e rest = refl
 hidden_case events false e rest = refl
 
-module _ {B : Type 0} (events : List Raised) where
+module _ {B : Type 0} (events : List Listing) where
   hidden_of : List (ℕ × Object B) → List ℕ
-  hidden_of es = groups_of events (map (λ mask. raise mask 4) (masks (shape_of (map shown es))))
+  hidden_of es = groups_of events (map (λ mask. listing mask 4) (masks (shape_of (map shown es))))
 
   first_hidden : (e : ℕ × Object B) (es : List (ℕ × Object B))
-      → hidden_of (e ∷ es) ≡ cond (is_mask (kind_of e.1)) (option_to_list (group_of_event events (raise e.0 4))) [] ++ hidden_of es
+      → hidden_of (e ∷ es) ≡ cond (is_mask (kind_of e.1)) (option_to_list (group_of_event events (listing e.0 4))) [] ++ hidden_of es
   unfolding hidden_of
   first_hidden e es =
       hidden_case events (is_mask (kind_of (seen e.1))) (e.0, fixed (seen e.1)) (filter (λ e. is_mask e.1.kind) (shape_of (map shown es)))
-      ∙ ap (λ (kind : Kind). cond (is_mask kind) (option_to_list (group_of_event events (raise e.0 4))) [] ++ hidden_of es) (seen_kind e.1)
+      ∙ ap (λ (kind : Kind). cond (is_mask kind) (option_to_list (group_of_event events (listing e.0 4))) [] ++ hidden_of es) (seen_kind e.1)
 
   pub next_hidden : (made : List ℕ) (es : List (ℕ × Object B)) (i : ℕ) (e : ℕ × Object B) (all : List ℕ) → i < length es → e ≡ get_or es i e
-      → made ++ groups_of events (map (λ mask. raise mask 4) (masks (shape_of (map shown (drop i es))))) ≡ all
-      → (made ++ cond (is_mask (kind_of e.1)) (option_to_list (group_of_event events (raise e.0 4))) [])
-      ++ groups_of events (map (λ mask. raise mask 4) (masks (shape_of (map shown (drop (i + 1) es))))) ≡ all
+      → made ++ groups_of events (map (λ mask. listing mask 4) (masks (shape_of (map shown (drop i es))))) ≡ all
+      → (made ++ cond (is_mask (kind_of e.1)) (option_to_list (group_of_event events (listing e.0 4))) [])
+      ++ groups_of events (map (λ mask. listing mask 4) (masks (shape_of (map shown (drop (i + 1) es))))) ≡ all
   unfolding hidden_of
   next_hidden made es i e all lt is left =
-      moved made (cond (is_mask (kind_of e.1)) (option_to_list (group_of_event events (raise e.0 4))) []) (hidden_of (drop (i + 1) es)) all
+      moved made (cond (is_mask (kind_of e.1)) (option_to_list (group_of_event events (listing e.0 4))) []) (hidden_of (drop (i + 1) es)) all
       (ap (λ (gs : List ℕ). made ++ gs)
       (sym (ap hidden_of (next_is es i e lt is) ∙ first_hidden e (drop (i + 1) es)))
       ∙ left)
@@ -171,36 +171,36 @@ neither : (a b : Bool) → a ≡ false → b ≡ false → (a || b) ≡ false
 neither true b one other = absurd cc
 neither false b one other = other
 
-none_if_any : (q r : Raised) (ms : List ℕ) → is_event_of q r ≡ false → has (if_any r ms) q ≡ false
+none_if_any : (q r : Listing) (ms : List ℕ) → is_event_of q r ≡ false → has (if_any r ms) q ≡ false
 none_if_any q r [] is = refl
 none_if_any q r (m ∷ ms) is = neither (is_event_of q r) false is refl
 
 -- an event of a greater number is not there yet
-pub still_new : (id n event : ℕ) (keys : List Raised) (ms : List ℕ) → n + 1 ≤ event → has keys (raise id event) ≡ false
-    → has (keys ++ if_any (raise id n) ms) (raise id event) ≡ false
+pub still_new : (id n event : ℕ) (keys : List Listing) (ms : List ℕ) → n + 1 ≤ event → has keys (listing id event) ≡ false
+    → has (keys ++ if_any (listing id n) ms) (listing id event) ≡ false
 still_new id n event keys ms le none =
-    list_any-append (is_event_of (raise id event)) keys (if_any (raise id n) ms)
-    ∙ neither (has keys (raise id event)) (has (if_any (raise id n) ms) (raise id event)) none
-    (none_if_any (raise id event) (raise id n) ms (never_both (nat_eq id id) (nat_eq event n) (ne_eqb event n (λ e. absurd (omega (arith, e))))))
+    list_any-append (is_event_of (listing id event)) keys (if_any (listing id n) ms)
+    ∙ neither (has keys (listing id event)) (has (if_any (listing id n) ms) (listing id event)) none
+    (none_if_any (listing id event) (listing id n) ms (never_both (nat_eq id id) (nat_eq event n) (ne_eqb event n (λ e. absurd (omega (arith, e))))))
 
 -- ---- the events of objects whose IDs rise
 
 -- what an object adds
-pub events_of : ℕ × Fixed → List Raised
-events_of e = flat_map (λ event. if_any (raise e.0 event) (macros_at event e.1.macros)) event_numbers
+pub events_of : ℕ × Fixed → List Listing
+events_of e = flat_map (λ event. if_any (listing e.0 event) (macros_at event e.1.macros)) event_numbers
 
 pub macros_of_events : ℕ × Fixed → List (List ℕ)
 macros_of_events e = flat_map (λ event. non_empty (macros_at event e.1.macros)) event_numbers
 
-other_events : (q : Raised) (id : ℕ) (f : Fixed) (ns : List ℕ) → nat_eq q.id id ≡ false
-    → has (flat_map (λ event. if_any (raise id event) (macros_at event f.macros)) ns) q ≡ false
+other_events : (q : Listing) (id : ℕ) (f : Fixed) (ns : List ℕ) → nat_eq q.id id ≡ false
+    → has (flat_map (λ event. if_any (listing id event) (macros_at event f.macros)) ns) q ≡ false
 other_events q id f [] other = refl
 other_events q id f (n ∷ ns) other =
-    list_any-append (is_event_of q) (if_any (raise id n) (macros_at n f.macros)) (flat_map (λ event. if_any (raise id event) (macros_at event f.macros)) ns)
-    ∙ neither (has (if_any (raise id n) (macros_at n f.macros)) q) (has (flat_map (λ event. if_any (raise id event) (macros_at event f.macros)) ns) q)
-    (none_if_any q (raise id n) (macros_at n f.macros) (ap (λ b. b && nat_eq q.event n) other)) (other_events q id f ns other)
+    list_any-append (is_event_of q) (if_any (listing id n) (macros_at n f.macros)) (flat_map (λ event. if_any (listing id event) (macros_at event f.macros)) ns)
+    ∙ neither (has (if_any (listing id n) (macros_at n f.macros)) q) (has (flat_map (λ event. if_any (listing id event) (macros_at event f.macros)) ns) q)
+    (none_if_any q (listing id n) (macros_at n f.macros) (ap (λ b. b && nat_eq q.event n) other)) (other_events q id f ns other)
 
-others : (q : Raised) (shape : Shape) → AllByRecursion (λ e. nat_eq q.id e.0 ≡ false) shape → has (flat_map events_of shape) q ≡ false
+others : (q : Listing) (shape : Shape) → AllByRecursion (λ e. nat_eq q.id e.0 ≡ false) shape → has (flat_map events_of shape) q ≡ false
 unfolding events_of
 others q [] all = refl
 others q (e ∷ shape) all =
@@ -236,8 +236,8 @@ module _ {B : Type 0} where
       (ne_eqb e.0 x.0 (λ alike. absurd (omega (arith, alike))), apart es i e (omega arith) is parts.1)
 
   pub not_yet : (es : List (ℕ × Object B)) (i : ℕ) (e : ℕ × Object B) (event : ℕ) → i < length es → e ≡ get_or es i e → IsRising (map shown es)
-      → has (flat_map events_of (shape_of (map shown (take i es)))) (raise e.0 event) ≡ false
-  not_yet es i e event lt is rising = others (raise e.0 event) (shape_of (map shown (take i es))) (apart es i e lt is rising)
+      → has (flat_map events_of (shape_of (map shown (take i es)))) (listing e.0 event) ≡ false
+  not_yet es i e event lt is rising = others (listing e.0 event) (shape_of (map shown (take i es))) (apart es i e lt is rising)
 
   -- what is made of one more object
   pub one_more : {A : Type 0} (F : ℕ × Fixed → List A) (es : List (ℕ × Object B)) (i : ℕ) (e : ℕ × Object B) → i < length es → e ≡ get_or es i e
@@ -249,9 +249,9 @@ module _ {B : Type 0} where
       ∙ flat_map-append F (shape_of (map shown (take i es))) ((e.0, fixed (seen e.1)) ∷ [])
       ∙ ap (λ more. flat_map F (shape_of (map shown (take i es))) ++ more) (append-nil (F (e.0, fixed (seen e.1))))
 
-  pub events_seen : (e : ℕ × Object B) → events_of (e.0, fixed (seen e.1)) ≡ flat_map (λ event. if_any (raise e.0 event) (macros_at event (macros_of e.1))) event_numbers
+  pub events_seen : (e : ℕ × Object B) → events_of (e.0, fixed (seen e.1)) ≡ flat_map (λ event. if_any (listing e.0 event) (macros_at event (macros_of e.1))) event_numbers
   unfolding events_of
-  events_seen e = ap (λ (entries : List MacroEntry). flat_map (λ event. if_any (raise e.0 event) (macros_at event entries)) event_numbers) (seen_macros e.1)
+  events_seen e = ap (λ (entries : List MacroEntry). flat_map (λ event. if_any (listing e.0 event) (macros_at event entries)) event_numbers) (seen_macros e.1)
 
   pub groups_seen : (e : ℕ × Object B) → macros_of_events (e.0, fixed (seen e.1)) ≡ flat_map (λ event. non_empty (macros_at event (macros_of e.1))) event_numbers
   unfolding macros_of_events
@@ -283,7 +283,7 @@ all_found (e ∷ shape) rising =
 
 -- the macros listed at an event of an object that is there
 pub listed_here : (shape : Shape) (id : ℕ) (f : Fixed) (event : ℕ) → fixed_at shape id ≡ Some f → IsTrue (is_event event)
-    → listed shape (raise id event) ≡ macros_at event f.macros
+    → listed shape (listing id event) ≡ macros_at event f.macros
 unfolding listed
 listed_here shape id f event found is =
     ap (λ (b : Bool). cond b (flat_map (listed_in event) (option_to_list (fixed_at shape id))) []) is
@@ -291,32 +291,32 @@ listed_here shape id f event found is =
     ∙ append-nil (macros_at event f.macros)
 
 same_events : (shape : Shape) (id : ℕ) (f : Fixed) (ns : List ℕ) → fixed_at shape id ≡ Some f → IsTrue (list_all is_event ns)
-    → flat_map (λ event. if_any (raise id event) (macros_at event f.macros)) ns ≡ flat_map (λ event. if_listed shape (raise id event)) ns
+    → flat_map (λ event. if_any (listing id event) (macros_at event f.macros)) ns ≡ flat_map (λ event. if_listed shape (listing id event)) ns
 same_events shape id f [] found all = refl
 same_events shape id f (n ∷ ns) found all =
     let parts = both_true (is_event n) (list_all is_event ns) all in
-    ap₂ (λ (one more : List Raised). one ++ more) (ap (if_any (raise id n)) (sym (listed_here shape id f n found parts.0))) (same_events shape id f ns found parts.1)
+    ap₂ (λ (one more : List Listing). one ++ more) (ap (if_any (listing id n)) (sym (listed_here shape id f n found parts.0))) (same_events shape id f ns found parts.1)
 
 all_events : (shape es : Shape) → AllByRecursion (IsFound shape) es
-    → flat_map events_of es ≡ flat_map (λ e. flat_map (λ event. if_listed shape (raise e.0 event)) event_numbers) es
+    → flat_map events_of es ≡ flat_map (λ e. flat_map (λ event. if_listed shape (listing e.0 event)) event_numbers) es
 unfolding IsFound events_of
 all_events shape [] all = refl
 all_events shape (e ∷ es) all =
-    ap₂ (λ (one more : List Raised). one ++ more) (same_events shape e.0 e.1 event_numbers all.0 refl) (all_events shape es all.1)
+    ap₂ (λ (one more : List Listing). one ++ more) (same_events shape e.0 e.1 event_numbers all.0 refl) (all_events shape es all.1)
 
-group_case : (shape : Shape) (r : Raised) (ms : List ℕ) → listed shape r ≡ ms → map (listed shape) (if_any r ms) ≡ non_empty ms
+group_case : (shape : Shape) (r : Listing) (ms : List ℕ) → listed shape r ≡ ms → map (listed shape) (if_any r ms) ≡ non_empty ms
 group_case shape r [] is = refl
 group_case shape r (m ∷ ms) is = ap (λ (l : List ℕ). l ∷ []) is
 
 same_groups : (shape : Shape) (id : ℕ) (ns : List ℕ) (f : Fixed) → fixed_at shape id ≡ Some f → IsTrue (list_all is_event ns)
-    → flat_map (λ event. non_empty (macros_at event f.macros)) ns ≡ map (listed shape) (flat_map (λ event. if_any (raise id event) (macros_at event f.macros)) ns)
+    → flat_map (λ event. non_empty (macros_at event f.macros)) ns ≡ map (listed shape) (flat_map (λ event. if_any (listing id event) (macros_at event f.macros)) ns)
 same_groups shape id [] f found all = refl
 same_groups shape id (n ∷ ns) f found all =
     let parts = both_true (is_event n) (list_all is_event ns) all in
-    let rest = flat_map (λ event. if_any (raise id event) (macros_at event f.macros)) ns in
+    let rest = flat_map (λ event. if_any (listing id event) (macros_at event f.macros)) ns in
     ap₂ (λ (one more : List (List ℕ)). one ++ more)
-    (sym (group_case shape (raise id n) (macros_at n f.macros) (listed_here shape id f n found parts.0))) (same_groups shape id ns f found parts.1)
-    ∙ sym (map-append (listed shape) (if_any (raise id n) (macros_at n f.macros)) rest)
+    (sym (group_case shape (listing id n) (macros_at n f.macros) (listed_here shape id f n found parts.0))) (same_groups shape id ns f found parts.1)
+    ∙ sym (map-append (listed shape) (if_any (listing id n) (macros_at n f.macros)) rest)
 
 all_groups : (shape es : Shape) → AllByRecursion (IsFound shape) es → flat_map macros_of_events es ≡ map (listed shape) (flat_map events_of es)
 unfolding IsFound events_of macros_of_events

@@ -2,24 +2,26 @@
 use Rattle.std.specs.Prelude.{◌≡◌, ℕ, zero, suc, ◌+◌, if◌then◌else◌, sum_by}
 use Rattle.vt_objects.specs.declared.command.Command.{Command}
 use Rattle.vt_rank.specs.Costs.{greatest}
-use Rattle.vt_verify.specs.declared.events.Raised.{Raised}
+use Rattle.vt_objects.specs.declared.event.Event.TheVariants.{Hide}
+use Rattle.vt_objects.specs.Events.{event_number}
+use Rattle.vt_verify.specs.declared.listing.Listing.{Listing}
 use Rattle.vt_verify.specs.Shapes.{Shape}
 use Rattle.vt_verify.specs.Macros.{commands}
-use Rattle.vt_verify.specs.Triggers.{raise, listed, row_events, changes_mask, masks}
+use Rattle.vt_verify.specs.Triggers.{listing, listed, row_listings, changes_mask, masks}
 
 -- ---- where each macro costs this much
 
-abbrev pub total : (ℕ → ℕ) → Shape → Raised → ℕ
+abbrev pub total : (ℕ → ℕ) → Shape → Listing → ℕ
 total cost shape raised = sum_by cost (listed shape raised)
 
 -- the costliest of the masks that may be hidden
 abbrev pub hidden_cost : (ℕ → ℕ) → Shape → Command → ℕ
 hidden_cost cost shape command =
-    if changes_mask command then greatest (λ mask. total cost shape (raise mask 4)) (masks shape) else 0
+    if changes_mask command then greatest (λ mask. total cost shape (listing mask (event_number Hide))) (masks shape) else 0
 
--- one for the command, and what it may raise
+-- one for the command, and what it may listing
 abbrev pub command_cost : (ℕ → ℕ) → Shape → Command → ℕ
-command_cost cost shape command = 1 + hidden_cost cost shape command + sum_by (total cost shape) (row_events command)
+command_cost cost shape command = 1 + hidden_cost cost shape command + sum_by (total cost shape) (row_listings command)
 
 abbrev pub macro_cost : (ℕ → ℕ) → Shape → ℕ → ℕ
 macro_cost cost shape id = sum_by (command_cost cost shape) (commands shape id)
@@ -37,7 +39,7 @@ cost shape id = cost_within 256 shape id
 
 -- the budget of an event of an object: what the macros cost that are listed there, repeats counted
 unfoldable pub budget : Shape → ℕ → ℕ → ℕ
-budget shape id event = total (cost shape) shape (raise id event)
+budget shape id event = total (cost shape) shape (listing id event)
 
 -- each macro costs what its commands cost
 abbrev pub CostsAreTotals : Shape → Type 0

@@ -2,7 +2,7 @@
 use Rattle.std.specs.Prelude.{ℕ, List, [], ◌∷◌, ◌++◌, length, codes}
 use Rattle.std.specs.Fmt.{decimal}
 use Rattle.std.specs.List.{flat_map}
-use Rattle.vt_verify.specs.declared.events.Raised.{Raised}
+use Rattle.vt_verify.specs.declared.listing.Listing.{Listing}
 use Rattle.vt_verify.specs.declared.refusal.Refusal.{Refusal}
 use Rattle.vt_verify.specs.declared.refusal.Refusal.TheVariants as refusals
 use Rattle.vt_verify.specs.Shapes.{Shape, shape_of}
@@ -15,11 +15,11 @@ use Rattle.vt_verify.specs.TriggerGraphs.{listed_events}
 abbrev pub count_line : ℕ → List ℕ
 count_line count = codes "accepted " ++ (decimal count ++ codes " objects\n")
 
-abbrev pub budget_line : Raised → ℕ → List ℕ
+abbrev pub budget_line : Listing → ℕ → List ℕ
 budget_line raised budget =
     codes "object " ++ (decimal raised.id ++ (codes " event " ++ (decimal raised.event ++ (codes " budget " ++ (decimal budget ++ codes "\n")))))
 
-abbrev pub event_line : Shape → Raised → List ℕ
+abbrev pub event_line : Shape → Listing → List ℕ
 event_line shape raised = budget_line raised (budget shape raised.id raised.event)
 
 -- how many objects there are, and a line for each event at which one lists a macro

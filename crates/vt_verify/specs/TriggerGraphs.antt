@@ -8,10 +8,12 @@ use Rattle.vt_rank.specs.declared.graph.Graph.{Graph}
 use Rattle.vt_rank.specs.declared.graph.Item.{Item}
 use Rattle.vt_rank.specs.declared.graph.Item.TheVariants as items
 use Rattle.vt_rank.specs.Graphs.{items_of, lists}
-use Rattle.vt_verify.specs.declared.events.Raised.{Raised}
+use Rattle.vt_objects.specs.declared.event.Event.TheVariants.{Hide}
+use Rattle.vt_objects.specs.Events.{event_number}
+use Rattle.vt_verify.specs.declared.listing.Listing.{Listing}
 use Rattle.vt_verify.specs.Shapes.{Shape}
 use Rattle.vt_verify.specs.Macros.{commands}
-use Rattle.vt_verify.specs.Triggers.{raise, row_events, changes_mask, masks, listed}
+use Rattle.vt_verify.specs.Triggers.{listing, row_listings, changes_mask, masks, listed}
 
 -- the events, in order
 abbrev pub event_numbers : List ℕ
@@ -20,7 +22,7 @@ event_numbers =
     ∷ 26 ∷ []
 
 -- an event at which an object lists a macro
-abbrev pub if_any : Raised → List ℕ → List Raised
+abbrev pub if_any : Listing → List ℕ → List Listing
 if_any raised [] = []
 if_any raised (m ∷ ms) = raised ∷ []
 
@@ -33,36 +35,36 @@ abbrev pub non_empty : List ℕ → List (List ℕ)
 non_empty [] = []
 non_empty (m ∷ ms) = (m ∷ ms) ∷ []
 
-abbrev pub if_listed : Shape → Raised → List Raised
+abbrev pub if_listed : Shape → Listing → List Listing
 if_listed shape raised = if_any raised (listed shape raised)
 
 -- all of them, by rising ID, and in an object by their numbers
-abbrev pub listed_events : Shape → List Raised
-listed_events shape = flat_map (λ e. flat_map (λ event. if_listed shape (raise e.0 event)) event_numbers) shape
+abbrev pub listed_events : Shape → List Listing
+listed_events shape = flat_map (λ e. flat_map (λ event. if_listed shape (listing e.0 event)) event_numbers) shape
 
-abbrev pub is_event_of : Raised → Raised → Bool
+abbrev pub is_event_of : Listing → Listing → Bool
 is_event_of raised e = nat_eq raised.id e.id && nat_eq raised.event e.event
 
 -- whether an event is among them
-abbrev pub has : List Raised → Raised → Bool
+abbrev pub has : List Listing → Listing → Bool
 has events raised = list_any (is_event_of raised) events
 
 -- the group of an event, where there is one
-abbrev pub group_of_event : List Raised → Raised → Option ℕ
+abbrev pub group_of_event : List Listing → Listing → Option ℕ
 group_of_event events raised = position_from (is_event_of raised) 0 events
 
-abbrev pub groups_of : List Raised → List Raised → List ℕ
+abbrev pub groups_of : List Listing → List Listing → List ℕ
 groups_of events raised = flat_map (λ r. option_to_list (group_of_event events r)) raised
 
 -- what a command adds to the items of its macro
-abbrev pub command_items : List Raised → Command → List Item
+abbrev pub command_items : List Listing → Command → List Item
 command_items events command =
-    items.Step ∷ (if changes_mask command then items.Most ∷ [] else []) ++ map items.Group (groups_of events (row_events command))
+    items.Step ∷ (if changes_mask command then items.Most ∷ [] else []) ++ map items.Group (groups_of events (row_listings command))
 
 -- The events at which macros are listed, and the graph of the macros: each group has the macros of the event at its
 -- place, and each macro the items of its commands.
-pub record AreTriggers (shape : Shape) (events : List Raised) (graph : Graph) : Type 0 where
+pub record AreTriggers (shape : Shape) (events : List Listing) (graph : Graph) : Type 0 where
   pub events_are : events ≡ listed_events shape
   pub groups : lists graph.groups ≡ map (listed shape) events
   pub nodes : (id : ℕ) → id < 256 → items_of graph id ≡ flat_map (command_items events) (commands shape id)
-  pub most : graph.most.items ≡ groups_of events (map (λ mask. raise mask 4) (masks shape))
+  pub most : graph.most.items ≡ groups_of events (map (λ mask. listing mask (event_number Hide)) (masks shape))

@@ -1,4 +1,4 @@
--- What a command may raise, and which macros that starts (docs/PROFILE.md, "What a command may raise", "Triggers and
+-- What a command may listing, and which macros that starts (docs/PROFILE.md, "What a command may listing", "Triggers and
 -- circles").
 use Rattle.std.specs.Prelude.{ℕ, Bool, true, false, ◌==◌, if◌then◌else◌, List, [], ◌∷◌, ◌++◌, filter, map}
 use Rattle.std.specs.Option.{option_to_list}
@@ -6,41 +6,25 @@ use Rattle.std.specs.List.{flat_map}
 use Rattle.vt_objects.specs.declared.kind.Kind.{Kind}
 use Rattle.vt_objects.specs.declared.kind.Kind.TheVariants as kinds
 use Rattle.vt_objects.specs.declared.command.Command.{Command}
-use Rattle.vt_objects.specs.declared.command.Command.TheVariants.{HideShow, EnableDisable, ControlAudio, SetVolume, ChangeChildLocation, ChangeSize, ChangeBackgroundColour, ChangeNumericValue, ChangeEndPoint, ChangeFontAttributes, ChangeLineAttributes, ChangeFillAttributes, ChangeActiveMask, ChangeSoftKeyMask, ChangeAttribute, ChangePriority, ChangeListItem, DeletePool, ChangeStringValue, ChangeChildPosition}
-use Rattle.vt_verify.specs.declared.events.Raised.{Raised}
+use Rattle.vt_objects.specs.declared.command.Command.TheVariants.{ChangeActiveMask}
+use Rattle.vt_objects.specs.declared.event.Event.TheVariants.{Hide}
+use Rattle.vt_objects.specs.declared.raising.Raised.{Raised}
+use Rattle.vt_objects.specs.Events.{event_number, row_events}
+use Rattle.vt_verify.specs.declared.listing.Listing.{Listing}
 use Rattle.vt_verify.specs.Shapes.{Shape, Fixed, fixed_at}
 use Rattle.vt_verify.specs.Macros.{commands}
 use Rattle.vt_verify.specs.Targets.{is_event}
 
-abbrev pub raise : ℕ → ℕ → Raised
-raise id event = record { id = id; event = event }
+abbrev pub listing : ℕ → ℕ → Listing
+listing id event = record { id = id; event = event }
 
--- shown or enabled by state 1, hidden or disabled by state 0
-abbrev pub by_state : ℕ → ℕ → ℕ → ℕ → List Raised
-by_state id state off on = if state == 1 then raise id on ∷ [] else if state == 0 then raise id off ∷ [] else []
+-- what is raised, by the number of its event
+abbrev pub listing_of : Raised → Listing
+listing_of raised = listing raised.id (event_number raised.event)
 
--- the event of the command's row
-abbrev pub row_events : Command → List Raised
-row_events (HideShow id state) = by_state id state 4 3
-row_events (EnableDisable id state) = by_state id state 6 5
-row_events (ControlAudio count frequency on off) = []
-row_events (SetVolume volume) = []
-row_events (ChangeChildLocation parent child dx dy) = raise parent 14 ∷ []
-row_events (ChangeSize id width height) = raise id 15 ∷ []
-row_events (ChangeBackgroundColour id colour) = raise id 10 ∷ []
-row_events (ChangeNumericValue id value) = raise id 16 ∷ []
-row_events (ChangeEndPoint id width height direction) = raise id 18 ∷ []
-row_events (ChangeFontAttributes id colour size type style) = raise id 11 ∷ []
-row_events (ChangeLineAttributes id colour width art) = raise id 12 ∷ []
-row_events (ChangeFillAttributes id type colour pattern) = raise id 13 ∷ []
-row_events (ChangeActiveMask set mask) = raise set 7 ∷ raise mask 3 ∷ []
-row_events (ChangeSoftKeyMask type mask keys) = raise mask 8 ∷ []
-row_events (ChangeAttribute id number value) = raise id 9 ∷ []
-row_events (ChangePriority id priority) = raise id 17 ∷ []
-row_events (ChangeListItem id index item) = []
-row_events DeletePool = []
-row_events (ChangeStringValue id length text) = raise id 16 ∷ []
-row_events (ChangeChildPosition parent child x y) = raise parent 26 ∷ []
+-- the events of the command's row
+abbrev pub row_listings : Command → List Listing
+row_listings command = map listing_of (row_events command)
 
 -- ---- the old mask of Change Active Mask may be any
 
@@ -57,12 +41,12 @@ abbrev pub changes_mask : Command → Bool
 changes_mask (ChangeActiveMask set mask) = true
 changes_mask command = false
 
-abbrev pub hidden : Shape → Command → List Raised
-hidden shape command = if changes_mask command then map (λ mask. raise mask 4) (masks shape) else []
+abbrev pub hidden : Shape → Command → List Listing
+hidden shape command = if changes_mask command then map (λ mask. listing mask (event_number Hide)) (masks shape) else []
 
--- what a command may raise
-abbrev pub may_raise : Shape → Command → List Raised
-may_raise shape command = hidden shape command ++ row_events command
+-- what a command may listing
+abbrev pub may_raise : Shape → Command → List Listing
+may_raise shape command = hidden shape command ++ row_listings command
 
 -- ---- the macros that are listed
 
@@ -70,7 +54,7 @@ abbrev pub listed_in : ℕ → Fixed → List ℕ
 listed_in event f = map (λ e. e.macro_id) (filter (λ e. e.event == event) f.macros)
 
 -- the macros listed at an event of an object, in the order of its list
-unfoldable pub listed : Shape → Raised → List ℕ
+unfoldable pub listed : Shape → Listing → List ℕ
 listed shape raised =
     if is_event raised.event then flat_map (listed_in raised.event) (option_to_list (fixed_at shape raised.id)) else []
 

@@ -8,7 +8,7 @@ ghost use Rattle.vt_verify.specs.Budgets.{CostsAreTotals, budget};
 ghost use Rattle.vt_verify.specs.Rules.{IsAcceptable};
 ghost use Rattle.vt_verify.specs.Reports.{report_text, budget_line};
 
-use crate::events::Raised;
+use crate::listing::Listing;
 use crate::triggers::Triggers;
 use std::alloc::{AllocError, Global};
 use std::marker::Model;
@@ -60,7 +60,7 @@ impl Accepted {
         // Each macro costs what its commands cost.
         ensures totals { CostsAreTotals (shape_of self.now) }
     {
-        match self.triggers.events.get_index_of(&Raised { id, event }) {
+        match self.triggers.events.get_index_of(&Listing { id, event }) {
             Some(group) => self.costs.group(&self.triggers.graph, group),
             None => 0,
         }
@@ -91,7 +91,7 @@ impl Accepted {
     }
 }
 
-fn line(alloc: Global, raised: Raised, budget: u32) -> Result<String, AllocError>
+fn line(alloc: Global, raised: Listing, budget: u32) -> Result<String, AllocError>
     ensures { IfOk result (λ line. string_bytes line ≡ budget_line raised budget) }
 {
     let id = raised.id.raw();

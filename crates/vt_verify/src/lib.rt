@@ -7,8 +7,8 @@
 
 mod accepted;
 mod commands;
-mod events;
 mod inclusions;
+mod listing;
 mod macros;
 mod objects;
 mod reference;

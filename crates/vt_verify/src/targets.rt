@@ -13,7 +13,7 @@ ghost use Rattle.vt_verify.specs.Targets.{targets, pointer_value, attribute_targ
 ghost use Rattle.vt_verify.specs.Rules as rules;
 
 use crate::commands::{macro_command, named_macro};
-use crate::events::is_event;
+use crate::listing::is_event;
 use crate::objects::kind_at;
 use crate::reference::{Reference, Test};
 use vt_objects::{

@@ -3,31 +3,30 @@
 ghost use Rattle.std.specs.Prelude.{◌≡◌, ◌<◌, ◌++◌, ◌∷◌, ℕ, [], map, None, IfOk, OnOk, IsTrue, slice_index_or, is_some, false, if◌then◌else◌};
 ghost use Rattle.std.specs.Option.{option_map, option_to_list};
 ghost use Rattle.std.specs.List.{flat_map};
+ghost use Rattle.vt_objects.specs.Events.{event_number};
 ghost use Rattle.vt_objects.specs.Pieces.{cut};
 ghost use Rattle.vt_rank.specs.Graphs.{lists};
 ghost use Rattle.vt_verify.specs.Shapes.{shape_of, fixed_at};
 ghost use Rattle.vt_verify.specs.Macros.{bytes_in, macro_command, commands_of, commands};
-ghost use Rattle.vt_verify.specs.Triggers.{raise, listed, is_mask, masks, changes_mask};
+ghost use Rattle.vt_verify.specs.Triggers.{listing, listed, is_mask, masks, changes_mask};
 ghost use Rattle.vt_verify.specs.TriggerGraphs.{AreTriggers, macros_at, has, if_any, non_empty, event_numbers, listed_events, command_items, group_of_event, groups_of};
 ghost use Rattle.vt_verify.specs.Rules as rules;
 
 use crate::commands::{macro_command, named_macro};
-use crate::events::{LAST_EVENT, Raised, row_events};
+use crate::listing::{LAST_EVENT, Listing};
 use indexmap::IndexSet;
 use std::alloc::{AllocError, Global};
 use vt_objects::{
-    Command, Kind, MacroEntry, ObjectId, SortedStore, Store, cut_is_one, split_command,
+    Command, Event, Kind, MacroEntry, ObjectId, SortedStore, Store, cut_is_one, row_events,
+    split_command,
 };
 use vt_rank::{Graph, Item};
-
-/// The event that hides a mask.
-const HIDE: u8 = 4;
 
 /// The events at which objects list macros, and the graph of the macros. The macros of an event are the group of its
 /// place.
 #[derive(Drop)]
 pub(crate) struct Triggers {
-    pub(crate) events: IndexSet<Raised>,
+    pub(crate) events: IndexSet<Listing>,
     pub(crate) graph: Graph,
 }
 
@@ -53,7 +52,7 @@ impl Triggers {
 fn listings(
     alloc: Global,
     objects: &SortedStore,
-) -> Result<(IndexSet<Raised>, Vec<Vec<u8>>), AllocError>
+) -> Result<(IndexSet<Listing>, Vec<Vec<u8>>), AllocError>
     ensures events { IfOk result (λ r. r.0.keys ≡ listed_events (shape_of objects.now)) }
     ensures groups { IfOk result (λ r. lists r.1 ≡ map (listed (shape_of objects.now)) (listed_events (shape_of objects.now))) }
 {
@@ -68,17 +67,17 @@ fn listings(
 /// Appends the events at which an object lists macros, and the macros of each.
 fn put_listings(
     alloc: Global,
-    events: &mut IndexSet<Raised>,
+    events: &mut IndexSet<Listing>,
     groups: &mut Vec<Vec<u8>>,
     id: ObjectId,
     entries: &[MacroEntry],
 ) -> Result<(), AllocError>
-    requires { (event : ℕ) → has events.old.keys (raise id event) ≡ false }
-    ensures events { OnOk result (events.new.keys ≡ events.old.keys ++ flat_map (λ event. if_any (raise id event) (macros_at event entries.now)) event_numbers) }
+    requires { (event : ℕ) → has events.old.keys (listing id event) ≡ false }
+    ensures events { OnOk result (events.new.keys ≡ events.old.keys ++ flat_map (λ event. if_any (listing id event) (macros_at event entries.now)) event_numbers) }
     ensures groups { OnOk result (lists groups.new ≡ lists groups.old ++ flat_map (λ event. non_empty (macros_at event entries.now)) event_numbers) }
 {
     for event in 1..LAST_EVENT + 1 {
-        put_listing(alloc, events, groups, Raised { id, event }, entries)?;
+        put_listing(alloc, events, groups, Listing { id, event }, entries)?;
     }
     Ok(())
 }
@@ -86,9 +85,9 @@ fn put_listings(
 /// Appends an event and its macros, where entries list any.
 fn put_listing(
     alloc: Global,
-    events: &mut IndexSet<Raised>,
+    events: &mut IndexSet<Listing>,
     groups: &mut Vec<Vec<u8>>,
-    raised: Raised,
+    raised: Listing,
     entries: &[MacroEntry],
 ) -> Result<(), AllocError>
     requires { has events.old.keys raised ≡ false }
@@ -121,7 +120,7 @@ fn listed_at(alloc: Global, entries: &[MacroEntry], event: u8) -> Result<Vec<u8>
 fn nodes(
     alloc: Global,
     objects: &SortedStore,
-    events: &IndexSet<Raised>,
+    events: &IndexSet<Listing>,
 ) -> Result<Vec<Vec<Item>>, AllocError>
     requires { rules.cut_short (shape_of objects.now) ≡ None }
     ensures { IfOk result (λ nodes. (id : ℕ) → id < 256 → slice_index_or (lists nodes) id [] ≡ flat_map (command_items events.now.keys) (commands (shape_of objects.now) id)) }
@@ -136,7 +135,7 @@ fn nodes(
 fn items(
     alloc: Global,
     objects: &SortedStore,
-    events: &IndexSet<Raised>,
+    events: &IndexSet<Listing>,
     id: ObjectId,
 ) -> Result<Vec<Item>, AllocError>
     requires { rules.cut_short (shape_of objects.now) ≡ None }
@@ -148,7 +147,11 @@ fn items(
     }
 }
 
-fn items_of(alloc: Global, events: &IndexSet<Raised>, bytes: &[u8]) -> Result<Vec<Item>, AllocError>
+fn items_of(
+    alloc: Global,
+    events: &IndexSet<Listing>,
+    bytes: &[u8],
+) -> Result<Vec<Item>, AllocError>
     requires { IsTrue (is_some (cut bytes.now)) }
     ensures { IfOk result (λ items. items.items ≡ flat_map (command_items events.now.keys) (commands_of bytes.now)) }
 {
@@ -175,7 +178,7 @@ fn macro_bytes(objects: &SortedStore, id: ObjectId) -> Option<&[u8]>
 /// Appends what a piece of a macro's bytes adds to the cost of the macro.
 fn put_piece(
     items: &mut Vec<Item>,
-    events: &IndexSet<Raised>,
+    events: &IndexSet<Listing>,
     piece: &[u8],
 ) -> Result<(), AllocError>
     ensures { OnOk result (items.new.items ≡ items.old.items ++ flat_map (command_items events.now.keys) (option_to_list (macro_command piece.now))) }
@@ -189,7 +192,7 @@ fn put_piece(
 /// Appends what a command adds to the cost of its macro.
 fn put_items(
     items: &mut Vec<Item>,
-    events: &IndexSet<Raised>,
+    events: &IndexSet<Listing>,
     command: &Command<'_>,
 ) -> Result<(), AllocError>
     ensures { OnOk result (items.new.items ≡ items.old.items ++ command_items events.now.keys command.now) }
@@ -197,7 +200,7 @@ fn put_items(
     items.push(Item::Step)?;
     put_most(items, command)?;
     for raised in row_events(command) {
-        put_group(items, events, raised)?;
+        put_group(items, events, Listing::of(raised))?;
     }
     Ok(())
 }
@@ -217,8 +220,8 @@ fn put_most(items: &mut Vec<Item>, command: &Command<'_>) -> Result<(), AllocErr
 /// Appends the group of an event, if there is one.
 fn put_group(
     items: &mut Vec<Item>,
-    events: &IndexSet<Raised>,
-    raised: Raised,
+    events: &IndexSet<Listing>,
+    raised: Listing,
 ) -> Result<(), AllocError>
     ensures { OnOk result (items.new.items ≡ items.old.items ++ map Item.Group (option_to_list (group_of_event events.now.keys raised))) }
 {
@@ -231,7 +234,7 @@ fn put_group(
     }
 }
 
-fn group_of(events: &IndexSet<Raised>, raised: Raised) -> Option<usize>
+fn group_of(events: &IndexSet<Listing>, raised: Listing) -> Option<usize>
     ensures { result ≡ group_of_event events.now.keys raised }
 {
     events.get_index_of(&raised)
@@ -241,9 +244,9 @@ fn group_of(events: &IndexSet<Raised>, raised: Raised) -> Option<usize>
 fn hidden(
     alloc: Global,
     objects: &SortedStore,
-    events: &IndexSet<Raised>,
+    events: &IndexSet<Listing>,
 ) -> Result<Vec<usize>, AllocError>
-    ensures { IfOk result (λ groups. groups.items ≡ groups_of events.now.keys (map (λ mask. raise mask 4) (masks (shape_of objects.now)))) }
+    ensures { IfOk result (λ groups. groups.items ≡ groups_of events.now.keys (map (λ mask. listing mask (event_number Event.Hide)) (masks (shape_of objects.now)))) }
 {
     let mut groups = Vec::new(alloc);
     for (id, object) in objects.entries() {
@@ -255,16 +258,22 @@ fn hidden(
 /// Appends the group of the event that hides an object, if it is a mask and there is one.
 fn put_hidden(
     groups: &mut Vec<usize>,
-    events: &IndexSet<Raised>,
+    events: &IndexSet<Listing>,
     id: ObjectId,
     kind: Kind,
 ) -> Result<(), AllocError>
-    ensures { OnOk result (groups.new.items ≡ groups.old.items ++ (if is_mask kind then option_to_list (group_of_event events.now.keys (raise id 4)) else [])) }
+    ensures { OnOk result (groups.new.items ≡ groups.old.items ++ (if is_mask kind then option_to_list (group_of_event events.now.keys (listing id (event_number Event.Hide))) else [])) }
 {
     if !matches!(kind, Kind::DataMask | Kind::AlarmMask) {
         return Ok(());
     }
-    match group_of(events, Raised { id, event: HIDE }) {
+    match group_of(
+        events,
+        Listing {
+            id,
+            event: Event::Hide.number(),
+        },
+    ) {
         Some(group) => {
             groups.push(group)?;
             Ok(())

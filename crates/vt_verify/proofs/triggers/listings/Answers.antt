@@ -3,16 +3,16 @@ use Rattle.std.proofs.lemmas.List.{take_all}
 use Rattle.std.specs.List.{flat_map}
 use Rattle.vt_objects.specs.declared.entries.MacroEntry.{MacroEntry}
 use Rattle.vt_objects.specs.Stores.{shown, Objects, IsRising}
-use Rattle.vt_verify.specs.declared.events.Raised.{Raised}
+use Rattle.vt_verify.specs.declared.listing.Listing.{Listing}
 use Rattle.vt_verify.specs.Shapes.{shape_of}
-use Rattle.vt_verify.specs.Triggers.{raise}
+use Rattle.vt_verify.specs.Triggers.{listing}
 use Rattle.vt_verify.specs.TriggerGraphs.{has, if_any, non_empty, macros_at, event_numbers}
 use Rattle.vt_verify.proofs.Listings.{events_of, macros_of_events, not_yet, one_more, events_seen, groups_seen, events_listed, groups_listed}
 use Rattle.vt_verify.proofs.triggers.listings.Goals as goal
 
 pub put_listings-requires : goal.put_listings-requires
 put_listings-requires c event =
-    ap (λ (keys : List Raised). has keys (raise c.loop-id-item.result.0 event)) c.loop-id.invariant.1
+    ap (λ (keys : List Listing). has keys (listing c.loop-id-item.result.0 event)) c.loop-id.invariant.1
     ∙ not_yet c.entries-id-items.result.now c.loop-id.id-index c.loop-id-item.result event c.loop-id-test.true c.loop-id-item.is
     (subst IsRising (sym c.entries-id-items.ensures.all) c.entries-id-items.ensures.stored.rising)
 
@@ -22,8 +22,8 @@ loop-id-preserved c =
     let item = c.loop-id-item.result in (
       c.loop-id.invariant.0,
       c.in_ok-put_listings.ensures.events
-          ∙ ap₂ (λ (made more : List Raised). made ++ more) c.loop-id.invariant.1
-          (ap (λ (entries : List MacroEntry). flat_map (λ event. if_any (raise item.0 event) (macros_at event entries)) event_numbers) c.macros.ensures
+          ∙ ap₂ (λ (made more : List Listing). made ++ more) c.loop-id.invariant.1
+          (ap (λ (entries : List MacroEntry). flat_map (λ event. if_any (listing item.0 event) (macros_at event entries)) event_numbers) c.macros.ensures
           ∙ sym (events_seen item))
           ∙ sym (one_more events_of items c.loop-id.id-index item c.loop-id-test.true c.loop-id-item.is),
       c.in_ok-put_listings.ensures.groups

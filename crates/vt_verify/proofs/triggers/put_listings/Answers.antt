@@ -1,8 +1,8 @@
 use Rattle.std.proofs.Common.{ℕ, List, ◌++◌, ◌+◌, ◌-◌, ◌<◌, ◌≤◌, drop, sym, ap, ◌∙◌, arith}
 use Rattle.std.specs.List.{flat_map}
 use Rattle.vt_rank.specs.Graphs.{lists}
-use Rattle.vt_verify.specs.declared.events.Raised.{Raised}
-use Rattle.vt_verify.specs.Triggers.{raise}
+use Rattle.vt_verify.specs.declared.listing.Listing.{Listing}
+use Rattle.vt_verify.specs.Triggers.{listing}
 use Rattle.vt_verify.specs.TriggerGraphs.{has, if_any, non_empty, macros_at, event_numbers}
 use Rattle.vt_verify.proofs.Listings.{moved, next_event, still_new}
 use Rattle.vt_verify.proofs.triggers.put_listings.Goals as goal
@@ -13,13 +13,13 @@ loop-event-preserved c =
     let low : 1 ≤ n = c.loop-event.invariant.0 in
     let high : n < 27 = omega (arith, c.loop-event-test.true) in
     let entries = c.args.entries.now in
-    let events = λ (event : ℕ). if_any (raise c.args.id event) (macros_at event entries) in
+    let events = λ (event : ℕ). if_any (listing c.args.id event) (macros_at event entries) in
     let groups = λ (event : ℕ). non_empty (macros_at event entries) in
     let left = drop ((n + 1) - 1) event_numbers in (
       omega arith,
-      λ event le. ap (λ (keys : List Raised). has keys (raise c.args.id event)) c.in_ok-put_listing.ensures.events
+      λ event le. ap (λ (keys : List Listing). has keys (listing c.args.id event)) c.in_ok-put_listing.ensures.events
           ∙ still_new c.args.id n event c.loop-event.events.keys (macros_at n entries) le (c.loop-event.invariant.1 event (omega arith)),
-      ap (λ (keys : List Raised). keys ++ flat_map events left) c.in_ok-put_listing.ensures.events
+      ap (λ (keys : List Listing). keys ++ flat_map events left) c.in_ok-put_listing.ensures.events
           ∙ moved c.loop-event.events.keys (events n) (flat_map events left) _
           (ap (λ (ns : List ℕ). c.loop-event.events.keys ++ flat_map events ns) (sym (next_event n low high)) ∙ c.loop-event.invariant.2),
       ap (λ (gs : List (List ℕ)). gs ++ flat_map groups left) c.in_ok-put_listing.ensures.groups

@@ -1,7 +1,7 @@
 use Rattle.std.proofs.Common.{List, map, [], sym, ap, ◌∙◌}
 use Rattle.std.proofs.lemmas.List.{get_or-take}
 use Rattle.vt_rank.specs.Graphs.{lists, items_of}
-use Rattle.vt_verify.specs.declared.events.Raised.{Raised}
+use Rattle.vt_verify.specs.declared.listing.Listing.{Listing}
 use Rattle.vt_verify.specs.Shapes.{shape_of}
 use Rattle.vt_verify.specs.Triggers.{listed}
 use Rattle.vt_verify.proofs.triggers.Triggers.of_objects.Goals as goal
@@ -10,7 +10,7 @@ pub returns : goal.returns
 unfolding items_of
 returns c = record {
   events_are = c.in_ok-events.ensures.events;
-  groups = c.in_ok-events.ensures.groups ∙ ap (λ (events : List Raised). map (listed (shape_of c.args.objects.now)) events) (sym c.in_ok-events.ensures.events);
+  groups = c.in_ok-events.ensures.groups ∙ ap (λ (events : List Listing). map (listed (shape_of c.args.objects.now)) events) (sym c.in_ok-events.ensures.events);
   nodes = λ id lt. get_or-take 256 (lists c.in_ok-nodes.nodes) id [] lt ∙ c.in_ok-nodes.ensures id lt;
   most = c.in_ok-most.ensures;
 }
