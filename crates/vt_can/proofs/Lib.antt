@@ -8,6 +8,7 @@ pub mod OneReading
 pub mod Written
 pub mod Filed
 pub mod ByAddress
+pub mod Overdue
 pub mod Joining
 pub mod Booleans
 pub mod OwnFrames
