@@ -2,7 +2,7 @@
 
 ghost use Rattle.std.specs.Prelude.{◌≡◌, ◌↔◌, ℕ, ◌%◌, ◌^◌, false, Some, None, Err, [], ◌∷◌, IsSome, IfOk, OnErr, IfSome, IfNone};
 ghost use Rattle.std.specs.FinMap as finite;
-ghost use Rattle.vt_can.specs.Sessions.{is_overdue};
+ghost use Rattle.vt_can.specs.Sessions.{is_overdue, AreOfAddresses};
 ghost use Rattle.vt_can.specs.Nodes.{source_of};
 ghost use Rattle.vt_transport.specs.Wire.{rts_frame};
 ghost use Rattle.vt_transport.specs.declared.messages.TpFrame.TheVariants as declared;
@@ -115,6 +115,7 @@ impl Sender {
         ensures none { IfNone result (self.new ≡ self.old) }
         ensures all { IfNone result
             ((to : ℕ) → is_overdue now (finite.get self.old.sessions to) ≡ false) }
+        ensures addresses { AreOfAddresses self.old.sessions }
     {
         let (to, session) = self.sessions.expire(now)?;
         let abort = Reply::Abort {
