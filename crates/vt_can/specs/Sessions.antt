@@ -23,6 +23,11 @@ pub record AreFiled {T : Type 0} (places : List (Option (Timed T))) (earliest : 
   pub all : length places ≡ 256
   pub bound : (q : ℕ) (timed : Timed T) → get_or places q None ≡ Some timed → earliest ≤ timed.last
 
+-- a session without its time
+abbrev pub untimed_session : {T : Type 0} → Option (Timed T) → Option (Timed T)
+untimed_session None = None
+untimed_session (Some timed) = Some (record { last = 0; session = timed.session })
+
 -- the numbers below n that pass a test, the least first, each with the same thing
 unfoldable pub each_below : {X : Type 0} → (ℕ → Bool) → X → ℕ → List (ℕ × X)
 each_below passes what zero = []
