@@ -8,7 +8,7 @@ use Rattle.std.specs.Ordering.{nat_cmp}
 use Rattle.std.specs.Cmp.{unsigned_tied, nat_cmp_total}
 use Rattle.std.specs.FinMap as finite
 use Rattle.vt_can.specs.declared.sessions.Timed.{Timed}
-use Rattle.vt_can.specs.Sessions.{ByAddress, filed, AreFiled, is_overdue, IsFirstOverdue}
+use Rattle.vt_can.specs.Sessions.{ByAddress, filed, AreFiled, AreOfAddresses, is_overdue, IsFirstOverdue}
 
 before_places : {X : Type 0} (n : ℕ) (places : List (Option X)) (q : ℕ) → q < n → finite.get (filed n places) q ≡ None
 before_places n [] q h = finite.get-empty nat_cmp q
@@ -59,6 +59,18 @@ filed-some places i x h = finite.same_map nat_cmp_total finite.nat_cmp-IsAntisym
     ∙ sym (finite.get-insert nat_cmp_total (filed 0 places) i x r
     ∙ ap (λ b. cond b (Some x) (finite.get (filed 0 places) r)) (unsigned_tied r i)
     ∙ ap (cond (eqb r i) (Some x)) (get-filed places r)))
+
+one_more : {X : Type 0} (places : List (Option X)) (m : finite.FinMap nat_cmp X) (n : ℕ) (x : X) (b : Bool) → finite.len m ≤ length places
+    → cond b (finite.len m) (finite.len m + 1) ≤ suc (length places)
+one_more places m n x true h = omega arith
+one_more places m n x false h = omega arith
+
+len-filed : {X : Type 0} (n : ℕ) (places : List (Option X)) → finite.len (filed n places) ≤ length places
+len-filed {X} n [] = let none : finite.len (filed {X = X} n []) ≡ 0 = finite.len-empty nat_cmp X in omega arith
+len-filed n (None ∷ places) = let before = len-filed (suc n) places in omega arith
+len-filed n (Some x ∷ places) =
+    subst (λ (k : ℕ). k ≤ suc (length places)) (sym (finite.len-insert nat_cmp_total (filed (suc n) places) n x))
+    (one_more places (filed (suc n) places) n x (finite.contains_key (filed (suc n) places) n) (len-filed (suc n) places))
 
 -- what the calls leave, over plain places
 
@@ -122,6 +134,13 @@ module _ {T : Type 0} where
       let same : put ≡ timed = cc in
       let last : put.last ≡ timed.last = ap (λ (t : Timed T). t.last) same in
       omega arith)
+
+  pub of_addresses : (places : List (Option (Timed T))) (earliest : ℕ) (map : ByAddress T) → AreFiled places earliest → filed 0 places ≡ map
+      → AreOfAddresses map
+  of_addresses places earliest map filed is = subst (λ (m : ByAddress T). AreOfAddresses m) is (record {
+    none_above = λ q above. get-filed places q ∙ get_or-eq_default places None {n = q} (let all = filed.all in omega arith);
+    at_most = let all = filed.all in let few = len-filed 0 places in omega arith;
+  })
 
   -- no session in the first n places had its last frame earlier
   abbrev pub IsBound : List (Option (Timed T)) → ℕ → ℕ → Type 0

@@ -8,6 +8,8 @@ pub mod OneReading
 pub mod Written
 pub mod Filed
 pub mod ByAddress
+pub mod Overdue
+pub mod Timeless
 pub mod Joining
 pub mod Booleans
 pub mod OwnFrames

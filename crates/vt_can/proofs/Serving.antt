@@ -35,7 +35,7 @@ module _ {T : Type 0} where
       → (q : ℕ) → alive now (finite.get new q) ≡ alive now (finite.get old q)
   expired_same old new now address session expired q = expired_at old new now address q session _ refl expired
 
-  some_left : (m : ByAddress T) (address : ℕ) (timed : Timed T) → finite.get m address ≡ Some timed → finite.len m ≡ 0 → ⊥
+  pub some_left : (m : ByAddress T) (address : ℕ) (timed : Timed T) → finite.get m address ≡ Some timed → finite.len m ≡ 0 → ⊥
   some_left m address timed kept none =
       let empty = ap (λ (n : ByAddress T). finite.get n address) (finite.empty_of_len m none) ∙ finite.get-empty nat_cmp address in cc
 

@@ -1,11 +1,12 @@
 -- A transport protocol, as a receiver of it is stated: what it keeps of a source (K), what its frames say (F)
 -- and how it replies (R).
-use Rattle.std.specs.Prelude.{ℕ, Bool, Option, Some, None}
+use Rattle.std.specs.Prelude.{◌≡◌, ℕ, Bool, Option, Some, None}
 use Rattle.vt_can.specs.declared.frame.Frame.{Frame}
 use Rattle.vt_can.specs.declared.sessions.Timed.{Timed}
 use Rattle.vt_can.specs.declared.received.Received.{Received}
 use Rattle.vt_can.specs.declared.received.Received.TheVariants.{Refused, More, Whole}
 use Rattle.vt_can.specs.Messages.{Message}
+use Rattle.vt_can.specs.Sessions.{untimed_session}
 
 -- what a step leaves of a session, and what it gives
 pub record Outcome (K R : Type 0) : Type 0 where
@@ -28,6 +29,10 @@ module _ {K R : Type 0} where
   outcome_of last (Whole pgn bytes reply) =
       record { session = None; reply = Some reply; message = Some (record { pgn = pgn; bytes = bytes }) }
 
+  -- an outcome without the time of its session
+  abbrev pub untimed_outcome : Outcome K R → Outcome K R
+  untimed_outcome out = record { session = untimed_session out.session; reply = out.reply; message = out.message }
+
 pub record Protocol (K F R : Type 0) : Type 0 where
   -- what a frame says to the node at an address, if it is one of the protocol's
   pub frame_in : ℕ → Frame → Option F
@@ -40,3 +45,8 @@ pub record Protocol (K F R : Type 0) : Type 0 where
   pub timeout : K → R
   -- the frame of a reply, from one address to another
   pub reply_frame : ℕ → ℕ → R → Frame
+
+-- Apart from the time that a session has afterwards, a step depends on neither the time of the frame nor that of the session.
+abbrev pub IsTimeless : {K F R : Type 0} → Protocol K F R → Type 0
+IsTimeless {K} {F} {R} protocol = (now : ℕ) (kept : Option (Timed K)) (frame : F)
+    → untimed_outcome (protocol.step now kept frame) ≡ untimed_outcome (protocol.step 0 (untimed_session kept) frame)

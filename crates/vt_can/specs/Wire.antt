@@ -1,5 +1,5 @@
 -- The bytes that the frames of both transport protocols share (docs/PROFILE.md, "Transport messages").
-use Rattle.std.specs.Prelude.{ℕ, Bool, ◌==◌, ◌&&◌, if◌then◌else◌, Option, Some, None, List, ◌∷◌, length, drop, slice_index}
+use Rattle.std.specs.Prelude.{◌≡◌, ℕ, Bool, ◌==◌, ◌&&◌, if◌then◌else◌, Option, Some, None, List, ◌∷◌, length, drop, slice_index}
 use Rattle.byteorder.specs.Endian.{little_bytes}
 use Rattle.vt_can.specs.declared.frame.Frame.{Frame}
 use Rattle.vt_can.specs.declared.wire.Reason.{Reason}
@@ -10,6 +10,11 @@ use Rattle.vt_can.specs.Nodes.{is_to}
 -- a frame to a node's address, of eight bytes
 abbrev pub is_heard : ℕ → Frame → Bool
 is_heard own frame = is_to own (destination_of (parts_of frame.id)) && length frame.bytes.items == 8
+
+-- a frame of neither of the two groups
+pub record IsOfAnotherGroup (management transfer : ℕ) (frame : Frame) : Type 0 where
+  pub no_management : pgn_of (parts_of frame.id) ≡ management → ⊥
+  pub no_transfer : pgn_of (parts_of frame.id) ≡ transfer → ⊥
 
 -- By the groups of connection management and of data transfer, and what the bytes of these say:
 module _ {F : Type 0} (management transfer : ℕ) (managed : List ℕ → F) (transferred : ℕ → List ℕ → F) where

@@ -27,7 +27,7 @@ pub use line::{
     written_lines_are_read,
 };
 pub use received::Received;
-pub use sessions::{Sessions, Timed};
+pub use sessions::{Sessions, Timed, sessions_are_taken_out, the_first_overdue_expires};
 pub use wire::{
     Reason, abort_bytes, append_packet, frame_of, is_heard, numbered_packet, three_bytes,
 };

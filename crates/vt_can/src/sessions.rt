@@ -3,7 +3,7 @@
 ghost use Rattle.std.specs.Prelude.{◌≡◌, ℕ, ◌≤◌, false, Some, IfSome, IfNone};
 ghost use Rattle.std.specs.FinMap as finite;
 ghost use Rattle.std.specs.Option.{option_copied};
-ghost use Rattle.vt_can.specs.Sessions.{is_overdue, IsFirstOverdue, Expires, NoneExpires};
+ghost use Rattle.vt_can.specs.Sessions.{ByAddress, is_overdue, AreOfAddresses, IsFirstOverdue, Expires, NoneExpires, TheFirstExpires, IsTakenOut};
 
 use std::marker::Model;
 
@@ -104,6 +104,7 @@ impl<T> Sessions<T> {
     pub fn expire(&mut self, now: u64) -> Option<(u8, T)>
         ensures some { IfSome result (λ expired. Expires self.old self.new now expired.0 expired.1) }
         ensures none { IfNone result (NoneExpires self.old self.new now) }
+        ensures addresses { AreOfAddresses self.old }
     {
         if now.saturating_sub(self.earliest) <= TIMEOUT {
             return None;
@@ -141,3 +142,14 @@ fn overdue<T>(place: &Option<Timed<T>>, now: u64) -> bool
         None => false,
     }
 }
+
+/// The law that the calls of `expire` take the sessions that are overdue from the front of their list,
+/// which has the least address first, and that the list is empty where a call answers none.
+pub fn the_first_overdue_expires<T, X>()
+    ensures { TheFirstExpires T X }
+{}
+
+/// The law that a session that is taken out is gone, and is one less, and that the others stay.
+pub fn sessions_are_taken_out<T>()
+    ensures { (sessions : ByAddress T) (address : ℕ) → IsTakenOut sessions address }
+{}

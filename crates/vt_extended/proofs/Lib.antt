@@ -3,3 +3,4 @@ pub mod Histories
 pub mod Stepping
 pub mod Matching
 pub mod Assembly
+pub mod Timeless

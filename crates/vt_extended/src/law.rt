@@ -1,6 +1,6 @@
 //! What the definitions of the receiver come to.
 
-ghost use Rattle.vt_extended.specs.Protocol.{StepsAssembleMessages, MessagesDependOnOwnFrames, RunsHandOutMessages, SessionsAreOfHistories, RunsHandOutWholeMessages};
+ghost use Rattle.vt_extended.specs.Protocol.{StepsAssembleMessages, MessagesDependOnOwnFrames, RunsHandOutMessages, SessionsAreOfHistories, RunsHandOutWholeMessages, IsTimeless, ForeignFramesAreIgnored};
 
 /// The law that the steps of a receiver on the session of a source hand out its messages, with the
 /// replies to its frames, as the whole history of the source defines them.
@@ -26,4 +26,15 @@ pub fn runs_hand_out_messages()
 pub fn runs_hand_out_whole_messages()
     ensures sessions { SessionsAreOfHistories }
     ensures messages { RunsHandOutWholeMessages }
+{}
+
+/// The law that what a frame does to a session of the receiver, and what it gives, depends on neither the
+/// time of the frame nor that of the session, apart from the time that the session has then.
+pub fn steps_are_timeless()
+    ensures { IsTimeless }
+{}
+
+/// The law that a frame of another parameter group than the protocol's two says nothing to a receiver.
+pub fn foreign_frames_say_nothing()
+    ensures { ForeignFramesAreIgnored }
 {}

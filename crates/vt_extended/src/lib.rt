@@ -10,8 +10,8 @@ mod session;
 mod wire;
 
 pub use law::{
-    messages_depend_on_own_frames, runs_hand_out_messages, runs_hand_out_whole_messages,
-    steps_assemble_messages,
+    foreign_frames_say_nothing, messages_depend_on_own_frames, runs_hand_out_messages,
+    runs_hand_out_whole_messages, steps_are_timeless, steps_assemble_messages,
 };
 pub use receiver::Receiver;
 pub use vt_can::{Bytes, Heard};

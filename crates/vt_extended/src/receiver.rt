@@ -2,7 +2,7 @@
 
 ghost use Rattle.std.specs.Prelude.{◌≡◌, ℕ, false, Some, None, List, length, IfOk, OnOk, OnErr, IsOk, IfSome, IfNone};
 ghost use Rattle.std.specs.FinMap as finite;
-ghost use Rattle.vt_can.specs.Sessions.{is_overdue, alive};
+ghost use Rattle.vt_can.specs.Sessions.{is_overdue, alive, AreOfAddresses};
 ghost use Rattle.vt_can.specs.Nodes.{source_of};
 ghost use Rattle.vt_can.specs.Messages.{told_of};
 ghost use Rattle.vt_can.specs.Receivers.{outcome, timely_outcome, Says, Takes, OthersStay, IsReadyFor, OpensNone, TimesOut};
@@ -89,6 +89,7 @@ impl Receiver {
         ensures some { IfSome result (λ frame. TimesOut protocol self.old self.new now frame) }
         ensures none { IfNone result (self.new ≡ self.old) }
         ensures all { IfNone result ((source : ℕ) → is_overdue now (finite.get self.old.sessions source) ≡ false) }
+        ensures addresses { AreOfAddresses self.old.sessions }
     {
         let (source, session) = self.sessions.expire(now)?;
         let abort = Reply::Abort {

@@ -4,3 +4,4 @@ pub mod Openings
 pub mod Assembly
 pub mod Agreement
 pub mod BothEnds
+pub mod Timeless

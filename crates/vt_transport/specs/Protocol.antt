@@ -1,7 +1,13 @@
 -- The transport protocol, as the definitions of receivers, runs and histories take it, and its laws.
-use Rattle.std.specs.Prelude.{ℕ, Bool, false}
+use Rattle.std.specs.Prelude.{◌≡◌, ℕ, Bool, false}
+use Rattle.std.specs.FinMap as finite
 use Rattle.vt_can.specs.declared.wire.Reason.TheVariants.{Timeout}
-use Rattle.vt_can.specs.Protocols.{Protocol}
+use Rattle.vt_can.specs.declared.frame.Frame.{Frame}
+use Rattle.vt_can.specs.Nodes.{source_of}
+use Rattle.vt_can.specs.Wire.{IsOfAnotherGroup}
+use Rattle.vt_can.specs.Protocols as protocols
+use Rattle.vt_can.specs.Protocols.{Protocol, silent}
+use Rattle.vt_can.specs.Receivers.{Listening, outcome}
 use Rattle.vt_can.specs.Steps as steps
 use Rattle.vt_can.specs.Bus as bus
 use Rattle.vt_can.specs.Marks as marks
@@ -51,3 +57,16 @@ SessionsAreOfHistories = marks.SessionsAreOfHistories protocol
 
 abbrev pub RunsHandOutWholeMessages : Type 0
 RunsHandOutWholeMessages = marks.RunsHandOutWholeMessages protocol IsWhole
+
+-- Apart from the time that a session has afterwards, a step depends on no time.
+abbrev pub IsTimeless : Type 0
+IsTimeless = protocols.IsTimeless protocol
+
+-- a frame of neither of the protocol's groups
+abbrev pub IsForeign : Frame → Type 0
+IsForeign = IsOfAnotherGroup 0xEC00 0xEB00
+
+-- It says nothing to a receiver.
+abbrev pub ForeignFramesAreIgnored : Type 0
+ForeignFramesAreIgnored = (receiver : Listening Kept) (now : ℕ) (frame : Frame) → IsForeign frame
+    → outcome protocol receiver now frame ≡ silent (finite.get receiver.sessions (source_of frame))

@@ -4,9 +4,10 @@ use Rattle.std.specs.Coded.{Coded, code_by, coded×, coded_ℕ, coded_list}
 use Rattle.std.specs.FinMap as finite
 use Rattle.vt_can.specs.declared.frame.Frame.{Frame}
 use Rattle.vt_can.specs.declared.sessions.Timed.{Timed}
-use Rattle.vt_can.specs.Sessions.{ByAddress, timed_code, Expires}
+use Rattle.vt_can.specs.Sessions.{ByAddress, timed_code, untimed_session, Expires}
 use Rattle.vt_can.specs.Messages.{Message}
 use Rattle.vt_can.specs.Nodes.{source_of}
+use Rattle.vt_can.specs.Wire.{IsOfAnotherGroup}
 use Rattle.vt_transport.specs.declared.messages.TpFrame.{TpFrame}
 use Rattle.vt_transport.specs.declared.messages.TpFrame.TheVariants.{Cts, EndOfMessage, Aborted}
 use Rattle.vt_can.specs.declared.wire.Reason.TheVariants.{Timeout, Disorder}
@@ -74,6 +75,10 @@ answered own to now None frame = unanswered None
 answered own to now (Some kept) None = unanswered (Some kept)
 answered own to now (Some kept) (Some frame) = session_answer own to now kept frame
 
+-- an answer without the time of its session
+abbrev pub untimed_answer : Answer → Answer
+untimed_answer given = record { session = untimed_session given.session; frames = given.frames }
+
 -- the answer of the session to a destination, if there is one
 abbrev pub answer_of : Sending → ℕ → ℕ → Option TpFrame → Answer
 answer_of sender to now frame = answered sender.own to now (finite.get sender.sessions to) frame
@@ -103,10 +108,24 @@ pub record Starts (old new : Sending) (now to : ℕ) (message : Message) (frame 
   pub new_is : new ≡ record { own = old.own; sessions = finite.insert old.sessions to (record { last = now; session = message }) }
   pub frame_is : frame ≡ rts_frame old.own to (length message.bytes) message.pgn
 
+-- the abort of a session to a destination that is overdue
+abbrev pub timeout_frame : ℕ → ℕ → Message → Frame
+timeout_frame own to message = reply_frame own to (Abort Timeout message.pgn)
+
 -- the session of the least destination that is overdue was taken out, and its abort is the frame
 pub record TimesOut (old new : Sending) (now : ℕ) (frame : Frame) : Type 0 where
   pub own : new.own ≡ old.own
   pub to : ℕ
   pub session : Message
   pub expired : Expires old.sessions new.sessions now to session
-  pub abort : frame ≡ reply_frame old.own to (Abort Timeout session.pgn)
+  pub abort : frame ≡ timeout_frame old.own to session
+
+-- Apart from the time that a session has afterwards, an answer depends on no time.
+abbrev pub AnswersAreTimeless : Type 0
+AnswersAreTimeless = (own to now : ℕ) (kept : Option (Timed Message)) (frame : Option TpFrame)
+    → untimed_answer (answered own to now kept frame) ≡ untimed_answer (answered own to 0 (untimed_session kept) frame)
+
+-- A frame of neither of the protocol's groups says nothing to a sender.
+abbrev pub ForeignFramesAreUnanswered : Type 0
+ForeignFramesAreUnanswered = (sender : Sending) (now : ℕ) (frame : Frame) → IsOfAnotherGroup 0xEC00 0xEB00 frame
+    → answer sender now frame ≡ unanswered (finite.get sender.sessions (source_of frame))

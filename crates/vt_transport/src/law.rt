@@ -1,7 +1,8 @@
 //! What the definitions of the receiver come to.
 
 ghost use Rattle.vt_transport.specs.BothEnds.{SentIsReceived};
-ghost use Rattle.vt_transport.specs.Protocol.{StepsAssembleMessages, MessagesDependOnOwnFrames, RunsHandOutMessages, SessionsAreOfHistories, RunsHandOutWholeMessages};
+ghost use Rattle.vt_transport.specs.Protocol.{StepsAssembleMessages, MessagesDependOnOwnFrames, RunsHandOutMessages, SessionsAreOfHistories, RunsHandOutWholeMessages, IsTimeless, ForeignFramesAreIgnored};
+ghost use Rattle.vt_transport.specs.Senders.{AnswersAreTimeless, ForeignFramesAreUnanswered};
 
 /// The law that the steps of a receiver on the session of a source hand out its messages, with the
 /// replies to its frames, as the whole history of the source defines them.
@@ -33,4 +34,23 @@ pub fn runs_hand_out_messages()
 pub fn runs_hand_out_whole_messages()
     ensures sessions { SessionsAreOfHistories }
     ensures messages { RunsHandOutWholeMessages }
+{}
+
+/// The law that what a frame does to a session of the receiver, and what it gives, depends on neither the
+/// time of the frame nor that of the session, apart from the time that the session has then.
+pub fn steps_are_timeless()
+    ensures { IsTimeless }
+{}
+
+/// The law that what a frame does to a session of the sender, and the frames that it sends, depend on
+/// neither the time of the frame nor that of the session, apart from the time that the session has then.
+pub fn answers_are_timeless()
+    ensures { AnswersAreTimeless }
+{}
+
+/// The law that a frame of another parameter group than the protocol's two says nothing to a receiver or
+/// a sender.
+pub fn foreign_frames_say_nothing()
+    ensures receiver { ForeignFramesAreIgnored }
+    ensures sender { ForeignFramesAreUnanswered }
 {}

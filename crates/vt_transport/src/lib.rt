@@ -12,8 +12,9 @@ mod session;
 mod wire;
 
 pub use law::{
-    messages_depend_on_own_frames, runs_hand_out_messages, runs_hand_out_whole_messages,
-    sent_is_received, steps_assemble_messages,
+    answers_are_timeless, foreign_frames_say_nothing, messages_depend_on_own_frames,
+    runs_hand_out_messages, runs_hand_out_whole_messages, sent_is_received, steps_are_timeless,
+    steps_assemble_messages,
 };
 pub use receiver::Receiver;
 pub use sender::{SendFault, Sender};

@@ -2,7 +2,7 @@
 
 ghost use Rattle.std.specs.Prelude.{◌≡◌, ◌↔◌, ℕ, ◌%◌, ◌^◌, false, Some, None, Err, [], ◌∷◌, IsSome, IfOk, OnErr, IfSome, IfNone};
 ghost use Rattle.std.specs.FinMap as finite;
-ghost use Rattle.vt_can.specs.Sessions.{is_overdue};
+ghost use Rattle.vt_can.specs.Sessions.{is_overdue, AreOfAddresses};
 ghost use Rattle.vt_can.specs.Nodes.{source_of};
 ghost use Rattle.vt_transport.specs.Wire.{rts_frame};
 ghost use Rattle.vt_transport.specs.declared.messages.TpFrame.TheVariants as declared;
@@ -21,13 +21,13 @@ use vt_can::{Frame, Reason, Sessions, Timed};
 #[derive(Clone, Copy, Debug, PartialEq, Eq, Error)]
 pub enum SendFault {
     /// A message to that destination is being sent.
-    #[error("fault 1 Busy")]
+    #[error("a message to that destination is still being sent")]
     Busy,
     /// A message has 9 to 1785 bytes.
-    #[error("fault 2 Size")]
+    #[error("a message has 9 to 1785 bytes")]
     Size,
     /// The memory for the message was refused.
-    #[error("fault 3 OutOfMemory")]
+    #[error("the memory for the message was refused")]
     OutOfMemory,
 }
 
@@ -66,8 +66,11 @@ impl Sender {
     }
 
     /// Starts to send a message of 9 to 1785 bytes, and answers its request to send. Of the parameter
-    /// group number the low 24 bits count. The faults are tested in the order of their numbers, and
-    /// after one the sender is as it was. docs/PROFILE.md, "The TP sender".
+    /// group number the low 24 bits count. The faults are tested in the order of the enum, and after one
+    /// the sender is as it was. docs/PROFILE.md, "The TP sender".
+    ///
+    /// The group may be any. The sender knows one thing of a virtual terminal: an abort with PGN 00E600
+    /// ends the session to its source, whatever the group of that session, and no other abort does.
     pub fn start(&mut self, now: u64, to: u8, pgn: u32, message: &[u8]) -> Result<Frame, SendFault>
         ensures ok { IfOk result
             (λ frame. Starts self.old self.new now to (record { pgn = pgn % 2 ^ 24; bytes = message.now }) frame) }
@@ -115,6 +118,7 @@ impl Sender {
         ensures none { IfNone result (self.new ≡ self.old) }
         ensures all { IfNone result
             ((to : ℕ) → is_overdue now (finite.get self.old.sessions to) ≡ false) }
+        ensures addresses { AreOfAddresses self.old.sessions }
     {
         let (to, session) = self.sessions.expire(now)?;
         let abort = Reply::Abort {

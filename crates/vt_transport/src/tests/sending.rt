@@ -63,6 +63,25 @@ fn starts_and_their_faults(rt: HostRuntime) -> Result<(), Fail> {
 }
 
 #[test]
+fn printed_faults(rt: HostRuntime) -> Result<(), Fail> {
+    for (fault, wanted) in [
+        (
+            SendFault::Busy,
+            "a message to that destination is still being sent",
+        ),
+        (SendFault::Size, "a message has 9 to 1785 bytes"),
+        (
+            SendFault::OutOfMemory,
+            "the memory for the message was refused",
+        ),
+    ] {
+        let text = format!(in rt.alloc(); "{}", fault)?;
+        assert_eq!(rt; text.as_str(), wanted);
+    }
+    Ok(())
+}
+
+#[test]
 fn a_message_in_two_packets(rt: HostRuntime) -> Result<(), Fail> {
     let mut sender = Sender::new(rt.alloc(), NODE);
     let started = starts(&mut sender, 0x80, TWELVE, b"1CEC8026#100C0002FF00E600")?;
