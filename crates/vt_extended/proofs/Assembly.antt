@@ -1,13 +1,13 @@
 -- The steps on the session of a source assemble the messages that were sent.
 use Rattle.std.proofs.Common.{◌≡◌, ℕ, ◌+◌, ◌<◌, Bool, true, false, ◌&&◌, cond, eqb, ltb, List, [], ◌∷◌, ◌++◌, length, take, Option, Some, None, ap, ap₂, sym, subst, ◌∙◌, refl, arith, eq-eqb, eqb-true}
 use Rattle.std.proofs.lemmas.Bool.{false≢true}
-use Rattle.vt_can.specs.declared.sessions.Timed.{Timed}
-use Rattle.vt_can.specs.declared.wire.Reason.TheVariants.{Disorder}
-use Rattle.vt_can.specs.Messages.{Message}
-use Rattle.vt_can.specs.Histories.{Came, TimedOut, Sent, untimed}
-use Rattle.vt_can.specs.Steps.{happens, session_after}
-use Rattle.vt_can.proofs.Booleans.{both_of}
-use Rattle.vt_can.proofs.Standing.{last_of}
+use Rattle.vt_can.specs.declared.transport.sessions.Timed.{Timed}
+use Rattle.vt_can.specs.declared.transport.wire.Reason.TheVariants.{Disorder}
+use Rattle.vt_can.specs.transport.Messages.{Message}
+use Rattle.vt_can.specs.transport.Histories.{Came, TimedOut, Sent, untimed}
+use Rattle.vt_can.specs.transport.Steps.{happens, session_after}
+use Rattle.vt_can.proofs.lemmas.transport.Booleans.{both_of}
+use Rattle.vt_can.proofs.lemmas.transport.Standing.{last_of}
 use Rattle.vt_extended.specs.declared.messages.Opening.{Opening}
 use Rattle.vt_extended.specs.declared.messages.Part.{Part}
 use Rattle.vt_extended.specs.declared.messages.Part.TheVariants.{Offset, Packet}

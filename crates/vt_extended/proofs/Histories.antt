@@ -1,7 +1,7 @@
 -- Histories of a source, the latest happening first: what one more happening makes of them.
 use Rattle.std.proofs.Common.{◌≡◌, ℕ, ◌+◌, ◌≤◌, ◌<◌, true, List, [], ◌∷◌, ◌++◌, length, ap, subst, ◌∙◌, refl, arith}
-use Rattle.vt_can.specs.Histories.{Came, AreQuiet, Sent}
-use Rattle.vt_can.proofs.Standing.{sent_more, Last, AtRequest, Later}
+use Rattle.vt_can.specs.transport.Histories.{Came, AreQuiet, Sent}
+use Rattle.vt_can.proofs.lemmas.transport.Standing.{sent_more, Last, AtRequest, Later}
 use Rattle.vt_extended.specs.declared.messages.Opening.{Opening}
 use Rattle.vt_extended.specs.declared.messages.Part.{Part}
 use Rattle.vt_extended.specs.declared.messages.Part.TheVariants.{Offset, Packet}

@@ -1,13 +1,13 @@
 -- The session that the steps keep of a source is the one that stands.
 use Rattle.std.proofs.Common.{◌≡◌, ℕ, ◌+◌, ◌≤◌, ◌<◌, Bool, true, false, ◌&&◌, cond, eqb, leb, ltb, List, [], ◌∷◌, length, Option, Some, None, ap, sym, subst, ◌∙◌, refl, arith, eq-eqb, eqb-true}
 use Rattle.std.proofs.lemmas.Bool.{leb-true, ltb-true, false≢true}
-use Rattle.vt_can.specs.declared.sessions.Timed.{Timed}
-use Rattle.vt_can.specs.Histories.{Came, TimedOut, untimed}
-use Rattle.vt_can.specs.Steps as steps
-use Rattle.vt_can.specs.Steps.{happens, session_after}
-use Rattle.vt_can.proofs.Joining.{take_none}
-use Rattle.vt_can.proofs.Booleans.{both_of, all_of}
-use Rattle.vt_can.proofs.Standing.{last_of, matches_none, matches_quiet, matches_end, matches_request}
+use Rattle.vt_can.specs.declared.transport.sessions.Timed.{Timed}
+use Rattle.vt_can.specs.transport.Histories.{Came, TimedOut, untimed}
+use Rattle.vt_can.specs.transport.Steps as steps
+use Rattle.vt_can.specs.transport.Steps.{happens, session_after}
+use Rattle.vt_can.proofs.lemmas.transport.Joining.{take_none}
+use Rattle.vt_can.proofs.lemmas.transport.Booleans.{both_of, all_of}
+use Rattle.vt_can.proofs.lemmas.transport.Standing.{last_of, matches_none, matches_quiet, matches_end, matches_request}
 use Rattle.vt_extended.specs.declared.messages.Opening.{Opening}
 use Rattle.vt_extended.specs.declared.messages.Part.{Part}
 use Rattle.vt_extended.specs.declared.messages.Part.TheVariants.{Offset, Packet}

@@ -1,7 +1,7 @@
 -- What an RTS that opens a session says.
 use Rattle.std.proofs.Common.{◌≡◌, ◌≤◌, ◌<◌, true, leb, arith}
 use Rattle.std.proofs.lemmas.Bool.{leb-true}
-use Rattle.vt_can.proofs.Booleans.{both_of}
+use Rattle.vt_can.proofs.lemmas.transport.Booleans.{both_of}
 use Rattle.vt_extended.specs.declared.messages.Opening.{Opening}
 use Rattle.vt_extended.specs.Messages.{opens, packets_of}
 

@@ -2,11 +2,11 @@
 use Rattle.std.proofs.Common.{◌≡◌, ℕ, ◌+◌, ◌≤◌, ◌<◌, max, Bool, true, false, ◌&&◌, cond, eqb, leb, ltb, List, [], ◌∷◌, ◌++◌, length, take, Option, Some, None, ap, ap₂, sym, ◌∙◌, refl, arith, eq-eqb, eqb-true, ne_eqb, lt-ltb}
 use Rattle.std.proofs.lemmas.Bool.{le-leb, false≢true}
 use Rattle.std.proofs.lemmas.List.{append_assoc, append-nil}
-use Rattle.vt_can.specs.declared.sessions.Timed.{Timed}
-use Rattle.vt_can.specs.declared.wire.Reason.TheVariants.{Disorder}
-use Rattle.vt_can.specs.Messages.{joined}
-use Rattle.vt_can.specs.Protocols.{silent, ended}
-use Rattle.vt_can.proofs.Joining.{take_again}
+use Rattle.vt_can.specs.declared.transport.sessions.Timed.{Timed}
+use Rattle.vt_can.specs.declared.transport.wire.Reason.TheVariants.{Disorder}
+use Rattle.vt_can.specs.transport.Messages.{joined}
+use Rattle.vt_can.specs.transport.Protocols.{silent, ended}
+use Rattle.vt_can.proofs.lemmas.transport.Joining.{take_again}
 use Rattle.vt_extended.specs.declared.messages.Opening.{Opening}
 use Rattle.vt_extended.specs.declared.messages.Reply.{Reply}
 use Rattle.vt_extended.specs.declared.messages.Reply.TheVariants.{Abort}

@@ -1,10 +1,10 @@
 -- Steps without times, and frames of other groups.
 use Rattle.std.proofs.Common.{◌+◌, eqb, Option, Some, None, refl, ap}
 use Rattle.std.specs.FinMap as finite
-use Rattle.vt_can.specs.declared.sessions.Timed.{Timed}
-use Rattle.vt_can.specs.Nodes.{source_of}
-use Rattle.vt_can.specs.Steps.{stepped}
-use Rattle.vt_can.proofs.Timeless as can
+use Rattle.vt_can.specs.declared.transport.sessions.Timed.{Timed}
+use Rattle.vt_can.specs.frames.Frame.{source_of}
+use Rattle.vt_can.specs.transport.Steps.{stepped}
+use Rattle.vt_can.proofs.lemmas.transport.Timeless as can
 use Rattle.vt_extended.specs.declared.messages.EtpFrame.TheVariants as etp
 use Rattle.vt_extended.specs.declared.messages.Part.TheVariants.{Offset, Packet}
 use Rattle.vt_extended.specs.Messages.{opens, first_reply, packets_of}

@@ -1,11 +1,11 @@
 -- The messages of one source, over the whole list of what came from it (ISO 11783-3;
 -- docs/PROFILE.md, "The ETP receiver"). Every list of happenings, groups and packets has the latest first.
 use Rattle.std.specs.Prelude.{◌≡◌, ◌≤◌, ℕ, ◌+◌, ◌-◌, ◌/◌, Bool, nat_le, nat_lt, ◌==◌, ◌&&◌, if◌then◌else◌, min, Option, Some, None, List, [], ◌∷◌, ◌++◌, length}
-use Rattle.vt_can.specs.declared.wire.Reason.{Reason}
-use Rattle.vt_can.specs.declared.wire.Reason.TheVariants.{TooLarge, Disorder}
-use Rattle.vt_can.specs.Messages.{Message, joined}
-use Rattle.vt_can.specs.Histories as histories
-use Rattle.vt_can.specs.Histories.{Spelling, Came, TimedOut}
+use Rattle.vt_can.specs.declared.transport.wire.Reason.{Reason}
+use Rattle.vt_can.specs.declared.transport.wire.Reason.TheVariants.{TooLarge, Disorder}
+use Rattle.vt_can.specs.transport.Messages.{Message, joined}
+use Rattle.vt_can.specs.transport.Histories as histories
+use Rattle.vt_can.specs.transport.Histories.{Spelling, Came, TimedOut}
 use Rattle.vt_extended.specs.declared.messages.Opening.{Opening}
 use Rattle.vt_extended.specs.declared.messages.Part.{Part}
 use Rattle.vt_extended.specs.declared.messages.Part.TheVariants.{Offset, Packet}

@@ -1,16 +1,16 @@
 -- The extended transport protocol, as the definitions of receivers, runs and histories take it, and its laws.
 use Rattle.std.specs.Prelude.{◌≡◌, ℕ, Bool, false}
 use Rattle.std.specs.FinMap as finite
-use Rattle.vt_can.specs.declared.wire.Reason.TheVariants.{Timeout}
-use Rattle.vt_can.specs.declared.frame.Frame.{Frame}
-use Rattle.vt_can.specs.Nodes.{source_of}
-use Rattle.vt_can.specs.Wire.{IsOfAnotherGroup}
-use Rattle.vt_can.specs.Protocols as protocols
-use Rattle.vt_can.specs.Protocols.{Protocol, silent}
-use Rattle.vt_can.specs.Receivers.{Listening, outcome}
-use Rattle.vt_can.specs.Steps as steps
-use Rattle.vt_can.specs.Bus as bus
-use Rattle.vt_can.specs.Marks as marks
+use Rattle.vt_can.specs.declared.transport.wire.Reason.TheVariants.{Timeout}
+use Rattle.vt_can.specs.declared.frames.frame.Frame.{Frame}
+use Rattle.vt_can.specs.frames.Frame.{source_of}
+use Rattle.vt_can.specs.transport.Wire.{IsOfAnotherGroup}
+use Rattle.vt_can.specs.transport.Protocols as protocols
+use Rattle.vt_can.specs.transport.Protocols.{Protocol, silent}
+use Rattle.vt_can.specs.transport.Receivers.{Listening, outcome}
+use Rattle.vt_can.specs.transport.Steps as steps
+use Rattle.vt_can.specs.transport.Bus as bus
+use Rattle.vt_can.specs.transport.Marks as marks
 use Rattle.vt_extended.specs.declared.messages.EtpFrame.{EtpFrame}
 use Rattle.vt_extended.specs.declared.messages.EtpFrame.TheVariants.{Rts}
 use Rattle.vt_extended.specs.declared.messages.Reply.{Reply}

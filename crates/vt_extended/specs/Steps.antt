@@ -1,9 +1,9 @@
 -- One step of a receiver on the session of one source.
 use Rattle.std.specs.Prelude.{◌≡◌, ℕ, ◌+◌, Bool, nat_le, nat_lt, ◌==◌, ◌&&◌, if◌then◌else◌, max, Option, Some, None, List, [], ◌∷◌, ◌++◌, length, take}
-use Rattle.vt_can.specs.declared.sessions.Timed.{Timed}
-use Rattle.vt_can.specs.declared.wire.Reason.TheVariants.{Disorder}
-use Rattle.vt_can.specs.Protocols as protocols
-use Rattle.vt_can.specs.Protocols.{silent, ended}
+use Rattle.vt_can.specs.declared.transport.sessions.Timed.{Timed}
+use Rattle.vt_can.specs.declared.transport.wire.Reason.TheVariants.{Disorder}
+use Rattle.vt_can.specs.transport.Protocols as protocols
+use Rattle.vt_can.specs.transport.Protocols.{silent, ended}
 use Rattle.vt_extended.specs.declared.messages.Opening.{Opening}
 use Rattle.vt_extended.specs.declared.messages.Part.{Part}
 use Rattle.vt_extended.specs.declared.messages.Part.TheVariants.{Offset, Packet}

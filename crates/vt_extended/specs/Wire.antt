@@ -1,10 +1,10 @@
 -- The bytes of the extended transport protocol's frames (docs/PROFILE.md, "Transport messages").
 use Rattle.std.specs.Prelude.{ℕ, ◌==◌, if◌then◌else◌, Option, List, ◌∷◌, ◌++◌, drop, slice_index}
 use Rattle.byteorder.specs.Endian.{little_number, little_bytes}
-use Rattle.vt_can.specs.declared.frame.Frame.{Frame}
-use Rattle.vt_can.specs.Nodes.{frame_of}
-use Rattle.vt_can.specs.Wire as wire
-use Rattle.vt_can.specs.Wire.{abort_bytes}
+use Rattle.vt_can.specs.declared.frames.frame.Frame.{Frame}
+use Rattle.vt_can.specs.frames.Frame.{frame_of}
+use Rattle.vt_can.specs.transport.Wire as wire
+use Rattle.vt_can.specs.transport.Wire.{abort_bytes}
 use Rattle.vt_extended.specs.declared.messages.Part.TheVariants.{Offset, Packet}
 use Rattle.vt_extended.specs.declared.messages.EtpFrame.{EtpFrame}
 use Rattle.vt_extended.specs.declared.messages.EtpFrame.TheVariants.{Rts, Part, Aborted, Other}

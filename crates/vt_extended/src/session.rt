@@ -1,9 +1,9 @@
 //! A message as it comes in.
 
 ghost use Rattle.std.specs.Prelude.{◌≡◌, ◌≤◌, ℕ, max, true, Some, length, List, vec_len, vec_capacity};
-ghost use Rattle.vt_can.specs.declared.wire.Reason.TheVariants.{Disorder};
-ghost use Rattle.vt_can.specs.Messages.{told_of};
-ghost use Rattle.vt_can.specs.Protocols.{outcome_of};
+ghost use Rattle.vt_can.specs.declared.transport.wire.Reason.TheVariants.{Disorder};
+ghost use Rattle.vt_can.specs.transport.Messages.{told_of};
+ghost use Rattle.vt_can.specs.transport.Protocols.{outcome_of};
 ghost use Rattle.vt_extended.specs.Messages.{opens};
 ghost use Rattle.vt_extended.specs.Steps.{fresh, is_open, is_next, after_part, after_offset, after_packet};
 ghost use Rattle.vt_extended.specs.declared.messages.Reply.TheVariants as replies;
@@ -27,7 +27,7 @@ pub(crate) struct Session {
 
 impl Model for Session {
     ghost use Rattle.std.specs.Prelude.{vec_len, vec_capacity};
-    ghost use Rattle.vt_can.specs.Histories.{IsReceiving};
+    ghost use Rattle.vt_can.specs.transport.Histories.{IsReceiving};
     ghost use Rattle.vt_extended.specs.Messages.{spelling};
     ghost use Rattle.vt_extended.specs.Kept.{Kept, kept_code};
 

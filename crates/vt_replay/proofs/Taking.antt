@@ -6,8 +6,8 @@ use Rattle.std.proofs.lemmas.List.{append-nil}
 use Rattle.std.specs.List.{AllZip, AllByRecursion, onto_first}
 use Rattle.std.specs.Io.KnownBytes.{Appends}
 use Rattle.std.proofs.KnownBytes.{Appends-trans, Appends-nil}
-use Rattle.vt_can.specs.Line.{Reads}
-use Rattle.vt_can.specs.Readings.{FrameAt, Does, IsSkipped, Comments}
+use Rattle.vt_can.specs.lines.Line.{Reads}
+use Rattle.vt_can.specs.lines.Readings.{FrameAt, Does, IsSkipped, Comments}
 use Rattle.vt_replay.specs.declared.counts.Counts.{Counts}
 use Rattle.vt_replay.specs.Lines.{lines_of}
 use Rattle.vt_replay.specs.Texts.{Reading, after_line, line_text, with_line, after_lines, lines_text, with_lines}

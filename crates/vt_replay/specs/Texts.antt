@@ -2,10 +2,10 @@
 use Rattle.std.specs.Prelude.{ℕ, ◌+◌, List, [], ◌∷◌, ◌++◌, codes, Result, Ok, Err}
 use Rattle.std.specs.List.{flat_map}
 use Rattle.std.specs.Fmt.{decimal}
-use Rattle.vt_can.specs.declared.line.LineFault.{LineFault}
-use Rattle.vt_can.specs.declared.line.LineFault.TheVariants.{Time, Shape, Hex, Length, Operator}
-use Rattle.vt_can.specs.Frame.{frame_text}
-use Rattle.vt_can.specs.Readings.{Said, FrameAt, Does, IsSkipped, Comments}
+use Rattle.vt_can.specs.declared.lines.line.LineFault.{LineFault}
+use Rattle.vt_can.specs.declared.lines.line.LineFault.TheVariants.{Time, Shape, Hex, Length, Operator}
+use Rattle.vt_can.specs.lines.Writing.{frame_text}
+use Rattle.vt_can.specs.lines.Readings.{Said, FrameAt, Does, IsSkipped, Comments}
 use Rattle.vt_replay.specs.declared.counts.Counts.{Counts}
 use Rattle.vt_server.specs.declared.input.Input.TheVariants as inputs
 use Rattle.vt_server.specs.declared.output.Output.{Output}

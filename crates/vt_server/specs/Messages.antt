@@ -1,8 +1,8 @@
 -- Messages from the terminal (docs/PROFILE.md, "Other messages", "Messages of address claim").
 use Rattle.std.specs.Prelude.{ℕ, ◌==◌, nat_le, if◌then◌else◌, List, [], ◌∷◌, length, drop, Option, Some, None}
 use Rattle.byteorder.specs.Endian.{little_number, little_bytes}
-use Rattle.vt_can.specs.declared.frame.Frame.{Frame}
-use Rattle.vt_can.specs.Identifier.{addressed, raw_of}
+use Rattle.vt_can.specs.declared.frames.frame.Frame.{Frame}
+use Rattle.vt_can.specs.frames.Identifier.{addressed, raw_of}
 
 -- a message from the terminal to the master of a set
 abbrev pub message_to : ℕ → ℕ → List ℕ → Frame

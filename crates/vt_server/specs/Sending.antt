@@ -1,7 +1,7 @@
 -- Where the frames of a step go (docs/PROFILE.md, "The outputs of one input").
 use Rattle.std.specs.Prelude.{◌≡◌, ◌<◌, ◌≤◌, ◌^◌, ℕ, List, [], ◌∷◌, length, Option, Some, None}
-use Rattle.vt_can.specs.declared.frame.Frame.{Frame}
-use Rattle.vt_can.specs.Identifier.{parts_of, pgn_of, destination_of, addressed}
+use Rattle.vt_can.specs.declared.frames.frame.Frame.{Frame}
+use Rattle.vt_can.specs.frames.Identifier.{parts_of, pgn_of, destination_of, addressed}
 use Rattle.vt_server.specs.Terminals.{State, Sent}
 use Rattle.vt_server.specs.States.{step}
 use Rattle.vt_server.specs.declared.input.Input.{Input}

@@ -1,12 +1,12 @@
 -- The messages and the replies of the steps, where the session is the one that stands.
 use Rattle.std.proofs.Common.{◌≡◌, ℕ, suc, ◌+◌, Bool, true, false, cond, eqb, List, ◌∷◌, ◌++◌, length, take, Option, Some, None, ap, ap₂, sym, subst, ◌∙◌, refl, arith, eq-eqb, eqb-true}
 use Rattle.std.proofs.lemmas.Bool.{false≢true}
-use Rattle.vt_can.specs.declared.sessions.Timed.{Timed}
-use Rattle.vt_can.specs.declared.wire.Reason.TheVariants.{Disorder}
-use Rattle.vt_can.specs.Messages.{Message, joined}
-use Rattle.vt_can.specs.Histories.{Came, TimedOut, Sent, untimed}
-use Rattle.vt_can.specs.Steps.{happens, session_after}
-use Rattle.vt_can.proofs.Standing.{last_of}
+use Rattle.vt_can.specs.declared.transport.sessions.Timed.{Timed}
+use Rattle.vt_can.specs.declared.transport.wire.Reason.TheVariants.{Disorder}
+use Rattle.vt_can.specs.transport.Messages.{Message, joined}
+use Rattle.vt_can.specs.transport.Histories.{Came, TimedOut, Sent, untimed}
+use Rattle.vt_can.specs.transport.Steps.{happens, session_after}
+use Rattle.vt_can.proofs.lemmas.transport.Standing.{last_of}
 use Rattle.vt_transport.specs.declared.messages.Opening.{Opening}
 use Rattle.vt_transport.specs.declared.messages.TpFrame.TheVariants.{Rts, Cts, EndOfMessage, Aborted, Data, Other}
 use Rattle.vt_transport.specs.declared.messages.Reply.TheVariants.{Abort}

@@ -1,18 +1,18 @@
 -- A call of the sender that puts a session or takes one out gives an answer.
 use Rattle.std.proofs.Common.{◌≡◌, ℕ, ◌<◌, ◌≤◌, ◌+◌, ◌-◌, min, true, false, eqb, List, [], ◌∷◌, map, Option, Some, None, ap, sym, subst, ◌∙◌, refl, arith, eq-eqb, ne_eqb, lt-ltb, le-ltb, ltb}
 use Rattle.std.specs.FinMap as finite
-use Rattle.vt_can.specs.declared.frame.Frame.{Frame}
-use Rattle.vt_can.specs.declared.sessions.Timed.{Timed}
-use Rattle.vt_can.specs.Sessions.{ByAddress}
-use Rattle.vt_can.specs.Messages.{Message}
+use Rattle.vt_can.specs.declared.frames.frame.Frame.{Frame}
+use Rattle.vt_can.specs.declared.transport.sessions.Timed.{Timed}
+use Rattle.vt_can.specs.transport.Sessions.{ByAddress}
+use Rattle.vt_can.specs.transport.Messages.{Message}
 use Rattle.vt_transport.specs.Messages.{sending_group}
 use Rattle.vt_transport.specs.declared.messages.TpFrame.{TpFrame}
 use Rattle.vt_transport.specs.declared.messages.TpFrame.TheVariants.{Cts, EndOfMessage, Aborted}
-use Rattle.vt_can.specs.declared.wire.Reason.TheVariants.{Disorder}
+use Rattle.vt_can.specs.declared.transport.wire.Reason.TheVariants.{Disorder}
 use Rattle.vt_transport.specs.declared.messages.Reply.TheVariants.{Abort}
 use Rattle.vt_transport.specs.Wire.{reply_frame, packet_frame}
 use Rattle.vt_transport.specs.Senders.{Sending, Answer, Answers, answer_of, answered, session_answer, unanswered, refreshed, packets_of, numbers_from, is_of_group}
-use Rattle.vt_can.proofs.ByAddress.{get-put, get-left, left_others, put_again_others}
+use Rattle.vt_can.proofs.lemmas.transport.ByAddress.{get-put, get-left, left_others, put_again_others}
 
 pub left_answers : (old new : Sending) (to : ℕ) (m : ByAddress Message) (given : Answer) (frames : List Frame) → old.sessions ≡ m → new.own ≡ old.own
     → new.sessions ≡ finite.remove m to → given.session ≡ None → frames ≡ given.frames → Answers old new to given frames

@@ -1,15 +1,15 @@
 -- The steps on the session of a source assemble the messages that were sent.
 use Rattle.std.proofs.Common.{◌≡◌, ℕ, suc, ◌+◌, ◌<◌, max, Bool, true, false, cond, eqb, List, [], ◌∷◌, ◌++◌, length, take, Option, Some, None, ap, ap₂, sym, subst, ◌∙◌, refl, arith, eq-eqb, eqb-true, ne_eqb}
 use Rattle.std.proofs.lemmas.Bool.{false≢true}
-use Rattle.vt_can.specs.declared.sessions.Timed.{Timed}
-use Rattle.vt_can.specs.declared.wire.Reason.TheVariants.{Disorder}
-use Rattle.vt_can.specs.Messages.{joined}
-use Rattle.vt_can.specs.Histories.{Came, TimedOut, Sent, AreQuiet, untimed}
-use Rattle.vt_can.specs.Protocols.{ended}
-use Rattle.vt_can.specs.Steps as steps
-use Rattle.vt_can.specs.Steps.{happens, session_after}
-use Rattle.vt_can.proofs.Joining.{take_again, take_none}
-use Rattle.vt_can.proofs.Standing.{sent_more, Last, AtRequest, Later, last_of, matches_none, matches_quiet, matches_end, matches_request}
+use Rattle.vt_can.specs.declared.transport.sessions.Timed.{Timed}
+use Rattle.vt_can.specs.declared.transport.wire.Reason.TheVariants.{Disorder}
+use Rattle.vt_can.specs.transport.Messages.{joined}
+use Rattle.vt_can.specs.transport.Histories.{Came, TimedOut, Sent, AreQuiet, untimed}
+use Rattle.vt_can.specs.transport.Protocols.{ended}
+use Rattle.vt_can.specs.transport.Steps as steps
+use Rattle.vt_can.specs.transport.Steps.{happens, session_after}
+use Rattle.vt_can.proofs.lemmas.transport.Joining.{take_again, take_none}
+use Rattle.vt_can.proofs.lemmas.transport.Standing.{sent_more, Last, AtRequest, Later, last_of, matches_none, matches_quiet, matches_end, matches_request}
 use Rattle.vt_transport.specs.declared.messages.Opening.{Opening}
 use Rattle.vt_transport.specs.declared.messages.TpFrame.TheVariants.{Rts, Cts, EndOfMessage, Aborted, Data, Other}
 use Rattle.vt_transport.specs.declared.messages.Reply.TheVariants.{Abort}

@@ -3,17 +3,17 @@ use Rattle.std.proofs.Common.{◌≡◌, ℕ, zero, suc, ◌+◌, ◌-◌, ◌*�
 use Rattle.std.proofs.lemmas.List.{take-take, take_all, take-append-le, drop-append-le, length-take, length-append}
 use Rattle.std.proofs.lemmas.Bool.{leb-true}
 use Rattle.std.proofs.Math.Seq.{take-add}
-use Rattle.vt_can.specs.Messages.{Message, joined}
-use Rattle.vt_can.specs.Histories.{Came, AreQuiet}
-use Rattle.vt_can.specs.Wire.{by_group}
+use Rattle.vt_can.specs.transport.Messages.{Message, joined}
+use Rattle.vt_can.specs.transport.Histories.{Came, AreQuiet}
+use Rattle.vt_can.specs.transport.Wire.{by_group}
 use Rattle.vt_transport.specs.declared.messages.TpFrame.{TpFrame}
 use Rattle.vt_transport.specs.declared.messages.TpFrame.TheVariants.{Rts, Data}
 use Rattle.vt_transport.specs.Messages.{Happening, packets_in, numbered, spelling, IsWhole, opens}
 use Rattle.byteorder.specs.Endian.{little_bytes}
 use Rattle.byteorder.specs.Numbers.{little_number-reads_back}
-use Rattle.vt_can.specs.Identifier.{Parts, parts_of, raw_of, pgn_of, destination_of, addressed, HasDestination}
-use Rattle.vt_can.specs.Nodes.{is_to, frame_of}
-use Rattle.vt_can.proofs.Sums.{joined-raw, joined-parts}
+use Rattle.vt_can.specs.frames.Identifier.{Parts, parts_of, raw_of, pgn_of, destination_of, addressed, HasDestination}
+use Rattle.vt_can.specs.frames.Frame.{is_to, frame_of}
+use Rattle.vt_can.proofs.lemmas.frames.Sums.{joined-raw, joined-parts}
 use Rattle.vt_transport.specs.Wire.{tp_frame, connection_management, rts_frame, packet_bytes, packet_frame}
 use Rattle.vt_transport.specs.Senders.{packets_of, has_size}
 use Rattle.vt_transport.specs.BothEnds.{opening_of, packet_of, begun, SentIsReceived}

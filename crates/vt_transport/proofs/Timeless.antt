@@ -1,12 +1,12 @@
 -- Steps and answers without times, and frames of other groups.
 use Rattle.std.proofs.Common.{◌≡◌, ℕ, Bool, true, false, ◌||◌, cond, eqb, ltb, ◌+◌, [], Option, Some, None, refl, ap, ◌∙◌}
 use Rattle.std.specs.FinMap as finite
-use Rattle.vt_can.specs.declared.sessions.Timed.{Timed}
-use Rattle.vt_can.specs.Messages.{Message}
-use Rattle.vt_can.specs.Nodes.{source_of}
-use Rattle.vt_can.specs.Sessions.{untimed_session}
-use Rattle.vt_can.specs.Steps.{stepped}
-use Rattle.vt_can.proofs.Timeless as can
+use Rattle.vt_can.specs.declared.transport.sessions.Timed.{Timed}
+use Rattle.vt_can.specs.transport.Messages.{Message}
+use Rattle.vt_can.specs.frames.Frame.{source_of}
+use Rattle.vt_can.specs.transport.Sessions.{untimed_session}
+use Rattle.vt_can.specs.transport.Steps.{stepped}
+use Rattle.vt_can.proofs.lemmas.transport.Timeless as can
 use Rattle.vt_transport.specs.declared.messages.TpFrame.TheVariants.{Rts, Cts, EndOfMessage, Aborted, Data, Other}
 use Rattle.vt_transport.specs.Messages.{opens, first_reply, sending_group}
 use Rattle.vt_transport.specs.Wire.{connection_management}

@@ -1,9 +1,9 @@
 -- What the sender sends, as the receiver takes it. Every list of happenings has the latest first.
 use Rattle.std.specs.Prelude.{◌≡◌, ◌<◌, ℕ, zero, suc, ◌-◌, ◌^◌, true, Some, List, [], ◌∷◌, length}
-use Rattle.vt_can.specs.Messages.{Message}
+use Rattle.vt_can.specs.transport.Messages.{Message}
 use Rattle.vt_transport.specs.declared.messages.Opening.{Opening}
 use Rattle.vt_transport.specs.declared.messages.TpFrame.TheVariants.{Rts, Data}
-use Rattle.vt_can.specs.Histories.{Came}
+use Rattle.vt_can.specs.transport.Histories.{Came}
 use Rattle.vt_transport.specs.Messages.{Happening, IsWhole}
 use Rattle.vt_transport.specs.Wire.{tp_frame, rts_frame, packet_bytes, packet_frame}
 use Rattle.vt_transport.specs.Senders.{packets_of, has_size}

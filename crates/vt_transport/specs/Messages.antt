@@ -1,10 +1,10 @@
 -- The messages of one source, over the whole list of what came from it (ISO 11783-3;
 -- docs/PROFILE.md, "The TP receiver"). Every list of happenings and of packets has the latest first.
 use Rattle.std.specs.Prelude.{◌≡◌, ℕ, ◌+◌, ◌-◌, ◌/◌, ◌%◌, Bool, nat_le, ◌==◌, ◌&&◌, if◌then◌else◌, min, Option, Some, None, List, [], ◌∷◌, length}
-use Rattle.vt_can.specs.declared.wire.Reason.TheVariants.{Disorder}
-use Rattle.vt_can.specs.Messages.{Message, joined}
-use Rattle.vt_can.specs.Histories as histories
-use Rattle.vt_can.specs.Histories.{Spelling, Came, TimedOut}
+use Rattle.vt_can.specs.declared.transport.wire.Reason.TheVariants.{Disorder}
+use Rattle.vt_can.specs.transport.Messages.{Message, joined}
+use Rattle.vt_can.specs.transport.Histories as histories
+use Rattle.vt_can.specs.transport.Histories.{Spelling, Came, TimedOut}
 use Rattle.vt_transport.specs.declared.messages.Opening.{Opening}
 use Rattle.vt_transport.specs.declared.messages.TpFrame.{TpFrame}
 use Rattle.vt_transport.specs.declared.messages.TpFrame.TheVariants.{Rts, Aborted, Data}

@@ -2,15 +2,15 @@
 use Rattle.std.specs.Prelude.{◌≡◌, ℕ, zero, suc, max, true, false, ◌+◌, ◌-◌, ◌/◌, Bool, nat_lt, nat_le, ◌==◌, ◌&&◌, ◌||◌, if◌then◌else◌, min, Option, Some, None, List, [], ◌∷◌, length, map, refl}
 use Rattle.std.specs.Coded.{Coded, code_by, coded×, coded_ℕ, coded_list}
 use Rattle.std.specs.FinMap as finite
-use Rattle.vt_can.specs.declared.frame.Frame.{Frame}
-use Rattle.vt_can.specs.declared.sessions.Timed.{Timed}
-use Rattle.vt_can.specs.Sessions.{ByAddress, timed_code, untimed_session, Expires}
-use Rattle.vt_can.specs.Messages.{Message}
-use Rattle.vt_can.specs.Nodes.{source_of}
-use Rattle.vt_can.specs.Wire.{IsOfAnotherGroup}
+use Rattle.vt_can.specs.declared.frames.frame.Frame.{Frame}
+use Rattle.vt_can.specs.declared.transport.sessions.Timed.{Timed}
+use Rattle.vt_can.specs.transport.Sessions.{ByAddress, timed_code, untimed_session, Expires}
+use Rattle.vt_can.specs.transport.Messages.{Message}
+use Rattle.vt_can.specs.frames.Frame.{source_of}
+use Rattle.vt_can.specs.transport.Wire.{IsOfAnotherGroup}
 use Rattle.vt_transport.specs.declared.messages.TpFrame.{TpFrame}
 use Rattle.vt_transport.specs.declared.messages.TpFrame.TheVariants.{Cts, EndOfMessage, Aborted}
-use Rattle.vt_can.specs.declared.wire.Reason.TheVariants.{Timeout, Disorder}
+use Rattle.vt_can.specs.declared.transport.wire.Reason.TheVariants.{Timeout, Disorder}
 use Rattle.vt_transport.specs.declared.messages.Reply.TheVariants.{Abort}
 use Rattle.vt_transport.specs.Messages.{sending_group}
 use Rattle.vt_transport.specs.Wire.{tp_frame, reply_frame, rts_frame, packet_frame}

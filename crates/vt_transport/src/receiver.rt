@@ -2,10 +2,10 @@
 
 ghost use Rattle.std.specs.Prelude.{◌≡◌, ℕ, false, Some, None, List, length, IfOk, OnOk, OnErr, IsOk, IfSome, IfNone};
 ghost use Rattle.std.specs.FinMap as finite;
-ghost use Rattle.vt_can.specs.Sessions.{is_overdue, alive, AreOfAddresses};
-ghost use Rattle.vt_can.specs.Nodes.{source_of};
-ghost use Rattle.vt_can.specs.Messages.{told_of};
-ghost use Rattle.vt_can.specs.Receivers.{outcome, timely_outcome, Says, Takes, OthersStay, IsReadyFor, OpensNone, TimesOut};
+ghost use Rattle.vt_can.specs.transport.Sessions.{is_overdue, alive, AreOfAddresses};
+ghost use Rattle.vt_can.specs.frames.Frame.{source_of};
+ghost use Rattle.vt_can.specs.transport.Messages.{told_of};
+ghost use Rattle.vt_can.specs.transport.Receivers.{outcome, timely_outcome, Says, Takes, OthersStay, IsReadyFor, OpensNone, TimesOut};
 ghost use Rattle.vt_transport.specs.Wire.{tp_frame};
 ghost use Rattle.vt_transport.specs.Messages.{opens};
 ghost use Rattle.vt_transport.specs.Steps.{after_rts, after_packet, step};
@@ -35,7 +35,7 @@ pub struct Receiver {
 
 impl Model for Receiver {
     ghost use Rattle.std.specs.Prelude.{◌≡◌, vec_len, vec_capacity};
-    ghost use Rattle.vt_can.specs.Receivers.{Listening, listening_code};
+    ghost use Rattle.vt_can.specs.transport.Receivers.{Listening, listening_code};
     ghost use Rattle.vt_transport.specs.Kept.{Kept, kept_code};
 
     ghost Value = { Listening Kept };

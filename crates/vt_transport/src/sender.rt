@@ -2,8 +2,8 @@
 
 ghost use Rattle.std.specs.Prelude.{◌≡◌, ◌↔◌, ℕ, ◌%◌, ◌^◌, false, Some, None, Err, [], ◌∷◌, IsSome, IfOk, OnErr, IfSome, IfNone};
 ghost use Rattle.std.specs.FinMap as finite;
-ghost use Rattle.vt_can.specs.Sessions.{is_overdue, AreOfAddresses};
-ghost use Rattle.vt_can.specs.Nodes.{source_of};
+ghost use Rattle.vt_can.specs.transport.Sessions.{is_overdue, AreOfAddresses};
+ghost use Rattle.vt_can.specs.frames.Frame.{source_of};
 ghost use Rattle.vt_transport.specs.Wire.{rts_frame};
 ghost use Rattle.vt_transport.specs.declared.messages.TpFrame.TheVariants as declared;
 ghost use Rattle.vt_transport.specs.Senders.{Answers, Starts, TimesOut, has_size, answer, answer_of, is_of_group};

@@ -18,7 +18,7 @@ pub(crate) struct Outgoing {
 
 impl Model for Outgoing {
     ghost use Rattle.std.specs.Prelude.{◌≡◌, true};
-    ghost use Rattle.vt_can.specs.Messages.{Message};
+    ghost use Rattle.vt_can.specs.transport.Messages.{Message};
     ghost use Rattle.vt_transport.specs.Senders.{message_code, has_size};
 
     ghost Value = { Message };

@@ -1,8 +1,8 @@
 //! A message as it comes in.
 
 ghost use Rattle.std.specs.Prelude.{◌≡◌, ◌≤◌, ℕ, max, true, Some, [], length, List, vec_len, vec_capacity};
-ghost use Rattle.vt_can.specs.Messages.{told_of};
-ghost use Rattle.vt_can.specs.Protocols.{outcome_of};
+ghost use Rattle.vt_can.specs.transport.Messages.{told_of};
+ghost use Rattle.vt_can.specs.transport.Protocols.{outcome_of};
 ghost use Rattle.vt_transport.specs.Messages.{opens};
 ghost use Rattle.vt_transport.specs.Steps.{after_packet};
 
@@ -20,7 +20,7 @@ pub(crate) struct Session {
 
 impl Model for Session {
     ghost use Rattle.std.specs.Prelude.{vec_len, vec_capacity};
-    ghost use Rattle.vt_can.specs.Histories.{IsReceiving};
+    ghost use Rattle.vt_can.specs.transport.Histories.{IsReceiving};
     ghost use Rattle.vt_transport.specs.Messages.{spelling};
     ghost use Rattle.vt_transport.specs.Kept.{Kept, kept_code};
 

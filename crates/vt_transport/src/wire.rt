@@ -1,7 +1,7 @@
 //! The frames of the transport protocol as bytes (ISO 11783-3; docs/PROFILE.md, "Transport messages").
 
 ghost use Rattle.std.specs.Prelude.{◌≡◌, ◌≤◌, ◌∷◌, length};
-ghost use Rattle.vt_can.specs.Nodes.{frame_of};
+ghost use Rattle.vt_can.specs.frames.Frame.{frame_of};
 ghost use Rattle.vt_transport.specs.Wire.{tp_frame, connection_management, reply_frame, reply_bytes, rts_frame};
 
 use crate::messages::{Opening, Reply, TpFrame};

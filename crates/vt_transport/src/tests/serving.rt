@@ -1,8 +1,8 @@
 ghost use Rattle.std.specs.Prelude.{◌≡◌, IfOk, OnErr};
-ghost use Rattle.vt_can.specs.Nodes.{source_of};
-ghost use Rattle.vt_can.specs.Messages.{told_of};
-ghost use Rattle.vt_can.specs.Receivers.{timely_outcome, Says};
-ghost use Rattle.vt_can.specs.Bus.{Serves, input_of};
+ghost use Rattle.vt_can.specs.frames.Frame.{source_of};
+ghost use Rattle.vt_can.specs.transport.Messages.{told_of};
+ghost use Rattle.vt_can.specs.transport.Receivers.{timely_outcome, Says};
+ghost use Rattle.vt_can.specs.transport.Bus.{Serves, input_of};
 ghost use Rattle.vt_transport.specs.Protocol.{protocol};
 
 use super::*;

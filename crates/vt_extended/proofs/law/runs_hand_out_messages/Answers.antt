@@ -1,4 +1,4 @@
-use Rattle.vt_can.proofs.Runs.{run_messages}
+use Rattle.vt_can.proofs.lemmas.transport.Runs.{run_messages}
 use Rattle.vt_extended.specs.Protocol.{protocol}
 use Rattle.vt_extended.proofs.law.runs_hand_out_messages.Goals as goal
 

@@ -1,9 +1,9 @@
 use Rattle.std.proofs.Common.{ap, sym, refl}
-use Rattle.vt_can.specs.Receivers.{Listening}
-use Rattle.vt_can.proofs.ByAddress.{left_others}
+use Rattle.vt_can.specs.transport.Receivers.{Listening}
+use Rattle.vt_can.proofs.lemmas.transport.ByAddress.{left_others}
 use Rattle.vt_extended.specs.Kept.{Kept}
 use Rattle.vt_extended.specs.Protocol.{protocol}
-use Rattle.vt_can.proofs.Receiving.{left_takes}
+use Rattle.vt_can.proofs.lemmas.transport.Receiving.{left_takes}
 use Rattle.vt_extended.proofs.receiver.Receiver.aborted.Goals as goal
 
 pub returns-clause-step : goal.returns-clause-step

@@ -1,6 +1,6 @@
 use Rattle.std.proofs.Common.{◌≡◌, ℕ}
 use Rattle.std.specs.FinMap as finite
-use Rattle.vt_can.specs.Sessions.{alive}
+use Rattle.vt_can.specs.transport.Sessions.{alive}
 use Rattle.vt_extended.proofs.tests.serving.served.Given as goal
 
 abbrev pub invariant-loop-abort : goal.invariant-loop-abort

@@ -1,11 +1,11 @@
 use Rattle.std.proofs.Common.{◌≡◌, ℕ, cond, eqb, Option, None, ap, sym, refl, ne_eqb}
-use Rattle.vt_can.specs.declared.sessions.Timed.{Timed}
+use Rattle.vt_can.specs.declared.transport.sessions.Timed.{Timed}
 use Rattle.vt_transport.specs.Kept.{Kept}
 use Rattle.vt_transport.specs.Messages.{sending_group}
 use Rattle.vt_transport.specs.Protocol.{protocol}
-use Rattle.vt_can.specs.Receivers.{Listening}
-use Rattle.vt_can.proofs.ByAddress.{left_others}
-use Rattle.vt_can.proofs.Receiving.{left_takes}
+use Rattle.vt_can.specs.transport.Receivers.{Listening}
+use Rattle.vt_can.proofs.lemmas.transport.ByAddress.{left_others}
+use Rattle.vt_can.proofs.lemmas.transport.Receiving.{left_takes}
 use Rattle.vt_transport.proofs.receiver.Receiver.aborted.Goals as goal
 
 not_sending : (pgn : ℕ) (kept : Option (Timed Kept)) → (pgn ≡ sending_group → ⊥) → cond (eqb pgn sending_group) kept None ≡ None

@@ -1,12 +1,12 @@
 use Rattle.std.proofs.Common.{◌≡◌, cond, true, false, Some, None, ap, sym, ◌∙◌}
-use Rattle.vt_can.specs.declared.sessions.Timed.{Timed}
+use Rattle.vt_can.specs.declared.transport.sessions.Timed.{Timed}
 use Rattle.vt_transport.specs.declared.messages.Opening.{Opening}
 use Rattle.vt_transport.specs.Kept.{Kept}
 use Rattle.vt_transport.specs.Messages.{opens}
 use Rattle.vt_transport.specs.Protocol.{protocol}
-use Rattle.vt_can.specs.Receivers.{Listening}
-use Rattle.vt_can.proofs.ByAddress.{left_others, put_others}
-use Rattle.vt_can.proofs.Receiving.{left_takes, put_takes, replied}
+use Rattle.vt_can.specs.transport.Receivers.{Listening}
+use Rattle.vt_can.proofs.lemmas.transport.ByAddress.{left_others, put_others}
+use Rattle.vt_can.proofs.lemmas.transport.Receiving.{left_takes, put_takes, replied}
 use Rattle.vt_transport.proofs.receiver.Receiver.open.Goals as goal
 
 refused : (o : Opening) (timed : Timed Kept) → opens o ≡ false → cond (opens o) (Some timed) None ≡ None

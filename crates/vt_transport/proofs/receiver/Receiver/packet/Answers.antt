@@ -1,14 +1,14 @@
 use Rattle.std.proofs.Common.{ℕ, max, Some, None, ap, sym, subst, refl, ◌∙◌}
-use Rattle.vt_can.specs.declared.received.Received.TheVariants.{More, Whole}
-use Rattle.vt_can.specs.Protocols.{silent, ended, outcome_of}
-use Rattle.vt_can.specs.Receivers.{Listening, Says}
+use Rattle.vt_can.specs.declared.transport.received.Received.TheVariants.{More, Whole}
+use Rattle.vt_can.specs.transport.Protocols.{silent, ended, outcome_of}
+use Rattle.vt_can.specs.transport.Receivers.{Listening, Says}
 use Rattle.vt_transport.specs.Kept.{Kept}
 use Rattle.vt_transport.specs.Protocol.{protocol}
 use Rattle.vt_transport.specs.Steps.{after_packet}
 use Rattle.vt_transport.specs.Wire.{reply_frame}
-use Rattle.vt_can.specs.declared.heard.Heard.TheVariants as heard
-use Rattle.vt_can.proofs.ByAddress.{left_others, put_again_others}
-use Rattle.vt_can.proofs.Receiving.{left_takes, put_takes, replied, takes_as, taken_out, none_there}
+use Rattle.vt_can.specs.declared.transport.heard.Heard.TheVariants as heard
+use Rattle.vt_can.proofs.lemmas.transport.ByAddress.{left_others, put_again_others}
+use Rattle.vt_can.proofs.lemmas.transport.Receiving.{left_takes, put_takes, replied, takes_as, taken_out, none_there}
 use Rattle.vt_transport.proofs.receiver.Receiver.packet.Goals as goal
 
 pub returns-in_default-clause-step : goal.returns-in_default-clause-step

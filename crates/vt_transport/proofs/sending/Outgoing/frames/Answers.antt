@@ -1,6 +1,6 @@
 use Rattle.std.proofs.Common.{ℕ, ◌+◌, List, [], ◌∷◌, ◌++◌, length, ap, ap₂, sym, ◌∙◌, arith, lit<}
-use Rattle.vt_can.specs.declared.frame.Frame.{Frame}
-use Rattle.vt_can.specs.Nodes.{frame_of}
+use Rattle.vt_can.specs.declared.frames.frame.Frame.{Frame}
+use Rattle.vt_can.specs.frames.Frame.{frame_of}
 use Rattle.vt_transport.specs.Wire.{packet_frame}
 use Rattle.vt_transport.proofs.Packets.{numbers_from-more, length-numbers_from}
 use Rattle.vt_transport.proofs.sending.Outgoing.frames.Goals as goal

@@ -1,0 +1,4 @@
+//! Identifiers and frames.
+
+pub(crate) mod frame;
+pub(crate) mod identifier;

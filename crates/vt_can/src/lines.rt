@@ -1,0 +1,8 @@
+//! The lines of a log.
+
+pub(crate) mod action;
+pub(crate) mod digits;
+pub(crate) mod line;
+pub(crate) mod parts;
+pub(crate) mod shaped;
+pub(crate) mod write;
