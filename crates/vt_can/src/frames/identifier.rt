@@ -2,7 +2,7 @@
 
 ghost use Rattle.std.specs.Prelude.{◌≡◌, ◌<◌, ◌^◌};
 ghost use Rattle.std.specs.Option.{SomeIff};
-ghost use Rattle.vt_can.specs.frames.Identifier.{raw_of, parts_of, pgn_of, destination_of, HasDestination, addressed, PartsAreIdentifiers};
+ghost use Rattle.vt_can.specs.frames.Identifier.{raw_of, parts_of, pgn_of, destination_of, HasDestination, addressed};
 
 use std::marker::Model;
 
@@ -97,8 +97,3 @@ impl CanId {
         (self.raw >> 16 & 0xFF) as u8
     }
 }
-
-/// The law that the six numbers of an identifier and the identifier determine each other.
-pub fn parts_are_identifiers()
-    ensures { PartsAreIdentifiers }
-{}

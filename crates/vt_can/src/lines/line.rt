@@ -2,8 +2,7 @@
 
 ghost use Rattle.std.specs.Prelude.{◌↔◌, IsTrue};
 ghost use Rattle.vt_can.specs.lines.Readings.{reading_of};
-ghost use Rattle.vt_can.specs.lines.Line.{IsContent, IsComment, Reads, HasReading, ReadingsAreOne};
-ghost use Rattle.vt_can.specs.lines.Writing.{WrittenLinesAreRead};
+ghost use Rattle.vt_can.specs.lines.Line.{IsContent, IsComment, Reads};
 
 use crate::frames::frame::Frame;
 use crate::lines::action::action;
@@ -113,20 +112,3 @@ fn is_comment(content: &[u8]) -> bool
 {
     matches!(content, [] | [b'#', ..])
 }
-
-/// The law that every line has a reading: the one that `parse_line` answers.
-pub fn lines_have_readings(line: &[u8])
-    ensures { HasReading line.now }
-{
-    let _ = parse_line(line);
-}
-
-/// The law that no line has two readings.
-pub fn readings_are_one()
-    ensures { ReadingsAreOne }
-{}
-
-/// The law that a frame that is written as a line is read again, at its time.
-pub fn written_lines_are_read()
-    ensures { WrittenLinesAreRead }
-{}

@@ -3,7 +3,7 @@
 ghost use Rattle.std.specs.Prelude.{◌≡◌, ℕ, ◌≤◌, false, Some, IfSome, IfNone};
 ghost use Rattle.std.specs.FinMap as finite;
 ghost use Rattle.std.specs.Option.{option_copied};
-ghost use Rattle.vt_can.specs.transport.Sessions.{ByAddress, is_overdue, AreOfAddresses, IsFirstOverdue, Expires, NoneExpires, TheFirstExpires, IsTakenOut};
+ghost use Rattle.vt_can.specs.transport.Sessions.{is_overdue, AreOfAddresses, IsFirstOverdue, Expires, NoneExpires};
 
 use std::marker::Model;
 
@@ -142,14 +142,3 @@ fn overdue<T>(place: &Option<Timed<T>>, now: u64) -> bool
         None => false,
     }
 }
-
-/// The law that the calls of `expire` take the sessions that are overdue from the front of their list,
-/// which has the least address first, and that the list is empty where a call answers none.
-pub fn the_first_overdue_expires<T, X>()
-    ensures { TheFirstExpires T X }
-{}
-
-/// The law that a session that is taken out is gone, and is one less, and that the others stay.
-pub fn sessions_are_taken_out<T>()
-    ensures { (sessions : ByAddress T) (address : ℕ) → IsTakenOut sessions address }
-{}

@@ -1,5 +1,0 @@
-use Rattle.vt_can.specs.lines.Readings.{reading_of}
-use Rattle.vt_can.proofs.lines.line.lines_have_readings.Goals as goal
-
-pub returns : goal.returns
-returns c = (reading_of c.parse_line.result, c.parse_line.ensures)

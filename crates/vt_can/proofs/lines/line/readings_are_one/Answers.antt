@@ -1,5 +1,0 @@
-use Rattle.vt_can.proofs.lemmas.lines.OneReading.{readings-one}
-use Rattle.vt_can.proofs.lines.line.readings_are_one.Goals as goal
-
-pub returns : goal.returns
-returns c = readings-one
