@@ -1,3 +1,4 @@
+pub mod Assigned
 pub mod frames
 pub mod lines
 pub mod transport

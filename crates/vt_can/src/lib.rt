@@ -6,11 +6,12 @@
 //! - Transport: `Sessions` has at most one session of each address, `Timed` by its last frame. A frame makes a
 //!   `Received` of a session, and a receiver answers a frame by what it has `Heard`: nothing, a reply, or a whole
 //!   message with its `Bytes`. A `Reason` stands in an abort.
-//! - `laws` has what the definitions come to.
+//! - `assigned` has the numbers that the standard assigns, and `laws` what the definitions come to.
 //!
 //! docs/PROFILE.md, "Identifiers" and "Log lines", has the rules.
 #![tactic(auto)]
 
+pub mod assigned;
 mod frames;
 pub mod laws;
 mod lines;

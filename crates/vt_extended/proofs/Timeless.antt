@@ -2,6 +2,7 @@
 use Rattle.std.proofs.Common.{◌+◌, eqb, Option, Some, None, refl, ap}
 use Rattle.std.specs.FinMap as finite
 use Rattle.vt_can.specs.declared.transport.sessions.Timed.{Timed}
+use Rattle.vt_can.specs.Assigned.{ETP_CM, ETP_DT}
 use Rattle.vt_can.specs.frames.Frame.{source_of}
 use Rattle.vt_can.specs.transport.Steps.{stepped}
 use Rattle.vt_can.proofs.lemmas.transport.Timeless as can
@@ -29,4 +30,4 @@ timeless now (Some kept) etp.Other = refl
 pub ignored : ForeignFramesAreIgnored
 ignored receiver now frame foreign =
     ap (stepped protocol now (finite.get receiver.sessions (source_of frame)))
-    (can.of_another_group 0xC800 0xC700 connection_management (λ number bytes. etp.Part (Packet number bytes)) receiver.own frame foreign)
+    (can.of_another_group ETP_CM ETP_DT connection_management (λ number bytes. etp.Part (Packet number bytes)) receiver.own frame foreign)

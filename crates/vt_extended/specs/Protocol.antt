@@ -3,6 +3,7 @@ use Rattle.std.specs.Prelude.{◌≡◌, ℕ, Bool, false}
 use Rattle.std.specs.FinMap as finite
 use Rattle.vt_can.specs.declared.transport.wire.Reason.TheVariants.{Timeout}
 use Rattle.vt_can.specs.declared.frames.frame.Frame.{Frame}
+use Rattle.vt_can.specs.Assigned.{ETP_CM, ETP_DT}
 use Rattle.vt_can.specs.frames.Frame.{source_of}
 use Rattle.vt_can.specs.transport.Wire.{IsOfAnotherGroup}
 use Rattle.vt_can.specs.transport.Protocols as protocols
@@ -64,7 +65,7 @@ IsTimeless = protocols.IsTimeless protocol
 
 -- a frame of neither of the protocol's groups
 abbrev pub IsForeign : Frame → Type 0
-IsForeign = IsOfAnotherGroup 0xC800 0xC700
+IsForeign = IsOfAnotherGroup ETP_CM ETP_DT
 
 -- It says nothing to a receiver.
 abbrev pub ForeignFramesAreIgnored : Type 0

@@ -9,6 +9,7 @@ mod sources;
 use super::*;
 use arrayvec::ArrayVec;
 use std::test::Fail;
+use vt_can::assigned::ETP_DT;
 use vt_can::{CanId, Frame, Line, parse_line, write_frame};
 
 const NODE: u8 = 0x26;
@@ -63,7 +64,7 @@ fn packet(number: u8, bytes: [u8; 7]) -> Frame {
 fn packet_from(source: u8, number: u8, bytes: [u8; 7]) -> Frame {
     let [a, b, c, d, e, f, g] = bytes;
     Frame {
-        id: CanId::new(7, 0xC700, NODE, source),
+        id: CanId::new(7, ETP_DT, NODE, source),
         bytes: ArrayVec::from([number, a, b, c, d, e, f, g]),
     }
 }

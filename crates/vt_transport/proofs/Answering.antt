@@ -1,11 +1,11 @@
 -- A call of the sender that puts a session or takes one out gives an answer.
 use Rattle.std.proofs.Common.{◌≡◌, ℕ, ◌<◌, ◌≤◌, ◌+◌, ◌-◌, min, true, false, eqb, List, [], ◌∷◌, map, Option, Some, None, ap, sym, subst, ◌∙◌, refl, arith, eq-eqb, ne_eqb, lt-ltb, le-ltb, ltb}
 use Rattle.std.specs.FinMap as finite
+use Rattle.vt_can.specs.Assigned.{VT_TO_ECU}
 use Rattle.vt_can.specs.declared.frames.frame.Frame.{Frame}
 use Rattle.vt_can.specs.declared.transport.sessions.Timed.{Timed}
 use Rattle.vt_can.specs.transport.Sessions.{ByAddress}
 use Rattle.vt_can.specs.transport.Messages.{Message}
-use Rattle.vt_transport.specs.Messages.{sending_group}
 use Rattle.vt_transport.specs.declared.messages.TpFrame.{TpFrame}
 use Rattle.vt_transport.specs.declared.messages.TpFrame.TheVariants.{Cts, EndOfMessage, Aborted}
 use Rattle.vt_can.specs.declared.transport.wire.Reason.TheVariants.{Disorder}
@@ -117,11 +117,11 @@ pub kept_message : (own to now pgn : ℕ) (kept : Option (Timed Message)) → is
 kept_message own to now pgn None is = refl
 kept_message own to now pgn (Some kept) is = rw is
 
-pub aborted_message : (own to now pgn : ℕ) (kept : Option (Timed Message)) → pgn ≡ sending_group
+pub aborted_message : (own to now pgn : ℕ) (kept : Option (Timed Message)) → pgn ≡ VT_TO_ECU
     → unanswered None ≡ answered own to now kept (Some (Aborted pgn))
 aborted_message own to now pgn None is = refl
 aborted_message own to now pgn (Some kept) is =
-    let e : eqb pgn sending_group ≡ true = eq-eqb _ _ is in rw e
+    let e : eqb pgn VT_TO_ECU ≡ true = eq-eqb _ _ is in rw e
 
 -- the same frames from this node's address, in other terms
 

@@ -1,6 +1,7 @@
 -- The steps on the session of a source assemble the messages that were sent.
 use Rattle.std.proofs.Common.{◌≡◌, ℕ, suc, ◌+◌, ◌<◌, max, Bool, true, false, cond, eqb, List, [], ◌∷◌, ◌++◌, length, take, Option, Some, None, ap, ap₂, sym, subst, ◌∙◌, refl, arith, eq-eqb, eqb-true, ne_eqb}
 use Rattle.std.proofs.lemmas.Bool.{false≢true}
+use Rattle.vt_can.specs.Assigned.{VT_TO_ECU}
 use Rattle.vt_can.specs.declared.transport.sessions.Timed.{Timed}
 use Rattle.vt_can.specs.declared.transport.wire.Reason.TheVariants.{Disorder}
 use Rattle.vt_can.specs.transport.Messages.{joined}
@@ -13,7 +14,7 @@ use Rattle.vt_can.proofs.lemmas.transport.Standing.{sent_more, Last, AtRequest, 
 use Rattle.vt_transport.specs.declared.messages.Opening.{Opening}
 use Rattle.vt_transport.specs.declared.messages.TpFrame.TheVariants.{Rts, Cts, EndOfMessage, Aborted, Data, Other}
 use Rattle.vt_transport.specs.declared.messages.Reply.TheVariants.{Abort}
-use Rattle.vt_transport.specs.Messages.{Happening, opens, sending_group, packets_in, numbered, spelling, reply_to}
+use Rattle.vt_transport.specs.Messages.{Happening, opens, packets_in, numbered, spelling, reply_to}
 use Rattle.vt_transport.specs.Kept.{Kept}
 use Rattle.vt_transport.specs.Steps.{Outcome, after_packet, Has}
 use Rattle.vt_transport.specs.Protocol.{protocol}
@@ -195,7 +196,7 @@ matches_packet now number packet hs session m = record {
 
 -- each happening
 
-matches_abort : (hs : List Happening) (session : Option (Timed Kept)) (pgn : ℕ) (b : Bool) → eqb pgn sending_group ≡ b → Matches hs session
+matches_abort : (hs : List Happening) (session : Option (Timed Kept)) (pgn : ℕ) (b : Bool) → eqb pgn VT_TO_ECU ≡ b → Matches hs session
     → Matches (Came (Aborted pgn) ∷ hs) (cond b session None)
 matches_abort hs session pgn true is m =
     matches_quiet spelling opening_of Has hs session (Came (Aborted pgn))

@@ -3,6 +3,7 @@ use Rattle.std.proofs.Common.{◌≡◌, ℕ, zero, suc, ◌+◌, ◌-◌, ◌*�
 use Rattle.std.proofs.lemmas.List.{take-take, take_all, take-append-le, drop-append-le, length-take, length-append}
 use Rattle.std.proofs.lemmas.Bool.{leb-true}
 use Rattle.std.proofs.Math.Seq.{take-add}
+use Rattle.vt_can.specs.Assigned.{FILL, NO_LIMIT, TP_CM, TP_DT, TP_RTS}
 use Rattle.vt_can.specs.transport.Messages.{Message, joined}
 use Rattle.vt_can.specs.transport.Histories.{Came, AreQuiet}
 use Rattle.vt_can.specs.transport.Wire.{by_group}
@@ -28,12 +29,12 @@ length_packets bytes zero = refl
 length_packets bytes (suc count) = ap suc (length_packets bytes count)
 
 abbrev filled : List ℕ → List ℕ
-filled bytes = bytes ++ replicate 7 0xFF
+filled bytes = bytes ++ replicate 7 FILL
 
 one_more : (bytes : List ℕ) (count : ℕ) → 7 * count ≤ length bytes
     → packet_bytes bytes (suc count) ≡ take 7 (drop (7 * count) (filled bytes))
 one_more bytes count within =
-    ap (take 7) (ap (λ (k : ℕ). drop (7 * k) bytes ++ replicate 7 0xFF) (omega arith) ∙ sym (drop-append-le (7 * count) bytes (replicate 7 0xFF) within))
+    ap (take 7) (ap (λ (k : ℕ). drop (7 * k) bytes ++ replicate 7 FILL) (omega arith) ∙ sym (drop-append-le (7 * count) bytes (replicate 7 FILL) within))
 
 joined_packets : (bytes : List ℕ) (count : ℕ) → 7 * count ≤ length bytes + 6 → joined (packets_to bytes count) ≡ take (7 * count) (filled bytes)
 joined_packets bytes zero within = refl
@@ -47,7 +48,7 @@ cut_packets : (bytes : List ℕ) (count : ℕ) → 7 * count ≤ length bytes + 
 cut_packets bytes count within all =
     sym (ap (take (length bytes)) (joined_packets bytes count within)
     ∙ take-take (length bytes) (7 * count) (filled bytes) all
-    ∙ take-append-le (length bytes) bytes (replicate 7 0xFF) (omega arith)
+    ∙ take-append-le (length bytes) bytes (replicate 7 FILL) (omega arith)
     ∙ take_all (length bytes) bytes (omega arith))
 
 -- the happenings after the RTS
@@ -117,7 +118,7 @@ both_true true false first second = absurd cc
 both_true false b first second = absurd cc
 
 abbrev tp_by_group : ℕ → List ℕ → Option TpFrame
-tp_by_group = by_group 0xEC00 0xEB00 connection_management (λ number bytes. Data number bytes)
+tp_by_group = by_group TP_CM TP_DT connection_management (λ number bytes. Data number bytes)
 
 heard_by : (own to pgn : ℕ) (bytes : List ℕ) → HasDestination pgn → own < 2 ^ 8 → to < 2 ^ 8 → length bytes ≡ 8
     → destination_of (addressed 7 pgn to own) ≡ Some to → pgn_of (addressed 7 pgn to own) ≡ pgn
@@ -132,21 +133,21 @@ heard_by own to pgn bytes group own_fits to_fits eight to_is pgn_is =
     ∙ ap (λ (k : ℕ). tp_by_group k bytes) pgn_is
 
 request_heard : (own to size pgn : ℕ) → own < 2 ^ 8 → to < 2 ^ 8 → size < 256 ^ 2 → pgn < 256 ^ 3
-    → tp_frame to (rts_frame own to size pgn) ≡ Some (Rts (record { size = size; packets = (size + 6) / 7; most = 0xFF; pgn = pgn }))
+    → tp_frame to (rts_frame own to size pgn) ≡ Some (Rts (record { size = size; packets = (size + 6) / 7; most = NO_LIMIT; pgn = pgn }))
 request_heard own to size pgn own_fits to_fits size_fits pgn_fits =
-    heard_by own to 0xEC00 (0x10 ∷ (little_bytes 2 size ++ (size + 6) / 7 ∷ 0xFF ∷ little_bytes 3 pgn)) (record { fits = lit< tt; format = lit< tt; no_destination = refl }) own_fits to_fits refl refl refl
-    ∙ ap₂ (λ (s p : ℕ). Some (Rts (record { size = s; packets = (size + 6) / 7; most = 0xFF; pgn = p })))
-    (little_number-reads_back 2 size ((size + 6) / 7 ∷ 0xFF ∷ little_bytes 3 pgn) size_fits) (little_number-reads_back 3 pgn [] pgn_fits)
+    heard_by own to TP_CM (TP_RTS ∷ (little_bytes 2 size ++ (size + 6) / 7 ∷ NO_LIMIT ∷ little_bytes 3 pgn)) (record { fits = lit< tt; format = lit< tt; no_destination = refl }) own_fits to_fits refl refl refl
+    ∙ ap₂ (λ (s p : ℕ). Some (Rts (record { size = s; packets = (size + 6) / 7; most = NO_LIMIT; pgn = p })))
+    (little_number-reads_back 2 size ((size + 6) / 7 ∷ NO_LIMIT ∷ little_bytes 3 pgn) size_fits) (little_number-reads_back 3 pgn [] pgn_fits)
 
 length_packet : (bytes : List ℕ) (j : ℕ) → length (packet_bytes bytes j) ≡ 7
 length_packet bytes j =
-    length-take 7 (drop (7 * (j - 1)) bytes ++ replicate 7 0xFF)
-    ∙ (let all = length-append (drop (7 * (j - 1)) bytes) (replicate 7 0xFF) in omega (arith, all))
+    length-take 7 (drop (7 * (j - 1)) bytes ++ replicate 7 FILL)
+    ∙ (let all = length-append (drop (7 * (j - 1)) bytes) (replicate 7 FILL) in omega (arith, all))
 
 packet_heard : (own to : ℕ) (bytes : List ℕ) (j : ℕ) → own < 2 ^ 8 → to < 2 ^ 8
     → tp_frame to (packet_frame own to bytes j) ≡ Some (Data j (packet_bytes bytes j))
 packet_heard own to bytes j own_fits to_fits =
-    heard_by own to 0xEB00 (j ∷ packet_bytes bytes j) (record { fits = lit< tt; format = lit< tt; no_destination = refl }) own_fits to_fits
+    heard_by own to TP_DT (j ∷ packet_bytes bytes j) (record { fits = lit< tt; format = lit< tt; no_destination = refl }) own_fits to_fits
     (ap suc (length_packet bytes j)) refl refl
 
 most_size : (a b : Bool) → (a && b) ≡ true → b ≡ true

@@ -1,6 +1,7 @@
 -- Steps and answers without times, and frames of other groups.
 use Rattle.std.proofs.Common.{◌≡◌, ℕ, Bool, true, false, ◌||◌, cond, eqb, ltb, ◌+◌, [], Option, Some, None, refl, ap, ◌∙◌}
 use Rattle.std.specs.FinMap as finite
+use Rattle.vt_can.specs.Assigned.{TP_CM, TP_DT, VT_TO_ECU}
 use Rattle.vt_can.specs.declared.transport.sessions.Timed.{Timed}
 use Rattle.vt_can.specs.transport.Messages.{Message}
 use Rattle.vt_can.specs.frames.Frame.{source_of}
@@ -8,7 +9,7 @@ use Rattle.vt_can.specs.transport.Sessions.{untimed_session}
 use Rattle.vt_can.specs.transport.Steps.{stepped}
 use Rattle.vt_can.proofs.lemmas.transport.Timeless as can
 use Rattle.vt_transport.specs.declared.messages.TpFrame.TheVariants.{Rts, Cts, EndOfMessage, Aborted, Data, Other}
-use Rattle.vt_transport.specs.Messages.{opens, first_reply, sending_group}
+use Rattle.vt_transport.specs.Messages.{opens, first_reply}
 use Rattle.vt_transport.specs.Wire.{connection_management}
 use Rattle.vt_transport.specs.Kept.{Kept}
 use Rattle.vt_transport.specs.Protocol.{protocol, IsTimeless, ForeignFramesAreIgnored}
@@ -34,7 +35,7 @@ timeless now (Some kept) (Data number packet) =
     can.untimed_cond (eqb number (kept.session.received + 1)) _ _ _ _
     (can.untimed_cond (eqb (kept.session.received + 1) kept.session.opening.packets) _ _ _ _ refl refl) refl
 timeless now kept (Aborted pgn) =
-    ap (λ (k : Option (Timed Kept)). record { session = k; reply = None; message = None }) (kept_or_none (eqb pgn sending_group) kept)
+    ap (λ (k : Option (Timed Kept)). record { session = k; reply = None; message = None }) (kept_or_none (eqb pgn VT_TO_ECU) kept)
 timeless now None (Cts count next pgn) = refl
 timeless now (Some kept) (Cts count next pgn) = refl
 timeless now None (EndOfMessage pgn) = refl
@@ -59,7 +60,7 @@ timeless_answers own to now (Some kept) (Some (Cts count next pgn)) =
 timeless_answers own to now (Some kept) (Some (EndOfMessage pgn)) =
     ap (λ (k : Option (Timed Message)). record { session = k; frames = [] }) (none_or_kept (eqb pgn kept.session.pgn) kept)
 timeless_answers own to now (Some kept) (Some (Aborted pgn)) =
-    ap (λ (k : Option (Timed Message)). record { session = k; frames = [] }) (none_or_kept (eqb pgn sending_group) kept)
+    ap (λ (k : Option (Timed Message)). record { session = k; frames = [] }) (none_or_kept (eqb pgn VT_TO_ECU) kept)
 timeless_answers own to now (Some kept) (Some (Rts o)) = refl
 timeless_answers own to now (Some kept) (Some (Data number packet)) = refl
 timeless_answers own to now (Some kept) (Some Other) = refl
@@ -69,7 +70,7 @@ timeless_answers own to now (Some kept) (Some Other) = refl
 pub ignored : ForeignFramesAreIgnored
 ignored receiver now frame foreign =
     ap (stepped protocol now (finite.get receiver.sessions (source_of frame)))
-    (can.of_another_group 0xEC00 0xEB00 connection_management (λ number bytes. Data number bytes) receiver.own frame foreign)
+    (can.of_another_group TP_CM TP_DT connection_management (λ number bytes. Data number bytes) receiver.own frame foreign)
 
 nothing_said : (own to now : ℕ) (kept : Option (Timed Message)) → answered own to now kept None ≡ unanswered kept
 nothing_said own to now None = refl
@@ -78,5 +79,5 @@ nothing_said own to now (Some kept) = refl
 pub not_answered : ForeignFramesAreUnanswered
 not_answered sender now frame foreign =
     ap (answered sender.own (source_of frame) now (finite.get sender.sessions (source_of frame)))
-    (can.of_another_group 0xEC00 0xEB00 connection_management (λ number bytes. Data number bytes) sender.own frame foreign)
+    (can.of_another_group TP_CM TP_DT connection_management (λ number bytes. Data number bytes) sender.own frame foreign)
     ∙ nothing_said sender.own (source_of frame) now (finite.get sender.sessions (source_of frame))

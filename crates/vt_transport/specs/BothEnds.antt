@@ -1,5 +1,6 @@
 -- What the sender sends, as the receiver takes it. Every list of happenings has the latest first.
 use Rattle.std.specs.Prelude.{◌≡◌, ◌<◌, ℕ, zero, suc, ◌-◌, ◌^◌, true, Some, List, [], ◌∷◌, length}
+use Rattle.vt_can.specs.Assigned.{NO_LIMIT}
 use Rattle.vt_can.specs.transport.Messages.{Message}
 use Rattle.vt_transport.specs.declared.messages.Opening.{Opening}
 use Rattle.vt_transport.specs.declared.messages.TpFrame.TheVariants.{Rts, Data}
@@ -10,7 +11,7 @@ use Rattle.vt_transport.specs.Senders.{packets_of, has_size}
 
 -- what the RTS of a message says
 abbrev pub opening_of : Message → Opening
-opening_of message = record { size = length message.bytes; packets = packets_of message; most = 0xFF; pgn = message.pgn }
+opening_of message = record { size = length message.bytes; packets = packets_of message; most = NO_LIMIT; pgn = message.pgn }
 
 abbrev pub packet_of : Message → ℕ → Happening
 packet_of message j = Came (Data j (packet_bytes message.bytes j))

@@ -2,6 +2,7 @@
 -- docs/PROFILE.md, "The TP receiver"). Every list of happenings and of packets has the latest first.
 use Rattle.std.specs.Prelude.{◌≡◌, ℕ, ◌+◌, ◌-◌, ◌/◌, ◌%◌, Bool, nat_le, ◌==◌, ◌&&◌, if◌then◌else◌, min, Option, Some, None, List, [], ◌∷◌, length}
 use Rattle.vt_can.specs.declared.transport.wire.Reason.TheVariants.{Disorder}
+use Rattle.vt_can.specs.Assigned.{VT_TO_ECU}
 use Rattle.vt_can.specs.transport.Messages.{Message, joined}
 use Rattle.vt_can.specs.transport.Histories as histories
 use Rattle.vt_can.specs.transport.Histories.{Spelling, Came, TimedOut}
@@ -23,15 +24,11 @@ opens o = nat_le 9 o.size && nat_le o.size 1785 && o.packets == (o.size + 6) / 7
 abbrev pub allowed : Opening → ℕ
 allowed o = if o.most == 0 then 255 else o.most
 
--- the parameter group of the messages that a terminal sends: an abort of it is one to a sender
-abbrev pub sending_group : ℕ
-sending_group = 0xE600
-
--- what leaves a session as it is: no RTS, no timeout, and no abort but of the sender's parameter group
+-- what leaves a session as it is: no RTS, no timeout, and no abort but of VT_TO_ECU, which is one to a sender
 abbrev pub IsQuiet : Happening → Type 0
 IsQuiet TimedOut = ⊥
 IsQuiet (Came (Rts o)) = ⊥
-IsQuiet (Came (Aborted pgn)) = pgn ≡ sending_group
+IsQuiet (Came (Aborted pgn)) = pgn ≡ VT_TO_ECU
 IsQuiet (Came _) = Unit {0}
 
 -- the packets that came, with their sequence numbers

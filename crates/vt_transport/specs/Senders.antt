@@ -6,13 +6,13 @@ use Rattle.vt_can.specs.declared.frames.frame.Frame.{Frame}
 use Rattle.vt_can.specs.declared.transport.sessions.Timed.{Timed}
 use Rattle.vt_can.specs.transport.Sessions.{ByAddress, timed_code, untimed_session, Expires}
 use Rattle.vt_can.specs.transport.Messages.{Message}
+use Rattle.vt_can.specs.Assigned.{TP_CM, TP_DT, VT_TO_ECU}
 use Rattle.vt_can.specs.frames.Frame.{source_of}
 use Rattle.vt_can.specs.transport.Wire.{IsOfAnotherGroup}
 use Rattle.vt_transport.specs.declared.messages.TpFrame.{TpFrame}
 use Rattle.vt_transport.specs.declared.messages.TpFrame.TheVariants.{Cts, EndOfMessage, Aborted}
 use Rattle.vt_can.specs.declared.transport.wire.Reason.TheVariants.{Timeout, Disorder}
 use Rattle.vt_transport.specs.declared.messages.Reply.TheVariants.{Abort}
-use Rattle.vt_transport.specs.Messages.{sending_group}
 use Rattle.vt_transport.specs.Wire.{tp_frame, reply_frame, rts_frame, packet_frame}
 
 abbrev pub message_code : Coded Message
@@ -67,7 +67,7 @@ abbrev pub session_answer : ℕ → ℕ → ℕ → Timed Message → TpFrame �
 session_answer own to now kept (Cts count next pgn) =
     if pgn == kept.session.pgn then clear_to_send own to now kept count next else unanswered (Some kept)
 session_answer own to now kept (EndOfMessage pgn) = unanswered (if pgn == kept.session.pgn then None else Some kept)
-session_answer own to now kept (Aborted pgn) = unanswered (if pgn == sending_group then None else Some kept)
+session_answer own to now kept (Aborted pgn) = unanswered (if pgn == VT_TO_ECU then None else Some kept)
 session_answer own to now kept _ = unanswered (Some kept)
 
 abbrev pub answered : ℕ → ℕ → ℕ → Option (Timed Message) → Option TpFrame → Answer
@@ -127,5 +127,5 @@ AnswersAreTimeless = (own to now : ℕ) (kept : Option (Timed Message)) (frame :
 
 -- A frame of neither of the protocol's groups says nothing to a sender.
 abbrev pub ForeignFramesAreUnanswered : Type 0
-ForeignFramesAreUnanswered = (sender : Sending) (now : ℕ) (frame : Frame) → IsOfAnotherGroup 0xEC00 0xEB00 frame
+ForeignFramesAreUnanswered = (sender : Sending) (now : ℕ) (frame : Frame) → IsOfAnotherGroup TP_CM TP_DT frame
     → answer sender now frame ≡ unanswered (finite.get sender.sessions (source_of frame))

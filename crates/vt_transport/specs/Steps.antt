@@ -2,6 +2,7 @@
 use Rattle.std.specs.Prelude.{◌≡◌, ℕ, ◌+◌, ◌==◌, if◌then◌else◌, max, Option, Some, None, List, [], ◌++◌, length, take}
 use Rattle.vt_can.specs.declared.transport.sessions.Timed.{Timed}
 use Rattle.vt_can.specs.declared.transport.wire.Reason.TheVariants.{Disorder}
+use Rattle.vt_can.specs.Assigned.{VT_TO_ECU}
 use Rattle.vt_can.specs.transport.Messages.{joined}
 use Rattle.vt_can.specs.transport.Protocols as protocols
 use Rattle.vt_can.specs.transport.Protocols.{silent, ended}
@@ -10,7 +11,7 @@ use Rattle.vt_transport.specs.declared.messages.TpFrame.{TpFrame}
 use Rattle.vt_transport.specs.declared.messages.TpFrame.TheVariants.{Rts, Aborted, Data}
 use Rattle.vt_transport.specs.declared.messages.Reply.{Reply}
 use Rattle.vt_transport.specs.declared.messages.Reply.TheVariants.{Abort}
-use Rattle.vt_transport.specs.Messages.{opens, sending_group, first_reply, reply_to}
+use Rattle.vt_transport.specs.Messages.{opens, first_reply, reply_to}
 use Rattle.vt_transport.specs.Kept.{Kept}
 
 abbrev pub Outcome : Type 0
@@ -48,7 +49,7 @@ after_packet now (Some kept) number packet =
 abbrev pub step : ℕ → Option (Timed Kept) → TpFrame → Outcome
 step now kept (Rts o) = after_rts now o
 step now kept (Data number packet) = after_packet now kept number packet
-step now kept (Aborted pgn) = silent (if pgn == sending_group then kept else None)
+step now kept (Aborted pgn) = silent (if pgn == VT_TO_ECU then kept else None)
 step now kept _ = silent kept
 
 -- a session has just these packets

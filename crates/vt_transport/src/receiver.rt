@@ -12,12 +12,13 @@ ghost use Rattle.vt_transport.specs.Steps.{after_rts, after_packet, step};
 ghost use Rattle.vt_transport.specs.Protocol.{protocol};
 ghost use Rattle.vt_transport.specs.declared.messages.TpFrame.TheVariants as declared;
 
-use crate::messages::{Opening, Reply, SENDING, TpFrame};
+use crate::messages::{Opening, Reply, TpFrame};
 use crate::session::Session;
 use crate::{OutOfMemory, wire};
 use std::alloc::Global;
 use std::marker::Model;
 use std::mem;
+use vt_can::assigned::VT_TO_ECU;
 use vt_can::{Frame, Heard, Reason, Received, Sessions, Timed};
 
 /// The receiver of a node: at most one session for each source, seen as the map of the sessions by
@@ -171,7 +172,7 @@ impl Receiver {
         ensures others { OthersStay self.old self.new source }
         ensures room { self.new.room ≡ self.old.room }
     {
-        if pgn == SENDING {
+        if pgn == VT_TO_ECU {
             return Heard::Nothing;
         }
         self.sessions.remove(source);

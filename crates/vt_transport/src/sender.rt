@@ -8,13 +8,14 @@ ghost use Rattle.vt_transport.specs.Wire.{rts_frame};
 ghost use Rattle.vt_transport.specs.declared.messages.TpFrame.TheVariants as declared;
 ghost use Rattle.vt_transport.specs.Senders.{Answers, Starts, TimesOut, has_size, answer, answer_of, is_of_group};
 
-use crate::messages::{Reply, SENDING, SIZES, TpFrame};
+use crate::messages::{Reply, SIZES, TpFrame};
 use crate::sending::Outgoing;
 use crate::wire;
 use arrayvec::ArrayVec;
 use std::alloc::Global;
 use std::marker::Model;
 use thiserror::Error;
+use vt_can::assigned::VT_TO_ECU;
 use vt_can::{Frame, Reason, Sessions, Timed};
 
 /// Why a message cannot be sent.
@@ -177,7 +178,7 @@ impl Sender {
         ensures { Answers self.old self.new to
             (answer_of self.old to 0 (Some (declared.Aborted pgn))) result.items }
     {
-        if pgn != SENDING {
+        if pgn != VT_TO_ECU {
             return ArrayVec::new();
         }
         self.sessions.remove(to);

@@ -8,6 +8,7 @@ use crate::wire;
 use arrayvec::ArrayVec;
 use std::marker::Model;
 use vt_can::Frame;
+use vt_can::assigned::FILL;
 
 /// A message of 9 to 1785 bytes that is being sent.
 #[derive(Drop)]
@@ -75,7 +76,7 @@ impl Outgoing {
     {
         let rest = &self.bytes[7 * (usize::from(number) - 1)..];
         let filled = rest.len().min(7);
-        let mut packet = [wire::FILL; 7];
+        let mut packet = [FILL; 7];
         packet[..filled].copy_from_slice(&rest[..filled]);
         packet
     }

@@ -4,6 +4,7 @@ use Rattle.byteorder.specs.Endian.{little_bytes}
 use Rattle.vt_can.specs.declared.frames.frame.Frame.{Frame}
 use Rattle.vt_can.specs.declared.transport.wire.Reason.{Reason}
 use Rattle.vt_can.specs.declared.transport.wire.Reason.TheVariants.{TooLarge, Timeout, Disorder}
+use Rattle.vt_can.specs.Assigned.{ABORT, FILL}
 use Rattle.vt_can.specs.frames.Identifier.{parts_of, pgn_of, destination_of}
 use Rattle.vt_can.specs.frames.Frame.{is_to}
 
@@ -35,4 +36,4 @@ reason_code Disorder = 7
 
 -- the abort of the session of a group
 abbrev pub abort_bytes : Reason → ℕ → List ℕ
-abort_bytes reason pgn = 0xFF ∷ reason_code reason ∷ 0xFF ∷ 0xFF ∷ 0xFF ∷ little_bytes 3 pgn
+abort_bytes reason pgn = ABORT ∷ reason_code reason ∷ FILL ∷ FILL ∷ FILL ∷ little_bytes 3 pgn

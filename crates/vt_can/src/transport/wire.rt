@@ -6,15 +6,10 @@ ghost use Rattle.vt_can.specs.frames.Identifier.{HasDestination};
 ghost use Rattle.vt_can.specs.frames.Frame.{frame_of};
 ghost use Rattle.vt_can.specs.transport.Wire.{is_heard, abort_bytes, reason_code};
 
+use crate::assigned::{ABORT, FILL};
 use crate::frames::frame::Frame;
 use crate::frames::identifier::CanId;
 use arrayvec::ArrayVec;
-
-// The first byte of an abort.
-const ABORT: u8 = 0xFF;
-
-// The byte of the places that say nothing.
-const FILL: u8 = 0xFF;
 
 /// Why a node ends a session of a transport protocol.
 #[derive(Clone, Copy, Debug)]
