@@ -4,7 +4,7 @@ ghost use Rattle.std.specs.Prelude.{ℕ};
 ghost use Rattle.vt_can.specs.frames.Identifier.{PartsAreIdentifiers};
 ghost use Rattle.vt_can.specs.lines.Line.{HasReading, ReadingsAreOne};
 ghost use Rattle.vt_can.specs.lines.Writing.{WrittenLinesAreRead};
-ghost use Rattle.vt_can.specs.transport.Sessions.{ByAddress, IsTakenOut, TheFirstExpires};
+ghost use Rattle.vt_can.specs.transport.Sessions.{ByAddress, IsRemoved, TheFirstExpires};
 
 use crate::parse_line;
 
@@ -37,6 +37,6 @@ pub fn the_first_overdue_expires<T, X>()
 {}
 
 /// A session that is taken out is gone, and is one less, and the others stay.
-pub fn sessions_are_taken_out<T>()
-    ensures { (sessions : ByAddress T) (address : ℕ) → IsTakenOut sessions address }
+pub fn sessions_are_removed<T>()
+    ensures { (sessions : ByAddress T) (address : ℕ) → IsRemoved sessions address }
 {}

@@ -26,7 +26,8 @@ pub use transport::heard::Heard;
 pub use transport::received::Received;
 pub use transport::sessions::{Sessions, Timed};
 pub use transport::wire::{
-    Reason, abort_bytes, append_packet, frame_of, is_heard, numbered_packet, three_bytes,
+    Reason, abort_bytes, append_packet, frame_of, is_transport_frame_to, numbered_packet,
+    three_bytes,
 };
 
 #[cfg(test)]

@@ -2,7 +2,7 @@
 
 pub(crate) mod action;
 pub(crate) mod digits;
+pub(crate) mod frame_line;
 pub(crate) mod line;
 pub(crate) mod parts;
-pub(crate) mod shaped;
 pub(crate) mod write;

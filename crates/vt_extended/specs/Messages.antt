@@ -15,8 +15,8 @@ use Rattle.vt_extended.specs.declared.messages.Reply.{Reply}
 use Rattle.vt_extended.specs.declared.messages.Reply.TheVariants.{ClearToSend, End, Abort}
 
 -- A frame of the extended transport protocol came from the source, or its session was aborted for silence.
-abbrev pub Happening : Type 0
-Happening = histories.Happening EtpFrame
+abbrev pub SessionEvent : Type 0
+SessionEvent = histories.SessionEvent EtpFrame
 
 -- 9 to 1048576 bytes
 abbrev pub opens : Opening → Bool
@@ -69,21 +69,21 @@ bytes_of [] = []
 bytes_of (Announced count packets ∷ groups) = bytes_of groups ++ joined packets
 
 -- what leaves a session as it is: no RTS, no abort and no timeout
-abbrev pub IsQuiet : Happening → Type 0
+abbrev pub IsQuiet : SessionEvent → Type 0
 IsQuiet TimedOut = ⊥
 IsQuiet (Came (etp.Rts o)) = ⊥
 IsQuiet (Came etp.Aborted) = ⊥
 IsQuiet (Came _) = Unit {0}
 
 -- the DPOs and DTs that came
-abbrev pub parts_in : List Happening → List Part
+abbrev pub parts_in : List SessionEvent → List Part
 parts_in [] = []
 parts_in (TimedOut ∷ hs) = parts_in hs
 parts_in (Came (etp.Part part) ∷ hs) = part ∷ parts_in hs
 parts_in (Came _ ∷ hs) = parts_in hs
 
 -- what came after an RTS is the DPOs and DTs of sound groups
-pub record BringsGroups (o : Opening) (later : List Happening) (groups : List Group) : Type 0 where
+pub record BringsGroups (o : Opening) (later : List SessionEvent) (groups : List Group) : Type 0 where
   pub in_order : parts_in later ≡ parts_of groups
   pub sound : AreSound o groups
 
@@ -103,11 +103,11 @@ spelling = record {
 }
 
 -- a session is open, with packets still to come
-abbrev pub Stands : List Happening → Opening → List Group → Type 0
+abbrev pub Stands : List SessionEvent → Opening → List Group → Type 0
 Stands = histories.Stands spelling
 
 -- a happening is the last packet of a message
-abbrev pub IsWhole : List Happening → Happening → Message → Type 0
+abbrev pub IsWhole : List SessionEvent → SessionEvent → Message → Type 0
 IsWhole = histories.IsWhole spelling
 
 -- the CTS after so many packets, for 255 of those left at most
@@ -149,7 +149,7 @@ part_reply o groups (Offset count offset) = offset_reply o groups count offset
 part_reply o groups (Packet number bytes) = packet_reply o groups number
 
 -- the reply to x after hs
-abbrev pub IsAnswered : List Happening → Happening → Option Reply → Type 0
+abbrev pub IsAnswered : List SessionEvent → SessionEvent → Option Reply → Type 0
 IsAnswered hs TimedOut reply = reply ≡ None
 IsAnswered hs (Came (etp.Rts o)) reply = reply ≡ Some (first_reply o)
 IsAnswered hs (Came (etp.Part part)) reply =

@@ -8,7 +8,7 @@ use Rattle.vt_can.specs.frames.Frame.{source_of}
 use Rattle.vt_can.specs.transport.Wire.{IsOfAnotherGroup}
 use Rattle.vt_can.specs.transport.Protocols as protocols
 use Rattle.vt_can.specs.transport.Protocols.{Protocol, silent}
-use Rattle.vt_can.specs.transport.Receivers.{Listening, outcome}
+use Rattle.vt_can.specs.transport.Receivers.{ReceiverState, outcome}
 use Rattle.vt_can.specs.transport.Steps as steps
 use Rattle.vt_can.specs.transport.Bus as bus
 use Rattle.vt_can.specs.transport.Marks as marks
@@ -18,7 +18,7 @@ use Rattle.vt_extended.specs.declared.messages.Reply.{Reply}
 use Rattle.vt_extended.specs.declared.messages.Reply.TheVariants.{Abort}
 use Rattle.vt_extended.specs.Messages.{opens, spelling, IsWhole, IsAnswered}
 use Rattle.vt_extended.specs.Wire.{etp_frame, reply_frame}
-use Rattle.vt_extended.specs.Kept.{Kept}
+use Rattle.vt_extended.specs.SessionState.{SessionState}
 use Rattle.vt_extended.specs.Steps.{Has, step}
 
 -- An RTS opens a session, and no other frame does.
@@ -30,23 +30,23 @@ abbrev pub size_in : EtpFrame → ℕ
 size_in (Rts o) = o.size
 size_in _ = 0
 
-abbrev pub protocol : Protocol Kept EtpFrame Reply
+abbrev pub protocol : Protocol SessionState EtpFrame Reply
 protocol = record {
   frame_in = etp_frame;
   opens = opens_session;
   size = size_in;
   step = step;
-  timeout = λ kept. Abort Timeout kept.opening.pgn;
+  timeout = λ current. Abort Timeout current.opening.pgn;
   reply_frame = reply_frame;
 }
 
 -- The steps keep the session that stands, and give its messages and its replies.
 abbrev pub StepsAssembleMessages : Type 0
-StepsAssembleMessages = steps.StepsAssembleMessages spelling (λ kept. kept.opening) Has protocol IsAnswered
+StepsAssembleMessages = steps.StepsAssembleMessages spelling (λ current. current.opening) Has protocol IsAnswered
 
 -- The messages of a source depend on its own frames and their times alone.
-abbrev pub MessagesDependOnOwnFrames : Type 0
-MessagesDependOnOwnFrames = bus.MessagesDependOnOwnFrames protocol
+abbrev pub MessagesDependOnTheirSource : Type 0
+MessagesDependOnTheirSource = bus.MessagesDependOnTheirSource protocol
 
 -- A run of a receiver hands out these messages.
 abbrev pub RunsHandOutMessages : Type 0
@@ -64,10 +64,10 @@ abbrev pub IsTimeless : Type 0
 IsTimeless = protocols.IsTimeless protocol
 
 -- a frame of neither of the protocol's groups
-abbrev pub IsForeign : Frame → Type 0
-IsForeign = IsOfAnotherGroup ETP_CM ETP_DT
+abbrev pub IsOfOtherGroups : Frame → Type 0
+IsOfOtherGroups = IsOfAnotherGroup ETP_CM ETP_DT
 
 -- It says nothing to a receiver.
-abbrev pub ForeignFramesAreIgnored : Type 0
-ForeignFramesAreIgnored = (receiver : Listening Kept) (now : ℕ) (frame : Frame) → IsForeign frame
+abbrev pub OtherGroupsAreIgnored : Type 0
+OtherGroupsAreIgnored = (receiver : ReceiverState SessionState) (now : ℕ) (frame : Frame) → IsOfOtherGroups frame
     → outcome protocol receiver now frame ≡ silent (finite.get receiver.sessions (source_of frame))

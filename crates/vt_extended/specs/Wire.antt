@@ -32,4 +32,4 @@ reply_bytes (End size pgn) = ETP_END ∷ (little_bytes 4 size ++ little_bytes 3 
 reply_bytes (Abort reason pgn) = abort_bytes reason pgn
 
 abbrev pub reply_frame : ℕ → ℕ → Reply → Frame
-reply_frame own to reply = frame_of ETP_CM own to (reply_bytes reply)
+reply_frame own_address to reply = frame_of ETP_CM own_address to (reply_bytes reply)

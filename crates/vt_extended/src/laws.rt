@@ -1,6 +1,6 @@
 //! What the definitions come to: each function is a law, and its body does nothing.
 
-ghost use Rattle.vt_extended.specs.Protocol.{StepsAssembleMessages, MessagesDependOnOwnFrames, RunsHandOutMessages, SessionsAreOfHistories, RunsHandOutWholeMessages, IsTimeless, ForeignFramesAreIgnored};
+ghost use Rattle.vt_extended.specs.Protocol.{StepsAssembleMessages, MessagesDependOnTheirSource, RunsHandOutMessages, SessionsAreOfHistories, RunsHandOutWholeMessages, IsTimeless, OtherGroupsAreIgnored};
 
 /// The steps of a receiver on the session of a source hand out its messages, with the replies to its frames,
 /// as the whole history of the source defines them.
@@ -9,8 +9,8 @@ pub fn steps_assemble_messages()
 {}
 
 /// The messages of a source depend on its frames and their times alone, whatever other sources send.
-pub fn messages_depend_on_own_frames()
-    ensures { MessagesDependOnOwnFrames }
+pub fn messages_depend_on_their_source()
+    ensures { MessagesDependOnTheirSource }
 {}
 
 /// A run of a receiver, from no session, hands out the messages of each source: at each of its frames the
@@ -35,6 +35,6 @@ pub fn steps_are_timeless()
 
 /// A frame of another parameter group than the two of the protocol changes nothing in a receiver, and is not
 /// answered.
-pub fn foreign_frames_say_nothing()
-    ensures { ForeignFramesAreIgnored }
+pub fn other_groups_are_ignored()
+    ensures { OtherGroupsAreIgnored }
 {}

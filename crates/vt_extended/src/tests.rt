@@ -26,8 +26,8 @@ enum Wanted {
     Size(&'static [u8], usize),
 }
 
-fn is_said(said: Heard, wanted: Wanted) -> bool {
-    match (said, wanted) {
+fn is_answer(heard: Heard, wanted: Wanted) -> bool {
+    match (heard, wanted) {
         (Heard::Nothing, Wanted::Silence) => true,
         (Heard::Reply(frame), Wanted::Reply(text)) => write_frame(&frame).as_slice() == text,
         (Heard::Message { bytes, reply, .. }, Wanted::Message(text, message)) => {
@@ -41,9 +41,9 @@ fn is_said(said: Heard, wanted: Wanted) -> bool {
 }
 
 // Whether a receiver says this to the frame of a line.
-fn says(receiver: &mut Receiver, line: &[u8], wanted: Wanted) -> Result<bool, OutOfMemory> {
+fn answers(receiver: &mut Receiver, line: &[u8], wanted: Wanted) -> Result<bool, OutOfMemory> {
     match parse_line(line) {
-        Ok(Line::Frame { time, frame }) => Ok(is_said(receiver.hear(time, &frame)?, wanted)),
+        Ok(Line::Frame { time, frame }) => Ok(is_answer(receiver.hear(time, &frame)?, wanted)),
         _ => Ok(false),
     }
 }

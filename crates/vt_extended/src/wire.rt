@@ -6,13 +6,13 @@ ghost use Rattle.vt_extended.specs.Wire.{etp_frame, connection_management, reply
 use crate::messages::{EtpFrame, Opening, Part, Reply};
 use byteorder::{ByteOrder, LittleEndian};
 use vt_can::assigned::{ABORT, ETP_CM, ETP_CTS, ETP_DPO, ETP_DT, ETP_END, ETP_RTS};
-use vt_can::{Frame, abort_bytes, frame_of, is_heard, numbered_packet, three_bytes};
+use vt_can::{Frame, abort_bytes, frame_of, is_transport_frame_to, numbered_packet, three_bytes};
 
 /// What a frame says to a node. It is of the extended transport protocol, to the node's address and of 8 bytes.
-pub(crate) fn etp_frame(own: u8, frame: &Frame) -> Option<EtpFrame>
-    ensures { result ≡ etp_frame own frame.now }
+pub(crate) fn etp_frame(own_address: u8, frame: &Frame) -> Option<EtpFrame>
+    ensures { result ≡ etp_frame own_address frame.now }
 {
-    if !is_heard(own, frame) {
+    if !is_transport_frame_to(own_address, frame) {
         return None;
     }
     let bytes = frame.bytes.as_slice();
@@ -45,10 +45,10 @@ fn connection_management(bytes: &[u8]) -> EtpFrame
 }
 
 /// The frame that a reply is, from this node to another.
-pub(crate) fn reply_frame(own: u8, to: u8, reply: Reply) -> Frame
-    ensures { result ≡ reply_frame own to reply }
+pub(crate) fn reply_frame(own_address: u8, to: u8, reply: Reply) -> Frame
+    ensures { result ≡ reply_frame own_address to reply }
 {
-    frame_of(ETP_CM, own, to, reply_bytes(reply))
+    frame_of(ETP_CM, own_address, to, reply_bytes(reply))
 }
 
 fn reply_bytes(reply: Reply) -> [u8; 8]

@@ -9,7 +9,7 @@ use Rattle.vt_can.specs.transport.Histories.{Came, AreQuiet}
 use Rattle.vt_can.specs.transport.Wire.{by_group}
 use Rattle.vt_transport.specs.declared.messages.TpFrame.{TpFrame}
 use Rattle.vt_transport.specs.declared.messages.TpFrame.TheVariants.{Rts, Data}
-use Rattle.vt_transport.specs.Messages.{Happening, packets_in, numbered, spelling, IsWhole, opens}
+use Rattle.vt_transport.specs.Messages.{SessionEvent, packets_in, numbered, spelling, IsWhole, opens}
 use Rattle.byteorder.specs.Endian.{little_bytes}
 use Rattle.byteorder.specs.Numbers.{little_number-reads_back}
 use Rattle.vt_can.specs.frames.Identifier.{Parts, parts_of, raw_of, pgn_of, destination_of, addressed, HasDestination}
@@ -52,23 +52,23 @@ cut_packets bytes count within all =
     ∙ take_all (length bytes) bytes (omega arith))
 
 -- the happenings after the RTS
-abbrev taken : Message → ℕ → List Happening
-taken message zero = []
-taken message (suc count) = packet_of message (suc count) ∷ taken message count
+abbrev later_events : Message → ℕ → List SessionEvent
+later_events message zero = []
+later_events message (suc count) = packet_of message (suc count) ∷ later_events message count
 
-begun_split : (message : Message) (count : ℕ) → begun message count ≡ taken message count ++ Came (Rts (opening_of message)) ∷ []
+begun_split : (message : Message) (count : ℕ) → begun message count ≡ later_events message count ++ Came (Rts (opening_of message)) ∷ []
 begun_split message zero = refl
-begun_split message (suc count) = ap (λ (hs : List Happening). packet_of message (suc count) ∷ hs) (begun_split message count)
+begun_split message (suc count) = ap (λ (hs : List SessionEvent). packet_of message (suc count) ∷ hs) (begun_split message count)
 
-taken_quiet : (message : Message) (count : ℕ) → AreQuiet spelling (taken message count)
-taken_quiet message zero = tt
-taken_quiet message (suc count) = (tt, taken_quiet message count)
+later_quiet : (message : Message) (count : ℕ) → AreQuiet spelling (later_events message count)
+later_quiet message zero = tt
+later_quiet message (suc count) = (tt, later_quiet message count)
 
-taken_in_order : (message : Message) (count : ℕ) → packets_in (taken message count) ≡ numbered (packets_to message.bytes count)
-taken_in_order message zero = refl
-taken_in_order message (suc count) =
+later_in_order : (message : Message) (count : ℕ) → packets_in (later_events message count) ≡ numbered (packets_to message.bytes count)
+later_in_order message zero = refl
+later_in_order message (suc count) =
     ap₂ (λ (j : ℕ) (ps : List (ℕ × List ℕ)). (j, packet_bytes message.bytes (suc count)) ∷ ps)
-    (let all = length_packets message.bytes count in omega (arith, all)) (taken_in_order message count)
+    (let all = length_packets message.bytes count in omega (arith, all)) (later_in_order message count)
 
 both_and : (a b c : Bool) → (a && b) ≡ true → c ≡ true → (a && b && c) ≡ true
 both_and true true true both third = refl
@@ -91,11 +91,11 @@ whole_at message before all size = record {
   packets = packets_to message.bytes (suc before);
   sent = record {
     earlier = [];
-    later = taken message (suc before);
+    later = later_events message (suc before);
     split = begun_split message (suc before);
     opened = opening_opens message size;
-    quiet = taken_quiet message (suc before);
-    brought = taken_in_order message (suc before);
+    quiet = later_quiet message (suc before);
+    brought = later_in_order message (suc before);
   };
   all = length_packets message.bytes (suc before) ∙ all;
   packet = (suc before, packet_bytes message.bytes (suc before), refl);
@@ -120,22 +120,22 @@ both_true false b first second = absurd cc
 abbrev tp_by_group : ℕ → List ℕ → Option TpFrame
 tp_by_group = by_group TP_CM TP_DT connection_management (λ number bytes. Data number bytes)
 
-heard_by : (own to pgn : ℕ) (bytes : List ℕ) → HasDestination pgn → own < 2 ^ 8 → to < 2 ^ 8 → length bytes ≡ 8
-    → destination_of (addressed 7 pgn to own) ≡ Some to → pgn_of (addressed 7 pgn to own) ≡ pgn
-    → tp_frame to (frame_of pgn own to bytes) ≡ tp_by_group pgn bytes
-heard_by own to pgn bytes group own_fits to_fits eight to_is pgn_is =
-    let parts : parts_of (raw_of (addressed 7 pgn to own)) ≡ addressed 7 pgn to own =
-    ap parts_of (sym (joined-raw 7 pgn to own (lit< tt) group to_fits own_fits)) ∙ joined-parts 7 pgn to own (lit< tt) group to_fits own_fits in
-    let is_heard : (is_to to (destination_of (addressed 7 pgn to own)) && eqb (length bytes) 8) ≡ true =
+frame_read : (own_address to pgn : ℕ) (bytes : List ℕ) → HasDestination pgn → own_address < 2 ^ 8 → to < 2 ^ 8 → length bytes ≡ 8
+    → destination_of (addressed 7 pgn to own_address) ≡ Some to → pgn_of (addressed 7 pgn to own_address) ≡ pgn
+    → tp_frame to (frame_of pgn own_address to bytes) ≡ tp_by_group pgn bytes
+frame_read own_address to pgn bytes group address_fits to_fits eight to_is pgn_is =
+    let parts : parts_of (raw_of (addressed 7 pgn to own_address)) ≡ addressed 7 pgn to own_address =
+    ap parts_of (sym (joined-raw 7 pgn to own_address (lit< tt) group to_fits address_fits)) ∙ joined-parts 7 pgn to own_address (lit< tt) group to_fits address_fits in
+    let is_to_node : (is_to to (destination_of (addressed 7 pgn to own_address)) && eqb (length bytes) 8) ≡ true =
     both_true _ _ (ap (is_to to) to_is ∙ eq-eqb to to refl) (eq-eqb _ _ eight) in
     ap (λ (p : Parts). cond (is_to to (destination_of p) && eqb (length bytes) 8) (tp_by_group (pgn_of p) bytes) None) parts
-    ∙ ap (λ (b : Bool). cond b (tp_by_group (pgn_of (addressed 7 pgn to own)) bytes) None) is_heard
+    ∙ ap (λ (b : Bool). cond b (tp_by_group (pgn_of (addressed 7 pgn to own_address)) bytes) None) is_to_node
     ∙ ap (λ (k : ℕ). tp_by_group k bytes) pgn_is
 
-request_heard : (own to size pgn : ℕ) → own < 2 ^ 8 → to < 2 ^ 8 → size < 256 ^ 2 → pgn < 256 ^ 3
-    → tp_frame to (rts_frame own to size pgn) ≡ Some (Rts (record { size = size; packets = (size + 6) / 7; most = NO_LIMIT; pgn = pgn }))
-request_heard own to size pgn own_fits to_fits size_fits pgn_fits =
-    heard_by own to TP_CM (TP_RTS ∷ (little_bytes 2 size ++ (size + 6) / 7 ∷ NO_LIMIT ∷ little_bytes 3 pgn)) (record { fits = lit< tt; format = lit< tt; no_destination = refl }) own_fits to_fits refl refl refl
+request_read : (own_address to size pgn : ℕ) → own_address < 2 ^ 8 → to < 2 ^ 8 → size < 256 ^ 2 → pgn < 256 ^ 3
+    → tp_frame to (rts_frame own_address to size pgn) ≡ Some (Rts (record { size = size; packets = (size + 6) / 7; most = NO_LIMIT; pgn = pgn }))
+request_read own_address to size pgn address_fits to_fits size_fits pgn_fits =
+    frame_read own_address to TP_CM (TP_RTS ∷ (little_bytes 2 size ++ (size + 6) / 7 ∷ NO_LIMIT ∷ little_bytes 3 pgn)) (record { fits = lit< tt; format = lit< tt; no_destination = refl }) address_fits to_fits refl refl refl
     ∙ ap₂ (λ (s p : ℕ). Some (Rts (record { size = s; packets = (size + 6) / 7; most = NO_LIMIT; pgn = p })))
     (little_number-reads_back 2 size ((size + 6) / 7 ∷ NO_LIMIT ∷ little_bytes 3 pgn) size_fits) (little_number-reads_back 3 pgn [] pgn_fits)
 
@@ -144,10 +144,10 @@ length_packet bytes j =
     length-take 7 (drop (7 * (j - 1)) bytes ++ replicate 7 FILL)
     ∙ (let all = length-append (drop (7 * (j - 1)) bytes) (replicate 7 FILL) in omega (arith, all))
 
-packet_heard : (own to : ℕ) (bytes : List ℕ) (j : ℕ) → own < 2 ^ 8 → to < 2 ^ 8
-    → tp_frame to (packet_frame own to bytes j) ≡ Some (Data j (packet_bytes bytes j))
-packet_heard own to bytes j own_fits to_fits =
-    heard_by own to TP_DT (j ∷ packet_bytes bytes j) (record { fits = lit< tt; format = lit< tt; no_destination = refl }) own_fits to_fits
+packet_read : (own_address to : ℕ) (bytes : List ℕ) (j : ℕ) → own_address < 2 ^ 8 → to < 2 ^ 8
+    → tp_frame to (packet_frame own_address to bytes j) ≡ Some (Data j (packet_bytes bytes j))
+packet_read own_address to bytes j address_fits to_fits =
+    frame_read own_address to TP_DT (j ∷ packet_bytes bytes j) (record { fits = lit< tt; format = lit< tt; no_destination = refl }) address_fits to_fits
     (ap suc (length_packet bytes j)) refl refl
 
 most_size : (a b : Bool) → (a && b) ≡ true → b ≡ true
@@ -155,10 +155,10 @@ most_size true b both = both
 most_size false b both = absurd cc
 
 pub received : SentIsReceived
-received own to message own_fits to_fits pgn_fits size =
+received own_address to message address_fits to_fits pgn_fits size =
     let most : length message.bytes ≤ 1785 = leb-true _ _ (most_size _ (leb (length message.bytes) 1785) size) in
     record {
-      request = request_heard own to (length message.bytes) message.pgn own_fits to_fits (omega (arith, most)) (omega (arith, pgn_fits));
-      packets = λ j. packet_heard own to message.bytes j own_fits to_fits;
+      request = request_read own_address to (length message.bytes) message.pgn address_fits to_fits (omega (arith, most)) (omega (arith, pgn_fits));
+      packets = λ j. packet_read own_address to message.bytes j address_fits to_fits;
       whole = whole_in_full message size;
     }

@@ -13,8 +13,8 @@ use Rattle.vt_transport.specs.declared.messages.Reply.{Reply}
 use Rattle.vt_transport.specs.declared.messages.Reply.TheVariants.{ClearToSend, End, Abort}
 
 -- A frame of the transport protocol came from the source, or its session was aborted for silence.
-abbrev pub Happening : Type 0
-Happening = histories.Happening TpFrame
+abbrev pub SessionEvent : Type 0
+SessionEvent = histories.SessionEvent TpFrame
 
 -- 9 to 1785 bytes, in packets of seven
 abbrev pub opens : Opening → Bool
@@ -25,14 +25,14 @@ abbrev pub allowed : Opening → ℕ
 allowed o = if o.most == 0 then 255 else o.most
 
 -- what leaves a session as it is: no RTS, no timeout, and no abort but of VT_TO_ECU, which is one to a sender
-abbrev pub IsQuiet : Happening → Type 0
+abbrev pub IsQuiet : SessionEvent → Type 0
 IsQuiet TimedOut = ⊥
 IsQuiet (Came (Rts o)) = ⊥
 IsQuiet (Came (Aborted pgn)) = pgn ≡ VT_TO_ECU
 IsQuiet (Came _) = Unit {0}
 
 -- the packets that came, with their sequence numbers
-abbrev pub packets_in : List Happening → List (ℕ × List ℕ)
+abbrev pub packets_in : List SessionEvent → List (ℕ × List ℕ)
 packets_in [] = []
 packets_in (TimedOut ∷ hs) = packets_in hs
 packets_in (Came (Data number bytes) ∷ hs) = (number, bytes) ∷ packets_in hs
@@ -59,11 +59,11 @@ spelling = record {
 }
 
 -- a session is open, with packets still to come
-abbrev pub Stands : List Happening → Opening → List (List ℕ) → Type 0
+abbrev pub Stands : List SessionEvent → Opening → List (List ℕ) → Type 0
 Stands = histories.Stands spelling
 
 -- a happening is the last packet of a message
-abbrev pub IsWhole : List Happening → Happening → Message → Type 0
+abbrev pub IsWhole : List SessionEvent → SessionEvent → Message → Type 0
 IsWhole = histories.IsWhole spelling
 
 -- the reply to an RTS
@@ -83,7 +83,7 @@ packet_reply o count number =
     if number == count + 1 then reply_to o number else Some (Abort Disorder o.pgn)
 
 -- the reply to x after hs
-abbrev pub IsAnswered : List Happening → Happening → Option Reply → Type 0
+abbrev pub IsAnswered : List SessionEvent → SessionEvent → Option Reply → Type 0
 IsAnswered hs TimedOut reply = reply ≡ None
 IsAnswered hs (Came (Rts o)) reply = reply ≡ Some (first_reply o)
 IsAnswered hs (Came (Data number bytes)) reply =

@@ -33,16 +33,16 @@ reply_bytes (End size packets pgn) = TP_END ∷ (little_bytes 2 size ++ packets 
 reply_bytes (Abort reason pgn) = abort_bytes reason pgn
 
 abbrev pub reply_frame : ℕ → ℕ → Reply → Frame
-reply_frame own to reply = frame_of TP_CM own to (reply_bytes reply)
+reply_frame own_address to reply = frame_of TP_CM own_address to (reply_bytes reply)
 
 -- the RTS of a message, which allows FF packets in a CTS
 abbrev pub rts_frame : ℕ → ℕ → ℕ → ℕ → Frame
-rts_frame own to size pgn =
-    frame_of TP_CM own to (TP_RTS ∷ (little_bytes 2 size ++ (size + 6) / 7 ∷ NO_LIMIT ∷ little_bytes 3 pgn))
+rts_frame own_address to size pgn =
+    frame_of TP_CM own_address to (TP_RTS ∷ (little_bytes 2 size ++ (size + 6) / 7 ∷ NO_LIMIT ∷ little_bytes 3 pgn))
 
 -- the bytes of packet j of a message, the last one filled with FF
 abbrev pub packet_bytes : List ℕ → ℕ → List ℕ
 packet_bytes bytes j = take 7 (drop (7 * (j - 1)) bytes ++ replicate 7 FILL)
 
 abbrev pub packet_frame : ℕ → ℕ → List ℕ → ℕ → Frame
-packet_frame own to bytes j = frame_of TP_DT own to (j ∷ packet_bytes bytes j)
+packet_frame own_address to bytes j = frame_of TP_DT own_address to (j ∷ packet_bytes bytes j)

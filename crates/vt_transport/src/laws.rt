@@ -1,8 +1,8 @@
 //! What the definitions come to: each function is a law, and its body does nothing.
 
 ghost use Rattle.vt_transport.specs.BothEnds.{SentIsReceived};
-ghost use Rattle.vt_transport.specs.Protocol.{StepsAssembleMessages, MessagesDependOnOwnFrames, RunsHandOutMessages, SessionsAreOfHistories, RunsHandOutWholeMessages, IsTimeless, ForeignFramesAreIgnored};
-ghost use Rattle.vt_transport.specs.Senders.{AnswersAreTimeless, ForeignFramesAreUnanswered};
+ghost use Rattle.vt_transport.specs.Protocol.{StepsAssembleMessages, MessagesDependOnTheirSource, RunsHandOutMessages, SessionsAreOfHistories, RunsHandOutWholeMessages, IsTimeless, OtherGroupsAreIgnored};
+ghost use Rattle.vt_transport.specs.Senders.{AnswersAreTimeless, OtherGroupsAreUnanswered};
 
 /// The steps of a receiver on the session of a source hand out its messages, with the replies to its frames,
 /// as the whole history of the source defines them.
@@ -11,8 +11,8 @@ pub fn steps_assemble_messages()
 {}
 
 /// The messages of a source depend on its frames and their times alone, whatever other sources send.
-pub fn messages_depend_on_own_frames()
-    ensures { MessagesDependOnOwnFrames }
+pub fn messages_depend_on_their_source()
+    ensures { MessagesDependOnTheirSource }
 {}
 
 /// A message whose request and packets a sender sends is whole for the receiver of them, with the bytes that
@@ -49,7 +49,7 @@ pub fn answers_are_timeless()
 
 /// A frame of another parameter group than the two of the protocol changes nothing in a receiver or a sender,
 /// and is not answered.
-pub fn foreign_frames_say_nothing()
-    ensures receiver { ForeignFramesAreIgnored }
-    ensures sender { ForeignFramesAreUnanswered }
+pub fn other_groups_are_ignored()
+    ensures receiver { OtherGroupsAreIgnored }
+    ensures sender { OtherGroupsAreUnanswered }
 {}

@@ -53,17 +53,23 @@ impl Outgoing {
     }
 
     /// The frames of as many packets as are asked for from one on, up to the last packet.
-    pub(crate) fn frames(&self, own: u8, to: u8, next: u8, count: u8) -> ArrayVec<Frame, 255>
+    pub(crate) fn frames(
+        &self,
+        own_address: u8,
+        to: u8,
+        next: u8,
+        count: u8,
+    ) -> ArrayVec<Frame, 255>
         requires first { 1 ≤ next }
         requires last { next ≤ packets_of self.now }
-        ensures { result.items ≡ map (packet_frame own to self.now.bytes)
+        ensures { result.items ≡ map (packet_frame own_address to self.now.bytes)
             (numbers_from next (min count (packets_of self.now + 1 - next))) }
     {
         let mut frames = ArrayVec::new();
         let left = self.packets() - (next - 1);
         for sent in 0..count.min(left) {
             let number = next + sent;
-            frames.push(wire::data_frame(own, to, number, self.packet(number)));
+            frames.push(wire::data_frame(own_address, to, number, self.packet(number)));
         }
         frames
     }

@@ -8,13 +8,13 @@ ghost use Rattle.vt_transport.specs.Wire.{tp_frame, connection_management, reply
 use crate::messages::{Opening, Reply, TpFrame};
 use byteorder::{ByteOrder, LittleEndian};
 use vt_can::assigned::{ABORT, FILL, NO_LIMIT, TP_CM, TP_CTS, TP_DT, TP_END, TP_RTS};
-use vt_can::{Frame, abort_bytes, frame_of, is_heard, numbered_packet, three_bytes};
+use vt_can::{Frame, abort_bytes, frame_of, is_transport_frame_to, numbered_packet, three_bytes};
 
 /// What a frame says to a node. It is of the transport protocol, to the node's address and of 8 bytes.
-pub(crate) fn tp_frame(own: u8, frame: &Frame) -> Option<TpFrame>
-    ensures { result ≡ tp_frame own frame.now }
+pub(crate) fn tp_frame(own_address: u8, frame: &Frame) -> Option<TpFrame>
+    ensures { result ≡ tp_frame own_address frame.now }
 {
-    if !is_heard(own, frame) {
+    if !is_transport_frame_to(own_address, frame) {
         return None;
     }
     let bytes = frame.bytes.as_slice();
@@ -52,10 +52,10 @@ fn connection_management(bytes: &[u8]) -> TpFrame
 }
 
 /// The frame that a reply is, from this node to another.
-pub(crate) fn reply_frame(own: u8, to: u8, reply: Reply) -> Frame
-    ensures { result ≡ reply_frame own to reply }
+pub(crate) fn reply_frame(own_address: u8, to: u8, reply: Reply) -> Frame
+    ensures { result ≡ reply_frame own_address to reply }
 {
-    frame_of(TP_CM, own, to, reply_bytes(reply))
+    frame_of(TP_CM, own_address, to, reply_bytes(reply))
 }
 
 fn reply_bytes(reply: Reply) -> [u8; 8]
@@ -78,9 +78,9 @@ fn reply_bytes(reply: Reply) -> [u8; 8]
 }
 
 /// The request to send a message, which allows FF packets in a CTS.
-pub(crate) fn rts_frame(own: u8, to: u8, size: u16, pgn: u32) -> Frame
+pub(crate) fn rts_frame(own_address: u8, to: u8, size: u16, pgn: u32) -> Frame
     requires { size ≤ 1785 }
-    ensures { result ≡ rts_frame own to size pgn }
+    ensures { result ≡ rts_frame own_address to size pgn }
 {
     let [size_low, size_high] = size.to_le_bytes();
     let [low, middle, high] = three_bytes(pgn);
@@ -88,13 +88,13 @@ pub(crate) fn rts_frame(own: u8, to: u8, size: u16, pgn: u32) -> Frame
     let bytes = [
         TP_RTS, size_low, size_high, packets, NO_LIMIT, low, middle, high,
     ];
-    frame_of(TP_CM, own, to, bytes)
+    frame_of(TP_CM, own_address, to, bytes)
 }
 
 /// A packet of a message.
-pub(crate) fn data_frame(own: u8, to: u8, number: u8, packet: [u8; 7]) -> Frame
-    ensures { result ≡ frame_of TP_DT own to (number ∷ packet) }
+pub(crate) fn data_frame(own_address: u8, to: u8, number: u8, packet: [u8; 7]) -> Frame
+    ensures { result ≡ frame_of TP_DT own_address to (number ∷ packet) }
 {
     let [a, b, c, d, e, f, g] = packet;
-    frame_of(TP_DT, own, to, [number, a, b, c, d, e, f, g])
+    frame_of(TP_DT, own_address, to, [number, a, b, c, d, e, f, g])
 }

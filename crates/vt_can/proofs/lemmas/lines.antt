@@ -1,7 +1,7 @@
 -- The lines of a log.
 pub mod Cutting
 pub mod Shape
-pub mod Deeds
+pub mod Actions
 pub mod Reading
 pub mod Writing
 pub mod OneReading

@@ -1,11 +1,11 @@
 -- What both transport protocols share.
-pub mod Filed
+pub mod Places
 pub mod ByAddress
 pub mod Overdue
 pub mod Timeless
 pub mod Joining
 pub mod Booleans
-pub mod OwnFrames
+pub mod OneSource
 pub mod Serving
 pub mod Runs
 pub mod Receiving

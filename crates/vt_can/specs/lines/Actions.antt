@@ -8,21 +8,21 @@ use Rattle.vt_can.specs.declared.lines.line.Action.{Action}
 use Rattle.vt_can.specs.declared.lines.line.Action.TheVariants as actions
 
 -- an action without where its text lies
-pub data Deed : Type 0 where
-  Press : (id : ℕ) → Deed
-  Release : (id : ℕ) → Deed
-  Select : (id : ℕ) → Deed
-  Number : (id n : ℕ) → Deed
-  Text : (id : ℕ) (text : List ℕ) → Deed
-  Set : (address : ℕ) → Deed
+pub data ActionValue : Type 0 where
+  Press : (id : ℕ) → ActionValue
+  Release : (id : ℕ) → ActionValue
+  Select : (id : ℕ) → ActionValue
+  Number : (id n : ℕ) → ActionValue
+  Text : (id : ℕ) (text : List ℕ) → ActionValue
+  Set : (address : ℕ) → ActionValue
 
-abbrev pub deed_of : Action → Deed
-deed_of (actions.Press id) = Press id
-deed_of (actions.Release id) = Release id
-deed_of (actions.Select id) = Select id
-deed_of (actions.Number id n) = Number id n
-deed_of (actions.Text id text) = Text id text.now
-deed_of (actions.Set address) = Set address
+abbrev pub action_value : Action → ActionValue
+action_value (actions.Press id) = Press id
+action_value (actions.Release id) = Release id
+action_value (actions.Select id) = Select id
+action_value (actions.Number id n) = Number id n
+action_value (actions.Text id text) = Text id text.now
+action_value (actions.Set address) = Set address
 
 -- a number in decimal digits, of which there is at least one
 pub record IsNumber (text : List ℕ) (n most : ℕ) : Type 0 where
@@ -44,10 +44,10 @@ pub record HasIdAnd (word rest : List ℕ) (id : ℕ) (more : List ℕ) : Type 0
   pub id_is : IsNumber digits id 65534
 
 -- what stands behind `! `
-abbrev pub IsDeed : List ℕ → Deed → Type 0
-IsDeed rest (Press id) = HasId (codes "press ") rest id
-IsDeed rest (Release id) = HasId (codes "release ") rest id
-IsDeed rest (Select id) = HasId (codes "select ") rest id
-IsDeed rest (Number id n) = (digits : List ℕ) × HasIdAnd (codes "number ") rest id digits × IsNumber digits n 4294967295
-IsDeed rest (Text id text) = HasIdAnd (codes "text ") rest id text
-IsDeed rest (Set address) = (digits : List ℕ) × (rest ≡ codes "set " ++ digits) × (decode_of digits ≡ Ok (address ∷ []))
+abbrev pub IsActionText : List ℕ → ActionValue → Type 0
+IsActionText rest (Press id) = HasId (codes "press ") rest id
+IsActionText rest (Release id) = HasId (codes "release ") rest id
+IsActionText rest (Select id) = HasId (codes "select ") rest id
+IsActionText rest (Number id n) = (digits : List ℕ) × HasIdAnd (codes "number ") rest id digits × IsNumber digits n 4294967295
+IsActionText rest (Text id text) = HasIdAnd (codes "text ") rest id text
+IsActionText rest (Set address) = (digits : List ℕ) × (rest ≡ codes "set " ++ digits) × (decode_of digits ≡ Ok (address ∷ []))

@@ -9,8 +9,8 @@ use Rattle.byteorder.specs.Endian.{big_number}
 use Rattle.vt_can.specs.declared.lines.line.Skipped.TheVariants.{Remote, Fd, Short, Error}
 use Rattle.vt_can.specs.declared.lines.line.LineFault.{LineFault}
 use Rattle.vt_can.specs.declared.lines.line.LineFault.TheVariants.{Time, Shape, Hex, Length, Operator}
-use Rattle.vt_can.specs.lines.Actions.{Deed, IsDeed}
-use Rattle.vt_can.specs.lines.Readings.{Said, FrameAt, Does, IsSkipped, Comments}
+use Rattle.vt_can.specs.lines.Actions.{ActionValue, IsActionText}
+use Rattle.vt_can.specs.lines.Readings.{ParsedLine, FrameAt, OperatorAction, SkippedFrame, CommentLine}
 
 -- What stands on a line: without the one carriage return that may end it.
 abbrev pub IsContent : List ℕ → List ℕ → Type 0
@@ -74,19 +74,19 @@ abbrev pub id_of : Result (List ℕ) FromHexError → ℕ
 id_of (Ok bytes) = big_number 4 bytes
 id_of (Err e) = 0
 
-abbrev pub data_reading : ℕ → ℕ → Result (List ℕ) FromHexError → Result Said LineFault
+abbrev pub data_reading : ℕ → ℕ → Result (List ℕ) FromHexError → Result ParsedLine LineFault
 data_reading time id (Err e) = Err Hex
 data_reading time id (Ok bytes) =
     if nat_lt 8 (length bytes) then Err Length else Ok (FrameAt time (record { id = id; bytes = record { items = bytes } }))
 
 -- What a line of the right shape says: the first of these that applies.
-abbrev pub shaped_reading : ℕ → List ℕ → List ℕ → Result Said LineFault
-shaped_reading time id text =
+abbrev pub frame_line_reading : ℕ → List ℕ → List ℕ → Result ParsedLine LineFault
+frame_line_reading time id text =
     if not (list_all is_hex_digit id) then Err Hex
-    else if length id == 3 then Ok (IsSkipped Short)
-    else if nat_lt 0x1FFFFFFF (id_of (decode_of id)) then Ok (IsSkipped Error)
-    else if begins_with 82 text then Ok (IsSkipped Remote)
-    else if begins_with 35 text then Ok (IsSkipped Fd)
+    else if length id == 3 then Ok (SkippedFrame Short)
+    else if nat_lt 0x1FFFFFFF (id_of (decode_of id)) then Ok (SkippedFrame Error)
+    else if begins_with 82 text then Ok (SkippedFrame Remote)
+    else if begins_with 35 text then Ok (SkippedFrame Fd)
     else data_reading time (id_of (decode_of id)) (decode_of text)
 
 -- neither a comment nor an operator line
@@ -95,22 +95,22 @@ pub record IsOtherLine (content : List ℕ) : Type 0 where
   pub no_operator : (rest : List ℕ) → IsOperatorLine content rest → ⊥
 
 -- What a line's content says, or the first of its faults.
-pub data IsRead (content : List ℕ) : Result Said LineFault → Type 0 where
-  comment : IsComment content → IsRead content (Ok Comments)
-  deed : (rest : List ℕ) (d : Deed) → IsOperatorLine content rest → IsDeed rest d → IsRead content (Ok (Does d))
-  no_deed : (rest : List ℕ) → IsOperatorLine content rest → ((d : Deed) → IsDeed rest d → ⊥) → IsRead content (Err Operator)
+pub data IsRead (content : List ℕ) : Result ParsedLine LineFault → Type 0 where
+  comment : IsComment content → IsRead content (Ok CommentLine)
+  operator_action : (rest : List ℕ) (d : ActionValue) → IsOperatorLine content rest → IsActionText rest d → IsRead content (Ok (OperatorAction d))
+  no_action : (rest : List ℕ) → IsOperatorLine content rest → ((d : ActionValue) → IsActionText rest d → ⊥) → IsRead content (Err Operator)
   no_time : IsOtherLine content → ((time : ℕ) (rest : List ℕ) → HasTime content time rest → ⊥) → IsRead content (Err Time)
   no_shape : (time : ℕ) (rest : List ℕ) → HasTime content time rest → ((id text : List ℕ) → HasShape rest id text → ⊥) → IsRead content (Err Shape)
-  shaped : (time : ℕ) (rest id text : List ℕ) → HasTime content time rest → HasShape rest id text → IsRead content (shaped_reading time id text)
+  frame_line : (time : ℕ) (rest id text : List ℕ) → HasTime content time rest → HasShape rest id text → IsRead content (frame_line_reading time id text)
 
 -- how a line is read
-abbrev pub Reads : List ℕ → Result Said LineFault → Type 0
+abbrev pub Reads : List ℕ → Result ParsedLine LineFault → Type 0
 Reads line reading = (content : List ℕ) × IsContent line content × IsRead content reading
 
 -- a line that has a reading
 abbrev pub HasReading : List ℕ → Type 0
-HasReading line = (reading : Result Said LineFault) × Reads line reading
+HasReading line = (reading : Result ParsedLine LineFault) × Reads line reading
 
 -- No line has two readings.
 abbrev pub ReadingsAreOne : Type 0
-ReadingsAreOne = (line : List ℕ) (a b : Result Said LineFault) → Reads line a → Reads line b → a ≡ b
+ReadingsAreOne = (line : List ℕ) (a b : Result ParsedLine LineFault) → Reads line a → Reads line b → a ≡ b

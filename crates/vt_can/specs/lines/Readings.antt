@@ -5,20 +5,20 @@ use Rattle.vt_can.specs.declared.lines.line.Skipped.{Skipped}
 use Rattle.vt_can.specs.declared.lines.line.Line.{Line}
 use Rattle.vt_can.specs.declared.lines.line.Line.TheVariants as lines
 use Rattle.vt_can.specs.declared.lines.line.LineFault.{LineFault}
-use Rattle.vt_can.specs.lines.Actions.{Deed, deed_of}
+use Rattle.vt_can.specs.lines.Actions.{ActionValue, action_value}
 
-pub data Said : Type 0 where
-  FrameAt : (time : ℕ) (frame : Frame) → Said
-  Does : (deed : Deed) → Said
-  IsSkipped : (why : Skipped) → Said
-  Comments : Said
+pub data ParsedLine : Type 0 where
+  FrameAt : (time : ℕ) (frame : Frame) → ParsedLine
+  OperatorAction : (action : ActionValue) → ParsedLine
+  SkippedFrame : (why : Skipped) → ParsedLine
+  CommentLine : ParsedLine
 
-abbrev pub said_of : Line → Said
-said_of (lines.Frame time frame) = FrameAt time frame
-said_of (lines.Operator action) = Does (deed_of action)
-said_of (lines.Skipped why) = IsSkipped why
-said_of lines.Comment = Comments
+abbrev pub parsed : Line → ParsedLine
+parsed (lines.Frame time frame) = FrameAt time frame
+parsed (lines.Operator action) = OperatorAction (action_value action)
+parsed (lines.Skipped why) = SkippedFrame why
+parsed lines.Comment = CommentLine
 
-abbrev pub reading_of : Result Line LineFault → Result Said LineFault
-reading_of (Ok line) = Ok (said_of line)
+abbrev pub reading_of : Result Line LineFault → Result ParsedLine LineFault
+reading_of (Ok line) = Ok (parsed line)
 reading_of (Err fault) = Err fault

@@ -28,10 +28,10 @@ module _ {F : Type 0} where
   is_from source i = i.source == source
 
 -- the message of a source that is handed out
-abbrev pub handed : ℕ → Heard → Option Message
-handed source heard.Nothing = None
-handed source (heard.Reply reply) = None
-handed source (heard.Message from pgn bytes reply) =
+abbrev pub handed_out : ℕ → Heard → Option Message
+handed_out source heard.Nothing = None
+handed_out source (heard.Reply reply) = None
+handed_out source (heard.Message from pgn bytes reply) =
     if from == source then Some (record { pgn = pgn; bytes = bytes }) else None
 
 module _ {F : Type 0} where
@@ -39,34 +39,34 @@ module _ {F : Type 0} where
   inputs_of [] = []
   inputs_of (x ∷ run) = x.0 ∷ inputs_of run
 
-  abbrev pub handed_in : ℕ → List (Input F × Heard) → List Message
-  handed_in source [] = []
-  handed_in source (x ∷ run) = option_to_list (handed source x.1) ++ handed_in source run
+  abbrev pub handed_out_in : ℕ → List (Input F × Heard) → List Message
+  handed_out_in source [] = []
+  handed_out_in source (x ∷ run) = option_to_list (handed_out source x.1) ++ handed_out_in source run
 
-module _ {K F R : Type 0} (protocol : Protocol K F R) where
+module _ {S F R : Type 0} (protocol : Protocol S F R) where
   -- a frame as an input of the node at an address
   abbrev pub input_of : ℕ → ℕ → Frame → Input F
-  input_of own now frame = record { time = now; source = source_of frame; frame = protocol.frame_in own frame }
+  input_of own_address now frame = record { time = now; source = source_of frame; frame = protocol.frame_in own_address frame }
 
   -- the session that a frame of a source leaves, and the message that it completes
-  abbrev pub left : ℕ → Option (Timed K) → Option F → Option (Timed K)
-  left now kept frame = (stepped protocol now kept frame).session
+  abbrev pub session_after_frame : ℕ → Option (Timed S) → Option F → Option (Timed S)
+  session_after_frame now current frame = (stepped protocol now current frame).session
 
-  abbrev pub given : ℕ → Option (Timed K) → Option F → Option Message
-  given now kept frame = (stepped protocol now kept frame).message
+  abbrev pub message_of_frame : ℕ → Option (Timed S) → Option F → Option Message
+  message_of_frame now current frame = (stepped protocol now current frame).message
 
   -- The session of a source. At each input of the bus the sessions that are overdue end, before its
   -- frame is heard.
-  abbrev pub session_of : ℕ → List (Input F) → Option (Timed K)
+  abbrev pub session_of : ℕ → List (Input F) → Option (Timed S)
   session_of source [] = None
   session_of source (i ∷ inputs) =
-      let kept = alive i.time (session_of source inputs) in
-      if is_from source i then left i.time kept i.frame else kept
+      let current = alive i.time (session_of source inputs) in
+      if is_from source i then session_after_frame i.time current i.frame else current
 
   -- the message of a source that an input completes
   abbrev pub message_at : ℕ → Input F → List (Input F) → Option Message
   message_at source i inputs =
-      if is_from source i then given i.time (alive i.time (session_of source inputs)) i.frame else None
+      if is_from source i then message_of_frame i.time (alive i.time (session_of source inputs)) i.frame else None
 
   -- the messages that were assembled for a source, the latest first
   abbrev pub messages_of : ℕ → List (Input F) → List Message
@@ -74,23 +74,23 @@ module _ {K F R : Type 0} (protocol : Protocol K F R) where
   messages_of source (i ∷ inputs) = option_to_list (message_at source i inputs) ++ messages_of source inputs
 
   -- They depend on the source's own frames and their times alone.
-  abbrev pub MessagesDependOnOwnFrames : Type 0
-  MessagesDependOnOwnFrames = (source now : ℕ) (inputs : List (Input F)) → IsInOrder now inputs
+  abbrev pub MessagesDependOnTheirSource : Type 0
+  MessagesDependOnTheirSource = (source now : ℕ) (inputs : List (Input F)) → IsInOrder now inputs
       → messages_of source inputs ≡ messages_of source (filter (is_from source) inputs)
 
   -- An input is served: the sessions that are overdue end, and its source's makes a step and hands out its message.
-  pub record Serves (old new : ByAddress K) (i : Input F) (said : Heard) : Type 0 where
-    pub session : finite.get new i.source ≡ left i.time (alive i.time (finite.get old i.source)) i.frame
+  pub record Serves (old new : ByAddress S) (i : Input F) (result : Heard) : Type 0 where
+    pub session : finite.get new i.source ≡ session_after_frame i.time (alive i.time (finite.get old i.source)) i.frame
     pub others : (other : ℕ) → (other ≡ i.source → ⊥) → finite.get new other ≡ alive i.time (finite.get old other)
-    pub message : (source : ℕ) → handed source said
-        ≡ (if is_from source i then given i.time (alive i.time (finite.get old i.source)) i.frame else None)
+    pub message : (source : ℕ) → handed_out source result
+        ≡ (if is_from source i then message_of_frame i.time (alive i.time (finite.get old i.source)) i.frame else None)
 
   -- From no session, inputs were served, and this was said to each.
-  abbrev pub IsRun : ByAddress K → List (Input F × Heard) → Type 0
+  abbrev pub IsRun : ByAddress S → List (Input F × Heard) → Type 0
   IsRun sessions [] = sessions ≡ finite.empty
-  IsRun sessions (x ∷ run) = (old : ByAddress K) × IsRun old run × Serves old sessions x.0 x.1
+  IsRun sessions (x ∷ run) = (old : ByAddress S) × IsRun old run × Serves old sessions x.0 x.1
 
   -- A run hands out the messages of each source.
   abbrev pub RunsHandOutMessages : Type 0
-  RunsHandOutMessages = (sessions : ByAddress K) (run : List (Input F × Heard)) (source : ℕ) → IsRun sessions run
-      → handed_in source run ≡ messages_of source (inputs_of run)
+  RunsHandOutMessages = (sessions : ByAddress S) (run : List (Input F × Heard)) (source : ℕ) → IsRun sessions run
+      → handed_out_in source run ≡ messages_of source (inputs_of run)

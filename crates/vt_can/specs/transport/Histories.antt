@@ -3,13 +3,13 @@ use Rattle.std.specs.Prelude.{◌≡◌, ◌<◌, ◌≤◌, ℕ, ◌*◌, Bool,
 use Rattle.vt_can.specs.transport.Messages.{Message}
 
 -- A frame of the protocol came from the source, or its session was aborted for silence.
-pub data Happening (F : Type 0) : Type 0 where
-  Came : F → Happening F
-  TimedOut : Happening F
+pub data SessionEvent (F : Type 0) : Type 0 where
+  Came : F → SessionEvent F
+  TimedOut : SessionEvent F
 
 module _ {F : Type 0} where
   -- happenings without their times
-  abbrev pub untimed : List (ℕ × Happening F) → List (Happening F)
+  abbrev pub untimed : List (ℕ × SessionEvent F) → List (SessionEvent F)
   untimed [] = []
   untimed (x ∷ xs) = x.1 ∷ untimed xs
 
@@ -23,36 +23,36 @@ pub record Spelling (F O P : Type 0) : Type 1 where
   pub pgn : O → ℕ
   pub all : O → ℕ
   -- what leaves a session as it is
-  pub IsQuiet : Happening F → Type 0
+  pub IsQuiet : SessionEvent F → Type 0
   -- what came after a request brings just these packets, in their order
-  pub Brings : O → List (Happening F) → P → Type 0
+  pub Brings : O → List (SessionEvent F) → P → Type 0
   -- their number, and their bytes
   pub count : P → ℕ
   pub bytes : P → List ℕ
   -- a happening that is a packet
-  pub IsPacket : Happening F → Type 0
+  pub IsPacket : SessionEvent F → Type 0
 
 module _ {F O P : Type 0} (spelling : Spelling F O P) where
-  abbrev pub AreQuiet : List (Happening F) → Type 0
+  abbrev pub AreQuiet : List (SessionEvent F) → Type 0
   AreQuiet [] = Unit {0}
   AreQuiet (h ∷ hs) = spelling.IsQuiet h × AreQuiet hs
 
   -- After a request that opens came quiet happenings alone, which bring these packets.
-  pub record Sent (hs : List (Happening F)) (o : O) (packets : P) : Type 0 where
-    pub earlier : List (Happening F)
-    pub later : List (Happening F)
+  pub record Sent (hs : List (SessionEvent F)) (o : O) (packets : P) : Type 0 where
+    pub earlier : List (SessionEvent F)
+    pub later : List (SessionEvent F)
     pub split : hs ≡ later ++ Came (spelling.request o) ∷ earlier
     pub opened : spelling.opens o ≡ true
     pub quiet : AreQuiet later
     pub brought : spelling.Brings o later packets
 
   -- a session is open, with packets still to come
-  pub record Stands (hs : List (Happening F)) (o : O) (packets : P) : Type 0 where
+  pub record Stands (hs : List (SessionEvent F)) (o : O) (packets : P) : Type 0 where
     pub sent : Sent hs o packets
     pub more : spelling.count packets < spelling.all o
 
   -- x is the last packet of a message
-  pub record IsWhole (hs : List (Happening F)) (x : Happening F) (message : Message) : Type 0 where
+  pub record IsWhole (hs : List (SessionEvent F)) (x : SessionEvent F) (message : Message) : Type 0 where
     pub opening : O
     pub packets : P
     pub sent : Sent (x ∷ hs) opening packets

@@ -10,6 +10,6 @@ joined [] = []
 joined (packet ∷ packets) = joined packets ++ packet
 
 -- the size and first byte of a message
-abbrev pub told_of : Option Message → Option (ℕ × ℕ)
-told_of None = None
-told_of (Some message) = Some (length message.bytes, slice_index message.bytes 0)
+abbrev pub size_and_first_byte : Option Message → Option (ℕ × ℕ)
+size_and_first_byte None = None
+size_and_first_byte (Some message) = Some (length message.bytes, slice_index message.bytes 0)

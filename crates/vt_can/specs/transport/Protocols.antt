@@ -9,20 +9,20 @@ use Rattle.vt_can.specs.transport.Messages.{Message}
 use Rattle.vt_can.specs.transport.Sessions.{untimed_session}
 
 -- what a step leaves of a session, and what it gives
-pub record Outcome (K R : Type 0) : Type 0 where
-  pub session : Option (Timed K)
+pub record Outcome (S R : Type 0) : Type 0 where
+  pub session : Option (Timed S)
   pub reply : Option R
   pub message : Option Message
 
-module _ {K R : Type 0} where
-  abbrev pub silent : Option (Timed K) → Outcome K R
+module _ {S R : Type 0} where
+  abbrev pub silent : Option (Timed S) → Outcome S R
   silent session = record { session = session; reply = None; message = None }
 
-  abbrev pub ended : R → Outcome K R
+  abbrev pub ended : R → Outcome S R
   ended reply = record { session = None; reply = Some reply; message = None }
 
   -- What a frame makes of a session, as an outcome: one with more to come has this time from then on.
-  abbrev pub outcome_of : ℕ → Received K R → Outcome K R
+  abbrev pub outcome_of : ℕ → Received S R → Outcome S R
   outcome_of last (Refused reply) = ended reply
   outcome_of last (More session reply) =
       record { session = Some (record { last = last; session = session }); reply = reply; message = None }
@@ -30,23 +30,23 @@ module _ {K R : Type 0} where
       record { session = None; reply = Some reply; message = Some (record { pgn = pgn; bytes = bytes }) }
 
   -- an outcome without the time of its session
-  abbrev pub untimed_outcome : Outcome K R → Outcome K R
+  abbrev pub untimed_outcome : Outcome S R → Outcome S R
   untimed_outcome out = record { session = untimed_session out.session; reply = out.reply; message = out.message }
 
-pub record Protocol (K F R : Type 0) : Type 0 where
+pub record Protocol (S F R : Type 0) : Type 0 where
   -- what a frame says to the node at an address, if it is one of the protocol's
   pub frame_in : ℕ → Frame → Option F
   -- whether it opens a session, and the bytes of the message then
   pub opens : F → Bool
   pub size : F → ℕ
   -- its step, at a time, on the session of its source
-  pub step : ℕ → Option (Timed K) → F → Outcome K R
+  pub step : ℕ → Option (Timed S) → F → Outcome S R
   -- the reply that ends a session without frames
-  pub timeout : K → R
+  pub timeout : S → R
   -- the frame of a reply, from one address to another
   pub reply_frame : ℕ → ℕ → R → Frame
 
 -- Apart from the time that a session has afterwards, a step depends on neither the time of the frame nor that of the session.
-abbrev pub IsTimeless : {K F R : Type 0} → Protocol K F R → Type 0
-IsTimeless {K} {F} {R} protocol = (now : ℕ) (kept : Option (Timed K)) (frame : F)
-    → untimed_outcome (protocol.step now kept frame) ≡ untimed_outcome (protocol.step 0 (untimed_session kept) frame)
+abbrev pub IsTimeless : {S F R : Type 0} → Protocol S F R → Type 0
+IsTimeless {S} {F} {R} protocol = (now : ℕ) (current : Option (Timed S)) (frame : F)
+    → untimed_outcome (protocol.step now current frame) ≡ untimed_outcome (protocol.step 0 (untimed_session current) frame)

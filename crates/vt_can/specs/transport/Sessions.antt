@@ -13,13 +13,13 @@ abbrev pub ByAddress : Type 0 → Type 0
 ByAddress T = finite.FinMap nat_cmp (Timed T)
 
 -- the map of the places that begin with that of an address
-abbrev pub filed : {X : Type 0} → ℕ → List (Option X) → finite.FinMap nat_cmp X
-filed address [] = finite.empty
-filed address (None ∷ places) = filed (suc address) places
-filed address (Some x ∷ places) = finite.insert (filed (suc address) places) address x
+abbrev pub map_of_places : {X : Type 0} → ℕ → List (Option X) → finite.FinMap nat_cmp X
+map_of_places address [] = finite.empty
+map_of_places address (None ∷ places) = map_of_places (suc address) places
+map_of_places address (Some x ∷ places) = finite.insert (map_of_places (suc address) places) address x
 
 -- a place for each address, and no session's last frame is before `earliest`
-pub record AreFiled {T : Type 0} (places : List (Option (Timed T))) (earliest : ℕ) : Type 0 where
+pub record ArePlaces {T : Type 0} (places : List (Option (Timed T))) (earliest : ℕ) : Type 0 where
   pub all : length places ≡ 256
   pub bound : (q : ℕ) (timed : Timed T) → get_or places q None ≡ Some timed → earliest ≤ timed.last
 
@@ -46,7 +46,7 @@ module _ {T : Type 0} where
 
   -- a session that isn't overdue
   abbrev pub alive : ℕ → Option (Timed T) → Option (Timed T)
-  alive now kept = if is_overdue now kept then None else kept
+  alive now current = if is_overdue now current then None else current
 
   -- the addresses whose sessions are overdue, the least first, each with the same thing
   abbrev pub each_overdue : {X : Type 0} → ℕ → ByAddress T → X → List (ℕ × X)
@@ -61,9 +61,9 @@ module _ {T : Type 0} where
   pub record Expires (old new : ByAddress T) (now address : ℕ) (session : T) : Type 0 where
     pub small : address < 256
     pub last : ℕ
-    pub kept : finite.get old address ≡ Some (record { last = last; session = session })
+    pub found : finite.get old address ≡ Some (record { last = last; session = session })
     pub first : IsFirstOverdue old now address
-    pub left : new ≡ finite.remove old address
+    pub removed : new ≡ finite.remove old address
 
   -- no session is overdue, and all stay
   pub record NoneExpires (old new : ByAddress T) (now : ℕ) : Type 0 where
@@ -77,7 +77,7 @@ pub record TheFirstExpires (T X : Type 0) : Type 0 where
   pub none : (old new : ByAddress T) (now : ℕ) (what : X) → NoneExpires old new now → each_overdue now old what ≡ []
 
 -- Where the session of an address is taken out, there is none, those of the others stay, and it is one less.
-pub record IsTakenOut {T : Type 0} (sessions : ByAddress T) (address : ℕ) : Type 0 where
+pub record IsRemoved {T : Type 0} (sessions : ByAddress T) (address : ℕ) : Type 0 where
   pub gone : finite.get (finite.remove sessions address) address ≡ None
   pub others : (other : ℕ) → (other ≡ address → ⊥) → finite.get (finite.remove sessions address) other ≡ finite.get sessions other
   pub fewer : (timed : Timed T) → finite.get sessions address ≡ Some timed → finite.len (finite.remove sessions address) + 1 ≡ finite.len sessions

@@ -9,8 +9,8 @@ use Rattle.vt_can.specs.frames.Identifier.{parts_of, pgn_of, destination_of}
 use Rattle.vt_can.specs.frames.Frame.{is_to}
 
 -- a frame to a node's address, of eight bytes
-abbrev pub is_heard : ℕ → Frame → Bool
-is_heard own frame = is_to own (destination_of (parts_of frame.id)) && length frame.bytes.items == 8
+abbrev pub is_transport_frame_to : ℕ → Frame → Bool
+is_transport_frame_to own_address frame = is_to own_address (destination_of (parts_of frame.id)) && length frame.bytes.items == 8
 
 -- a frame of neither of the two groups
 pub record IsOfAnotherGroup (management transfer : ℕ) (frame : Frame) : Type 0 where
@@ -27,7 +27,7 @@ module _ {F : Type 0} (management transfer : ℕ) (managed : List ℕ → F) (tr
 
   -- what a frame says to a node
   abbrev pub frame_in : ℕ → Frame → Option F
-  frame_in own frame = if is_heard own frame then by_group (pgn_of (parts_of frame.id)) frame.bytes.items else None
+  frame_in own_address frame = if is_transport_frame_to own_address frame then by_group (pgn_of (parts_of frame.id)) frame.bytes.items else None
 
 abbrev pub reason_code : Reason → ℕ
 reason_code TooLarge = 2

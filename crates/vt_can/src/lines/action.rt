@@ -1,7 +1,7 @@
 //! The lines of the operator.
 
 ghost use Rattle.std.specs.Prelude.{ℕ, List, MatchOption};
-ghost use Rattle.vt_can.specs.lines.Actions.{Deed, IsDeed, IsNumber, deed_of};
+ghost use Rattle.vt_can.specs.lines.Actions.{ActionValue, IsActionText, IsNumber, action_value};
 ghost use Rattle.vt_can.specs.lines.Parts.{IsIdAnd};
 
 use crate::lines::digits::decimal;
@@ -11,7 +11,7 @@ use hex::FromHex;
 
 /// The action that stands on an operator line behind `! `.
 pub fn action(rest: &[u8]) -> Option<Action<'_>>
-    ensures { MatchOption result ((d : Deed) → IsDeed rest.now d → ⊥) (λ a. IsDeed rest.now (deed_of a)) }
+    ensures { MatchOption result ((d : ActionValue) → IsActionText rest.now d → ⊥) (λ a. IsActionText rest.now (action_value a)) }
 {
     if let Some(id) = rest.strip_prefix(b"press ") {
         Some(Action::Press(object_id(id)?))

@@ -6,8 +6,8 @@ ghost use Rattle.vt_can.specs.lines.Line.{IsContent, IsComment, Reads};
 
 use crate::frames::frame::Frame;
 use crate::lines::action::action;
+use crate::lines::frame_line::read_frame_line;
 use crate::lines::parts::{shape_of, time_of};
-use crate::lines::shaped::shaped;
 use thiserror::Error;
 
 /// What a line of a log says.
@@ -82,10 +82,10 @@ pub fn parse_line(line: &[u8]) -> Result<Line<'_>, LineFault>
         return Ok(Line::Comment);
     }
     if let Some(rest) = content.strip_prefix(b"! ") {
-        let Some(deed) = action(rest) else {
+        let Some(action) = action(rest) else {
             return Err(LineFault::Operator);
         };
-        return Ok(Line::Operator(deed));
+        return Ok(Line::Operator(action));
     }
     let Some((time, rest)) = time_of(content) else {
         return Err(LineFault::Time);
@@ -93,7 +93,7 @@ pub fn parse_line(line: &[u8]) -> Result<Line<'_>, LineFault>
     let Some((id, text)) = shape_of(rest) else {
         return Err(LineFault::Shape);
     };
-    shaped(time, id, text)
+    read_frame_line(time, id, text)
 }
 
 // The line without the one carriage return that may end it.

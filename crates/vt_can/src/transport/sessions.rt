@@ -32,15 +32,15 @@ impl<T> Model for Sessions<T> {
     ghost use Rattle.std.specs.Ordering.{nat_cmp};
     ghost use Rattle.std.specs.Coded.{coded_ℕ};
     ghost use Rattle.vt_can.specs.declared.transport.sessions.Timed.{Timed};
-    ghost use Rattle.vt_can.specs.transport.Sessions.{filed, timed_code, AreFiled};
+    ghost use Rattle.vt_can.specs.transport.Sessions.{map_of_places, timed_code, ArePlaces};
 
     ghost Value = { finite.FinMap nat_cmp (Timed T) };
 
     ghost coded = { finite.code coded_ℕ (timed_code T.code) };
 
-    ghost view = { λ a. filed 0 a.places };
+    ghost view = { λ a. map_of_places 0 a.places };
 
-    ghost invariant = { λ a. AreFiled a.places a.earliest };
+    ghost invariant = { λ a. ArePlaces a.places a.earliest };
 }
 
 impl<T> Timed<T> {

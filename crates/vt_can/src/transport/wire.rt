@@ -4,7 +4,7 @@ ghost use Rattle.std.specs.Prelude.{◌≡◌, ◌≤◌, ◌+◌, ◌++◌, min
 ghost use Rattle.byteorder.specs.Endian.{little_bytes};
 ghost use Rattle.vt_can.specs.frames.Identifier.{HasDestination};
 ghost use Rattle.vt_can.specs.frames.Frame.{frame_of};
-ghost use Rattle.vt_can.specs.transport.Wire.{is_heard, abort_bytes, reason_code};
+ghost use Rattle.vt_can.specs.transport.Wire.{is_transport_frame_to, abort_bytes, reason_code};
 
 use crate::assigned::{ABORT, FILL};
 use crate::frames::frame::Frame;
@@ -23,10 +23,10 @@ pub enum Reason {
 }
 
 /// Whether a frame is one to this node, with the eight bytes that frames of a transport protocol have.
-pub fn is_heard(own: u8, frame: &Frame) -> bool
-    ensures { result ≡ is_heard own frame.now }
+pub fn is_transport_frame_to(own_address: u8, frame: &Frame) -> bool
+    ensures { result ≡ is_transport_frame_to own_address frame.now }
 {
-    frame.id.destination() == Some(own) && frame.bytes.len() == 8
+    frame.id.destination() == Some(own_address) && frame.bytes.len() == 8
 }
 
 /// The sequence number and the bytes of the packet that a data transfer carries.
@@ -40,12 +40,12 @@ pub fn numbered_packet(bytes: &[u8]) -> (u8, [u8; 7])
 }
 
 /// The frame of a group with a destination, from one node to another, with priority 7.
-pub fn frame_of(pgn: u32, own: u8, to: u8, bytes: [u8; 8]) -> Frame
+pub fn frame_of(pgn: u32, own_address: u8, to: u8, bytes: [u8; 8]) -> Frame
     requires { HasDestination pgn }
-    ensures { result ≡ frame_of pgn own to bytes }
+    ensures { result ≡ frame_of pgn own_address to bytes }
 {
     Frame {
-        id: CanId::new(7, pgn, to, own),
+        id: CanId::new(7, pgn, to, own_address),
         bytes: ArrayVec::from(bytes),
     }
 }

@@ -12,7 +12,7 @@ const NODE: u8 = 0x26;
 fn two_sources_alternating(rt: HostRuntime) -> Result<(), Fail> {
     let mut receiver = Receiver::new(rt.alloc(), NODE);
     let message = b"\xB4\xE8\x03\x64\x00\xFF\xFF\x05\x00";
-    let said: [(&[u8], Wanted); 6] = [
+    let heard: [(&[u8], Wanted); 6] = [
         (
             b"(1.000000) can0 1CEC2680#10090002FF00E700",
             Reply(b"1CEC8026#110201FFFF00E700"),
@@ -32,8 +32,8 @@ fn two_sources_alternating(rt: HostRuntime) -> Result<(), Fail> {
             Message(b"1CEC8126#13090002FF00E700", message),
         ),
     ];
-    for (line, wanted) in said {
-        let same = says(&mut receiver, line, wanted)?;
+    for (line, wanted) in heard {
+        let same = answers(&mut receiver, line, wanted)?;
         assert!(rt; same);
     }
     Ok(())
@@ -59,8 +59,8 @@ fn packet(from: u8, bytes: [u8; 8]) -> Frame {
 fn requests(receiver: &mut Receiver, source: u8) -> Result<bool, OutOfMemory> {
     let request = control(source, NODE, [0x10, 9, 0, 2, 0xFF, source, 0xE7, 0]);
     let clear = control(NODE, source, [0x11, 2, 1, 0xFF, 0xFF, source, 0xE7, 0]);
-    let said = receiver.hear(0, &request)?;
-    Ok(is_reply(&said, write_frame(&clear).as_slice()))
+    let heard = receiver.hear(0, &request)?;
+    Ok(is_reply(&heard, write_frame(&clear).as_slice()))
 }
 
 // Whether the first packet of a source is taken.
@@ -143,15 +143,15 @@ fn digit(value: u8) -> u8
 fn answers(receiver: &mut Receiver, line: &[u8], text: &[u8]) -> Result<bool, OutOfMemory> {
     match parse_line(line) {
         Ok(Line::Frame { time, frame }) => {
-            let said = receiver.hear(time, &frame)?;
-            Ok(is_reply(&said, text))
+            let heard = receiver.hear(time, &frame)?;
+            Ok(is_reply(&heard, text))
         }
         _ => Ok(false),
     }
 }
 
-fn is_reply(said: &Heard, text: &[u8]) -> bool {
-    match said {
+fn is_reply(heard: &Heard, text: &[u8]) -> bool {
+    match heard {
         Heard::Reply(reply) => write_frame(reply).as_slice() == text,
         _ => false,
     }

@@ -4,10 +4,10 @@ use Rattle.std.specs.Prelude.{codes}
 use Rattle.std.proofs.lemmas.List.{append_cancel_left, append_cancel_right}
 use Rattle.vt_can.specs.declared.lines.line.LineFault.{LineFault}
 use Rattle.vt_can.specs.declared.lines.line.LineFault.TheVariants.{Time, Shape, Operator}
-use Rattle.vt_can.specs.lines.Actions.{Deed, IsDeed}
-use Rattle.vt_can.specs.lines.Readings.{Said, Does, Comments}
-use Rattle.vt_can.specs.lines.Line.{IsContent, IsComment, IsOperatorLine, IsOtherLine, IsRead, HasTime, HasShape, ReadingsAreOne, comment, deed, no_deed, no_time, no_shape, shaped, shaped_reading}
-use Rattle.vt_can.proofs.lemmas.lines.Deeds.{deed-one}
+use Rattle.vt_can.specs.lines.Actions.{ActionValue, IsActionText}
+use Rattle.vt_can.specs.lines.Readings.{ParsedLine, OperatorAction, CommentLine}
+use Rattle.vt_can.specs.lines.Line.{IsContent, IsComment, IsOperatorLine, IsOtherLine, IsRead, HasTime, HasShape, ReadingsAreOne, comment, operator_action, no_action, no_time, no_shape, frame_line, frame_line_reading}
+use Rattle.vt_can.proofs.lemmas.lines.Actions.{action-one}
 use Rattle.vt_can.proofs.lemmas.lines.Shape.{time-cut, time-one, shape-one}
 
 content-one : (line a b : List ℕ) → IsContent line a → IsContent line b → a ≡ b
@@ -44,78 +44,78 @@ operator-one {a = a} {b = b} p q = append_cancel_left (codes "! ") a b (sym p �
 
 -- ---- what else a line of each kind says
 
-comment-only : (content : List ℕ) (b : Result Said LineFault) → IsComment content → IsRead content b → b ≡ Ok Comments
+comment-only : (content : List ℕ) (b : Result ParsedLine LineFault) → IsComment content → IsRead content b → b ≡ Ok CommentLine
 comment-only content b c (comment d) = refl
-comment-only content b c (deed rest d o is) = absurd (operator_no_comment o c)
-comment-only content b c (no_deed rest o none) = absurd (operator_no_comment o c)
+comment-only content b c (operator_action rest d o is) = absurd (operator_no_comment o c)
+comment-only content b c (no_action rest o none) = absurd (operator_no_comment o c)
 comment-only content b c (no_time other none) = absurd (other.no_comment c)
 comment-only content b c (no_shape time rest t none) = absurd (time_no_comment t c)
-comment-only content b c (shaped time rest id text t s) = absurd (time_no_comment t c)
+comment-only content b c (frame_line time rest id text t s) = absurd (time_no_comment t c)
 
-deed-only : (content rest : List ℕ) (d : Deed) (b : Result Said LineFault) → IsOperatorLine content rest → IsDeed rest d → IsRead content b → b ≡ Ok (Does d)
-deed-only content rest d b o is (comment c) = absurd (operator_no_comment o c)
-deed-only content rest d b o is (deed more e p has) =
+action-only : (content rest : List ℕ) (d : ActionValue) (b : Result ParsedLine LineFault) → IsOperatorLine content rest → IsActionText rest d → IsRead content b → b ≡ Ok (OperatorAction d)
+action-only content rest d b o is (comment c) = absurd (operator_no_comment o c)
+action-only content rest d b o is (operator_action more e p has) =
     let same = operator-one p o in
-    let deeds = deed-one rest e d (rw same at has) is in
-    ap (λ (x : Deed). Ok (Does x)) deeds
-deed-only content rest d b o is (no_deed more p none) =
+    let actions = action-one rest e d (rw same at has) is in
+    ap (λ (x : ActionValue). Ok (OperatorAction x)) actions
+action-only content rest d b o is (no_action more p none) =
     let same = operator-one o p in
     absurd (none d (rw same at is))
-deed-only content rest d b o is (no_time other none) = absurd (other.no_operator rest o)
-deed-only content rest d b o is (no_shape time more t none) = absurd (time_no_operator t o)
-deed-only content rest d b o is (shaped time more id text t s) = absurd (time_no_operator t o)
+action-only content rest d b o is (no_time other none) = absurd (other.no_operator rest o)
+action-only content rest d b o is (no_shape time more t none) = absurd (time_no_operator t o)
+action-only content rest d b o is (frame_line time more id text t s) = absurd (time_no_operator t o)
 
-no_deed-only : (content rest : List ℕ) (b : Result Said LineFault) → IsOperatorLine content rest → ((d : Deed) → IsDeed rest d → ⊥) → IsRead content b → b ≡ Err Operator
-no_deed-only content rest b o never (comment c) = absurd (operator_no_comment o c)
-no_deed-only content rest b o never (deed more e p has) =
+no_action-only : (content rest : List ℕ) (b : Result ParsedLine LineFault) → IsOperatorLine content rest → ((d : ActionValue) → IsActionText rest d → ⊥) → IsRead content b → b ≡ Err Operator
+no_action-only content rest b o never (comment c) = absurd (operator_no_comment o c)
+no_action-only content rest b o never (operator_action more e p has) =
     let same = operator-one p o in
     absurd (never e (rw same at has))
-no_deed-only content rest b o never (no_deed more p none) = refl
-no_deed-only content rest b o never (no_time other none) = absurd (other.no_operator rest o)
-no_deed-only content rest b o never (no_shape time more t none) = absurd (time_no_operator t o)
-no_deed-only content rest b o never (shaped time more id text t s) = absurd (time_no_operator t o)
+no_action-only content rest b o never (no_action more p none) = refl
+no_action-only content rest b o never (no_time other none) = absurd (other.no_operator rest o)
+no_action-only content rest b o never (no_shape time more t none) = absurd (time_no_operator t o)
+no_action-only content rest b o never (frame_line time more id text t s) = absurd (time_no_operator t o)
 
-no_time-only : (content : List ℕ) (b : Result Said LineFault) → IsOtherLine content → ((time : ℕ) (rest : List ℕ) → HasTime content time rest → ⊥) → IsRead content b → b ≡ Err Time
+no_time-only : (content : List ℕ) (b : Result ParsedLine LineFault) → IsOtherLine content → ((time : ℕ) (rest : List ℕ) → HasTime content time rest → ⊥) → IsRead content b → b ≡ Err Time
 no_time-only content b other never (comment c) = absurd (other.no_comment c)
-no_time-only content b other never (deed rest e p has) = absurd (other.no_operator rest p)
-no_time-only content b other never (no_deed rest p none) = absurd (other.no_operator rest p)
+no_time-only content b other never (operator_action rest e p has) = absurd (other.no_operator rest p)
+no_time-only content b other never (no_action rest p none) = absurd (other.no_operator rest p)
 no_time-only content b other never (no_time too none) = refl
 no_time-only content b other never (no_shape time rest t none) = absurd (never time rest t)
-no_time-only content b other never (shaped time rest id text t s) = absurd (never time rest t)
+no_time-only content b other never (frame_line time rest id text t s) = absurd (never time rest t)
 
-no_shape-only : (content rest : List ℕ) (time : ℕ) (b : Result Said LineFault) → HasTime content time rest → ((id text : List ℕ) → HasShape rest id text → ⊥) → IsRead content b → b ≡ Err Shape
+no_shape-only : (content rest : List ℕ) (time : ℕ) (b : Result ParsedLine LineFault) → HasTime content time rest → ((id text : List ℕ) → HasShape rest id text → ⊥) → IsRead content b → b ≡ Err Shape
 no_shape-only content rest time b h never (comment c) = absurd (time_no_comment h c)
-no_shape-only content rest time b h never (deed more e p has) = absurd (time_no_operator h p)
-no_shape-only content rest time b h never (no_deed more p none) = absurd (time_no_operator h p)
+no_shape-only content rest time b h never (operator_action more e p has) = absurd (time_no_operator h p)
+no_shape-only content rest time b h never (no_action more p none) = absurd (time_no_operator h p)
 no_shape-only content rest time b h never (no_time other none) = absurd (none time rest h)
 no_shape-only content rest time b h never (no_shape at more t none) = refl
-no_shape-only content rest time b h never (shaped at more id text t s) =
+no_shape-only content rest time b h never (frame_line at more id text t s) =
     let same = (time-one t h).1 in
     absurd (never id text (rw same at s))
 
-abbrev read_as : ℕ → List ℕ → List ℕ → Result Said LineFault
-read_as time id text = shaped_reading time id text
+abbrev read_as : ℕ → List ℕ → List ℕ → Result ParsedLine LineFault
+read_as time id text = frame_line_reading time id text
 
-shaped-only : (content rest id text : List ℕ) (time : ℕ) (b : Result Said LineFault) → HasTime content time rest → HasShape rest id text → IsRead content b → b ≡ shaped_reading time id text
-shaped-only content rest id text time b h s (comment c) = absurd (time_no_comment h c)
-shaped-only content rest id text time b h s (deed more e p has) = absurd (time_no_operator h p)
-shaped-only content rest id text time b h s (no_deed more p none) = absurd (time_no_operator h p)
-shaped-only content rest id text time b h s (no_time other none) = absurd (none time rest h)
-shaped-only content rest id text time b h s (no_shape at more t none) =
+frame_line-only : (content rest id text : List ℕ) (time : ℕ) (b : Result ParsedLine LineFault) → HasTime content time rest → HasShape rest id text → IsRead content b → b ≡ frame_line_reading time id text
+frame_line-only content rest id text time b h s (comment c) = absurd (time_no_comment h c)
+frame_line-only content rest id text time b h s (operator_action more e p has) = absurd (time_no_operator h p)
+frame_line-only content rest id text time b h s (no_action more p none) = absurd (time_no_operator h p)
+frame_line-only content rest id text time b h s (no_time other none) = absurd (none time rest h)
+frame_line-only content rest id text time b h s (no_shape at more t none) =
     let same = (time-one h t).1 in
     absurd (none id text (rw same at s))
-shaped-only content rest id text time b h s (shaped at more word part t has) =
+frame_line-only content rest id text time b h s (frame_line at more word part t has) =
     let times = time-one t h in
     let parts = shape-one (subst (λ (x : List ℕ). HasShape x word part) times.1 has) s in
     ap (λ (x : ℕ). read_as x word part) times.0 ∙ ap (λ (x : List ℕ). read_as time x part) parts.0 ∙ ap (λ (x : List ℕ). read_as time id x) parts.1
 
-read-one : (content : List ℕ) (a b : Result Said LineFault) → IsRead content a → IsRead content b → a ≡ b
+read-one : (content : List ℕ) (a b : Result ParsedLine LineFault) → IsRead content a → IsRead content b → a ≡ b
 read-one content a b (comment c) q = sym (comment-only content b c q)
-read-one content a b (deed rest d o is) q = sym (deed-only content rest d b o is q)
-read-one content a b (no_deed rest o none) q = sym (no_deed-only content rest b o none q)
+read-one content a b (operator_action rest d o is) q = sym (action-only content rest d b o is q)
+read-one content a b (no_action rest o none) q = sym (no_action-only content rest b o none q)
 read-one content a b (no_time other none) q = sym (no_time-only content b other none q)
 read-one content a b (no_shape time rest t none) q = sym (no_shape-only content rest time b t none q)
-read-one content a b (shaped time rest id text t s) q = sym (shaped-only content rest id text time b t s q)
+read-one content a b (frame_line time rest id text t s) q = sym (frame_line-only content rest id text time b t s q)
 
 pub readings-one : ReadingsAreOne
 readings-one line a b p q =

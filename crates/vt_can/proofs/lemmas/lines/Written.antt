@@ -19,8 +19,8 @@ use Rattle.byteorder.specs.Numbers.{big_number-reads_back}
 use Rattle.hex.specs.Hex.{IsBytes, decode_of, encode_upper, is_hex_digit, upper_digits}
 use Rattle.hex.proofs.HexLemmas.{decode_of-encode_upper, decode_of-ok, length-encode_with}
 use Rattle.vt_can.specs.declared.lines.line.LineFault.{LineFault}
-use Rattle.vt_can.specs.lines.Readings.{Said, FrameAt}
-use Rattle.vt_can.specs.lines.Line.{AreDigits, HasShape, HasTime, IsRead, begins_with, data_reading, id_of, shaped, shaped_reading}
+use Rattle.vt_can.specs.lines.Readings.{ParsedLine, FrameAt}
+use Rattle.vt_can.specs.lines.Line.{AreDigits, HasShape, HasTime, IsRead, begins_with, data_reading, id_of, frame_line, frame_line_reading}
 use Rattle.vt_can.specs.lines.Parts.{Lacks}
 use Rattle.vt_can.specs.lines.Writing.{WrittenLinesAreRead, line_text, lowest_digits}
 use Rattle.vt_can.proofs.lemmas.lines.Cutting.{Lacks-append, Lacks-from_pass, Lacks-head, cut_missing}
@@ -113,9 +113,9 @@ begins-other : (test : ℕ → Bool) (byte : ℕ) (text : List ℕ) → (test by
 begins-other test byte [] fails pass = refl
 begins-other test byte (x ∷ text) fails pass = ne_eqb x byte (Lacks-head byte x text (Lacks-from_pass test byte (x ∷ text) fails pass))
 
-shaped_as : (time number : ℕ) (id text bytes : List ℕ) → length id ≡ 8 → AllPass is_hex_digit id → id_of (decode_of id) ≡ number → number < 2 ^ 29 → AllPass is_hex_digit text → decode_of text ≡ Ok bytes → length bytes ≤ 8
-    → shaped_reading time id text ≡ Ok (FrameAt time (record { id = number; bytes = record { items = bytes } }))
-shaped_as time number id text bytes len good is small fine read short =
+frame_line_as : (time number : ℕ) (id text bytes : List ℕ) → length id ≡ 8 → AllPass is_hex_digit id → id_of (decode_of id) ≡ number → number < 2 ^ 29 → AllPass is_hex_digit text → decode_of text ≡ Ok bytes → length bytes ≤ 8
+    → frame_line_reading time id text ≡ Ok (FrameAt time (record { id = number; bytes = record { items = bytes } }))
+frame_line_as time number id text bytes len good is small fine read short =
     cond-false (not (list_all is_hex_digit id)) _ _ (not_from_true (list_all is_hex_digit id) (list_all-from_AllPass is_hex_digit id good))
     ∙ cond-false (eqb (length id) 3) _ _ (ne_eqb (length id) 3 (λ e. omega arith))
     ∙ cond-false (ltb 0x1FFFFFFF (id_of (decode_of id))) _ _ (le-ltb 0x1FFFFFFF (id_of (decode_of id)) (omega arith))
@@ -164,12 +164,12 @@ lines-read time frame lt is =
     let good = (decode_of-ok id (big_bytes 4 frame.id) id-read).1 in
     let fine = (decode_of-ok text frame.bytes.items text-read).1 in
     let len : length id ≡ 8 = length-encode_with upper_digits (big_bytes 4 frame.id) in
-    let says = shaped_as time frame.id id text frame.bytes.items len good (id_read frame.id is.id) is.id fine text-read is.short in
+    let says = frame_line_as time frame.id id text frame.bytes.items len good (id_read frame.id is.id) is.id fine text-read is.short in
     let seconds = Lacks-from_pass is_ascii_digit 13 (decimal (time / 10 ^ 6)) (λ e. cc e) (seconds_are time lt).digits in
     let fraction = Lacks-from_pass is_ascii_digit 13 (lowest_digits 6 time) (λ e. cc e) (lowest-pass 6 time) in
     let lacks = line_lacks (decimal (time / 10 ^ 6)) (lowest_digits 6 time) id text seconds fraction (Lacks-from_pass is_hex_digit 13 id (λ e. cc e) good) (Lacks-from_pass is_hex_digit 13 text (λ e. cc e) fine) in
     let line = line_text time frame in (
       line,
       inr (refl, λ front e. cut_missing 13 line front [] lacks e),
-      subst (λ (r : Result Said LineFault). IsRead line r) says (shaped time (codes " can0 " ++ (id ++ codes "#" ++ text)) id text (time_read time (id ++ codes "#" ++ text) lt) (shape_read id text len good fine)),
+      subst (λ (r : Result ParsedLine LineFault). IsRead line r) says (frame_line time (codes " can0 " ++ (id ++ codes "#" ++ text)) id text (time_read time (id ++ codes "#" ++ text) lt) (shape_read id text len good fine)),
     )

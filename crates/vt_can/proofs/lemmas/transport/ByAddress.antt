@@ -15,13 +15,13 @@ module _ {X : Type 0} where
       finite.get-insert nat_cmp_total m a x q
       ∙ ap (λ b. cond b (Some x) (finite.get m q)) (unsigned_tied q a ∙ ne_eqb q a other)
 
-  pub get-left : (m : finite.FinMap nat_cmp X) (a : ℕ) → finite.get (finite.remove m a) a ≡ None
-  get-left m a =
+  pub get-removed : (m : finite.FinMap nat_cmp X) (a : ℕ) → finite.get (finite.remove m a) a ≡ None
+  get-removed m a =
       finite.get-remove nat_cmp_total m a a
       ∙ ap (λ b. cond b None (finite.get m a)) (unsigned_tied a a ∙ eq-eqb a a refl)
 
-  pub get-left_other : (m : finite.FinMap nat_cmp X) (a q : ℕ) → q ≢ a → finite.get (finite.remove m a) q ≡ finite.get m q
-  get-left_other m a q other =
+  pub get-removed_other : (m : finite.FinMap nat_cmp X) (a q : ℕ) → q ≢ a → finite.get (finite.remove m a) q ≡ finite.get m q
+  get-removed_other m a q other =
       finite.get-remove nat_cmp_total m a q
       ∙ ap (λ b. cond b None (finite.get m q)) (unsigned_tied q a ∙ ne_eqb q a other)
 
@@ -33,13 +33,13 @@ module _ {X : Type 0} where
       ap (λ (n : finite.FinMap nat_cmp X). finite.get n other) is ∙ get-put_other m address other x apart
       ∙ ap (λ (n : finite.FinMap nat_cmp X). finite.get n other) (sym was)
 
-  pub left_others : (old new : finite.FinMap nat_cmp X) (address : ℕ) (m : finite.FinMap nat_cmp X) → old ≡ m → new ≡ finite.remove m address
+  pub removed_others : (old new : finite.FinMap nat_cmp X) (address : ℕ) (m : finite.FinMap nat_cmp X) → old ≡ m → new ≡ finite.remove m address
       → (other : ℕ) → (other ≡ address → ⊥) → finite.get new other ≡ finite.get old other
-  left_others old new address m was is other apart =
-      ap (λ (n : finite.FinMap nat_cmp X). finite.get n other) is ∙ get-left_other m address other apart
+  removed_others old new address m was is other apart =
+      ap (λ (n : finite.FinMap nat_cmp X). finite.get n other) is ∙ get-removed_other m address other apart
       ∙ ap (λ (n : finite.FinMap nat_cmp X). finite.get n other) (sym was)
 
   pub put_again_others : (old new : finite.FinMap nat_cmp X) (address : ℕ) (x : X) (m left : finite.FinMap nat_cmp X) → old ≡ m → left ≡ finite.remove m address
       → new ≡ finite.insert left address x → (other : ℕ) → (other ≡ address → ⊥) → finite.get new other ≡ finite.get old other
-  put_again_others old new address x m left was taken is other apart =
-      put_others left new address x left refl is other apart ∙ left_others old left address m was taken other apart
+  put_again_others old new address x m left was removed is other apart =
+      put_others left new address x left refl is other apart ∙ removed_others old left address m was removed other apart

@@ -3,9 +3,9 @@ use Rattle.std.proofs.Common.{◌≡◌, ◌≢◌, ℕ, zero, suc, ◌-◌, ◌
 use Rattle.std.proofs.lemmas.Bool.{cases_lt}
 use Rattle.std.specs.Cmp.{nat_cmp_total}
 use Rattle.std.specs.FinMap as finite
-use Rattle.vt_can.specs.transport.Sessions.{ByAddress, each_below, is_overdue, Expires, TheFirstExpires, IsTakenOut}
-use Rattle.vt_can.proofs.lemmas.transport.ByAddress.{get-left, get-left_other}
-use Rattle.vt_can.proofs.lemmas.transport.Serving.{some_left}
+use Rattle.vt_can.specs.transport.Sessions.{ByAddress, each_below, is_overdue, Expires, TheFirstExpires, IsRemoved}
+use Rattle.vt_can.proofs.lemmas.transport.ByAddress.{get-removed, get-removed_other}
+use Rattle.vt_can.proofs.lemmas.transport.Serving.{not_empty}
 
 module _ {X : Type 0} (what : X) where
   abbrev chosen : ℕ → Bool → List (ℕ × X)
@@ -36,28 +36,28 @@ module _ {X : Type 0} (what : X) where
   ]
 
 module _ {T : Type 0} where
-  pub taken_out : (sessions : ByAddress T) (address : ℕ) → IsTakenOut sessions address
-  taken_out sessions address = record {
-    gone = get-left sessions address;
-    others = λ other apart. get-left_other sessions address other apart;
-    fewer = λ timed kept.
-        let there : is_some (finite.get sessions address) ≡ true = ap is_some kept in
+  pub session_removed : (sessions : ByAddress T) (address : ℕ) → IsRemoved sessions address
+  session_removed sessions address = record {
+    gone = get-removed sessions address;
+    others = λ other apart. get-removed_other sessions address other apart;
+    fewer = λ timed found.
+        let there : is_some (finite.get sessions address) ≡ true = ap is_some found in
         let less : finite.len (finite.remove sessions address) ≡ finite.len sessions - 1 =
         finite.len-remove nat_cmp_total sessions address
         ∙ ap (λ (b : Bool). cond b (finite.len sessions - 1) (finite.len sessions)) there in
-        let some : finite.len sessions ≡ 0 → ⊥ = some_left sessions address timed kept in
+        let some : finite.len sessions ≡ 0 → ⊥ = not_empty sessions address timed found in
         omega (arith, some);
   }
 
   expired_others : (old new : ByAddress T) (now address : ℕ) (session : T) → Expires old new now address session
       → (q : ℕ) → q ≢ address → is_overdue now (finite.get new q) ≡ is_overdue now (finite.get old q)
   expired_others old new now address session expired q apart =
-      ap (λ (m : ByAddress T). is_overdue now (finite.get m q)) expired.left ∙ ap (is_overdue now) (get-left_other old address q apart)
+      ap (λ (m : ByAddress T). is_overdue now (finite.get m q)) expired.removed ∙ ap (is_overdue now) (get-removed_other old address q apart)
 
   expired_gone : (old new : ByAddress T) (now address : ℕ) (session : T) → Expires old new now address session
       → is_overdue now (finite.get new address) ≡ false
   expired_gone old new now address session expired =
-      ap (λ (m : ByAddress T). is_overdue now (finite.get m address)) expired.left ∙ ap (is_overdue now) (get-left old address)
+      ap (λ (m : ByAddress T). is_overdue now (finite.get m address)) expired.removed ∙ ap (is_overdue now) (get-removed old address)
 
 pub first_expires : (T X : Type 0) → TheFirstExpires T X
 first_expires T X = record {

@@ -1,27 +1,27 @@
 -- Histories of a source, the latest happening first, and the sessions that stand in them.
 use Rattle.std.proofs.Common.{◌≡◌, ◌<◌, Bool, true, false, cond, List, [], ◌∷◌, ◌++◌, Option, Some, None, ap, sym, subst, ◌∙◌, refl}
 use Rattle.vt_can.specs.declared.transport.sessions.Timed.{Timed}
-use Rattle.vt_can.specs.transport.Histories.{Happening, Came, Spelling, AreQuiet, Sent, Stands}
-use Rattle.vt_can.specs.transport.Steps.{Matches, IsKept}
+use Rattle.vt_can.specs.transport.Histories.{SessionEvent, Came, Spelling, AreQuiet, Sent, Stands}
+use Rattle.vt_can.specs.transport.Steps.{Matches, IsStanding}
 
 module _ {F : Type 0} where
-  head_of : (x y : Happening F) (xs ys : List (Happening F)) → x ∷ xs ≡ y ∷ ys → x ≡ y
+  head_of : (x y : SessionEvent F) (xs ys : List (SessionEvent F)) → x ∷ xs ≡ y ∷ ys → x ≡ y
   head_of x y xs ys e = cc
 
-  tail_of : (x y : Happening F) (xs ys : List (Happening F)) → x ∷ xs ≡ y ∷ ys → xs ≡ ys
+  tail_of : (x y : SessionEvent F) (xs ys : List (SessionEvent F)) → x ∷ xs ≡ y ∷ ys → xs ≡ ys
   tail_of x y xs ys e = cc
 
-  no_history : (x : Happening F) (later earlier : List (Happening F)) → [] ≡ later ++ x ∷ earlier → ⊥
+  no_history : (x : SessionEvent F) (later earlier : List (SessionEvent F)) → [] ≡ later ++ x ∷ earlier → ⊥
   no_history x [] earlier e = cc
   no_history x (y ∷ later) earlier e = cc
 
 module _ {F O P : Type 0} (s : Spelling F O P) where
-  pub sent_first : (hs : List (Happening F)) (o : O) (packets : P) → s.opens o ≡ true → s.Brings o [] packets → Sent s (Came (s.request o) ∷ hs) o packets
+  pub sent_first : (hs : List (SessionEvent F)) (o : O) (packets : P) → s.opens o ≡ true → s.Brings o [] packets → Sent s (Came (s.request o) ∷ hs) o packets
   sent_first hs o packets opened brought = record { earlier = hs; later = []; split = refl; opened = opened; quiet = tt; brought = brought }
 
   -- one more happening, after which the packets are these
-  pub sent_more : (hs : List (Happening F)) (x : Happening F) (o : O) (packets packets' : P) → s.IsQuiet x
-      → ((later : List (Happening F)) → s.Brings o later packets → s.Brings o (x ∷ later) packets') → Sent s hs o packets → Sent s (x ∷ hs) o packets'
+  pub sent_more : (hs : List (SessionEvent F)) (x : SessionEvent F) (o : O) (packets packets' : P) → s.IsQuiet x
+      → ((later : List (SessionEvent F)) → s.Brings o later packets → s.Brings o (x ∷ later) packets') → Sent s hs o packets → Sent s (x ∷ hs) o packets'
   sent_more hs x o packets packets' quiet brings sent = record {
     earlier = sent.earlier;
     later = x ∷ sent.later;
@@ -32,35 +32,35 @@ module _ {F O P : Type 0} (s : Spelling F O P) where
   }
 
   -- the same history without its latest happening, which is the request or came after it
-  pub data Last (x : Happening F) (hs : List (Happening F)) (o : O) (packets : P) : Type 0 where
+  pub data Last (x : SessionEvent F) (hs : List (SessionEvent F)) (o : O) (packets : P) : Type 0 where
     AtRequest : x ≡ Came (s.request o) → s.opens o ≡ true → s.Brings o [] packets → Last x hs o packets
-    Later : (later earlier : List (Happening F)) → hs ≡ later ++ Came (s.request o) ∷ earlier → s.opens o ≡ true → s.IsQuiet x → AreQuiet s later
+    Later : (later earlier : List (SessionEvent F)) → hs ≡ later ++ Came (s.request o) ∷ earlier → s.opens o ≡ true → s.IsQuiet x → AreQuiet s later
         → s.Brings o (x ∷ later) packets → Last x hs o packets
 
-  split_last : (x : Happening F) (hs later earlier : List (Happening F)) (o : O) (packets : P) → x ∷ hs ≡ later ++ Came (s.request o) ∷ earlier
+  split_last : (x : SessionEvent F) (hs later earlier : List (SessionEvent F)) (o : O) (packets : P) → x ∷ hs ≡ later ++ Came (s.request o) ∷ earlier
       → s.opens o ≡ true → AreQuiet s later → s.Brings o later packets → Last x hs o packets
   split_last x hs [] earlier o packets split opened quiet brought = AtRequest (head_of _ _ _ _ split) opened brought
   split_last x hs (y ∷ later) earlier o packets split opened quiet brought =
       let same : y ≡ x = sym (head_of _ _ _ _ split) in
       Later later earlier (tail_of _ _ _ _ split) opened (subst s.IsQuiet same quiet.0) quiet.1
-      (subst (λ (z : Happening F). s.Brings o (z ∷ later) packets) same brought)
+      (subst (λ (z : SessionEvent F). s.Brings o (z ∷ later) packets) same brought)
 
-  pub last_of : (x : Happening F) (hs : List (Happening F)) (o : O) (packets : P) → Sent s (x ∷ hs) o packets → Last x hs o packets
+  pub last_of : (x : SessionEvent F) (hs : List (SessionEvent F)) (o : O) (packets : P) → Sent s (x ∷ hs) o packets → Last x hs o packets
   last_of x hs o packets sent = split_last x hs sent.later sent.earlier o packets sent.split sent.opened sent.quiet sent.brought
 
   -- a happening that is no request and brings no packet
-  pub record IsBystander (x : Happening F) : Type 0 where
+  pub record IsBystander (x : SessionEvent F) : Type 0 where
     pub quiet : s.IsQuiet x
     pub other : (o : O) → x ≡ Came (s.request o) → ⊥
-    pub more : (o : O) (later : List (Happening F)) (packets : P) → s.Brings o later packets → s.Brings o (x ∷ later) packets
-    pub less : (o : O) (later : List (Happening F)) (packets : P) → s.Brings o (x ∷ later) packets → s.Brings o later packets
+    pub more : (o : O) (later : List (SessionEvent F)) (packets : P) → s.Brings o later packets → s.Brings o (x ∷ later) packets
+    pub less : (o : O) (later : List (SessionEvent F)) (packets : P) → s.Brings o (x ∷ later) packets → s.Brings o later packets
 
   -- a happening that ends each session
-  pub record IsEnd (x : Happening F) : Type 0 where
+  pub record IsEnd (x : SessionEvent F) : Type 0 where
     pub loud : s.IsQuiet x → ⊥
     pub other : (o : O) → x ≡ Came (s.request o) → ⊥
 
-  quiet_last : (x : Happening F) (hs : List (Happening F)) (o : O) (packets : P) → IsBystander x → Last x hs o packets → Sent s hs o packets
+  quiet_last : (x : SessionEvent F) (hs : List (SessionEvent F)) (o : O) (packets : P) → IsBystander x → Last x hs o packets → Sent s hs o packets
   quiet_last x hs o packets by (AtRequest is opened brought) = absurd (by.other o is)
   quiet_last x hs o packets by (Later later earlier split opened quiet rest brought) = record {
     earlier = earlier;
@@ -71,35 +71,35 @@ module _ {F O P : Type 0} (s : Spelling F O P) where
     brought = by.less o later packets brought;
   }
 
-  nothing_last : (x : Happening F) (hs : List (Happening F)) (o : O) (packets : P) → IsEnd x → Last x hs o packets → ⊥
+  nothing_last : (x : SessionEvent F) (hs : List (SessionEvent F)) (o : O) (packets : P) → IsEnd x → Last x hs o packets → ⊥
   nothing_last x hs o packets end (AtRequest is opened brought) = end.other o is
   nothing_last x hs o packets end (Later later earlier split opened quiet rest brought) = end.loud quiet
 
-  module _ {K : Type 0} (opening : K → O) (Has : Option (Timed K) → O → P → Type 0) where
+  module _ {S : Type 0} (opening : S → O) (Has : Option (Timed S) → O → P → Type 0) where
     pub matches_none : Matches s opening Has [] None
     matches_none = record {
       stands = λ o packets stands. absurd (no_history _ stands.sent.later stands.sent.earlier stands.sent.split);
-      kept = λ kept is. absurd cc;
+      only = λ current is. absurd cc;
     }
 
-    pub matches_quiet : (hs : List (Happening F)) (session : Option (Timed K)) (x : Happening F) → IsBystander x
+    pub matches_quiet : (hs : List (SessionEvent F)) (session : Option (Timed S)) (x : SessionEvent F) → IsBystander x
         → Matches s opening Has hs session → Matches s opening Has (x ∷ hs) session
     matches_quiet hs session x by m = record {
       stands = λ o packets stands. m.stands o packets (record { sent = quiet_last x hs o packets by (last_of x hs o packets stands.sent); more = stands.more });
-      kept = λ kept is.
-          let k = m.kept kept is in
-          let o = opening kept.session in
+      only = λ current is.
+          let k = m.only current is in
+          let o = opening current.session in
           (k.0, record { sent = sent_more hs x o k.0 k.0 by.quiet (λ later. by.more o later k.0) k.1.sent; more = k.1.more }, k.2);
     }
 
-    pub matches_end : (hs : List (Happening F)) (x : Happening F) → IsEnd x → Matches s opening Has (x ∷ hs) None
+    pub matches_end : (hs : List (SessionEvent F)) (x : SessionEvent F) → IsEnd x → Matches s opening Has (x ∷ hs) None
     matches_end hs x end = record {
       stands = λ o packets stands. absurd (nothing_last x hs o packets end (last_of x hs o packets stands.sent));
-      kept = λ kept is. absurd cc;
+      only = λ current is. absurd cc;
     }
 
     -- A request, the session that it opens, and the packets of that: none.
-    module _ (o : O) (first : Timed K) (none : P) (opening_is : opening first.session ≡ o)
+    module _ (o : O) (first : Timed S) (none : P) (opening_is : opening first.session ≡ o)
         (loud : s.IsQuiet (Came (s.request o)) → ⊥) (same : (o' : O) → Came (s.request o) ≡ Came (s.request o') → o ≡ o')
         (begun : s.Brings o [] none) (more : s.opens o ≡ true → s.count none < s.all o)
         (has : (packets : P) → s.Brings o [] packets → Has (Some first) o packets) where
@@ -111,24 +111,24 @@ module _ {F O P : Type 0} (s : Spelling F O P) where
           (subst (λ (b : Bool). Has (cond b (Some first) None) o packets) (sym here)
           (has packets (subst (λ (q : O). s.Brings q [] packets) (sym is) brought)))
 
-      request_last : (hs : List (Happening F)) (o' : O) (packets : P) → Last (Came (s.request o)) hs o' packets
+      request_last : (hs : List (SessionEvent F)) (o' : O) (packets : P) → Last (Came (s.request o)) hs o' packets
           → Has (cond (s.opens o) (Some first) None) o' packets
       request_last hs o' packets (AtRequest is opened brought) = request_has o' packets (same o' is) opened brought
       request_last hs o' packets (Later later earlier split opened quiet rest brought) = absurd (loud quiet)
 
-      request_kept : (hs : List (Happening F)) (b : Bool) (kept : Timed K) → s.opens o ≡ b → cond b (Some first) None ≡ Some kept
-          → IsKept s opening Has (Came (s.request o) ∷ hs) kept
-      request_kept hs false kept opened is = absurd cc
-      request_kept hs true kept opened is =
-          let same : first ≡ kept = cc in
-          subst (IsKept s opening Has (Came (s.request o) ∷ hs)) same (
+      request_standing : (hs : List (SessionEvent F)) (b : Bool) (current : Timed S) → s.opens o ≡ b → cond b (Some first) None ≡ Some current
+          → IsStanding s opening Has (Came (s.request o) ∷ hs) current
+      request_standing hs false current opened is = absurd cc
+      request_standing hs true current opened is =
+          let same : first ≡ current = cc in
+          subst (IsStanding s opening Has (Came (s.request o) ∷ hs)) same (
             none,
             subst (λ (q : O). Stands s (Came (s.request o) ∷ hs) q none) (sym opening_is) (record { sent = sent_first hs o none opened begun; more = more opened }),
             subst (λ (q : O). Has (Some first) q none) (sym opening_is) (has none begun),
           )
 
-      pub matches_request : (hs : List (Happening F)) → Matches s opening Has (Came (s.request o) ∷ hs) (cond (s.opens o) (Some first) None)
+      pub matches_request : (hs : List (SessionEvent F)) → Matches s opening Has (Came (s.request o) ∷ hs) (cond (s.opens o) (Some first) None)
       matches_request hs = record {
         stands = λ o' packets stands. request_last hs o' packets (last_of _ hs o' packets stands.sent);
-        kept = λ kept is. request_kept hs (s.opens o) kept refl is;
+        only = λ current is. request_standing hs (s.opens o) current refl is;
       }

@@ -1,4 +1,4 @@
-use Rattle.vt_can.proofs.lemmas.lines.Deeds.{id_and-cut_missing, id_and-none}
+use Rattle.vt_can.proofs.lemmas.lines.Actions.{id_and-cut_missing, id_and-none}
 use Rattle.vt_can.proofs.lines.action.id_and_more.Goals as goal
 
 pub returns-in_err-id : goal.returns-in_err-id

@@ -4,9 +4,9 @@ use Rattle.std.proofs.lemmas.Bool.{iff_false}
 use Rattle.std.proofs.lemmas.Bool.Decides.{Decides-eqb}
 use Rattle.std.proofs.lemmas.Slice.Eq.{strip_prefix_is}
 use Rattle.vt_can.specs.declared.lines.line.LineFault.{LineFault}
-use Rattle.vt_can.specs.lines.Actions.{deed_of}
-use Rattle.vt_can.specs.lines.Readings.{Said}
-use Rattle.vt_can.specs.lines.Line.{IsRead, comment, deed, no_deed, no_time, no_shape, shaped}
+use Rattle.vt_can.specs.lines.Actions.{action_value}
+use Rattle.vt_can.specs.lines.Readings.{ParsedLine}
+use Rattle.vt_can.specs.lines.Line.{IsRead, comment, operator_action, no_action, no_time, no_shape, frame_line}
 use Rattle.vt_can.proofs.lines.line.parse_line.Goals as goal
 use Rattle.vt_can.proofs.lines.line.parse_line.Goals.{In-Some}
 
@@ -20,11 +20,11 @@ returns-then-is_comment c =
 
 pub returns-in_default-action : goal.returns-in_default-action
 returns-in_default-action c =
-    (c.content_of-content.result.now, c.content_of-content.ensures, no_deed c.in-Some.rest.now (marked (goal.at.returns-in_default-action c).In-Some) c.in_default-action.ensures)
+    (c.content_of-content.result.now, c.content_of-content.ensures, no_action c.in-Some.rest.now (marked (goal.at.returns-in_default-action c).In-Some) c.in_default-action.ensures)
 
 pub returns-in-Some : goal.returns-in-Some
 returns-in-Some c =
-    (c.content_of-content.result.now, c.content_of-content.ensures, deed c.in-Some.rest.now (deed_of c.in-Some-action.deed) (marked (goal.at.returns-in-Some c).In-Some) c.in-Some-action.ensures)
+    (c.content_of-content.result.now, c.content_of-content.ensures, operator_action c.in-Some.rest.now (action_value c.in-Some-action.action) (marked (goal.at.returns-in-Some c).In-Some) c.in-Some-action.ensures)
 
 pub returns-in_default-time_of : goal.returns-in_default-time_of
 returns-in_default-time_of c =
@@ -44,5 +44,5 @@ returns-in_default-shape_of c =
 pub returns : goal.returns
 returns c =
     let content = c.content_of-content.result.now in
-    let read = shaped c.in-Some-time_of.time c.in-Some-time_of.rest.now c.in-Some-shape_of.id.now c.in-Some-shape_of.text.now c.in-Some-time_of.ensures c.in-Some-shape_of.ensures in
-    (content, c.content_of-content.ensures, subst (λ (r : Result Said LineFault). IsRead content r) (sym c.shaped.ensures) read)
+    let read = frame_line c.in-Some-time_of.time c.in-Some-time_of.rest.now c.in-Some-shape_of.id.now c.in-Some-shape_of.text.now c.in-Some-time_of.ensures c.in-Some-shape_of.ensures in
+    (content, c.content_of-content.ensures, subst (λ (r : Result ParsedLine LineFault). IsRead content r) (sym c.read_frame_line.ensures) read)

@@ -1,7 +1,7 @@
 use Rattle.std.proofs.Common.{refl, sym, ap, ◌∙◌, arith}
 use Rattle.std.specs.FinMap as finite
 use Rattle.vt_can.specs.transport.Sessions.{ByAddress}
-use Rattle.vt_can.proofs.lemmas.transport.Filed.{not_overdue, of_addresses}
+use Rattle.vt_can.proofs.lemmas.transport.Places.{not_overdue, of_addresses}
 use Rattle.vt_can.proofs.transport.sessions.Sessions.expire.Goals as goal
 
 pub returns-then-saturating_sub-le-TIMEOUT-clause-none :
@@ -13,9 +13,9 @@ pub returns-clause-some : goal.returns-clause-some
 returns-clause-some g c = record {
   small = omega arith;
   last = c.in_ok-timed.timed.last;
-  kept = ap (λ (m : ByAddress _). finite.get m c.in_ok-address.address) (sym c.first_overdue.ensures.same) ∙ sym c.in_ok-timed.ensures.found;
+  found = ap (λ (m : ByAddress _). finite.get m c.in_ok-address.address) (sym c.first_overdue.ensures.same) ∙ sym c.in_ok-timed.ensures.found;
   first = c.in_ok-address.ensures.some;
-  left = c.take.ensures.left ∙ ap (λ (m : ByAddress _). finite.remove m c.in_ok-address.address) c.first_overdue.ensures.same;
+  removed = c.take.ensures.left ∙ ap (λ (m : ByAddress _). finite.remove m c.in_ok-address.address) c.first_overdue.ensures.same;
 }
 
 pub returns-then-saturating_sub-le-TIMEOUT-clause-addresses :

@@ -1,6 +1,6 @@
 use Rattle.std.proofs.Common.{◌≡◌, ◌<◌, length, ap, sym, ◌∙◌, refl, arith}
 use Rattle.vt_can.specs.declared.transport.sessions.Timed.{Timed}
-use Rattle.vt_can.proofs.lemmas.transport.Filed.{none_overdue_more, none_overdue, first_overdue_at, bound_more, bound_all, AreFiled-bound}
+use Rattle.vt_can.proofs.lemmas.transport.Places.{none_overdue_more, none_overdue, first_overdue_at, bound_more, bound_all, ArePlaces-bound}
 use Rattle.vt_can.proofs.transport.sessions.Sessions.first_overdue.Goals as goal
 use Rattle.vt_can.proofs.transport.sessions.Sessions.first_overdue.Goals.{in-Some, in_default}
 
@@ -25,7 +25,7 @@ returns-then-overdue-clause-some g c =
 
 pub invariant_of-self : goal.invariant_of-self
 invariant_of-self g c =
-    AreFiled-bound _ _ _ _ c.self.invariant c.self.view_is
+    ArePlaces-bound _ _ _ _ c.self.invariant c.self.view_is
     (bound_all c.self.inside.places _ _ _ c.loop-address.invariant.bound (omega (arith, c.self.invariant.all)) c.self.view_is)
 
 pub returns-clause-none : goal.returns-clause-none

@@ -1,6 +1,6 @@
 use Rattle.std.proofs.Common.{◌≡◌, ℕ, ◌<◌, false, None, get_or}
 use Rattle.vt_can.specs.transport.Sessions.{is_overdue}
-use Rattle.vt_can.proofs.lemmas.transport.Filed.{IsBound}
+use Rattle.vt_can.proofs.lemmas.transport.Places.{IsBound}
 use Rattle.vt_can.proofs.transport.sessions.Sessions.first_overdue.Given as goal
 
 abbrev pub invariant-loop-address : goal.invariant-loop-address

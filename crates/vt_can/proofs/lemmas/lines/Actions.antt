@@ -5,29 +5,29 @@ use Rattle.std.specs.Char.{is_ascii_digit}
 use Rattle.std.proofs.lemmas.List.{append_cancel_left}
 use Rattle.hex.specs.Hex.{decode_of}
 use Rattle.hex.proofs.HexLemmas.{decode_of-same}
-use Rattle.vt_can.specs.lines.Actions.{Deed, Press, Release, Select, Number, Text, Set, HasId, HasIdAnd, IsDeed, IsNumber}
+use Rattle.vt_can.specs.lines.Actions.{ActionValue, Press, Release, Select, Number, Text, Set, HasId, HasIdAnd, IsActionText, IsNumber}
 use Rattle.vt_can.specs.lines.Parts.{IsCut, IsIdAnd, Lacks}
 use Rattle.vt_can.proofs.lemmas.lines.Cutting.{Lacks-from_pass, cut_missing, one_cut}
 
 -- the first and the third byte, which tell the words apart
-abbrev told : List ℕ → ℕ
-told rest = get_or rest 0 0 * 256 + get_or rest 2 0
+abbrev text_mark : List ℕ → ℕ
+text_mark rest = get_or rest 0 0 * 256 + get_or rest 2 0
 
-abbrev mark : Deed → ℕ
-mark (Press id) = 28773
-mark (Release id) = 29292
-mark (Select id) = 29548
-mark (Number id n) = 28269
-mark (Text id text) = 29816
-mark (Set address) = 29556
+abbrev action_mark : ActionValue → ℕ
+action_mark (Press id) = 28773
+action_mark (Release id) = 29292
+action_mark (Select id) = 29548
+action_mark (Number id n) = 28269
+action_mark (Text id text) = 29816
+action_mark (Set address) = 29556
 
-mark-is : (rest : List ℕ) (d : Deed) → IsDeed rest d → told rest ≡ mark d
-mark-is rest (Press id) h = ap told h.whole
-mark-is rest (Release id) h = ap told h.whole
-mark-is rest (Select id) h = ap told h.whole
-mark-is rest (Number id n) h = ap told h.1.whole
-mark-is rest (Text id text) h = ap told h.whole
-mark-is rest (Set address) h = ap told h.1
+action_mark-is : (rest : List ℕ) (d : ActionValue) → IsActionText rest d → text_mark rest ≡ action_mark d
+action_mark-is rest (Press id) h = ap text_mark h.whole
+action_mark-is rest (Release id) h = ap text_mark h.whole
+action_mark-is rest (Select id) h = ap text_mark h.whole
+action_mark-is rest (Number id n) h = ap text_mark h.1.whole
+action_mark-is rest (Text id text) h = ap text_mark h.whole
+action_mark-is rest (Set address) h = ap text_mark h.1
 
 -- ---- one number, one ID
 
@@ -66,48 +66,48 @@ id_and-one {word = word} {rest = rest} {i = i} {x = x} {y = y} p q =
     let digits = same.0 in
     (number-one (rw digits at p.id_is) q.id_is, same.1)
 
-set-one : (rest : List ℕ) (a b : ℕ) → IsDeed rest (Set a) → IsDeed rest (Set b) → a ≡ b
+set-one : (rest : List ℕ) (a b : ℕ) → IsActionText rest (Set a) → IsActionText rest (Set b) → a ≡ b
 set-one rest a b p q =
     let same = append_cancel_left (codes "set ") p.0 q.0 (sym p.1 ∙ q.1) in
     ap (λ (xs : List ℕ). get_or xs 0 0) (decode_of-same q.0 (a ∷ []) (b ∷ []) (sym (ap decode_of same) ∙ p.2) q.2)
 
-pub deed-one : (rest : List ℕ) (d e : Deed) → IsDeed rest d → IsDeed rest e → d ≡ e
-deed-one rest (Press i) (Press j) p q = ap Press (id-one p q)
-deed-one rest (Release i) (Release j) p q = ap Release (id-one p q)
-deed-one rest (Select i) (Select j) p q = ap Select (id-one p q)
-deed-one rest (Number i m) (Number j n) p q =
+pub action-one : (rest : List ℕ) (d e : ActionValue) → IsActionText rest d → IsActionText rest e → d ≡ e
+action-one rest (Press i) (Press j) p q = ap Press (id-one p q)
+action-one rest (Release i) (Release j) p q = ap Release (id-one p q)
+action-one rest (Select i) (Select j) p q = ap Select (id-one p q)
+action-one rest (Number i m) (Number j n) p q =
     let same = id_and-one p.1 q.1 in
     let digits = same.1 in
     let numbers = number-one (rw digits at p.2) q.2 in
     ap (λ (x : ℕ). Number x m) same.0 ∙ ap (λ (x : ℕ). Number j x) numbers
-deed-one rest (Text i t) (Text j u) p q =
+action-one rest (Text i t) (Text j u) p q =
     let same = id_and-one p q in
     ap (λ (x : ℕ). Text x t) same.0 ∙ ap (λ (x : List ℕ). Text j x) same.1
-deed-one rest (Set a) (Set b) p q = ap Set (set-one rest a b p q)
-deed-one rest d e p q = let a = mark-is rest d p in let b = mark-is rest e q in absurd (omega arith)
+action-one rest (Set a) (Set b) p q = ap Set (set-one rest a b p q)
+action-one rest d e p q = let a = action_mark-is rest d p in let b = action_mark-is rest e q in absurd (omega arith)
 
 -- ---- what a line does not say
 
 id_and-from : (word rest x more : List ℕ) (id : ℕ) → rest ≡ word ++ x → HasIdAnd word rest id more → IsIdAnd x id more
 id_and-from word rest x more id e h = record { digits = h.digits; cut = id_and-cut word rest x more id e h; id_is = h.id_is }
 
-pub no_number : (rest x : List ℕ) → rest ≡ codes "number " ++ x → ((id n : ℕ) (more : List ℕ) → IsIdAnd x id more → IsNumber more n 4294967295 → ⊥) → (d : Deed) → IsDeed rest d → ⊥
+pub no_number : (rest x : List ℕ) → rest ≡ codes "number " ++ x → ((id n : ℕ) (more : List ℕ) → IsIdAnd x id more → IsNumber more n 4294967295 → ⊥) → (d : ActionValue) → IsActionText rest d → ⊥
 no_number rest x e none (Number id n) h = none id n h.0 (id_and-from (codes "number ") rest x h.0 id e h.1) h.2
-no_number rest x e none d h = let a = mark-is rest d h in let b = ap told e in omega arith
+no_number rest x e none d h = let a = action_mark-is rest d h in let b = ap text_mark e in omega arith
 
-pub no_text : (rest x : List ℕ) → rest ≡ codes "text " ++ x → ((id : ℕ) (more : List ℕ) → IsIdAnd x id more → ⊥) → (d : Deed) → IsDeed rest d → ⊥
+pub no_text : (rest x : List ℕ) → rest ≡ codes "text " ++ x → ((id : ℕ) (more : List ℕ) → IsIdAnd x id more → ⊥) → (d : ActionValue) → IsActionText rest d → ⊥
 no_text rest x e none (Text id text) h = none id text (id_and-from (codes "text ") rest x text id e h)
-no_text rest x e none d h = let a = mark-is rest d h in let b = ap told e in omega arith
+no_text rest x e none d h = let a = action_mark-is rest d h in let b = ap text_mark e in omega arith
 
-pub no_set : (rest x : List ℕ) → rest ≡ codes "set " ++ x → ((a : ℕ) → decode_of x ≡ Ok (a ∷ []) → ⊥) → (d : Deed) → IsDeed rest d → ⊥
+pub no_set : (rest x : List ℕ) → rest ≡ codes "set " ++ x → ((a : ℕ) → decode_of x ≡ Ok (a ∷ []) → ⊥) → (d : ActionValue) → IsActionText rest d → ⊥
 no_set rest x e none (Set a) h =
     let same = append_cancel_left (codes "set ") h.0 x (sym h.1 ∙ e) in
     none a (sym (ap decode_of same) ∙ h.2)
-no_set rest x e none d h = let a = mark-is rest d h in let b = ap told e in omega arith
+no_set rest x e none d h = let a = action_mark-is rest d h in let b = ap text_mark e in omega arith
 
 -- ---- what a line says
 
-pub number-made : (rest x : List ℕ) → rest ≡ codes "number " ++ x → (id n : ℕ) (more : List ℕ) → IsIdAnd x id more → IsNumber more n 4294967295 → IsDeed rest (Number id n)
+pub number-made : (rest x : List ℕ) → rest ≡ codes "number " ++ x → (id n : ℕ) (more : List ℕ) → IsIdAnd x id more → IsNumber more n 4294967295 → IsActionText rest (Number id n)
 number-made rest x e id n more i is =
     (more, record { digits = i.digits; whole = e ∙ ap (λ (y : List ℕ). codes "number " ++ y) i.cut.whole ∙ sym (id_and_spelled (codes "number ") i.digits more); id_is = i.id_is }, is)
 

@@ -2,16 +2,16 @@
 
 ghost use Rattle.std.specs.Prelude.{◌≡◌, ◌⊎◌, length};
 ghost use Rattle.vt_can.specs.lines.Readings.{reading_of};
-ghost use Rattle.vt_can.specs.lines.Line.{shaped_reading};
+ghost use Rattle.vt_can.specs.lines.Line.{frame_line_reading};
 
 use crate::frames::frame::Frame;
 use crate::lines::digits::{data_bytes, identifier, is_hex};
 use crate::lines::line::{Line, LineFault, Skipped};
 
 /// What a frame line says, by its time and its ID and data as they are written.
-pub fn shaped(time: u64, id: &[u8], text: &[u8]) -> Result<Line<'static>, LineFault>
+pub fn read_frame_line(time: u64, id: &[u8], text: &[u8]) -> Result<Line<'static>, LineFault>
     requires { (length id.now ≡ 3) ⊎ (length id.now ≡ 8) }
-    ensures { reading_of result ≡ shaped_reading time id.now text.now }
+    ensures { reading_of result ≡ frame_line_reading time id.now text.now }
 {
     if !is_hex(id) {
         return Err(LineFault::Hex);

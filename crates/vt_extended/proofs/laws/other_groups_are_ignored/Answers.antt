@@ -1,5 +1,5 @@
 use Rattle.vt_extended.proofs.Timeless.{ignored}
-use Rattle.vt_extended.proofs.laws.foreign_frames_say_nothing.Goals as goal
+use Rattle.vt_extended.proofs.laws.other_groups_are_ignored.Goals as goal
 
 pub returns : goal.returns
 returns c = ignored
