@@ -36,7 +36,7 @@ pub fn the_first_overdue_expires<T, X>()
     ensures { TheFirstExpires T X }
 {}
 
-/// A session that is taken out is gone, and is one less, and the others stay.
+/// A session that is removed is gone, and is one less, and the others stay.
 pub fn sessions_are_removed<T>()
     ensures { (sessions : ByAddress T) (address : ℕ) → IsRemoved sessions address }
 {}

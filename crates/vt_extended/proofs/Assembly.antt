@@ -170,7 +170,7 @@ reply_number now number packet current o (Announced count packets ∷ groups) fa
     ∙ ap (λ (q : Opening). Some (Abort Disorder q.pgn)) h.opening
     ∙ sym (ap (λ (b : Bool). cond b (reply_to o (received groups + number) (eqb number count)) (Some (Abort Disorder o.pgn))) tests)
 
--- the reply to each happening
+-- the reply to each event
 
 reply_part : (now : ℕ) (part : Part) (session : Option (Timed SessionState)) (o : Opening) (groups : List Group) → Has session o groups
     → (after_part now session part).reply ≡ part_reply o groups part

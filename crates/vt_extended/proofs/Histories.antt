@@ -1,4 +1,4 @@
--- Histories of a source, the latest happening first: what one more happening makes of them.
+-- Histories of a source, the latest event first: what one more event makes of them.
 use Rattle.std.proofs.Common.{◌≡◌, ℕ, ◌+◌, ◌≤◌, ◌<◌, true, List, [], ◌∷◌, ◌++◌, length, ap, subst, ◌∙◌, refl, arith}
 use Rattle.vt_can.specs.transport.Histories.{Came, AreQuiet, Sent}
 use Rattle.vt_can.proofs.lemmas.transport.Standing.{sent_more, Last, AtRequest, Later}

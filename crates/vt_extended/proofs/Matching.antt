@@ -164,7 +164,7 @@ standing_packet : (now number : ℕ) (packet : List ℕ) (hs : List SessionEvent
 standing_packet now number packet hs None current' m is = absurd cc
 standing_packet now number packet hs (Some current) current' m is = standing_number now number packet hs current current' _ refl (m.only current refl) is
 
--- each happening
+-- each event
 
 matches_part : (now : ℕ) (part : Part) (hs : List SessionEvent) (session : Option (Timed SessionState)) → Matches hs session
     → Matches (Came (etp.Part part) ∷ hs) (after_part now session part).session

@@ -1,5 +1,5 @@
 -- The messages of one source, over the whole list of what came from it (ISO 11783-3;
--- docs/PROFILE.md, "The ETP receiver"). Every list of happenings, groups and packets has the latest first.
+-- docs/PROFILE.md, "The ETP receiver"). Every list of events, groups and packets has the latest first.
 use Rattle.std.specs.Prelude.{◌≡◌, ◌≤◌, ℕ, ◌+◌, ◌-◌, ◌/◌, Bool, nat_le, nat_lt, ◌==◌, ◌&&◌, if◌then◌else◌, min, Option, Some, None, List, [], ◌∷◌, ◌++◌, length}
 use Rattle.vt_can.specs.declared.transport.wire.Reason.{Reason}
 use Rattle.vt_can.specs.declared.transport.wire.Reason.TheVariants.{TooLarge, Disorder}
@@ -106,7 +106,7 @@ spelling = record {
 abbrev pub Stands : List SessionEvent → Opening → List Group → Type 0
 Stands = histories.Stands spelling
 
--- a happening is the last packet of a message
+-- an event is the last packet of a message
 abbrev pub IsWhole : List SessionEvent → SessionEvent → Message → Type 0
 IsWhole = histories.IsWhole spelling
 

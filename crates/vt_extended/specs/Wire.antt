@@ -22,7 +22,7 @@ connection_management bytes =
     else if control == ABORT then Aborted
     else Other
 
--- what a frame says to a node
+-- what a frame is to a node
 abbrev pub etp_frame : ℕ → Frame → Option EtpFrame
 etp_frame = wire.frame_in ETP_CM ETP_DT connection_management (λ number bytes. Part (Packet number bytes))
 

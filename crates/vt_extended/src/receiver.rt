@@ -81,7 +81,7 @@ impl Receiver {
         }
     }
 
-    /// The abort of a session that has had no frame of its own for more than 1,250,000 microseconds,
+    /// The abort of a session that has had none of its frames for more than 1,250,000 microseconds,
     /// the least source first. Call it until it answers `None`. docs/PROFILE.md, "Timeouts".
     pub fn expire(&mut self, now: u64) -> Option<Frame>
         ensures own_address { self.new.own_address ≡ self.old.own_address }

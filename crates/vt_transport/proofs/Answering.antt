@@ -1,4 +1,4 @@
--- A call of the sender that puts a session or takes one out gives an answer.
+-- A call of the sender that puts a session or removes one gives an answer.
 use Rattle.std.proofs.Common.{◌≡◌, ℕ, ◌<◌, ◌≤◌, ◌+◌, ◌-◌, min, true, false, eqb, List, [], ◌∷◌, map, Option, Some, None, ap, sym, subst, ◌∙◌, refl, arith, eq-eqb, ne_eqb, lt-ltb, le-ltb, ltb}
 use Rattle.std.specs.FinMap as finite
 use Rattle.vt_can.specs.Assigned.{VT_TO_ECU}
@@ -33,7 +33,7 @@ put_answers old new to timed m left given frames was removed own_address is stay
   others = put_again_others old.sessions new.sessions to timed m left was removed is;
 }
 
--- the answer of the session that was taken out, or that there was none
+-- the answer of the session that was removed, or that there was none
 pub answers_removed : (old new : SenderState) (to now : ℕ) (frame : TpFrame) (m : ByAddress Message) (removed : Option (Timed Message)) (timed : Timed Message)
     (given : Answer) (frames : List Frame) → old.sessions ≡ m → removed ≡ finite.get m to → removed ≡ Some timed
     → given ≡ session_answer old.own_address to now timed frame → Answers old new to given frames → Answers old new to (answer_of old to now (Some frame)) frames

@@ -194,7 +194,7 @@ matches_packet now number packet hs session m = record {
   only = λ current' is. standing_packet now number packet hs session current' m is;
 }
 
--- each happening
+-- each event
 
 matches_abort : (hs : List SessionEvent) (session : Option (Timed SessionState)) (pgn : ℕ) (b : Bool) → eqb pgn VT_TO_ECU ≡ b → Matches hs session
     → Matches (Came (Aborted pgn) ∷ hs) (cond b session None)

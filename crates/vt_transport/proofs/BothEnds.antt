@@ -51,7 +51,7 @@ cut_packets bytes count within all =
     ∙ take-append-le (length bytes) bytes (replicate 7 FILL) (omega arith)
     ∙ take_all (length bytes) bytes (omega arith))
 
--- the happenings after the RTS
+-- the events after the RTS
 abbrev later_events : Message → ℕ → List SessionEvent
 later_events message zero = []
 later_events message (suc count) = packet_of message (suc count) ∷ later_events message count

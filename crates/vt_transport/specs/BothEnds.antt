@@ -1,4 +1,4 @@
--- What the sender sends, as the receiver takes it. Every list of happenings has the latest first.
+-- What the sender sends, as the receiver hears it. Every list of events has the latest first.
 use Rattle.std.specs.Prelude.{◌≡◌, ◌<◌, ℕ, zero, suc, ◌-◌, ◌^◌, true, Some, List, [], ◌∷◌, length}
 use Rattle.vt_can.specs.Assigned.{NO_LIMIT}
 use Rattle.vt_can.specs.transport.Messages.{Message}

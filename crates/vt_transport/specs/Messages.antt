@@ -1,5 +1,5 @@
 -- The messages of one source, over the whole list of what came from it (ISO 11783-3;
--- docs/PROFILE.md, "The TP receiver"). Every list of happenings and of packets has the latest first.
+-- docs/PROFILE.md, "The TP receiver"). Every list of events and of packets has the latest first.
 use Rattle.std.specs.Prelude.{◌≡◌, ℕ, ◌+◌, ◌-◌, ◌/◌, ◌%◌, Bool, nat_le, ◌==◌, ◌&&◌, if◌then◌else◌, min, Option, Some, None, List, [], ◌∷◌, length}
 use Rattle.vt_can.specs.declared.transport.wire.Reason.TheVariants.{Disorder}
 use Rattle.vt_can.specs.Assigned.{VT_TO_ECU}
@@ -62,7 +62,7 @@ spelling = record {
 abbrev pub Stands : List SessionEvent → Opening → List (List ℕ) → Type 0
 Stands = histories.Stands spelling
 
--- a happening is the last packet of a message
+-- an event is the last packet of a message
 abbrev pub IsWhole : List SessionEvent → SessionEvent → Message → Type 0
 IsWhole = histories.IsWhole spelling
 

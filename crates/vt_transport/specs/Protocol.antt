@@ -44,7 +44,7 @@ protocol = record {
 abbrev pub StepsAssembleMessages : Type 0
 StepsAssembleMessages = steps.StepsAssembleMessages spelling (λ current. current.opening) Has protocol IsAnswered
 
--- The messages of a source depend on its own frames and their times alone.
+-- The messages of a source depend on its frames and their times alone.
 abbrev pub MessagesDependOnTheirSource : Type 0
 MessagesDependOnTheirSource = bus.MessagesDependOnTheirSource protocol
 
@@ -64,10 +64,10 @@ abbrev pub IsTimeless : Type 0
 IsTimeless = protocols.IsTimeless protocol
 
 -- a frame of neither of the protocol's groups
-abbrev pub IsOfOtherGroups : Frame → Type 0
-IsOfOtherGroups = IsOfAnotherGroup TP_CM TP_DT
+abbrev pub IsOfAnotherProtocol : Frame → Type 0
+IsOfAnotherProtocol = IsOfAnotherGroup TP_CM TP_DT
 
--- It says nothing to a receiver.
+-- A receiver ignores it.
 abbrev pub OtherGroupsAreIgnored : Type 0
-OtherGroupsAreIgnored = (receiver : ReceiverState SessionState) (now : ℕ) (frame : Frame) → IsOfOtherGroups frame
+OtherGroupsAreIgnored = (receiver : ReceiverState SessionState) (now : ℕ) (frame : Frame) → IsOfAnotherProtocol frame
     → outcome protocol receiver now frame ≡ silent (finite.get receiver.sessions (source_of frame))

@@ -1,4 +1,4 @@
--- A sender as a value, and what its calls say (docs/PROFILE.md, "The TP sender").
+-- A sender as a value, and what its calls answer (docs/PROFILE.md, "The TP sender").
 use Rattle.std.specs.Prelude.{◌≡◌, ℕ, zero, suc, max, true, false, ◌+◌, ◌-◌, ◌/◌, Bool, nat_lt, nat_le, ◌==◌, ◌&&◌, ◌||◌, if◌then◌else◌, min, Option, Some, None, List, [], ◌∷◌, length, map, refl}
 use Rattle.std.specs.Coded.{Coded, code_by, coded×, coded_ℕ, coded_list}
 use Rattle.std.specs.FinMap as finite
@@ -112,7 +112,7 @@ pub record Starts (old new : SenderState) (now to : ℕ) (message : Message) (fr
 abbrev pub timeout_frame : ℕ → ℕ → Message → Frame
 timeout_frame own_address to message = reply_frame own_address to (Abort Timeout message.pgn)
 
--- the session of the least destination that is overdue was taken out, and its abort is the frame
+-- the session of the least destination that is overdue was removed, and its abort is the frame
 pub record TimesOut (old new : SenderState) (now : ℕ) (frame : Frame) : Type 0 where
   pub own_address : new.own_address ≡ old.own_address
   pub to : ℕ
@@ -125,7 +125,7 @@ abbrev pub AnswersAreTimeless : Type 0
 AnswersAreTimeless = (own_address to now : ℕ) (current : Option (Timed Message)) (frame : Option TpFrame)
     → untimed_answer (answered own_address to now current frame) ≡ untimed_answer (answered own_address to 0 (untimed_session current) frame)
 
--- A frame of neither of the protocol's groups says nothing to a sender.
+-- A sender ignores a frame of neither of the protocol's groups.
 abbrev pub OtherGroupsAreUnanswered : Type 0
 OtherGroupsAreUnanswered = (sender : SenderState) (now : ℕ) (frame : Frame) → IsOfAnotherGroup TP_CM TP_DT frame
     → answer sender now frame ≡ unanswered (finite.get sender.sessions (source_of frame))

@@ -1,4 +1,4 @@
--- What a receiver keeps of a source.
+-- The session of a source.
 use Rattle.std.specs.Prelude.{ℕ, List, refl}
 use Rattle.std.specs.Coded.{Coded, code_by, coded×, coded_ℕ, coded_list}
 use Rattle.vt_transport.specs.declared.messages.Opening.{Opening}

@@ -23,7 +23,7 @@ connection_management bytes =
     else if control == ABORT then Aborted pgn
     else Other
 
--- what a frame says to a node
+-- what a frame is to a node
 abbrev pub tp_frame : ℕ → Frame → Option TpFrame
 tp_frame = wire.frame_in TP_CM TP_DT connection_management (λ number bytes. Data number bytes)
 

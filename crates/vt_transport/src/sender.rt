@@ -112,7 +112,7 @@ impl Sender {
         }
     }
 
-    /// The abort of a session that has had no frame of its own for more than 1,250,000 microseconds,
+    /// The abort of a session that has had none of its frames for more than 1,250,000 microseconds,
     /// the least destination first. Call it until it answers `None`. docs/PROFILE.md, "Timeouts".
     pub fn expire(&mut self, now: u64) -> Option<Frame>
         ensures some { IfSome result (λ frame. TimesOut self.old self.new now frame) }

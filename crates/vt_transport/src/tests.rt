@@ -10,7 +10,7 @@ use super::*;
 use std::test::Fail;
 use vt_can::{Frame, Line, parse_line, write_frame};
 
-// What a receiver is to say to a frame.
+// What a receiver is to answer to a frame.
 #[derive(Clone, Copy)]
 enum Wanted {
     Silence,
@@ -29,7 +29,7 @@ fn is_answer(heard: Heard, wanted: Wanted) -> bool {
     }
 }
 
-// Whether a receiver says this to the frame of a line.
+// Whether a receiver answers this to the frame of a line.
 fn answers(receiver: &mut Receiver, line: &[u8], wanted: Wanted) -> Result<bool, OutOfMemory> {
     match parse_line(line) {
         Ok(Line::Frame { time, frame }) => Ok(is_answer(receiver.hear(time, &frame)?, wanted)),

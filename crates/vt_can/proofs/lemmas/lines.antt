@@ -2,7 +2,7 @@
 pub mod Cutting
 pub mod Shape
 pub mod Actions
-pub mod Reading
+pub mod Digits
 pub mod Writing
 pub mod OneReading
 pub mod Written

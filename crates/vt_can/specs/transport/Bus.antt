@@ -1,4 +1,4 @@
--- One source among all that send on a bus, for a receiver that keeps a session of each source.
+-- One source among all that send on a bus, for a receiver with a session of each source.
 use Rattle.std.specs.Prelude.{◌≡◌, ◌≤◌, ℕ, Bool, ◌==◌, if◌then◌else◌, Option, Some, None, List, [], ◌∷◌, ◌++◌, filter}
 use Rattle.std.specs.FinMap as finite
 use Rattle.std.specs.Option.{option_to_list}
@@ -12,7 +12,7 @@ use Rattle.vt_can.specs.transport.Sessions.{ByAddress, alive}
 use Rattle.vt_can.specs.transport.Protocols.{Protocol}
 use Rattle.vt_can.specs.transport.Steps.{stepped}
 
--- a frame that was heard, and what it says to this node
+-- a frame on the bus, and what it is to this node
 pub record Input (F : Type 0) : Type 0 where
   pub time : ℕ
   pub source : ℕ
@@ -73,7 +73,7 @@ module _ {S F R : Type 0} (protocol : Protocol S F R) where
   messages_of source [] = []
   messages_of source (i ∷ inputs) = option_to_list (message_at source i inputs) ++ messages_of source inputs
 
-  -- They depend on the source's own frames and their times alone.
+  -- They depend on the frames of the source and their times alone.
   abbrev pub MessagesDependOnTheirSource : Type 0
   MessagesDependOnTheirSource = (source now : ℕ) (inputs : List (Input F)) → IsInOrder now inputs
       → messages_of source inputs ≡ messages_of source (filter (is_from source) inputs)
@@ -85,7 +85,7 @@ module _ {S F R : Type 0} (protocol : Protocol S F R) where
     pub message : (source : ℕ) → handed_out source result
         ≡ (if is_from source i then message_of_frame i.time (alive i.time (finite.get old i.source)) i.frame else None)
 
-  -- From no session, inputs were served, and this was said to each.
+  -- From no session, inputs were served, and this was answered to each.
   abbrev pub IsRun : ByAddress S → List (Input F × Heard) → Type 0
   IsRun sessions [] = sessions ≡ finite.empty
   IsRun sessions (x ∷ run) = (old : ByAddress S) × IsRun old run × Serves old sessions x.0 x.1

@@ -1,4 +1,4 @@
--- What happened to one source, whatever its transport protocol, and the messages in it. Every list of happenings has the latest first.
+-- The history of one source, whatever its transport protocol, and the messages in it. Every list of events has the latest first.
 use Rattle.std.specs.Prelude.{◌≡◌, ◌<◌, ◌≤◌, ℕ, ◌*◌, Bool, true, List, [], ◌∷◌, ◌++◌, take}
 use Rattle.vt_can.specs.transport.Messages.{Message}
 
@@ -8,7 +8,7 @@ pub data SessionEvent (F : Type 0) : Type 0 where
   TimedOut : SessionEvent F
 
 module _ {F : Type 0} where
-  -- happenings without their times
+  -- events without their times
   abbrev pub untimed : List (ℕ × SessionEvent F) → List (SessionEvent F)
   untimed [] = []
   untimed (x ∷ xs) = x.1 ∷ untimed xs
@@ -29,7 +29,7 @@ pub record Spelling (F O P : Type 0) : Type 1 where
   -- their number, and their bytes
   pub count : P → ℕ
   pub bytes : P → List ℕ
-  -- a happening that is a packet
+  -- an event that is a packet
   pub IsPacket : SessionEvent F → Type 0
 
 module _ {F O P : Type 0} (spelling : Spelling F O P) where
@@ -37,7 +37,7 @@ module _ {F O P : Type 0} (spelling : Spelling F O P) where
   AreQuiet [] = Unit {0}
   AreQuiet (h ∷ hs) = spelling.IsQuiet h × AreQuiet hs
 
-  -- After a request that opens came quiet happenings alone, which bring these packets.
+  -- After a request that opens came quiet events alone, which bring these packets.
   pub record Sent (hs : List (SessionEvent F)) (o : O) (packets : P) : Type 0 where
     pub earlier : List (SessionEvent F)
     pub later : List (SessionEvent F)
@@ -61,7 +61,7 @@ module _ {F O P : Type 0} (spelling : Spelling F O P) where
     pub pgn : message.pgn ≡ spelling.pgn opening
     pub bytes : message.bytes ≡ take (spelling.size opening) (spelling.bytes packets)
 
-  -- An open session keeps whole packets, fewer than all, and has room for the message.
+  -- An open session has whole packets, fewer than all, and has room for the message.
   pub record IsReceiving (o : O) (received len capacity : ℕ) : Type 0 where
     pub opened : spelling.opens o ≡ true
     pub room : spelling.size o ≤ capacity

@@ -1,4 +1,4 @@
--- What happened to a source on a bus: its own frames, and where its session was overdue.
+-- The history of a source on a bus: its frames, and a mark where its session was overdue.
 use Rattle.std.specs.Prelude.{◌≡◌, ◌↔◌, ℕ, if◌then◌else◌, Option, Some, None, List, [], ◌∷◌}
 use Rattle.vt_can.specs.declared.transport.heard.Heard.{Heard}
 use Rattle.vt_can.specs.transport.Messages.{Message}
@@ -19,7 +19,7 @@ module _ {S F R : Type 0} (protocol : Protocol S F R) where
   marked now xs = if is_overdue now (session_after protocol xs) then (now, TimedOut) ∷ xs else xs
 
   -- The history of a source: at each input of the bus a mark where its session is overdue, and then the
-  -- frame, where it is the source's own.
+  -- frame, where it is the source's.
   abbrev pub history_of : ℕ → List (Input F) → List (ℕ × SessionEvent F)
   history_of source [] = []
   history_of source (i ∷ inputs) =

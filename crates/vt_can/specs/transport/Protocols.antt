@@ -1,5 +1,5 @@
--- A transport protocol, as a receiver of it is stated: what it keeps of a source (K), what its frames say (F)
--- and how it replies (R).
+-- A transport protocol, as a receiver of it is stated: its session of a source (S), its frames (F) and its
+-- replies (R).
 use Rattle.std.specs.Prelude.{◌≡◌, ℕ, Bool, Option, Some, None}
 use Rattle.vt_can.specs.declared.frames.frame.Frame.{Frame}
 use Rattle.vt_can.specs.declared.transport.sessions.Timed.{Timed}
@@ -34,7 +34,7 @@ module _ {S R : Type 0} where
   untimed_outcome out = record { session = untimed_session out.session; reply = out.reply; message = out.message }
 
 pub record Protocol (S F R : Type 0) : Type 0 where
-  -- what a frame says to the node at an address, if it is one of the protocol's
+  -- what a frame is to the node at an address, if it is one of the protocol's
   pub frame_in : ℕ → Frame → Option F
   -- whether it opens a session, and the bytes of the message then
   pub opens : F → Bool

@@ -1,4 +1,4 @@
--- A receiver of a transport protocol as a value, and what its calls say.
+-- A receiver of a transport protocol as a value, and what its calls answer.
 use Rattle.std.specs.Prelude.{◌≡◌, ◌≤◌, ℕ, true, false, Option, Some, None, refl}
 use Rattle.std.specs.Coded.{Coded, code_by, coded×, coded_ℕ}
 use Rattle.std.specs.FinMap as finite
@@ -37,7 +37,7 @@ module _ {S F R : Type 0} (protocol : Protocol S F R) where
   timely_outcome receiver now frame =
       stepped protocol now (alive now (finite.get receiver.sessions (source_of frame))) (protocol.frame_in receiver.own_address frame)
 
-  -- what is said with a reply and a message, which never comes without a reply
+  -- what a receiver answers with a reply and a message, which never comes without a reply
   abbrev pub AnswersWith : ℕ → ℕ → Option R → Option Message → Heard → Type 0
   AnswersWith own_address source None None result = result ≡ heard.Nothing
   AnswersWith own_address source None (Some message) result = ⊥
@@ -45,11 +45,11 @@ module _ {S F R : Type 0} (protocol : Protocol S F R) where
   AnswersWith own_address source (Some reply) (Some message) result =
       result ≡ heard.Message source message.pgn message.bytes (protocol.reply_frame own_address source reply)
 
-  -- the session of a source has taken a step, and this was said
+  -- the session of a source has made a step, and this was answered
   pub record MakesStep (old new : ReceiverState S) (source : ℕ) (out : Outcome S R) (result : Heard) : Type 0 where
     pub own_address : new.own_address ≡ old.own_address
     pub session : finite.get new.sessions source ≡ out.session
-    pub says : AnswersWith old.own_address source out.reply out.message result
+    pub answers : AnswersWith old.own_address source out.reply out.message result
 
   -- there is room for the message that the frame opens, if it opens one
   abbrev pub IsReadyFor : Option F → ℕ → Type 0
@@ -61,7 +61,7 @@ module _ {S F R : Type 0} (protocol : Protocol S F R) where
   OpensNone None = Unit {0}
   OpensNone (Some frame) = protocol.opens frame ≡ false
 
-  -- the session of the least address that is overdue was taken out, and its abort is the frame
+  -- the session of the least address that is overdue was removed, and its abort is the frame
   pub record TimesOut (old new : ReceiverState S) (now : ℕ) (frame : Frame) : Type 0 where
     pub source : ℕ
     pub session : S

@@ -57,7 +57,7 @@ module _ {T : Type 0} where
     pub overdue : is_overdue now (finite.get sessions address) ≡ true
     pub least : (q : ℕ) → q < address → is_overdue now (finite.get sessions q) ≡ false
 
-  -- of the sessions that are overdue, that of the least address is taken out
+  -- of the sessions that are overdue, that of the least address is removed
   pub record Expires (old new : ByAddress T) (now address : ℕ) (session : T) : Type 0 where
     pub small : address < 256
     pub last : ℕ
@@ -76,7 +76,7 @@ pub record TheFirstExpires (T X : Type 0) : Type 0 where
       → each_overdue now old what ≡ (address, what) ∷ each_overdue now new what
   pub none : (old new : ByAddress T) (now : ℕ) (what : X) → NoneExpires old new now → each_overdue now old what ≡ []
 
--- Where the session of an address is taken out, there is none, those of the others stay, and it is one less.
+-- Where the session of an address is removed, there is none, those of the others stay, and it is one less.
 pub record IsRemoved {T : Type 0} (sessions : ByAddress T) (address : ℕ) : Type 0 where
   pub gone : finite.get (finite.remove sessions address) address ≡ None
   pub others : (other : ℕ) → (other ≡ address → ⊥) → finite.get (finite.remove sessions address) other ≡ finite.get sessions other

@@ -6,7 +6,7 @@ use Rattle.vt_can.specs.transport.Histories.{SessionEvent, Came, TimedOut, Spell
 use Rattle.vt_can.specs.transport.Protocols.{Protocol, Outcome, silent}
 
 module _ {S F R : Type 0} (protocol : Protocol S F R) where
-  -- the step of what a frame says, if it is one of the protocol's
+  -- the step of a frame, if it is one of the protocol's
   abbrev pub stepped : ℕ → Option (Timed S) → Option F → Outcome S R
   stepped now current None = silent current
   stepped now current (Some frame) = protocol.step now current frame
@@ -15,7 +15,7 @@ module _ {S F R : Type 0} (protocol : Protocol S F R) where
   event_step now current (Came frame) = protocol.step now current frame
   event_step now current TimedOut = silent None
 
-  -- the session of a source after what happened to it, each with its time, the latest first
+  -- the session of a source after its events, each with its time, the latest first
   abbrev pub session_after : List (ℕ × SessionEvent F) → Option (Timed S)
   session_after [] = None
   session_after (x ∷ xs) = (event_step x.0 (session_after xs) x.1).session
@@ -31,7 +31,7 @@ module _ {S F O P : Type 0} (spelling : Spelling F O P) (opening : S → O) (Has
     pub stands : (o : O) (packets : P) → Stands spelling hs o packets → Has session o packets
     pub only : (current : Timed S) → session ≡ Some current → IsStanding hs current
 
-  -- By the replies to a history: the steps keep the session that stands, and at the next happening x give
+  -- By the replies to a history: the steps keep the session that stands, and at the next event x give
   -- its message and its reply.
   module _ {R : Type 0} (protocol : Protocol S F R) (IsAnswered : List (SessionEvent F) → SessionEvent F → Option R → Type 0) where
     pub record Agrees (xs : List (ℕ × SessionEvent F)) (x : ℕ × SessionEvent F) : Type 0 where

@@ -25,7 +25,7 @@ module _ {F : Type 0} (management transfer : ℕ) (managed : List ℕ → F) (tr
       else if pgn == transfer then Some (transferred (slice_index bytes 0) (drop 1 bytes))
       else None
 
-  -- what a frame says to a node
+  -- what a frame is to a node
   abbrev pub frame_in : ℕ → Frame → Option F
   frame_in own_address frame = if is_transport_frame_to own_address frame then by_group (pgn_of (parts_of frame.id)) frame.bytes.items else None
 

@@ -1,9 +1,9 @@
-//! What a receiver says to a frame.
+//! What a receiver answers to a frame.
 
 use crate::frames::frame::Frame;
 use crate::transport::bytes::Bytes;
 
-/// What a receiver says to a frame. A reply is to be sent.
+/// What a receiver answers to a frame. A reply is to be sent.
 #[derive(Debug, Drop)]
 pub enum Heard {
     Nothing,

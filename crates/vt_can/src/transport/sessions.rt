@@ -1,4 +1,4 @@
-//! Sessions of a transport protocol, kept by address.
+//! Sessions of a transport protocol, by address.
 
 ghost use Rattle.std.specs.Prelude.{◌≡◌, ℕ, ◌≤◌, false, Some, IfSome, IfNone};
 ghost use Rattle.std.specs.FinMap as finite;
@@ -7,7 +7,7 @@ ghost use Rattle.vt_can.specs.transport.Sessions.{is_overdue, AreOfAddresses, Is
 
 use std::marker::Model;
 
-/// How long a session stays without a frame of its own, in microseconds.
+/// How long a session stays without one of its frames, in microseconds.
 const TIMEOUT: u64 = 1_250_000;
 
 /// A session, and the time of its last frame in microseconds.
@@ -98,7 +98,7 @@ impl<T> Sessions<T> {
         self.places[usize::from(address)] = None;
     }
 
-    /// Takes out the session of the least address among those without a frame of their own for more
+    /// Takes out the session of the least address among those without one of their frames for more
     /// than 1,250,000 microseconds. A `now` before a session's last frame counts as no time passed.
     /// docs/PROFILE.md, "Timeouts".
     pub fn expire(&mut self, now: u64) -> Option<(u8, T)>

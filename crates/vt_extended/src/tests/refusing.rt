@@ -154,7 +154,7 @@ fn aborts_of_any_group_end_a_session(rt: HostRuntime) -> Result<(), Fail> {
     Ok(())
 }
 
-// Whether a receiver says this, if need be when it is asked again.
+// Whether a receiver answers this, if need be when it is asked again.
 fn answers_again(
     receiver: &mut Receiver,
     line: &[u8],

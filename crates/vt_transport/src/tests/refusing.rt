@@ -9,7 +9,7 @@ const FIRST: &[u8] = b"(1.000000) can0 1CEB2680#01B4E8036400FFFF";
 
 const LAST: &[u8] = b"(1.000000) can0 1CEB2680#020500FFFFFFFFFF";
 
-// Whether a receiver says this, if need be when it is asked again.
+// Whether a receiver answers this, if need be when it is asked again.
 fn answers_again(
     receiver: &mut Receiver,
     line: &[u8],

@@ -8,7 +8,7 @@ ghost use Rattle.vt_transport.specs.Protocol.{protocol};
 use super::*;
 use std::alloc::Global;
 
-// An input as a node takes it: room is set aside, the sessions that are overdue end, and the frame is
+// An input as a node serves it: room is set aside, the sessions that are overdue end, and the frame is
 // heard, which is not refused any more.
 fn served(
     receiver: &mut Receiver,
@@ -33,7 +33,7 @@ fn served(
     }
 }
 
-// Whether a frame is served, and told as a message of this size and first byte.
+// Whether a frame is served, and prepared as a message of this size and first byte.
 fn is_prepared(
     receiver: &mut Receiver,
     line: &[u8],

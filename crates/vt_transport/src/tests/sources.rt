@@ -100,8 +100,8 @@ fn every_source_in_rounds(rt: HostRuntime) -> Result<(), Fail> {
         assert!(rt; opened, "the request of {source}");
     }
     for source in 0..=255u8 {
-        let taken = source == NODE || begins(&mut receiver, source)?;
-        assert!(rt; taken, "the first packet of {source}");
+        let begun = source == NODE || begins(&mut receiver, source)?;
+        assert!(rt; begun, "the first packet of {source}");
     }
     for source in 0..=255u8 {
         let whole = source == NODE || ends(&mut receiver, source)?;

@@ -24,7 +24,7 @@ use Rattle.vt_can.specs.lines.Line.{AreDigits, HasShape, HasTime, IsRead, begins
 use Rattle.vt_can.specs.lines.Parts.{Lacks}
 use Rattle.vt_can.specs.lines.Writing.{WrittenLinesAreRead, line_text, lowest_digits}
 use Rattle.vt_can.proofs.lemmas.lines.Cutting.{Lacks-append, Lacks-from_pass, Lacks-head, cut_missing}
-use Rattle.vt_can.proofs.lemmas.lines.Reading.{data-short}
+use Rattle.vt_can.proofs.lemmas.lines.Digits.{data-short}
 use Rattle.vt_can.proofs.lemmas.lines.Writing.{seconds-short}
 
 -- ---- the time
@@ -164,12 +164,12 @@ lines-read time frame lt is =
     let good = (decode_of-ok id (big_bytes 4 frame.id) id-read).1 in
     let fine = (decode_of-ok text frame.bytes.items text-read).1 in
     let len : length id ≡ 8 = length-encode_with upper_digits (big_bytes 4 frame.id) in
-    let says = frame_line_as time frame.id id text frame.bytes.items len good (id_read frame.id is.id) is.id fine text-read is.short in
+    let reads = frame_line_as time frame.id id text frame.bytes.items len good (id_read frame.id is.id) is.id fine text-read is.short in
     let seconds = Lacks-from_pass is_ascii_digit 13 (decimal (time / 10 ^ 6)) (λ e. cc e) (seconds_are time lt).digits in
     let fraction = Lacks-from_pass is_ascii_digit 13 (lowest_digits 6 time) (λ e. cc e) (lowest-pass 6 time) in
     let lacks = line_lacks (decimal (time / 10 ^ 6)) (lowest_digits 6 time) id text seconds fraction (Lacks-from_pass is_hex_digit 13 id (λ e. cc e) good) (Lacks-from_pass is_hex_digit 13 text (λ e. cc e) fine) in
     let line = line_text time frame in (
       line,
       inr (refl, λ front e. cut_missing 13 line front [] lacks e),
-      subst (λ (r : Result ParsedLine LineFault). IsRead line r) says (frame_line time (codes " can0 " ++ (id ++ codes "#" ++ text)) id text (time_read time (id ++ codes "#" ++ text) lt) (shape_read id text len good fine)),
+      subst (λ (r : Result ParsedLine LineFault). IsRead line r) reads (frame_line time (codes " can0 " ++ (id ++ codes "#" ++ text)) id text (time_read time (id ++ codes "#" ++ text) lt) (shape_read id text len good fine)),
     )

@@ -25,7 +25,7 @@ module _ {X : Type 0} where
       finite.get-remove nat_cmp_total m a q
       ∙ ap (λ b. cond b None (finite.get m q)) (unsigned_tied q a ∙ ne_eqb q a other)
 
-  -- what stands at the others, where one is put, is taken out, or is taken out and put again
+  -- what stands at the others, where one is put, is removed, or is removed and put again
 
   pub put_others : (old new : finite.FinMap nat_cmp X) (address : ℕ) (x : X) (m : finite.FinMap nat_cmp X) → old ≡ m → new ≡ finite.insert m address x
       → (other : ℕ) → (other ≡ address → ⊥) → finite.get new other ≡ finite.get old other

@@ -1,4 +1,4 @@
--- The session of a source, and so its messages, come from its own frames and their times alone.
+-- The session of a source, and so its messages, come from its frames and their times alone.
 use Rattle.std.proofs.Common.{◌≡◌, ◌≤◌, ℕ, Bool, true, false, cond, Option, Some, None, List, [], ◌∷◌, ◌++◌, filter, ap, sym, ◌∙◌, refl, arith, lt-ltb}
 use Rattle.std.proofs.lemmas.Bool.{ltb-true}
 use Rattle.std.specs.Option.{option_to_list}

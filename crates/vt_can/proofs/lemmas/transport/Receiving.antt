@@ -1,4 +1,4 @@
--- A call of a receiver that puts a session or takes one out is a step on it.
+-- A call of a receiver that puts a session or removes one is a step on it.
 use Rattle.std.proofs.Common.{◌≡◌, ℕ, max, Option, Some, None, ap, sym, subst, ◌∙◌}
 use Rattle.std.specs.FinMap as finite
 use Rattle.vt_can.specs.declared.transport.sessions.Timed.{Timed}
@@ -14,22 +14,22 @@ module _ {S F R : Type 0} (protocol : Protocol S F R) where
   pub put_makes_step : (old new : ReceiverState S) (source : ℕ) (timed : Timed S) (m : ByAddress S) (out : Outcome S R) (result : Heard)
       → new.own_address ≡ old.own_address → new.sessions ≡ finite.insert m source timed → out.session ≡ Some timed
       → AnswersWith protocol old.own_address source out.reply out.message result → MakesStep protocol old new source out result
-  put_makes_step old new source timed m out result own_address is stays says = record {
+  put_makes_step old new source timed m out result own_address is stays answers = record {
     own_address = own_address;
     session = ap (λ (n : ByAddress S). finite.get n source) is ∙ get-put m source timed ∙ sym stays;
-    says = says;
+    answers = answers;
   }
 
   pub removed_makes_step : (old new : ReceiverState S) (source : ℕ) (m : ByAddress S) (out : Outcome S R) (result : Heard)
       → new.own_address ≡ old.own_address → new.sessions ≡ finite.remove m source → out.session ≡ None
       → AnswersWith protocol old.own_address source out.reply out.message result → MakesStep protocol old new source out result
-  removed_makes_step old new source m out result own_address is none says = record {
+  removed_makes_step old new source m out result own_address is none answers = record {
     own_address = own_address;
     session = ap (λ (n : ByAddress S). finite.get n source) is ∙ get-removed m source ∙ sym none;
-    says = says;
+    answers = answers;
   }
 
-  -- what a call says, and what it makes of the session, in other terms
+  -- what a call answers, and what it makes of the session, in other terms
 
   pub replied : (own_address own_address' source : ℕ) (reply reply' : R) (result : Heard) → result ≡ heard.Reply (protocol.reply_frame own_address source reply) → own_address ≡ own_address'
       → reply ≡ reply' → AnswersWith protocol own_address' source (Some reply') None result
@@ -41,7 +41,7 @@ module _ {S F R : Type 0} (protocol : Protocol S F R) where
       → MakesStep protocol old new source out' result
   makes_step_as old new source out out' result is makes_step = subst (λ (o : Outcome S R). MakesStep protocol old new source o result) is makes_step
 
--- the step of a frame, from the session that was taken out
+-- the step of a frame, from the session that was removed
 module _ {S R : Type 0} (after : ℕ → Option (Timed S) → Outcome S R) where
   pub session_removed : (old : ByAddress S) (now source last : ℕ) (m : ByAddress S) (removed : Option (Timed S)) (timed : Timed S)
       (received : Received S R) (out : Outcome S R) → old ≡ m → removed ≡ finite.get m source → removed ≡ Some timed → timed.last ≡ last

@@ -30,7 +30,7 @@ module _ {T : Type 0} where
       ap (λ (m : ByAddress T). alive now (finite.get m q)) expired.removed
       ∙ ap (alive now) (get-removed_other old address q (λ same. false≢true (sym is ∙ eq-eqb _ _ same)))
 
-  -- the sessions that aren't overdue stay, and the others are taken for ended already
+  -- the sessions that aren't overdue stay, and the others count as ended already
   pub expired_same : (old new : ByAddress T) (now address : ℕ) (session : T) → Expires old new now address session
       → (q : ℕ) → alive now (finite.get new q) ≡ alive now (finite.get old q)
   expired_same old new now address session expired q = expired_at old new now address q session _ refl expired
@@ -58,10 +58,10 @@ none_chosen false = refl
 module _ {S F R : Type 0} (protocol : Protocol S F R) where
   handed_out_is : (own_address from source : ℕ) (reply : Option R) (message : Option Message) (result : Heard) → AnswersWith protocol own_address from reply message result
       → handed_out source result ≡ cond (eqb from source) message None
-  handed_out_is own_address from source None None result says = ap (handed_out source) says ∙ none_chosen (eqb from source)
-  handed_out_is own_address from source None (Some message) result says = absurd says
-  handed_out_is own_address from source (Some reply) None result says = ap (handed_out source) says ∙ none_chosen (eqb from source)
-  handed_out_is own_address from source (Some reply) (Some message) result says = ap (handed_out source) says
+  handed_out_is own_address from source None None result answers = ap (handed_out source) answers ∙ none_chosen (eqb from source)
+  handed_out_is own_address from source None (Some message) result answers = absurd answers
+  handed_out_is own_address from source (Some reply) None result answers = ap (handed_out source) answers ∙ none_chosen (eqb from source)
+  handed_out_is own_address from source (Some reply) (Some message) result answers = ap (handed_out source) answers
 
   -- the sessions after the aborts, where none is overdue any more
   session_now : (old loop : ReceiverState S) (now q : ℕ) → alive now (finite.get loop.sessions q) ≡ alive now (finite.get old.sessions q)
@@ -77,7 +77,7 @@ module _ {S F R : Type 0} (protocol : Protocol S F R) where
     session = makes_step.session
         ∙ ap₂ (λ (k : Option (Timed S)) (o : ℕ). (stepped protocol now k (protocol.frame_in o frame)).session) (alive_is (source_of frame)) address_is;
     others = λ other apart. others other apart ∙ alive_is other;
-    message = λ source. handed_out_is _ _ source _ _ result makes_step.says
+    message = λ source. handed_out_is _ _ source _ _ result makes_step.answers
         ∙ ap₂ (λ (k : Option (Timed S)) (o : ℕ). cond (eqb (source_of frame) source) (stepped protocol now k (protocol.frame_in o frame)).message None) (alive_is (source_of frame)) address_is;
   }
 

@@ -1,4 +1,4 @@
--- Histories of a source, the latest happening first, and the sessions that stand in them.
+-- Histories of a source, the latest event first, and the sessions that stand in them.
 use Rattle.std.proofs.Common.{◌≡◌, ◌<◌, Bool, true, false, cond, List, [], ◌∷◌, ◌++◌, Option, Some, None, ap, sym, subst, ◌∙◌, refl}
 use Rattle.vt_can.specs.declared.transport.sessions.Timed.{Timed}
 use Rattle.vt_can.specs.transport.Histories.{SessionEvent, Came, Spelling, AreQuiet, Sent, Stands}
@@ -19,7 +19,7 @@ module _ {F O P : Type 0} (s : Spelling F O P) where
   pub sent_first : (hs : List (SessionEvent F)) (o : O) (packets : P) → s.opens o ≡ true → s.Brings o [] packets → Sent s (Came (s.request o) ∷ hs) o packets
   sent_first hs o packets opened brought = record { earlier = hs; later = []; split = refl; opened = opened; quiet = tt; brought = brought }
 
-  -- one more happening, after which the packets are these
+  -- one more event, after which the packets are these
   pub sent_more : (hs : List (SessionEvent F)) (x : SessionEvent F) (o : O) (packets packets' : P) → s.IsQuiet x
       → ((later : List (SessionEvent F)) → s.Brings o later packets → s.Brings o (x ∷ later) packets') → Sent s hs o packets → Sent s (x ∷ hs) o packets'
   sent_more hs x o packets packets' quiet brings sent = record {
@@ -31,7 +31,7 @@ module _ {F O P : Type 0} (s : Spelling F O P) where
     brought = brings sent.later sent.brought;
   }
 
-  -- the same history without its latest happening, which is the request or came after it
+  -- the same history without its latest event, which is the request or came after it
   pub data Last (x : SessionEvent F) (hs : List (SessionEvent F)) (o : O) (packets : P) : Type 0 where
     AtRequest : x ≡ Came (s.request o) → s.opens o ≡ true → s.Brings o [] packets → Last x hs o packets
     Later : (later earlier : List (SessionEvent F)) → hs ≡ later ++ Came (s.request o) ∷ earlier → s.opens o ≡ true → s.IsQuiet x → AreQuiet s later
@@ -48,14 +48,14 @@ module _ {F O P : Type 0} (s : Spelling F O P) where
   pub last_of : (x : SessionEvent F) (hs : List (SessionEvent F)) (o : O) (packets : P) → Sent s (x ∷ hs) o packets → Last x hs o packets
   last_of x hs o packets sent = split_last x hs sent.later sent.earlier o packets sent.split sent.opened sent.quiet sent.brought
 
-  -- a happening that is no request and brings no packet
+  -- an event that is no request and brings no packet
   pub record IsBystander (x : SessionEvent F) : Type 0 where
     pub quiet : s.IsQuiet x
     pub other : (o : O) → x ≡ Came (s.request o) → ⊥
     pub more : (o : O) (later : List (SessionEvent F)) (packets : P) → s.Brings o later packets → s.Brings o (x ∷ later) packets
     pub less : (o : O) (later : List (SessionEvent F)) (packets : P) → s.Brings o (x ∷ later) packets → s.Brings o later packets
 
-  -- a happening that ends each session
+  -- an event that ends each session
   pub record IsEnd (x : SessionEvent F) : Type 0 where
     pub loud : s.IsQuiet x → ⊥
     pub other : (o : O) → x ≡ Came (s.request o) → ⊥

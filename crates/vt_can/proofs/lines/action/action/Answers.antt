@@ -2,7 +2,7 @@ use Rattle.std.proofs.Common.{◌≡◌, ◌∷◌, ◌++◌, [], Some, refl, sy
 use Rattle.std.specs.Prelude.{codes}
 use Rattle.std.proofs.lemmas.Bool.Decides.{Decides-eqb}
 use Rattle.std.proofs.lemmas.Slice.Eq.{strip_prefix_is}
-use Rattle.vt_can.proofs.lemmas.lines.Reading.{byte-read, decode_sized-from}
+use Rattle.vt_can.proofs.lemmas.lines.Digits.{byte-read, decode_sized-from}
 use Rattle.vt_can.proofs.lemmas.lines.Actions.{no_number, no_set, no_text, number-made, number-none}
 use Rattle.vt_can.proofs.lines.action.action.Goals as goal
 use Rattle.vt_can.proofs.lines.action.action.Goals.{In-Some-strip_prefix-3, In-Some-strip_prefix-4, In_ok-strip_prefix}

@@ -1,5 +1,5 @@
 use Rattle.std.proofs.Common.{sym, ◌∙◌, arith}
-use Rattle.vt_can.proofs.lemmas.lines.Reading.{data-bad, data-long, data-odd}
+use Rattle.vt_can.proofs.lemmas.lines.Digits.{data-bad, data-long, data-odd}
 use Rattle.vt_can.proofs.lines.digits.data_bytes.Goals as goal
 use Rattle.vt_can.proofs.lines.digits.data_bytes.Goals.{then-text-eq1-via-then-text-eq1, then-text-eq1-via-else-text-eq1+then-not-is_hex}
 

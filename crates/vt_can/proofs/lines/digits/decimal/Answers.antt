@@ -3,7 +3,7 @@ use Rattle.std.specs.Char.{is_ascii_digit}
 use Rattle.std.proofs.lemmas.Int.Digits.{digits_value_more}
 use Rattle.std.proofs.lemmas.List.Elements.{All-more}
 use Rattle.std.proofs.lemmas.Str.Parse.{digits_value-take-le}
-use Rattle.vt_can.proofs.lemmas.lines.Reading.{digit_value-is}
+use Rattle.vt_can.proofs.lemmas.lines.Digits.{digit_value-is}
 use Rattle.vt_can.proofs.lines.digits.decimal.Goals as goal
 use Rattle.vt_can.proofs.lines.digits.decimal.Goals.{Else-not-is_ascii_digit}
 

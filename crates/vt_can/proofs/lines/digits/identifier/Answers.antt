@@ -1,5 +1,5 @@
 use Rattle.std.proofs.Common.{◌∙◌}
-use Rattle.vt_can.proofs.lemmas.lines.Reading.{identifier-read}
+use Rattle.vt_can.proofs.lemmas.lines.Digits.{identifier-read}
 use Rattle.vt_can.proofs.lines.digits.identifier.Goals as goal
 
 pub returns-in_err-bytes : goal.returns-in_err-bytes

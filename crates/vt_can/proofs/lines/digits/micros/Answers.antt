@@ -1,5 +1,5 @@
 use Rattle.std.proofs.Common.{ℕ, ◌/◌, inr, ap, ◌∙◌}
-use Rattle.vt_can.proofs.lemmas.lines.Reading.{micros-nine}
+use Rattle.vt_can.proofs.lemmas.lines.Digits.{micros-nine}
 use Rattle.vt_can.proofs.lines.digits.micros.Goals as goal
 
 pub returns-in_ok-number : goal.returns-in_ok-number

@@ -1,7 +1,7 @@
 use Rattle.std.proofs.Common.{◌≡◌, ℕ, ◌∷◌, [], List, Some, subst, arith, refl}
 use Rattle.std.proofs.lemmas.Bool.Decides.{Decides-eqb}
 use Rattle.std.proofs.lemmas.Slice.Eq.{strip_prefix_is}
-use Rattle.vt_can.proofs.lemmas.lines.Reading.{digits_value-small, micros-small}
+use Rattle.vt_can.proofs.lemmas.lines.Digits.{digits_value-small, micros-small}
 use Rattle.vt_can.specs.lines.Line.{AreDigits, IsFraction}
 use Rattle.vt_can.proofs.lemmas.lines.Shape.{TimeCut, no_close, no_point, time-cut, time-made, time_cut-made, time_cut-one}
 use Rattle.vt_can.proofs.lines.parts.time_of.Goals as goal
