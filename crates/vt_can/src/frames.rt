@@ -1,4 +1,7 @@
 //! Identifiers and frames.
 
-pub(crate) mod frame;
-pub(crate) mod identifier;
+mod frame;
+mod identifier;
+
+pub use frame::Frame;
+pub use identifier::CanId;

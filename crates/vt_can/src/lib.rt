@@ -17,17 +17,11 @@ pub mod laws;
 mod lines;
 mod transport;
 
-pub use frames::frame::Frame;
-pub use frames::identifier::CanId;
-pub use lines::line::{Action, Line, LineFault, Skipped, parse_line};
-pub use lines::write::{write_frame, write_line};
-pub use transport::bytes::Bytes;
-pub use transport::heard::Heard;
-pub use transport::received::Received;
-pub use transport::sessions::{Sessions, Timed};
-pub use transport::wire::{
-    Reason, abort_bytes, append_packet, frame_of, is_transport_frame_to, numbered_packet,
-    three_bytes,
+pub use frames::{CanId, Frame};
+pub use lines::{Action, Line, LineFault, Skipped, parse_line, write_frame, write_line};
+pub use transport::{
+    Bytes, Heard, Reason, Received, Sessions, Timed, abort_bytes, append_packet, frame_of,
+    is_transport_frame_to, numbered_packet, three_bytes,
 };
 
 #[cfg(test)]

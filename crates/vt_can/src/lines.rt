@@ -1,8 +1,11 @@
 //! The lines of a log.
 
-pub(crate) mod action;
-pub(crate) mod digits;
-pub(crate) mod frame_line;
-pub(crate) mod line;
-pub(crate) mod parts;
-pub(crate) mod write;
+mod action;
+mod digits;
+mod frame_line;
+mod line;
+mod parts;
+mod write;
+
+pub use line::{Action, Line, LineFault, Skipped, parse_line};
+pub use write::{write_frame, write_line};

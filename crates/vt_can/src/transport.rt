@@ -1,7 +1,16 @@
 //! What both transport protocols share.
 
-pub(crate) mod bytes;
-pub(crate) mod heard;
-pub(crate) mod received;
-pub(crate) mod sessions;
-pub(crate) mod wire;
+mod bytes;
+mod heard;
+mod received;
+mod sessions;
+mod wire;
+
+pub use bytes::Bytes;
+pub use heard::Heard;
+pub use received::Received;
+pub use sessions::{Sessions, Timed};
+pub use wire::{
+    Reason, abort_bytes, append_packet, frame_of, is_transport_frame_to, numbered_packet,
+    three_bytes,
+};

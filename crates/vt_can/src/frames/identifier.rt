@@ -77,7 +77,8 @@ impl CanId {
         (self.raw & 0xFF) as u8
     }
 
-    /// The address that the frame is sent to, for a PDU format below 240: 255 is every node.
+    /// The address that the frame is sent to, for a PDU format below 240; `GLOBAL_ADDRESS` is
+    /// that of every node.
     pub fn destination(self) -> Option<u8>
         ensures { result ≡ destination_of (parts_of self) }
     {

@@ -8,7 +8,7 @@ ghost use Rattle.hex.specs.Hex.{decode_of, is_hex_digit};
 ghost use Rattle.vt_can.specs.lines.Actions.{IsNumber};
 ghost use Rattle.vt_can.specs.lines.Line.{AreDigits, IsFraction, id_of, data_reading};
 
-use crate::frames::identifier::CanId;
+use crate::frames::CanId;
 use crate::lines::line::LineFault;
 use arrayvec::ArrayVec;
 use hex::FromHex;

@@ -4,7 +4,7 @@ ghost use Rattle.std.specs.Prelude.{◌≡◌, ◌⊎◌, length};
 ghost use Rattle.vt_can.specs.lines.Readings.{reading_of};
 ghost use Rattle.vt_can.specs.lines.Line.{frame_line_reading};
 
-use crate::frames::frame::Frame;
+use crate::frames::Frame;
 use crate::lines::digits::{data_bytes, identifier, is_hex};
 use crate::lines::line::{Line, LineFault, Skipped};
 

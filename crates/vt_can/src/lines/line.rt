@@ -4,7 +4,7 @@ ghost use Rattle.std.specs.Prelude.{◌↔◌, IsTrue};
 ghost use Rattle.vt_can.specs.lines.Readings.{reading_of};
 ghost use Rattle.vt_can.specs.lines.Line.{IsContent, IsComment, Reads};
 
-use crate::frames::frame::Frame;
+use crate::frames::Frame;
 use crate::lines::action::action;
 use crate::lines::frame_line::read_frame_line;
 use crate::lines::parts::{shape_of, time_of};

@@ -6,7 +6,7 @@ ghost use Rattle.arrayvec.specs.ArrayVec.{array_vec_len};
 ghost use Rattle.hex.specs.Hex.{encode_upper};
 ghost use Rattle.vt_can.specs.lines.Writing.{frame_text, lowest_digits, line_text};
 
-use crate::frames::frame::Frame;
+use crate::frames::Frame;
 use arrayvec::ArrayVec;
 
 /// The text of a frame, `ID#DATA` in upper case digits: 9 to 25 bytes.

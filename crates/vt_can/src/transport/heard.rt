@@ -1,6 +1,6 @@
 //! What a receiver answers to a frame.
 
-use crate::frames::frame::Frame;
+use crate::frames::Frame;
 use crate::transport::bytes::Bytes;
 
 /// What a receiver answers to a frame. A reply is to be sent.

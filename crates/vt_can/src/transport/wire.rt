@@ -7,8 +7,7 @@ ghost use Rattle.vt_can.specs.frames.Frame.{frame_of};
 ghost use Rattle.vt_can.specs.transport.Wire.{is_transport_frame_to, abort_bytes, reason_code};
 
 use crate::assigned::{ABORT, FILL};
-use crate::frames::frame::Frame;
-use crate::frames::identifier::CanId;
+use crate::frames::{CanId, Frame};
 use arrayvec::ArrayVec;
 
 /// Why a node ends a session of a transport protocol.

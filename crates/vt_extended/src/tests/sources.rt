@@ -1,5 +1,6 @@
 use super::Wanted::*;
 use super::*;
+use vt_can::assigned::ETP_CM;
 
 // The first frames of nine bytes from a source, whose address stands in the texts.
 fn opens(receiver: &mut Receiver, first: Opening) -> Result<bool, OutOfMemory> {
@@ -61,7 +62,7 @@ fn two_sources_at_once(rt: HostRuntime) -> Result<(), Fail> {
 // A frame of connection management.
 fn control(from: u8, to: u8, bytes: [u8; 8]) -> Frame {
     Frame {
-        id: CanId::new(7, 0xC800, to, from),
+        id: CanId::new(7, ETP_CM, to, from),
         bytes: ArrayVec::from(bytes),
     }
 }

@@ -3,6 +3,7 @@ use super::*;
 use arrayvec::ArrayVec;
 use std::alloc::Global;
 use vt_can::CanId;
+use vt_can::assigned::TP_DT;
 
 const LINUX: u8 = 0x80;
 
@@ -68,7 +69,7 @@ fn packet(number: u8, part: &[u8]) -> Frame {
     }
     let [a, b, c, d, e, f, g] = bytes;
     Frame {
-        id: CanId::new(7, 0xEB00, NODE, LINUX),
+        id: CanId::new(7, TP_DT, NODE, LINUX),
         bytes: ArrayVec::from([number, a, b, c, d, e, f, g]),
     }
 }

@@ -5,6 +5,7 @@ use super::receiving::both_packets;
 use super::*;
 use arrayvec::ArrayVec;
 use vt_can::CanId;
+use vt_can::assigned::{TP_CM, TP_DT};
 
 const NODE: u8 = 0x26;
 
@@ -42,7 +43,7 @@ fn two_sources_alternating(rt: HostRuntime) -> Result<(), Fail> {
 // A frame of connection management.
 fn control(from: u8, to: u8, bytes: [u8; 8]) -> Frame {
     Frame {
-        id: CanId::new(7, 0xEC00, to, from),
+        id: CanId::new(7, TP_CM, to, from),
         bytes: ArrayVec::from(bytes),
     }
 }
@@ -50,7 +51,7 @@ fn control(from: u8, to: u8, bytes: [u8; 8]) -> Frame {
 // A packet to the node.
 fn packet(from: u8, bytes: [u8; 8]) -> Frame {
     Frame {
-        id: CanId::new(7, 0xEB00, NODE, from),
+        id: CanId::new(7, TP_DT, NODE, from),
         bytes: ArrayVec::from(bytes),
     }
 }
@@ -123,7 +124,7 @@ fn all_others_open(receiver: &mut Receiver) -> Result<bool, OutOfMemory> {
         answer[4] = high;
         answer[5] = low;
         if source != NODE && source != 0x80 {
-            all = all && answers(receiver, &line, &answer)?;
+            all = all && replies(receiver, &line, &answer)?;
         }
     }
     Ok(all)
@@ -140,7 +141,7 @@ fn digit(value: u8) -> u8
 }
 
 // Whether a receiver replies this to the frame of a line.
-fn answers(receiver: &mut Receiver, line: &[u8], text: &[u8]) -> Result<bool, OutOfMemory> {
+fn replies(receiver: &mut Receiver, line: &[u8], text: &[u8]) -> Result<bool, OutOfMemory> {
     match parse_line(line) {
         Ok(Line::Frame { time, frame }) => {
             let heard = receiver.hear(time, &frame)?;
@@ -161,7 +162,7 @@ fn is_reply(heard: &Heard, text: &[u8]) -> bool {
 fn a_session_among_252_others(rt: HostRuntime) -> Result<(), Fail> {
     let mut receiver = Receiver::new(rt.alloc(), NODE);
     let before = all_others_open(&mut receiver)?;
-    let opened = answers(
+    let opened = replies(
         &mut receiver,
         b"(1.000000) can0 1CEC2680#10090002FF00E700",
         b"1CEC8026#110201FFFF00E700",
