@@ -3,4 +3,4 @@ pub mod Actions
 pub mod Readings
 pub mod Line
 pub mod Writing
-pub mod Parts
+pub mod Fields

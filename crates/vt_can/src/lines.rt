@@ -2,9 +2,9 @@
 
 mod action;
 mod digits;
+mod fields;
 mod frame_line;
 mod line;
-mod parts;
 mod write;
 
 pub use line::{Action, Line, LineFault, Skipped, parse_line};

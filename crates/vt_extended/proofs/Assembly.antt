@@ -13,9 +13,9 @@ use Rattle.vt_extended.specs.declared.messages.Part.{Part}
 use Rattle.vt_extended.specs.declared.messages.Part.TheVariants.{Offset, Packet}
 use Rattle.vt_extended.specs.declared.messages.EtpFrame.TheVariants as etp
 use Rattle.vt_extended.specs.declared.messages.Reply.TheVariants.{Abort}
-use Rattle.vt_extended.specs.Messages.{SessionEvent, Group, Announced, packets_of, received, bytes_of, spelling, Stands, IsWhole, IsAnswered, reply_to, offset_reply, packet_reply, part_reply}
+use Rattle.vt_extended.specs.Messages.{SessionEvent, Group, Announced, packet_count_of, received, bytes_of, spelling, Stands, IsWhole, IsAnswered, reply_to, offset_reply, packet_reply, part_reply}
 use Rattle.vt_extended.specs.SessionState.{SessionState}
-use Rattle.vt_extended.specs.Steps.{Outcome, is_open, after_offset, is_next, after_packet, after_part, HasGroups, Has}
+use Rattle.vt_extended.specs.Steps.{Outcome, is_open, after_offset, is_next, after_packet, after_part, HasGroups, HasPackets}
 use Rattle.vt_extended.specs.Protocol.{protocol, StepsAssembleMessages}
 use Rattle.vt_extended.proofs.Histories.{sent_packet, IsNext, packet_last}
 use Rattle.vt_extended.proofs.Stepping.{offset_right, offset_wrong, grown_reply, packet_more, packet_whole, packet_wrong, is_open_as, is_next_as, is_next_true, grown_bytes}
@@ -29,7 +29,7 @@ whole_message current packet =
 
 whole_of_groups : (hs : List SessionEvent) (number : ℕ) (packet : List ℕ) (current : Timed SessionState) (message : Message) (groups : List Group)
     → Next current number current.session.opening groups → Stands hs current.session.opening groups
-    → current.session.received + 1 ≡ packets_of current.session.opening → whole_message current packet ≡ message
+    → current.session.received + 1 ≡ packet_count_of current.session.opening → whole_message current packet ≡ message
     → IsWhole hs (Came (etp.Part (Packet number packet))) message
 whole_of_groups hs number packet current message groups (InGroup count packets before next within h) stands all is =
     let was = h.received_is in
@@ -44,7 +44,7 @@ whole_of_groups hs number packet current message groups (InGroup count packets b
     }
 
 whole_at : (now number : ℕ) (packet : List ℕ) (hs : List SessionEvent) (current : Timed SessionState) (message : Message) (whole : Bool)
-    → eqb (current.session.received + 1) (packets_of current.session.opening) ≡ whole → is_next current.session number ≡ true → IsStanding hs current
+    → eqb (current.session.received + 1) (packet_count_of current.session.opening) ≡ whole → is_next current.session number ≡ true → IsStanding hs current
     → (after_packet now current number packet).message ≡ Some message → IsWhole hs (Came (etp.Part (Packet number packet))) message
 whole_at now number packet hs current message true all next k is =
     let some : Some (whole_message current packet) ≡ Some message =
@@ -83,21 +83,21 @@ whole_step now hs session (Came etp.Other) message m is = absurd cc
 -- and the other way
 
 message_of : (now number : ℕ) (packet : List ℕ) (session : Option (Timed SessionState)) (o : Opening) (count : ℕ) (packets : List (List ℕ)) (groups : List Group)
-    (message : Message) → Has session o (Announced count packets ∷ groups) → number ≡ length packets + 1 → length packets < count
-    → received groups + length packets + 1 ≡ packets_of o → message.pgn ≡ o.pgn
+    (message : Message) → HasPackets session o (Announced count packets ∷ groups) → number ≡ length packets + 1 → length packets < count
+    → received groups + length packets + 1 ≡ packet_count_of o → message.pgn ≡ o.pgn
     → message.bytes ≡ take o.size (bytes_of (Announced count (packet ∷ packets) ∷ groups))
     → (after_part now session (Packet number packet)).message ≡ Some message
 message_of now number packet None o count packets groups message h next within all pgn bytes = absurd h
 message_of now number packet (Some current) o count packets groups message h next within all pgn bytes =
     let was = h.received_is in
-    let every : packets_of current.session.opening ≡ packets_of o = ap packets_of h.opening in
+    let every : packet_count_of current.session.opening ≡ packet_count_of o = ap packet_count_of h.opening in
     ap (λ (out : Outcome). out.message)
     (packet_whole now number packet current (is_next_true current.session count (length packets) number h.last.0 h.last.1 within next) (omega arith))
     ∙ ap₂ (λ (p : ℕ) (bs : List ℕ). Some (record { pgn = p; bytes = bs })) (ap (λ (q : Opening). q.pgn) h.opening ∙ sym pgn)
     (grown_bytes current.session packet o count packets groups h ∙ sym bytes)
 
 message_next : (now number : ℕ) (packet : List ℕ) (hs : List SessionEvent) (session : Option (Timed SessionState)) (o : Opening) (groups : List Group) (message : Message)
-    → Matches hs session → IsNext hs number packet o groups → received groups ≡ packets_of o → message.pgn ≡ o.pgn
+    → Matches hs session → IsNext hs number packet o groups → received groups ≡ packet_count_of o → message.pgn ≡ o.pgn
     → message.bytes ≡ take o.size (bytes_of groups) → (after_part now session (Packet number packet)).message ≡ Some message
 message_next now number packet hs session o groups message m n all pgn bytes =
     let count : received groups ≡ received (Announced n.count (packet ∷ n.packets) ∷ n.before) = ap received n.all in
@@ -133,7 +133,7 @@ reply_offset now count offset current o groups false wrong h =
 -- the reply to a packet
 
 reply_whole : (now number : ℕ) (packet : List ℕ) (current : Timed SessionState) (whole : Bool)
-    → eqb (current.session.received + 1) (packets_of current.session.opening) ≡ whole → is_next current.session number ≡ true
+    → eqb (current.session.received + 1) (packet_count_of current.session.opening) ≡ whole → is_next current.session number ≡ true
     → (after_packet now current number packet).reply ≡ grown_reply current
 reply_whole now number packet current true all next =
     ap (λ (out : Outcome). out.reply) (packet_whole now number packet current next (eqb-true _ _ all))
@@ -172,7 +172,7 @@ reply_number now number packet current o (Announced count packets ∷ groups) fa
 
 -- the reply to each event
 
-reply_part : (now : ℕ) (part : Part) (session : Option (Timed SessionState)) (o : Opening) (groups : List Group) → Has session o groups
+reply_part : (now : ℕ) (part : Part) (session : Option (Timed SessionState)) (o : Opening) (groups : List Group) → HasPackets session o groups
     → (after_part now session part).reply ≡ part_reply o groups part
 reply_part now part None o groups h = absurd h
 reply_part now (Offset count offset) (Some current) o groups h = reply_offset now count offset current o groups _ refl h

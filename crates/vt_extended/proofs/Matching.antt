@@ -12,9 +12,9 @@ use Rattle.vt_extended.specs.declared.messages.Opening.{Opening}
 use Rattle.vt_extended.specs.declared.messages.Part.{Part}
 use Rattle.vt_extended.specs.declared.messages.Part.TheVariants.{Offset, Packet}
 use Rattle.vt_extended.specs.declared.messages.EtpFrame.TheVariants as etp
-use Rattle.vt_extended.specs.Messages.{SessionEvent, Group, Announced, opens, packets_of, received, edge, spelling, Stands}
+use Rattle.vt_extended.specs.Messages.{SessionEvent, Group, Announced, opens, packet_count_of, received, edge, spelling, Stands}
 use Rattle.vt_extended.specs.SessionState.{SessionState}
-use Rattle.vt_extended.specs.Steps.{Outcome, fresh, is_open, after_offset, is_next, after_packet, after_part, HasGroups, Has}
+use Rattle.vt_extended.specs.Steps.{Outcome, fresh, is_open, after_offset, is_next, after_packet, after_part, HasGroups, HasPackets}
 use Rattle.vt_extended.specs.Protocol.{protocol}
 use Rattle.vt_extended.proofs.Openings.{opened_packets}
 use Rattle.vt_extended.proofs.Histories.{sent_offset, sent_packet, no_parts, IsAnnounced, offset_last, IsNext, packet_last}
@@ -25,41 +25,41 @@ opening_of current = current.opening
 
 -- the session of the steps and the one that stands are the same
 abbrev pub Matches : List SessionEvent → Option (Timed SessionState) → Type 0
-Matches = steps.Matches spelling opening_of Has
+Matches = steps.Matches spelling opening_of HasPackets
 
 abbrev pub IsStanding : List SessionEvent → Timed SessionState → Type 0
-IsStanding = steps.IsStanding spelling opening_of Has
+IsStanding = steps.IsStanding spelling opening_of HasPackets
 
 -- an RTS
 
 abbrev first : ℕ → Opening → Timed SessionState
 first now o = record { last = now; session = fresh o }
 
-has_first : (now : ℕ) (o : Opening) → Has (Some (first now o)) o []
+has_first : (now : ℕ) (o : Opening) → HasPackets (Some (first now o)) o []
 has_first now o = record { opening = refl; bytes = sym (take_none o.size); received_is = refl; last = (refl, refl); edge_is = refl }
 
 matches_rts : (now : ℕ) (hs : List SessionEvent) (o : Opening) → Matches (Came (etp.Rts o) ∷ hs) (cond (opens o) (Some (first now o)) None)
 matches_rts now hs o =
-    matches_request spelling opening_of Has o (first now o) [] refl (λ quiet. quiet) (λ o' e. cc) (record { in_order = refl; sound = tt }) (opened_packets o)
-    (λ groups none. subst (λ (gs : List Group). Has (Some (first now o)) o gs) (sym (no_parts groups none.in_order)) (has_first now o)) hs
+    matches_request spelling opening_of HasPackets o (first now o) [] refl (λ quiet. quiet) (λ o' e. cc) (record { in_order = refl; sound = tt }) (opened_packets o)
+    (λ groups none. subst (λ (gs : List Group). HasPackets (Some (first now o)) o gs) (sym (no_parts groups none.in_order)) (has_first now o)) hs
 
 -- a DPO
 
-has_offset : (now count offset : ℕ) (session : Option (Timed SessionState)) (o : Opening) (groups : List Group) → Has session o groups → 1 ≤ count
+has_offset : (now count offset : ℕ) (session : Option (Timed SessionState)) (o : Opening) (groups : List Group) → HasPackets session o groups → 1 ≤ count
     → received groups + count ≤ edge o groups → offset ≡ received groups
-    → Has (after_part now session (Offset count offset)).session o (Announced count [] ∷ groups)
+    → HasPackets (after_part now session (Offset count offset)).session o (Announced count [] ∷ groups)
 has_offset now count offset None o groups h one within next = absurd h
 has_offset now count offset (Some current) o groups h one within next =
-    subst (λ (out : Outcome). Has out.session o (Announced count [] ∷ groups))
+    subst (λ (out : Outcome). HasPackets out.session o (Announced count [] ∷ groups))
     (sym (offset_right now count offset current (is_open_true current.session o groups count offset h one within next)))
     (has_announced current.session o groups count h one)
 
 stands_offset : (now count offset : ℕ) (hs : List SessionEvent) (session : Option (Timed SessionState)) (o : Opening) (groups : List Group)
-    → Matches hs session → IsAnnounced hs count offset o groups → received groups < packets_of o
-    → Has (after_part now session (Offset count offset)).session o groups
+    → Matches hs session → IsAnnounced hs count offset o groups → received groups < packet_count_of o
+    → HasPackets (after_part now session (Offset count offset)).session o groups
 stands_offset now count offset hs session o groups m n more =
     let same : received groups ≡ received n.before + 0 = ap received n.all in
-    subst (λ (gs : List Group). Has (after_part now session (Offset count offset)).session o gs) (sym n.all)
+    subst (λ (gs : List Group). HasPackets (after_part now session (Offset count offset)).session o gs) (sym n.all)
     (has_offset now count offset session o n.before (m.stands o n.before (record { sent = n.sent; more = omega arith })) n.one n.within n.next)
 
 -- a session that stands, and the group that is announced
@@ -95,23 +95,23 @@ standing_offset now count offset hs (Some current) current' m is = standing_open
 -- a packet
 
 has_packet : (now number : ℕ) (packet : List ℕ) (session : Option (Timed SessionState)) (o : Opening) (count : ℕ) (packets : List (List ℕ)) (groups : List Group)
-    → Has session o (Announced count packets ∷ groups) → number ≡ length packets + 1 → length packets < count
-    → received groups + length packets + 1 < packets_of o
-    → Has (after_part now session (Packet number packet)).session o (Announced count (packet ∷ packets) ∷ groups)
+    → HasPackets session o (Announced count packets ∷ groups) → number ≡ length packets + 1 → length packets < count
+    → received groups + length packets + 1 < packet_count_of o
+    → HasPackets (after_part now session (Packet number packet)).session o (Announced count (packet ∷ packets) ∷ groups)
 has_packet now number packet None o count packets groups h next within more = absurd h
 has_packet now number packet (Some current) o count packets groups h next within more =
     let was = h.received_is in
-    let all : packets_of current.session.opening ≡ packets_of o = ap packets_of h.opening in
-    subst (λ (out : Outcome). Has out.session o (Announced count (packet ∷ packets) ∷ groups))
+    let all : packet_count_of current.session.opening ≡ packet_count_of o = ap packet_count_of h.opening in
+    subst (λ (out : Outcome). HasPackets out.session o (Announced count (packet ∷ packets) ∷ groups))
     (sym (packet_more now number packet current (is_next_true current.session count (length packets) number h.last.0 h.last.1 within next) (λ e. omega arith)))
     (has_grown current.session packet o count packets groups h within)
 
 stands_packet : (now number : ℕ) (packet : List ℕ) (hs : List SessionEvent) (session : Option (Timed SessionState)) (o : Opening) (groups : List Group)
-    → Matches hs session → IsNext hs number packet o groups → received groups < packets_of o
-    → Has (after_part now session (Packet number packet)).session o groups
+    → Matches hs session → IsNext hs number packet o groups → received groups < packet_count_of o
+    → HasPackets (after_part now session (Packet number packet)).session o groups
 stands_packet now number packet hs session o groups m n more =
     let count : received groups ≡ received (Announced n.count (packet ∷ n.packets) ∷ n.before) = ap received n.all in
-    subst (λ (gs : List Group). Has (after_part now session (Packet number packet)).session o gs) (sym n.all)
+    subst (λ (gs : List Group). HasPackets (after_part now session (Packet number packet)).session o gs) (sym n.all)
     (has_packet now number packet session o n.count n.packets n.before
     (m.stands o (Announced n.count n.packets ∷ n.before) (record { sent = n.sent; more = omega arith })) n.next n.more (omega arith))
 
@@ -130,7 +130,7 @@ next_in current number o (Announced count packets ∷ groups) next h =
     InGroup count packets groups (eqb-true _ _ tests.second) (ltb-true _ _ tests.first) h
 
 standing_grown : (now number : ℕ) (packet : List ℕ) (hs : List SessionEvent) (current : Timed SessionState) (groups : List Group) → Next current number current.session.opening groups
-    → Stands hs current.session.opening groups → (current.session.received + 1 ≡ packets_of current.session.opening → ⊥)
+    → Stands hs current.session.opening groups → (current.session.received + 1 ≡ packet_count_of current.session.opening → ⊥)
     → IsStanding (Came (etp.Part (Packet number packet)) ∷ hs) (grown now current packet)
 standing_grown now number packet hs current groups (InGroup count packets before next within h) stands more =
     let was = h.received_is in
@@ -141,12 +141,12 @@ standing_grown now number packet hs current groups (InGroup count packets before
     )
 
 standing_at : (now number : ℕ) (packet : List ℕ) (hs : List SessionEvent) (current current' : Timed SessionState) (whole : Bool)
-    → eqb (current.session.received + 1) (packets_of current.session.opening) ≡ whole → is_next current.session number ≡ true → IsStanding hs current
+    → eqb (current.session.received + 1) (packet_count_of current.session.opening) ≡ whole → is_next current.session number ≡ true → IsStanding hs current
     → (after_packet now current number packet).session ≡ Some current' → IsStanding (Came (etp.Part (Packet number packet)) ∷ hs) current'
 standing_at now number packet hs current current' true all next k is =
     let none = ap (λ (out : Outcome). out.session) (packet_whole now number packet current next (eqb-true _ _ all)) in absurd cc
 standing_at now number packet hs current current' false all next k is =
-    let more : current.session.received + 1 ≡ packets_of current.session.opening → ⊥ = λ e. false≢true (sym all ∙ eq-eqb _ _ e) in
+    let more : current.session.received + 1 ≡ packet_count_of current.session.opening → ⊥ = λ e. false≢true (sym all ∙ eq-eqb _ _ e) in
     let some : Some (grown now current packet) ≡ Some current' =
     sym (ap (λ (out : Outcome). out.session) (packet_more now number packet current next more)) ∙ is in
     let same : grown now current packet ≡ current' = cc in
@@ -179,13 +179,13 @@ matches_part now (Packet number packet) hs session m = record {
 
 matches_step : (now : ℕ) (hs : List SessionEvent) (session : Option (Timed SessionState)) (x : SessionEvent) → Matches hs session
     → Matches (x ∷ hs) (event_step protocol now session x).session
-matches_step now hs session TimedOut m = matches_end spelling opening_of Has hs TimedOut (record { loud = λ quiet. quiet; other = λ o e. cc })
+matches_step now hs session TimedOut m = matches_end spelling opening_of HasPackets hs TimedOut (record { loud = λ quiet. quiet; other = λ o e. cc })
 matches_step now hs session (Came (etp.Rts o)) m = matches_rts now hs o
 matches_step now hs session (Came (etp.Part part)) m = matches_part now part hs session m
 matches_step now hs session (Came etp.Aborted) m =
-    matches_end spelling opening_of Has hs (Came etp.Aborted) (record { loud = λ quiet. quiet; other = λ o e. cc })
+    matches_end spelling opening_of HasPackets hs (Came etp.Aborted) (record { loud = λ quiet. quiet; other = λ o e. cc })
 matches_step now hs session (Came etp.Other) m =
-    matches_quiet spelling opening_of Has hs session (Came etp.Other)
+    matches_quiet spelling opening_of HasPackets hs session (Came etp.Other)
     (record {
       quiet = tt;
       other = λ o e. cc;
@@ -195,5 +195,5 @@ matches_step now hs session (Came etp.Other) m =
     m
 
 pub matches : (xs : List (ℕ × SessionEvent)) → Matches (untimed xs) (session_after protocol xs)
-matches [] = matches_none spelling opening_of Has
+matches [] = matches_none spelling opening_of HasPackets
 matches (x ∷ xs) = matches_step x.0 (untimed xs) (session_after protocol xs) x.1 (matches xs)

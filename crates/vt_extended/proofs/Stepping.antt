@@ -10,7 +10,7 @@ use Rattle.vt_can.proofs.lemmas.transport.Joining.{take_again}
 use Rattle.vt_extended.specs.declared.messages.Opening.{Opening}
 use Rattle.vt_extended.specs.declared.messages.Reply.{Reply}
 use Rattle.vt_extended.specs.declared.messages.Reply.TheVariants.{Abort}
-use Rattle.vt_extended.specs.Messages.{Group, Announced, packets_of, received, full, edge_after, edge, bytes_of, reply_to}
+use Rattle.vt_extended.specs.Messages.{Group, Announced, packet_count_of, received, full, edge_after, edge, bytes_of, reply_to}
 use Rattle.vt_extended.specs.SessionState.{SessionState}
 use Rattle.vt_extended.specs.Steps.{Outcome, is_open, with_group, after_offset, is_next, with_packet, after_packet, HasGroups}
 
@@ -36,22 +36,22 @@ abbrev pub grown_reply : Timed SessionState → Option Reply
 grown_reply current = reply_to current.session.opening (current.session.received + 1) (eqb (current.session.arrived + 1) current.session.announced)
 
 pub packet_more : (now number : ℕ) (packet : List ℕ) (current : Timed SessionState) → is_next current.session number ≡ true
-    → (current.session.received + 1 ≡ packets_of current.session.opening → ⊥)
+    → (current.session.received + 1 ≡ packet_count_of current.session.opening → ⊥)
     → ◌≡◌ {A = Outcome} (after_packet now current number packet)
     (record { session = Some (grown now current packet); reply = grown_reply current; message = None })
 packet_more now number packet current next more =
-    let f : eqb (current.session.received + 1) (packets_of current.session.opening) ≡ false = ne_eqb _ _ more in
+    let f : eqb (current.session.received + 1) (packet_count_of current.session.opening) ≡ false = ne_eqb _ _ more in
     rw (next, f)
 
 pub packet_whole : (now number : ℕ) (packet : List ℕ) (current : Timed SessionState) → is_next current.session number ≡ true
-    → current.session.received + 1 ≡ packets_of current.session.opening
+    → current.session.received + 1 ≡ packet_count_of current.session.opening
     → ◌≡◌ {A = Outcome} (after_packet now current number packet) (record {
       session = None;
       reply = grown_reply current;
       message = Some (record { pgn = current.session.opening.pgn; bytes = take current.session.opening.size (current.session.bytes ++ packet) });
     })
 packet_whole now number packet current next whole =
-    let f : eqb (current.session.received + 1) (packets_of current.session.opening) ≡ true = eq-eqb _ _ whole in
+    let f : eqb (current.session.received + 1) (packet_count_of current.session.opening) ≡ true = eq-eqb _ _ whole in
     rw (next, f)
 
 pub packet_wrong : (now number : ℕ) (packet : List ℕ) (current : Timed SessionState) → is_next current.session number ≡ false

@@ -8,7 +8,7 @@ use Rattle.vt_can.specs.transport.Steps.{stepped}
 use Rattle.vt_can.proofs.lemmas.transport.Timeless as can
 use Rattle.vt_extended.specs.declared.messages.EtpFrame.TheVariants as etp
 use Rattle.vt_extended.specs.declared.messages.Part.TheVariants.{Offset, Packet}
-use Rattle.vt_extended.specs.Messages.{opens, first_reply, packets_of}
+use Rattle.vt_extended.specs.Messages.{opens, first_reply, packet_count_of}
 use Rattle.vt_extended.specs.Wire.{connection_management}
 use Rattle.vt_extended.specs.SessionState.{SessionState}
 use Rattle.vt_extended.specs.Steps.{is_open, is_next}
@@ -21,7 +21,7 @@ timeless now None (etp.Part part) = refl
 timeless now (Some current) (etp.Part (Offset count offset)) = can.untimed_cond (is_open current.session count offset) _ _ _ _ refl refl
 timeless now (Some current) (etp.Part (Packet number packet)) =
     can.untimed_cond (is_next current.session number) _ _ _ _
-    (can.untimed_cond (eqb (current.session.received + 1) (packets_of current.session.opening)) _ _ _ _ refl refl) refl
+    (can.untimed_cond (eqb (current.session.received + 1) (packet_count_of current.session.opening)) _ _ _ _ refl refl) refl
 timeless now None etp.Aborted = refl
 timeless now (Some current) etp.Aborted = refl
 timeless now None etp.Other = refl

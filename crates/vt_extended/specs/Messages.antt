@@ -23,8 +23,8 @@ abbrev pub opens : Opening → Bool
 opens o = nat_le 9 o.size && nat_le o.size 1048576
 
 -- the packets of seven bytes that carry the message
-abbrev pub packets_of : Opening → ℕ
-packets_of o = (o.size + 6) / 7
+abbrev pub packet_count_of : Opening → ℕ
+packet_count_of o = (o.size + 6) / 7
 
 -- A DPO announced a count of packets, and these came after it.
 pub data Group : Type 0 where
@@ -42,7 +42,7 @@ full (Announced count packets ∷ groups) =
 
 -- the last packet that a CTS after so many packets opens
 abbrev pub edge_after : Opening → ℕ → ℕ
-edge_after o count = min (packets_of o) (count + 255)
+edge_after o count = min (packet_count_of o) (count + 255)
 
 -- the last packet that a DPO may announce after these groups
 abbrev pub edge : Opening → List Group → ℕ
@@ -94,7 +94,7 @@ spelling = record {
   opens = opens;
   size = λ o. o.size;
   pgn = λ o. o.pgn;
-  all = packets_of;
+  total = packet_count_of;
   IsQuiet = IsQuiet;
   Brings = BringsGroups;
   count = received;
@@ -112,7 +112,7 @@ IsWhole = histories.IsWhole spelling
 
 -- the CTS after so many packets, for 255 of those left at most
 abbrev pub clear_to_send : Opening → ℕ → Reply
-clear_to_send o count = ClearToSend (min 255 (packets_of o - count)) (count + 1) o.pgn
+clear_to_send o count = ClearToSend (min 255 (packet_count_of o - count)) (count + 1) o.pgn
 
 -- why an RTS of a size that doesn't open is refused
 abbrev pub refusal : Opening → Reason
@@ -125,7 +125,7 @@ first_reply o = if opens o then clear_to_send o 0 else Abort (refusal o) o.pgn
 -- the reply to packet j in its turn: the end, the next CTS where its group is whole, or none
 abbrev pub reply_to : Opening → ℕ → Bool → Option Reply
 reply_to o j whole =
-    if j == packets_of o then Some (End o.size o.pgn)
+    if j == packet_count_of o then Some (End o.size o.pgn)
     else if whole then Some (clear_to_send o j)
     else None
 

@@ -11,7 +11,7 @@ use Rattle.vt_extended.specs.declared.messages.EtpFrame.{EtpFrame}
 use Rattle.vt_extended.specs.declared.messages.EtpFrame.TheVariants as etp
 use Rattle.vt_extended.specs.declared.messages.Reply.{Reply}
 use Rattle.vt_extended.specs.declared.messages.Reply.TheVariants.{Abort}
-use Rattle.vt_extended.specs.Messages.{Group, Announced, opens, packets_of, received, edge_after, edge, bytes_of, first_reply, reply_to}
+use Rattle.vt_extended.specs.Messages.{Group, Announced, opens, packet_count_of, received, edge_after, edge, bytes_of, first_reply, reply_to}
 use Rattle.vt_extended.specs.SessionState.{SessionState}
 
 abbrev pub Outcome : Type 0
@@ -61,7 +61,7 @@ with_packet s packet = record {
 abbrev pub next_packet : ℕ → Timed SessionState → List ℕ → Outcome
 next_packet now current packet =
     let s = with_packet current.session packet in
-    if s.received == packets_of s.opening
+    if s.received == packet_count_of s.opening
     then record { session = None; reply = reply_to s.opening s.received (s.arrived == s.announced); message = Some (record { pgn = s.opening.pgn; bytes = s.bytes }) }
     else record { session = Some (record { last = max now current.last; session = s }); reply = reply_to s.opening s.received (s.arrived == s.announced); message = None }
 
@@ -95,6 +95,6 @@ pub record HasGroups (current : SessionState) (o : Opening) (groups : List Group
   pub last : IsLast groups current.announced current.arrived
   pub edge_is : current.edge ≡ edge o groups
 
-abbrev pub Has : Option (Timed SessionState) → Opening → List Group → Type 0
-Has None o groups = ⊥
-Has (Some current) o groups = HasGroups current.session o groups
+abbrev pub HasPackets : Option (Timed SessionState) → Opening → List Group → Type 0
+HasPackets None o groups = ⊥
+HasPackets (Some current) o groups = HasGroups current.session o groups

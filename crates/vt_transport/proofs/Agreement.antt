@@ -12,7 +12,7 @@ use Rattle.vt_transport.specs.declared.messages.TpFrame.TheVariants.{Rts, Cts, E
 use Rattle.vt_transport.specs.declared.messages.Reply.TheVariants.{Abort}
 use Rattle.vt_transport.specs.Messages.{SessionEvent, spelling, Stands, IsWhole, IsAnswered, reply_to, packet_reply}
 use Rattle.vt_transport.specs.SessionState.{SessionState}
-use Rattle.vt_transport.specs.Steps.{Outcome, after_packet, Has}
+use Rattle.vt_transport.specs.Steps.{Outcome, after_packet, HasPackets}
 use Rattle.vt_transport.specs.Protocol.{protocol, StepsAssembleMessages}
 use Rattle.vt_transport.proofs.Assembly.{packet_more, packet_whole, packet_wrong, IsNext, packet_last, sent_packet, Matches, IsStanding, grown_bytes, matches}
 
@@ -68,7 +68,7 @@ whole_step now hs session (Came Other) message m is = absurd cc
 
 -- and the other way
 
-message_of : (now number : ℕ) (packet : List ℕ) (session : Option (Timed SessionState)) (o : Opening) (packets : List (List ℕ)) (message : Message) → Has session o packets
+message_of : (now number : ℕ) (packet : List ℕ) (session : Option (Timed SessionState)) (o : Opening) (packets : List (List ℕ)) (message : Message) → HasPackets session o packets
     → number ≡ length packets + 1 → length packets + 1 ≡ o.packets → message.pgn ≡ o.pgn → message.bytes ≡ take o.size (joined (packet ∷ packets))
     → (after_packet now session number packet).message ≡ Some message
 message_of now number packet None o packets message h next all pgn bytes = absurd h
@@ -117,7 +117,7 @@ reply_number now number packet current false next =
     ap (λ (out : Outcome). out.reply) (packet_wrong now number packet current (λ e. false≢true (sym next ∙ eq-eqb _ _ e)))
     ∙ sym (ap (λ (b : Bool). cond b (reply_to current.session.opening number) (Some (Abort Disorder current.session.opening.pgn))) next)
 
-reply_packet : (now number : ℕ) (packet : List ℕ) (session : Option (Timed SessionState)) (o : Opening) (packets : List (List ℕ)) → Has session o packets
+reply_packet : (now number : ℕ) (packet : List ℕ) (session : Option (Timed SessionState)) (o : Opening) (packets : List (List ℕ)) → HasPackets session o packets
     → (after_packet now session number packet).reply ≡ packet_reply o (length packets) number
 reply_packet now number packet None o packets h = absurd h
 reply_packet now number packet (Some current) o packets h =

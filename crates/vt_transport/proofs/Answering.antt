@@ -11,7 +11,7 @@ use Rattle.vt_transport.specs.declared.messages.TpFrame.TheVariants.{Cts, EndOfM
 use Rattle.vt_can.specs.declared.transport.wire.Reason.TheVariants.{Disorder}
 use Rattle.vt_transport.specs.declared.messages.Reply.TheVariants.{Abort}
 use Rattle.vt_transport.specs.Wire.{reply_frame, packet_frame}
-use Rattle.vt_transport.specs.Senders.{SenderState, Answer, Answers, answer_of, answered, session_answer, unanswered, refreshed, packets_of, numbers_from, is_of_group}
+use Rattle.vt_transport.specs.Senders.{SenderState, Answer, Answers, answer_of, answered, session_answer, unanswered, refreshed, packet_count_of, numbers_from, is_of_group}
 use Rattle.vt_can.proofs.lemmas.transport.ByAddress.{get-put, get-removed, removed_others, put_again_others}
 
 pub removed_answers : (old new : SenderState) (to : ℕ) (m : ByAddress Message) (given : Answer) (frames : List Frame) → old.sessions ≡ m → new.own_address ≡ old.own_address
@@ -82,27 +82,27 @@ packet_zero own_address to now current count next pgn same some zeroth =
     rw (e, f, g)
 
 pub past_the_last : (own_address to now : ℕ) (current : Timed Message) (count next pgn : ℕ) → pgn ≡ current.session.pgn → (count ≡ 0 → ⊥) → (next ≡ 0 → ⊥)
-    → packets_of current.session < next → refusal own_address to current ≡ session_answer own_address to now current (Cts count next pgn)
+    → packet_count_of current.session < next → refusal own_address to current ≡ session_answer own_address to now current (Cts count next pgn)
 past_the_last own_address to now current count next pgn same some first past =
     let e : eqb pgn current.session.pgn ≡ true = eq-eqb _ _ same in
     let f : eqb count 0 ≡ false = ne_eqb _ _ some in
     let g : eqb next 0 ≡ false = ne_eqb _ _ first in
-    let h : ltb (packets_of current.session) next ≡ true = lt-ltb _ _ past in
+    let h : ltb (packet_count_of current.session) next ≡ true = lt-ltb _ _ past in
     rw (e, f, g, h)
 
 abbrev pub packets_from : ℕ → ℕ → ℕ → Timed Message → ℕ → ℕ → Answer
 packets_from own_address to now current count next = record {
   session = refreshed now current;
-  frames = map (packet_frame own_address to current.session.bytes) (numbers_from next (min count (packets_of current.session + 1 - next)));
+  frames = map (packet_frame own_address to current.session.bytes) (numbers_from next (min count (packet_count_of current.session + 1 - next)));
 }
 
 pub packets_sent : (own_address to now : ℕ) (current : Timed Message) (count next pgn : ℕ) → pgn ≡ current.session.pgn → (count ≡ 0 → ⊥) → (next ≡ 0 → ⊥)
-    → next ≤ packets_of current.session → packets_from own_address to now current count next ≡ session_answer own_address to now current (Cts count next pgn)
+    → next ≤ packet_count_of current.session → packets_from own_address to now current count next ≡ session_answer own_address to now current (Cts count next pgn)
 packets_sent own_address to now current count next pgn same some first within =
     let e : eqb pgn current.session.pgn ≡ true = eq-eqb _ _ same in
     let f : eqb count 0 ≡ false = ne_eqb _ _ some in
     let g : eqb next 0 ≡ false = ne_eqb _ _ first in
-    let h : ltb (packets_of current.session) next ≡ false = le-ltb _ _ within in
+    let h : ltb (packet_count_of current.session) next ≡ false = le-ltb _ _ within in
     rw (e, f, g, h)
 
 -- the answers to the end and to an abort

@@ -16,7 +16,7 @@ use Rattle.vt_transport.specs.declared.messages.TpFrame.TheVariants.{Rts, Cts, E
 use Rattle.vt_transport.specs.declared.messages.Reply.TheVariants.{Abort}
 use Rattle.vt_transport.specs.Messages.{SessionEvent, opens, packets_in, numbered, spelling, reply_to}
 use Rattle.vt_transport.specs.SessionState.{SessionState}
-use Rattle.vt_transport.specs.Steps.{Outcome, after_packet, Has}
+use Rattle.vt_transport.specs.Steps.{Outcome, after_packet, HasPackets}
 use Rattle.vt_transport.specs.Protocol.{protocol}
 use Rattle.vt_transport.proofs.Openings.{opened_packets}
 
@@ -25,10 +25,10 @@ abbrev pub opening_of : SessionState → Opening
 opening_of current = current.opening
 
 abbrev pub Matches : List SessionEvent → Option (Timed SessionState) → Type 0
-Matches = steps.Matches spelling opening_of Has
+Matches = steps.Matches spelling opening_of HasPackets
 
 abbrev pub IsStanding : List SessionEvent → Timed SessionState → Type 0
-IsStanding = steps.IsStanding spelling opening_of Has
+IsStanding = steps.IsStanding spelling opening_of HasPackets
 
 -- the step of a packet, in its three cases
 
@@ -103,7 +103,7 @@ sent_packet hs number packet o packets next =
 abbrev fresh : ℕ → Opening → Timed SessionState
 fresh now o = record { last = now; session = record { opening = o; bytes = []; received = 0 } }
 
-has_fresh : (now : ℕ) (o : Opening) → Has (Some (fresh now o)) o []
+has_fresh : (now : ℕ) (o : Opening) → HasPackets (Some (fresh now o)) o []
 has_fresh now o = (refl, sym (take_none o.size), refl)
 
 no_packets : (packets : List (List ℕ)) → [] ≡ numbered packets → packets ≡ []
@@ -112,8 +112,8 @@ no_packets (packet ∷ packets) e = absurd cc
 
 matches_rts : (now : ℕ) (hs : List SessionEvent) (o : Opening) → Matches (Came (Rts o) ∷ hs) (cond (opens o) (Some (fresh now o)) None)
 matches_rts now hs o =
-    matches_request spelling opening_of Has o (fresh now o) [] refl (λ quiet. quiet) (λ o' e. cc) refl (opened_packets o)
-    (λ packets none. subst (λ (ps : List (List ℕ)). Has (Some (fresh now o)) o ps) (sym (no_packets packets none)) (has_fresh now o)) hs
+    matches_request spelling opening_of HasPackets o (fresh now o) [] refl (λ quiet. quiet) (λ o' e. cc) refl (opened_packets o)
+    (λ packets none. subst (λ (ps : List (List ℕ)). HasPackets (Some (fresh now o)) o ps) (sym (no_packets packets none)) (has_fresh now o)) hs
 
 -- a packet
 
@@ -124,32 +124,32 @@ grown now current packet = record {
 }
 
 -- the bytes of a session and a packet
-pub grown_bytes : (current : Timed SessionState) (packet : List ℕ) (o : Opening) (packets : List (List ℕ)) → Has (Some current) o packets
+pub grown_bytes : (current : Timed SessionState) (packet : List ℕ) (o : Opening) (packets : List (List ℕ)) → HasPackets (Some current) o packets
     → take current.session.opening.size (current.session.bytes ++ packet) ≡ take o.size (joined (packet ∷ packets))
 grown_bytes current packet o packets h =
     ap (λ (q : Opening). take q.size (current.session.bytes ++ packet)) h.0
     ∙ ap (λ (bytes : List ℕ). take o.size (bytes ++ packet)) h.1 ∙ take_again o.size (joined packets) packet
 
-has_grown : (now : ℕ) (current : Timed SessionState) (packet : List ℕ) (o : Opening) (packets : List (List ℕ)) → Has (Some current) o packets
-    → Has (Some (grown now current packet)) o (packet ∷ packets)
+has_grown : (now : ℕ) (current : Timed SessionState) (packet : List ℕ) (o : Opening) (packets : List (List ℕ)) → HasPackets (Some current) o packets
+    → HasPackets (Some (grown now current packet)) o (packet ∷ packets)
 has_grown now current packet o packets h =
     let count = h.2 in
     (h.0, grown_bytes current packet o packets h, omega arith)
 
-has_packet : (now number : ℕ) (packet : List ℕ) (session : Option (Timed SessionState)) (o : Opening) (packets : List (List ℕ)) → Has session o packets
-    → number ≡ length packets + 1 → length packets + 1 < o.packets → Has (after_packet now session number packet).session o (packet ∷ packets)
+has_packet : (now number : ℕ) (packet : List ℕ) (session : Option (Timed SessionState)) (o : Opening) (packets : List (List ℕ)) → HasPackets session o packets
+    → number ≡ length packets + 1 → length packets + 1 < o.packets → HasPackets (after_packet now session number packet).session o (packet ∷ packets)
 has_packet now number packet None o packets h next more = absurd h
 has_packet now number packet (Some current) o packets h next more =
     let count = h.2 in
     let all : current.session.opening.packets ≡ o.packets = ap (λ (q : Opening). q.packets) h.0 in
-    subst (λ (out : Outcome). Has out.session o (packet ∷ packets)) (sym (packet_more now number packet current (omega arith) (λ e. omega arith)))
+    subst (λ (out : Outcome). HasPackets out.session o (packet ∷ packets)) (sym (packet_more now number packet current (omega arith) (λ e. omega arith)))
     (has_grown now current packet o packets h)
 
 stands_packet : (now number : ℕ) (packet : List ℕ) (hs : List SessionEvent) (session : Option (Timed SessionState)) (o : Opening) (packets : List (List ℕ))
-    → Matches hs session → IsNext hs number packet o packets → length packets < o.packets → Has (after_packet now session number packet).session o packets
+    → Matches hs session → IsNext hs number packet o packets → length packets < o.packets → HasPackets (after_packet now session number packet).session o packets
 stands_packet now number packet hs session o packets m n more =
     let count : length packets ≡ suc (length n.before) = ap length n.all in
-    subst (λ (ps : List (List ℕ)). Has (after_packet now session number packet).session o ps) (sym n.all)
+    subst (λ (ps : List (List ℕ)). HasPackets (after_packet now session number packet).session o ps) (sym n.all)
     (has_packet now number packet session o n.before (m.stands o n.before (record { sent = n.sent; more = omega arith })) n.next (omega arith))
 
 -- a session that stands, and its next packet
@@ -199,27 +199,27 @@ matches_packet now number packet hs session m = record {
 matches_abort : (hs : List SessionEvent) (session : Option (Timed SessionState)) (pgn : ℕ) (b : Bool) → eqb pgn VT_TO_ECU ≡ b → Matches hs session
     → Matches (Came (Aborted pgn) ∷ hs) (cond b session None)
 matches_abort hs session pgn true is m =
-    matches_quiet spelling opening_of Has hs session (Came (Aborted pgn))
+    matches_quiet spelling opening_of HasPackets hs session (Came (Aborted pgn))
     (record { quiet = eqb-true _ _ is; other = λ o e. cc; more = λ o later packets brought. brought; less = λ o later packets brought. brought }) m
 matches_abort hs session pgn false is m =
-    matches_end spelling opening_of Has hs (Came (Aborted pgn)) (record { loud = λ quiet. false≢true (sym is ∙ eq-eqb _ _ quiet); other = λ o e. cc })
+    matches_end spelling opening_of HasPackets hs (Came (Aborted pgn)) (record { loud = λ quiet. false≢true (sym is ∙ eq-eqb _ _ quiet); other = λ o e. cc })
 
 matches_step : (now : ℕ) (hs : List SessionEvent) (session : Option (Timed SessionState)) (x : SessionEvent) → Matches hs session
     → Matches (x ∷ hs) (event_step protocol now session x).session
-matches_step now hs session TimedOut m = matches_end spelling opening_of Has hs TimedOut (record { loud = λ quiet. quiet; other = λ o e. cc })
+matches_step now hs session TimedOut m = matches_end spelling opening_of HasPackets hs TimedOut (record { loud = λ quiet. quiet; other = λ o e. cc })
 matches_step now hs session (Came (Rts o)) m = matches_rts now hs o
 matches_step now hs session (Came (Cts count next pgn)) m =
-    matches_quiet spelling opening_of Has hs session (Came (Cts count next pgn))
+    matches_quiet spelling opening_of HasPackets hs session (Came (Cts count next pgn))
     (record { quiet = tt; other = λ o e. cc; more = λ o later packets brought. brought; less = λ o later packets brought. brought }) m
 matches_step now hs session (Came (EndOfMessage pgn)) m =
-    matches_quiet spelling opening_of Has hs session (Came (EndOfMessage pgn))
+    matches_quiet spelling opening_of HasPackets hs session (Came (EndOfMessage pgn))
     (record { quiet = tt; other = λ o e. cc; more = λ o later packets brought. brought; less = λ o later packets brought. brought }) m
 matches_step now hs session (Came (Aborted pgn)) m = matches_abort hs session pgn _ refl m
 matches_step now hs session (Came (Data number packet)) m = matches_packet now number packet hs session m
 matches_step now hs session (Came Other) m =
-    matches_quiet spelling opening_of Has hs session (Came Other)
+    matches_quiet spelling opening_of HasPackets hs session (Came Other)
     (record { quiet = tt; other = λ o e. cc; more = λ o later packets brought. brought; less = λ o later packets brought. brought }) m
 
 pub matches : (xs : List (ℕ × SessionEvent)) → Matches (untimed xs) (session_after protocol xs)
-matches [] = matches_none spelling opening_of Has
+matches [] = matches_none spelling opening_of HasPackets
 matches (x ∷ xs) = matches_step x.0 (untimed xs) (session_after protocol xs) x.1 (matches xs)

@@ -14,9 +14,9 @@ use Rattle.byteorder.specs.Endian.{little_bytes}
 use Rattle.byteorder.specs.Numbers.{little_number-reads_back}
 use Rattle.vt_can.specs.frames.Identifier.{Parts, parts_of, raw_of, pgn_of, destination_of, addressed, HasDestination}
 use Rattle.vt_can.specs.frames.Frame.{is_to, frame_of}
-use Rattle.vt_can.proofs.lemmas.frames.Sums.{joined-raw, joined-parts}
+use Rattle.vt_can.proofs.lemmas.frames.Sums.{identifier_bits-raw, identifier_bits-parts}
 use Rattle.vt_transport.specs.Wire.{tp_frame, connection_management, rts_frame, packet_bytes, packet_frame}
-use Rattle.vt_transport.specs.Senders.{packets_of, has_size}
+use Rattle.vt_transport.specs.Senders.{packet_count_of, has_size}
 use Rattle.vt_transport.specs.BothEnds.{opening_of, packet_of, begun, SentIsReceived}
 
 -- the packets 1 to a count, the latest first
@@ -78,13 +78,13 @@ both_and false b c both third = absurd cc
 
 opening_opens : (message : Message) → has_size message.bytes ≡ true → opens (opening_of message) ≡ true
 opening_opens message size =
-    both_and (leb 9 (length message.bytes)) (leb (length message.bytes) 1785) _ size (eq-eqb (packets_of message) _ refl)
+    both_and (leb 9 (length message.bytes)) (leb (length message.bytes) 1785) _ size (eq-eqb (packet_count_of message) _ refl)
 
 least_size : (a b : Bool) → (a && b) ≡ true → a ≡ true
 least_size true b both = refl
 least_size false b both = absurd cc
 
-whole_at : (message : Message) (before : ℕ) → suc before ≡ packets_of message → has_size message.bytes ≡ true
+whole_at : (message : Message) (before : ℕ) → suc before ≡ packet_count_of message → has_size message.bytes ≡ true
     → IsWhole (begun message before) (packet_of message (suc before)) message
 whole_at message before all size = record {
   opening = opening_of message;
@@ -104,11 +104,11 @@ whole_at message before all size = record {
 }
 
 whole_in_full : (message : Message) → has_size message.bytes ≡ true
-    → IsWhole (begun message (packets_of message - 1)) (packet_of message (packets_of message)) message
+    → IsWhole (begun message (packet_count_of message - 1)) (packet_of message (packet_count_of message)) message
 whole_in_full message size =
     let least : 9 ≤ length message.bytes = leb-true _ _ (least_size (leb 9 (length message.bytes)) _ size) in
-    let last : suc (packets_of message - 1) ≡ packets_of message = omega (arith, least) in
-    subst (λ (j : ℕ). IsWhole (begun message (packets_of message - 1)) (packet_of message j) message) last (whole_at message (packets_of message - 1) last size)
+    let last : suc (packet_count_of message - 1) ≡ packet_count_of message = omega (arith, least) in
+    subst (λ (j : ℕ). IsWhole (begun message (packet_count_of message - 1)) (packet_of message j) message) last (whole_at message (packet_count_of message - 1) last size)
 
 -- the frames as they are read
 
@@ -125,7 +125,7 @@ frame_read : (own_address to pgn : ℕ) (bytes : List ℕ) → HasDestination pg
     → tp_frame to (frame_of pgn own_address to bytes) ≡ tp_by_group pgn bytes
 frame_read own_address to pgn bytes group address_fits to_fits eight to_is pgn_is =
     let parts : parts_of (raw_of (addressed 7 pgn to own_address)) ≡ addressed 7 pgn to own_address =
-    ap parts_of (sym (joined-raw 7 pgn to own_address (lit< tt) group to_fits address_fits)) ∙ joined-parts 7 pgn to own_address (lit< tt) group to_fits address_fits in
+    ap parts_of (sym (identifier_bits-raw 7 pgn to own_address (lit< tt) group to_fits address_fits)) ∙ identifier_bits-parts 7 pgn to own_address (lit< tt) group to_fits address_fits in
     let is_to_node : (is_to to (destination_of (addressed 7 pgn to own_address)) && eqb (length bytes) 8) ≡ true =
     both_true _ _ (ap (is_to to) to_is ∙ eq-eqb to to refl) (eq-eqb _ _ eight) in
     ap (λ (p : Parts). cond (is_to to (destination_of p) && eqb (length bytes) 8) (tp_by_group (pgn_of p) bytes) None) parts

@@ -13,7 +13,7 @@ use Rattle.vt_transport.specs.Messages.{opens, first_reply}
 use Rattle.vt_transport.specs.Wire.{connection_management}
 use Rattle.vt_transport.specs.SessionState.{SessionState}
 use Rattle.vt_transport.specs.Protocol.{protocol, IsTimeless, OtherGroupsAreIgnored}
-use Rattle.vt_transport.specs.Senders.{Answer, AnswersAreTimeless, OtherGroupsAreUnanswered, answered, unanswered, untimed_answer, packets_of}
+use Rattle.vt_transport.specs.Senders.{Answer, AnswersAreTimeless, OtherGroupsAreUnanswered, answered, unanswered, untimed_answer, packet_count_of}
 
 -- the steps
 
@@ -56,7 +56,7 @@ timeless_answers own_address to now (Some current) None = refl
 timeless_answers own_address to now (Some current) (Some (Cts count next pgn)) =
     answer_cond (eqb pgn current.session.pgn) _ _ _ _
     (answer_cond (eqb count 0) _ _ _ _ refl
-    (answer_cond (eqb next 0 || ltb (packets_of current.session) next) _ _ _ _ refl refl)) refl
+    (answer_cond (eqb next 0 || ltb (packet_count_of current.session) next) _ _ _ _ refl refl)) refl
 timeless_answers own_address to now (Some current) (Some (EndOfMessage pgn)) =
     ap (λ (k : Option (Timed Message)). record { session = k; frames = [] }) (none_or_session (eqb pgn current.session.pgn) current)
 timeless_answers own_address to now (Some current) (Some (Aborted pgn)) =

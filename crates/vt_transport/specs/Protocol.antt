@@ -19,7 +19,7 @@ use Rattle.vt_transport.specs.declared.messages.Reply.TheVariants.{Abort}
 use Rattle.vt_transport.specs.Messages.{opens, spelling, IsWhole, IsAnswered}
 use Rattle.vt_transport.specs.Wire.{tp_frame, reply_frame}
 use Rattle.vt_transport.specs.SessionState.{SessionState}
-use Rattle.vt_transport.specs.Steps.{Has, step}
+use Rattle.vt_transport.specs.Steps.{HasPackets, step}
 
 -- An RTS opens a session, and no other frame does.
 abbrev pub opens_session : TpFrame → Bool
@@ -42,7 +42,7 @@ protocol = record {
 
 -- The steps keep the session that stands, and give its messages and its replies.
 abbrev pub StepsAssembleMessages : Type 0
-StepsAssembleMessages = steps.StepsAssembleMessages spelling (λ current. current.opening) Has protocol IsAnswered
+StepsAssembleMessages = steps.StepsAssembleMessages spelling (λ current. current.opening) HasPackets protocol IsAnswered
 
 -- The messages of a source depend on its frames and their times alone.
 abbrev pub MessagesDependOnTheirSource : Type 0

@@ -29,8 +29,8 @@ sender_state_code =
     code_by (ℕ × ByAddress Message) (coded× coded_ℕ (finite.code coded_ℕ (timed_code message_code)))
     (λ s. (s.own_address, s.sessions)) (λ p. record { own_address = p.0; sessions = p.1 }) (λ _. refl)
 
-abbrev pub packets_of : Message → ℕ
-packets_of message = (length message.bytes + 6) / 7
+abbrev pub packet_count_of : Message → ℕ
+packet_count_of message = (length message.bytes + 6) / 7
 
 -- count numbers from next on
 abbrev pub numbers_from : ℕ → ℕ → List ℕ
@@ -49,7 +49,7 @@ refreshed now current = Some (record { last = max now current.last; session = cu
 -- packet isn't one of the message's, and else the packets asked for, up to the last
 abbrev pub clear_to_send : ℕ → ℕ → ℕ → Timed Message → ℕ → ℕ → Answer
 clear_to_send own_address to now current count next =
-    let last = packets_of current.session in
+    let last = packet_count_of current.session in
     if count == 0
     then record { session = refreshed now current; frames = [] }
     else if next == 0 || nat_lt last next

@@ -53,7 +53,7 @@ step now current (Aborted pgn) = silent (if pgn == VT_TO_ECU then current else N
 step now current _ = silent current
 
 -- a session has just these packets
-abbrev pub Has : Option (Timed SessionState) → Opening → List (List ℕ) → Type 0
-Has None o packets = ⊥
-Has (Some current) o packets =
+abbrev pub HasPackets : Option (Timed SessionState) → Opening → List (List ℕ) → Type 0
+HasPackets None o packets = ⊥
+HasPackets (Some current) o packets =
     (current.session.opening ≡ o) × (current.session.bytes ≡ take o.size (joined packets)) × (current.session.received ≡ length packets)

@@ -2,7 +2,7 @@
 
 ghost use Rattle.std.specs.Prelude.{◌≡◌, ◌≤◌, ◌<◌, ◌+◌, ◌-◌, true, map, min};
 ghost use Rattle.vt_transport.specs.Wire.{packet_bytes, packet_frame};
-ghost use Rattle.vt_transport.specs.Senders.{packets_of, has_size, numbers_from};
+ghost use Rattle.vt_transport.specs.Senders.{packet_count_of, has_size, numbers_from};
 
 use crate::wire;
 use arrayvec::ArrayVec;
@@ -47,7 +47,7 @@ impl Outgoing {
 
     /// The number of packets.
     pub(crate) fn packets(&self) -> u8
-        ensures { result ≡ packets_of self.now }
+        ensures { result ≡ packet_count_of self.now }
     {
         ((self.bytes.len() + 6) / 7) as u8
     }
@@ -61,9 +61,9 @@ impl Outgoing {
         count: u8,
     ) -> ArrayVec<Frame, 255>
         requires first { 1 ≤ next }
-        requires last { next ≤ packets_of self.now }
+        requires last { next ≤ packet_count_of self.now }
         ensures { result.items ≡ map (packet_frame own_address to self.now.bytes)
-            (numbers_from next (min count (packets_of self.now + 1 - next))) }
+            (numbers_from next (min count (packet_count_of self.now + 1 - next))) }
     {
         let mut frames = ArrayVec::new();
         let left = self.packets() - (next - 1);
@@ -77,7 +77,7 @@ impl Outgoing {
     // A packet, the last one filled with FF.
     fn packet(&self, number: u8) -> [u8; 7]
         requires first { 1 ≤ number }
-        requires last { number ≤ packets_of self.now }
+        requires last { number ≤ packet_count_of self.now }
         ensures { result ≡ packet_bytes self.now.bytes number }
     {
         let rest = &self.bytes[7 * (usize::from(number) - 1)..];

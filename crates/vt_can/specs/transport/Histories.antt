@@ -21,7 +21,7 @@ pub record Spelling (F O P : Type 0) : Type 1 where
   -- the size and the parameter group of its message, and the number of its packets
   pub size : O → ℕ
   pub pgn : O → ℕ
-  pub all : O → ℕ
+  pub total : O → ℕ
   -- what leaves a session as it is
   pub IsQuiet : SessionEvent F → Type 0
   -- what came after a request brings just these packets, in their order
@@ -49,14 +49,14 @@ module _ {F O P : Type 0} (spelling : Spelling F O P) where
   -- a session is open, with packets still to come
   pub record Stands (hs : List (SessionEvent F)) (o : O) (packets : P) : Type 0 where
     pub sent : Sent hs o packets
-    pub more : spelling.count packets < spelling.all o
+    pub more : spelling.count packets < spelling.total o
 
   -- x is the last packet of a message
   pub record IsWhole (hs : List (SessionEvent F)) (x : SessionEvent F) (message : Message) : Type 0 where
     pub opening : O
     pub packets : P
     pub sent : Sent (x ∷ hs) opening packets
-    pub all : spelling.count packets ≡ spelling.all opening
+    pub all : spelling.count packets ≡ spelling.total opening
     pub packet : spelling.IsPacket x
     pub pgn : message.pgn ≡ spelling.pgn opening
     pub bytes : message.bytes ≡ take (spelling.size opening) (spelling.bytes packets)
@@ -65,5 +65,5 @@ module _ {F O P : Type 0} (spelling : Spelling F O P) where
   pub record IsReceiving (o : O) (received len capacity : ℕ) : Type 0 where
     pub opened : spelling.opens o ≡ true
     pub room : spelling.size o ≤ capacity
-    pub more : received < spelling.all o
+    pub more : received < spelling.total o
     pub full : len ≡ 7 * received

@@ -21,14 +21,14 @@ module _ {S F R : Type 0} (protocol : Protocol S F R) where
   session_after (x ∷ xs) = (event_step x.0 (session_after xs) x.1).session
 
 -- By the request of a session, and the requests and packets that a session has:
-module _ {S F O P : Type 0} (spelling : Spelling F O P) (opening : S → O) (Has : Option (Timed S) → O → P → Type 0) where
+module _ {S F O P : Type 0} (spelling : Spelling F O P) (opening : S → O) (HasPackets : Option (Timed S) → O → P → Type 0) where
   -- a session, and the packets for which it stands
   abbrev pub IsStanding : List (SessionEvent F) → Timed S → Type 0
-  IsStanding hs current = (packets : P) × Stands spelling hs (opening current.session) packets × Has (Some current) (opening current.session) packets
+  IsStanding hs current = (packets : P) × Stands spelling hs (opening current.session) packets × HasPackets (Some current) (opening current.session) packets
 
   -- the session is the one that stands
   pub record Matches (hs : List (SessionEvent F)) (session : Option (Timed S)) : Type 0 where
-    pub stands : (o : O) (packets : P) → Stands spelling hs o packets → Has session o packets
+    pub stands : (o : O) (packets : P) → Stands spelling hs o packets → HasPackets session o packets
     pub only : (current : Timed S) → session ≡ Some current → IsStanding hs current
 
   -- By the replies to a history: the steps keep the session that stands, and at the next event x give

@@ -2,11 +2,11 @@
 
 ghost use Rattle.std.specs.Prelude.{ℕ, List, MatchOption};
 ghost use Rattle.vt_can.specs.lines.Actions.{ActionValue, IsActionText, IsNumber, action_value};
-ghost use Rattle.vt_can.specs.lines.Parts.{IsIdAnd};
+ghost use Rattle.vt_can.specs.lines.Fields.{IsIdAnd};
 
 use crate::lines::digits::decimal;
+use crate::lines::fields::cut;
 use crate::lines::line::Action;
-use crate::lines::parts::cut;
 use hex::FromHex;
 
 /// The action that stands on an operator line behind `! `.

@@ -6,8 +6,8 @@ ghost use Rattle.vt_can.specs.lines.Line.{IsContent, IsComment, Reads};
 
 use crate::frames::Frame;
 use crate::lines::action::action;
+use crate::lines::fields::{shape_of, time_of};
 use crate::lines::frame_line::read_frame_line;
-use crate::lines::parts::{shape_of, time_of};
 use thiserror::Error;
 
 /// What a line of a log says.

@@ -6,7 +6,7 @@ use Rattle.std.proofs.lemmas.List.{append_cancel_left}
 use Rattle.hex.specs.Hex.{decode_of}
 use Rattle.hex.proofs.HexLemmas.{decode_of-same}
 use Rattle.vt_can.specs.lines.Actions.{ActionValue, Press, Release, Select, Number, Text, Set, HasId, HasIdAnd, IsActionText, IsNumber}
-use Rattle.vt_can.specs.lines.Parts.{IsCut, IsIdAnd, Lacks}
+use Rattle.vt_can.specs.lines.Fields.{IsCut, IsIdAnd, Lacks}
 use Rattle.vt_can.proofs.lemmas.lines.Cutting.{Lacks-from_pass, cut_missing, one_cut}
 
 -- the first and the third byte, which tell the words apart

@@ -6,7 +6,7 @@ use Rattle.std.proofs.lemmas.Bool.{eq-eqb, eqb-true, false≢true, false_from_ne
 use Rattle.std.proofs.lemmas.List.{append-nil}
 use Rattle.std.proofs.lemmas.List.Elements.{All-append, All-cons, All-head, All-nil, All-tail}
 use Rattle.vt_can.specs.lines.Line.{IsSuffix}
-use Rattle.vt_can.specs.lines.Parts.{Lacks, IsCut, IsThirdWord}
+use Rattle.vt_can.specs.lines.Fields.{Lacks, IsCut, IsThirdWord}
 
 pub Lacks-head : (c x : ℕ) (xs : List ℕ) → Lacks c (x ∷ xs) → x ≢ c
 Lacks-head c x xs lacks e =

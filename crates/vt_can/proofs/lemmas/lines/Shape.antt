@@ -5,7 +5,7 @@ use Rattle.std.specs.Char.{is_ascii_digit}
 use Rattle.std.specs.List.{AllPass}
 use Rattle.std.specs.Str.Parse.{digits_value}
 use Rattle.vt_can.specs.lines.Line.{AreDigits, HasShape, HasTime, IsFraction}
-use Rattle.vt_can.specs.lines.Parts.{IsCut, IsThirdWord, Lacks}
+use Rattle.vt_can.specs.lines.Fields.{IsCut, IsThirdWord, Lacks}
 use Rattle.vt_can.proofs.lemmas.lines.Cutting.{Lacks-append, Lacks-cons, Lacks-from_pass, Lacks-left, Lacks-right, Lacks-tail, cut_missing, one_cut, third_word-one}
 
 -- ---- the time

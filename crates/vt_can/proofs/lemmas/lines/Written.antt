@@ -21,7 +21,7 @@ use Rattle.hex.proofs.HexLemmas.{decode_of-encode_upper, decode_of-ok, length-en
 use Rattle.vt_can.specs.declared.lines.line.LineFault.{LineFault}
 use Rattle.vt_can.specs.lines.Readings.{ParsedLine, FrameAt}
 use Rattle.vt_can.specs.lines.Line.{AreDigits, HasShape, HasTime, IsRead, begins_with, data_reading, id_of, frame_line, frame_line_reading}
-use Rattle.vt_can.specs.lines.Parts.{Lacks}
+use Rattle.vt_can.specs.lines.Fields.{Lacks}
 use Rattle.vt_can.specs.lines.Writing.{WrittenLinesAreRead, line_text, lowest_digits}
 use Rattle.vt_can.proofs.lemmas.lines.Cutting.{Lacks-append, Lacks-from_pass, Lacks-head, cut_missing}
 use Rattle.vt_can.proofs.lemmas.lines.Digits.{data-short}

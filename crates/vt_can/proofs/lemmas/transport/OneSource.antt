@@ -12,8 +12,8 @@ use Rattle.vt_can.specs.transport.Bus.{session_after_frame, message_of_frame, In
 module _ {T : Type 0} where
   alive_at : (earlier now : ℕ) (timed : Timed T) (overdue : Bool) → is_overdue earlier (Some timed) ≡ overdue → earlier ≤ now
       → alive now (alive earlier (Some timed)) ≡ alive now (Some timed)
-  alive_at earlier now timed false fresh after =
-      ap (λ (b : Bool). alive now (cond b None (Some timed))) fresh
+  alive_at earlier now timed false not_overdue after =
+      ap (λ (b : Bool). alive now (cond b None (Some timed))) not_overdue
   alive_at earlier now timed true overdue after =
       let late = ltb-true _ _ overdue in
       let still : is_overdue now (Some timed) ≡ true = lt-ltb _ _ (omega arith) in

@@ -75,15 +75,15 @@ module _ {F O P : Type 0} (s : Spelling F O P) where
   nothing_last x hs o packets end (AtRequest is opened brought) = end.other o is
   nothing_last x hs o packets end (Later later earlier split opened quiet rest brought) = end.loud quiet
 
-  module _ {S : Type 0} (opening : S → O) (Has : Option (Timed S) → O → P → Type 0) where
-    pub matches_none : Matches s opening Has [] None
+  module _ {S : Type 0} (opening : S → O) (HasPackets : Option (Timed S) → O → P → Type 0) where
+    pub matches_none : Matches s opening HasPackets [] None
     matches_none = record {
       stands = λ o packets stands. absurd (no_history _ stands.sent.later stands.sent.earlier stands.sent.split);
       only = λ current is. absurd cc;
     }
 
     pub matches_quiet : (hs : List (SessionEvent F)) (session : Option (Timed S)) (x : SessionEvent F) → IsBystander x
-        → Matches s opening Has hs session → Matches s opening Has (x ∷ hs) session
+        → Matches s opening HasPackets hs session → Matches s opening HasPackets (x ∷ hs) session
     matches_quiet hs session x by m = record {
       stands = λ o packets stands. m.stands o packets (record { sent = quiet_last x hs o packets by (last_of x hs o packets stands.sent); more = stands.more });
       only = λ current is.
@@ -92,7 +92,7 @@ module _ {F O P : Type 0} (s : Spelling F O P) where
           (k.0, record { sent = sent_more hs x o k.0 k.0 by.quiet (λ later. by.more o later k.0) k.1.sent; more = k.1.more }, k.2);
     }
 
-    pub matches_end : (hs : List (SessionEvent F)) (x : SessionEvent F) → IsEnd x → Matches s opening Has (x ∷ hs) None
+    pub matches_end : (hs : List (SessionEvent F)) (x : SessionEvent F) → IsEnd x → Matches s opening HasPackets (x ∷ hs) None
     matches_end hs x end = record {
       stands = λ o packets stands. absurd (nothing_last x hs o packets end (last_of x hs o packets stands.sent));
       only = λ current is. absurd cc;
@@ -101,33 +101,33 @@ module _ {F O P : Type 0} (s : Spelling F O P) where
     -- A request, the session that it opens, and the packets of that: none.
     module _ (o : O) (first : Timed S) (none : P) (opening_is : opening first.session ≡ o)
         (loud : s.IsQuiet (Came (s.request o)) → ⊥) (same : (o' : O) → Came (s.request o) ≡ Came (s.request o') → o ≡ o')
-        (begun : s.Brings o [] none) (more : s.opens o ≡ true → s.count none < s.all o)
-        (has : (packets : P) → s.Brings o [] packets → Has (Some first) o packets) where
+        (begun : s.Brings o [] none) (more : s.opens o ≡ true → s.count none < s.total o)
+        (has : (packets : P) → s.Brings o [] packets → HasPackets (Some first) o packets) where
       request_has : (o' : O) (packets : P) → o ≡ o' → s.opens o' ≡ true → s.Brings o' [] packets
-          → Has (cond (s.opens o) (Some first) None) o' packets
+          → HasPackets (cond (s.opens o) (Some first) None) o' packets
       request_has o' packets is opened brought =
           let here : s.opens o ≡ true = ap s.opens is ∙ opened in
-          subst (λ (q : O). Has (cond (s.opens o) (Some first) None) q packets) is
-          (subst (λ (b : Bool). Has (cond b (Some first) None) o packets) (sym here)
+          subst (λ (q : O). HasPackets (cond (s.opens o) (Some first) None) q packets) is
+          (subst (λ (b : Bool). HasPackets (cond b (Some first) None) o packets) (sym here)
           (has packets (subst (λ (q : O). s.Brings q [] packets) (sym is) brought)))
 
       request_last : (hs : List (SessionEvent F)) (o' : O) (packets : P) → Last (Came (s.request o)) hs o' packets
-          → Has (cond (s.opens o) (Some first) None) o' packets
+          → HasPackets (cond (s.opens o) (Some first) None) o' packets
       request_last hs o' packets (AtRequest is opened brought) = request_has o' packets (same o' is) opened brought
       request_last hs o' packets (Later later earlier split opened quiet rest brought) = absurd (loud quiet)
 
       request_standing : (hs : List (SessionEvent F)) (b : Bool) (current : Timed S) → s.opens o ≡ b → cond b (Some first) None ≡ Some current
-          → IsStanding s opening Has (Came (s.request o) ∷ hs) current
+          → IsStanding s opening HasPackets (Came (s.request o) ∷ hs) current
       request_standing hs false current opened is = absurd cc
       request_standing hs true current opened is =
           let same : first ≡ current = cc in
-          subst (IsStanding s opening Has (Came (s.request o) ∷ hs)) same (
+          subst (IsStanding s opening HasPackets (Came (s.request o) ∷ hs)) same (
             none,
             subst (λ (q : O). Stands s (Came (s.request o) ∷ hs) q none) (sym opening_is) (record { sent = sent_first hs o none opened begun; more = more opened }),
-            subst (λ (q : O). Has (Some first) q none) (sym opening_is) (has none begun),
+            subst (λ (q : O). HasPackets (Some first) q none) (sym opening_is) (has none begun),
           )
 
-      pub matches_request : (hs : List (SessionEvent F)) → Matches s opening Has (Came (s.request o) ∷ hs) (cond (s.opens o) (Some first) None)
+      pub matches_request : (hs : List (SessionEvent F)) → Matches s opening HasPackets (Came (s.request o) ∷ hs) (cond (s.opens o) (Some first) None)
       matches_request hs = record {
         stands = λ o' packets stands. request_last hs o' packets (last_of _ hs o' packets stands.sent);
         only = λ current is. request_standing hs (s.opens o) current refl is;

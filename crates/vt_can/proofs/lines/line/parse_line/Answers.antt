@@ -11,8 +11,8 @@ use Rattle.vt_can.proofs.lines.line.parse_line.Goals as goal
 use Rattle.vt_can.proofs.lines.line.parse_line.Goals.{In-Some}
 
 -- what stands behind `! `
-marked : (c : In-Some) → c.content_of-content.result.now ≡ codes "! " ++ c.in-Some.rest.now
-marked c = strip_prefix_is Decides-eqb c.content_of-content.result.now (codes "! ") (Some c.in-Some.rest) c.in-Some.ensures.cases
+operator_rest : (c : In-Some) → c.content_of-content.result.now ≡ codes "! " ++ c.in-Some.rest.now
+operator_rest c = strip_prefix_is Decides-eqb c.content_of-content.result.now (codes "! ") (Some c.in-Some.rest) c.in-Some.ensures.cases
 
 pub returns-then-is_comment : goal.returns-then-is_comment
 returns-then-is_comment c =
@@ -20,11 +20,11 @@ returns-then-is_comment c =
 
 pub returns-in_default-action : goal.returns-in_default-action
 returns-in_default-action c =
-    (c.content_of-content.result.now, c.content_of-content.ensures, no_action c.in-Some.rest.now (marked (goal.at.returns-in_default-action c).In-Some) c.in_default-action.ensures)
+    (c.content_of-content.result.now, c.content_of-content.ensures, no_action c.in-Some.rest.now (operator_rest (goal.at.returns-in_default-action c).In-Some) c.in_default-action.ensures)
 
 pub returns-in-Some : goal.returns-in-Some
 returns-in-Some c =
-    (c.content_of-content.result.now, c.content_of-content.ensures, operator_action c.in-Some.rest.now (action_value c.in-Some-action.action) (marked (goal.at.returns-in-Some c).In-Some) c.in-Some-action.ensures)
+    (c.content_of-content.result.now, c.content_of-content.ensures, operator_action c.in-Some.rest.now (action_value c.in-Some-action.action) (operator_rest (goal.at.returns-in-Some c).In-Some) c.in-Some-action.ensures)
 
 pub returns-in_default-time_of : goal.returns-in_default-time_of
 returns-in_default-time_of c =

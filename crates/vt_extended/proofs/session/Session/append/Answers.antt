@@ -1,20 +1,20 @@
 use Rattle.std.proofs.Common.{◌≡◌, ℕ, ◌+◌, ◌++◌, eqb, true, List, Some, None, take, sym, ap, ◌∙◌, eq-eqb}
 use Rattle.vt_extended.specs.declared.messages.Reply.TheVariants.{End}
-use Rattle.vt_extended.specs.Messages.{packets_of}
+use Rattle.vt_extended.specs.Messages.{packet_count_of}
 use Rattle.vt_extended.specs.SessionState.{SessionState}
 use Rattle.vt_extended.specs.Steps.{Outcome, is_next, after_packet}
 use Rattle.vt_extended.proofs.session.Session.append.Goals as goal
 
-whole_of : (s : SessionState) (now last number : ℕ) (packet bytes : List ℕ) → is_next s number ≡ true → s.received + 1 ≡ packets_of s.opening
+whole_of : (s : SessionState) (now last number : ℕ) (packet bytes : List ℕ) → is_next s number ≡ true → s.received + 1 ≡ packet_count_of s.opening
     → bytes ≡ take s.opening.size (s.bytes ++ packet)
     → ◌≡◌ {A = Outcome}
     (record { session = None; reply = Some (End s.opening.size s.opening.pgn); message = Some (record { pgn = s.opening.pgn; bytes = bytes }) })
     (after_packet now (record { last = last; session = s }) number packet)
 whole_of s now last number packet bytes next whole is =
-    let f : eqb (s.received + 1) (packets_of s.opening) ≡ true = eq-eqb _ _ whole in
+    let f : eqb (s.received + 1) (packet_count_of s.opening) ≡ true = eq-eqb _ _ whole in
     rw (next, f, is)
 
-whole_from : (s self : SessionState) (now last number : ℕ) (packet bytes : List ℕ) → s ≡ self → is_next self number ≡ true → s.received + 1 ≡ packets_of s.opening
+whole_from : (s self : SessionState) (now last number : ℕ) (packet bytes : List ℕ) → s ≡ self → is_next self number ≡ true → s.received + 1 ≡ packet_count_of s.opening
     → bytes ≡ take s.opening.size (s.bytes ++ packet)
     → ◌≡◌ {A = Outcome}
     (record { session = None; reply = Some (End s.opening.size s.opening.pgn); message = Some (record { pgn = s.opening.pgn; bytes = bytes }) })

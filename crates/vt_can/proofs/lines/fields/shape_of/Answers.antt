@@ -3,8 +3,8 @@ use Rattle.std.proofs.lemmas.Bool.Decides.{Decides-eqb}
 use Rattle.std.proofs.lemmas.Grind.{common_steps}
 use Rattle.std.proofs.lemmas.Slice.Eq.{strip_prefix_is}
 use Rattle.vt_can.proofs.lemmas.lines.Shape.{ShapeCut, no_interface, no_sign, no_word, shape-cut, shape-made, shape_cut-made, shape_cut-one}
-use Rattle.vt_can.proofs.lines.parts.shape_of.Goals as goal
-use Rattle.vt_can.proofs.lines.parts.shape_of.Goals.{In_ok-words, In_ok-id}
+use Rattle.vt_can.proofs.lines.fields.shape_of.Goals as goal
+use Rattle.vt_can.proofs.lines.fields.shape_of.Goals.{In_ok-words, In_ok-id}
 
 opened : (c : In_ok-words) → c.args.rest.now ≡ 32 ∷ c.in_ok-words.words.now
 opened c = strip_prefix_is Decides-eqb c.args.rest.now (32 ∷ []) (Some c.in_ok-words.words) c.in_ok-words.ensures.cases

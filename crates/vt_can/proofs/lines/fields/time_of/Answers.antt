@@ -4,8 +4,8 @@ use Rattle.std.proofs.lemmas.Slice.Eq.{strip_prefix_is}
 use Rattle.vt_can.proofs.lemmas.lines.Digits.{digits_value-small, micros-small}
 use Rattle.vt_can.specs.lines.Line.{AreDigits, IsFraction}
 use Rattle.vt_can.proofs.lemmas.lines.Shape.{TimeCut, no_close, no_point, time-cut, time-made, time_cut-made, time_cut-one}
-use Rattle.vt_can.proofs.lines.parts.time_of.Goals as goal
-use Rattle.vt_can.proofs.lines.parts.time_of.Goals.{In_ok-text, In_ok-fraction}
+use Rattle.vt_can.proofs.lines.fields.time_of.Goals as goal
+use Rattle.vt_can.proofs.lines.fields.time_of.Goals.{In_ok-text, In_ok-fraction}
 
 opened : (c : In_ok-text) → c.args.content.now ≡ 40 ∷ c.in_ok-text.text.now
 opened c = strip_prefix_is Decides-eqb c.args.content.now (40 ∷ []) (Some c.in_ok-text.text) c.in_ok-text.ensures.cases

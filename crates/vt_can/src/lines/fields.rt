@@ -1,8 +1,8 @@
-//! The parts of a frame line, cut at the bytes that stand between them.
+//! The fields of a frame line, cut at the bytes that stand between them.
 
 ghost use Rattle.std.specs.Prelude.{◌≡◌, ◌⊎◌, ◌↔◌, ℕ, List, codes, IsTrue, MatchOption};
 ghost use Rattle.vt_can.specs.lines.Line.{HasTime, HasShape};
-ghost use Rattle.vt_can.specs.lines.Parts.{Lacks, IsCut, IsThirdWord};
+ghost use Rattle.vt_can.specs.lines.Fields.{Lacks, IsCut, IsThirdWord};
 
 use crate::lines::digits::{micros, number};
 

@@ -1,4 +1,4 @@
--- The parts of a line, cut at the bytes that stand between them.
+-- The fields of a line, cut at the bytes that stand between them.
 use Rattle.std.specs.Prelude.{◌≡◌, ◌==◌, ℕ, not, List, ◌∷◌, ◌++◌}
 use Rattle.std.specs.List.{AllPass}
 use Rattle.vt_can.specs.lines.Actions.{IsNumber}
