@@ -49,7 +49,7 @@ enum Wanted {
     Fault(LineFault),
 }
 
-fn says(line: &[u8], wanted: Wanted) -> bool {
+fn reads_as(line: &[u8], wanted: Wanted) -> bool {
     match (parse_line(line), wanted) {
         (Ok(Line::Frame { time, frame }), At(at, text)) => {
             time == at && write_frame(&frame).as_slice() == text
@@ -74,7 +74,7 @@ const COMMENTS: [(&[u8], Wanted); 6] = [
 #[test]
 fn comments(rt: HostRuntime) {
     for (line, wanted) in COMMENTS {
-        assert!(rt; says(line, wanted), "{line:?}");
+        assert!(rt; reads_as(line, wanted), "{line:?}");
     }
 }
 
@@ -101,7 +101,7 @@ fn written_lines(rt: HostRuntime) {
         assert!(rt; time < 1_000_000_000_000_000_000);
         let line = write_line(time, &frame);
         assert_eq!(rt; line.as_slice(), wanted);
-        assert!(rt; says(line.as_slice(), At(time, text)), "{wanted:?}");
+        assert!(rt; reads_as(line.as_slice(), At(time, text)), "{wanted:?}");
     }
 }
 

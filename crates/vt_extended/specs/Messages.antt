@@ -1,11 +1,11 @@
 -- The messages of one source, over the whole list of what came from it (ISO 11783-3;
--- docs/PROFILE.md, "The ETP receiver"). Every list of happenings, groups and packets has the latest first.
+-- docs/PROFILE.md, "The ETP receiver"). Every list of events, groups and packets has the latest first.
 use Rattle.std.specs.Prelude.{◌≡◌, ◌≤◌, ℕ, ◌+◌, ◌-◌, ◌/◌, Bool, nat_le, nat_lt, ◌==◌, ◌&&◌, if◌then◌else◌, min, Option, Some, None, List, [], ◌∷◌, ◌++◌, length}
-use Rattle.vt_can.specs.declared.wire.Reason.{Reason}
-use Rattle.vt_can.specs.declared.wire.Reason.TheVariants.{TooLarge, Disorder}
-use Rattle.vt_can.specs.Messages.{Message, joined}
-use Rattle.vt_can.specs.Histories as histories
-use Rattle.vt_can.specs.Histories.{Spelling, Came, TimedOut}
+use Rattle.vt_can.specs.declared.transport.wire.Reason.{Reason}
+use Rattle.vt_can.specs.declared.transport.wire.Reason.TheVariants.{TooLarge, Disorder}
+use Rattle.vt_can.specs.transport.Messages.{Message, joined}
+use Rattle.vt_can.specs.transport.Histories as histories
+use Rattle.vt_can.specs.transport.Histories.{Spelling, Came, TimedOut}
 use Rattle.vt_extended.specs.declared.messages.Opening.{Opening}
 use Rattle.vt_extended.specs.declared.messages.Part.{Part}
 use Rattle.vt_extended.specs.declared.messages.Part.TheVariants.{Offset, Packet}
@@ -15,16 +15,16 @@ use Rattle.vt_extended.specs.declared.messages.Reply.{Reply}
 use Rattle.vt_extended.specs.declared.messages.Reply.TheVariants.{ClearToSend, End, Abort}
 
 -- A frame of the extended transport protocol came from the source, or its session was aborted for silence.
-abbrev pub Happening : Type 0
-Happening = histories.Happening EtpFrame
+abbrev pub SessionEvent : Type 0
+SessionEvent = histories.SessionEvent EtpFrame
 
 -- 9 to 1048576 bytes
 abbrev pub opens : Opening → Bool
 opens o = nat_le 9 o.size && nat_le o.size 1048576
 
 -- the packets of seven bytes that carry the message
-abbrev pub packets_of : Opening → ℕ
-packets_of o = (o.size + 6) / 7
+abbrev pub packet_count_of : Opening → ℕ
+packet_count_of o = (o.size + 6) / 7
 
 -- A DPO announced a count of packets, and these came after it.
 pub data Group : Type 0 where
@@ -42,7 +42,7 @@ full (Announced count packets ∷ groups) =
 
 -- the last packet that a CTS after so many packets opens
 abbrev pub edge_after : Opening → ℕ → ℕ
-edge_after o count = min (packets_of o) (count + 255)
+edge_after o count = min (packet_count_of o) (count + 255)
 
 -- the last packet that a DPO may announce after these groups
 abbrev pub edge : Opening → List Group → ℕ
@@ -69,21 +69,21 @@ bytes_of [] = []
 bytes_of (Announced count packets ∷ groups) = bytes_of groups ++ joined packets
 
 -- what leaves a session as it is: no RTS, no abort and no timeout
-abbrev pub IsQuiet : Happening → Type 0
+abbrev pub IsQuiet : SessionEvent → Type 0
 IsQuiet TimedOut = ⊥
 IsQuiet (Came (etp.Rts o)) = ⊥
 IsQuiet (Came etp.Aborted) = ⊥
 IsQuiet (Came _) = Unit {0}
 
 -- the DPOs and DTs that came
-abbrev pub parts_in : List Happening → List Part
+abbrev pub parts_in : List SessionEvent → List Part
 parts_in [] = []
 parts_in (TimedOut ∷ hs) = parts_in hs
 parts_in (Came (etp.Part part) ∷ hs) = part ∷ parts_in hs
 parts_in (Came _ ∷ hs) = parts_in hs
 
 -- what came after an RTS is the DPOs and DTs of sound groups
-pub record BringsGroups (o : Opening) (later : List Happening) (groups : List Group) : Type 0 where
+pub record BringsGroups (o : Opening) (later : List SessionEvent) (groups : List Group) : Type 0 where
   pub in_order : parts_in later ≡ parts_of groups
   pub sound : AreSound o groups
 
@@ -94,7 +94,7 @@ spelling = record {
   opens = opens;
   size = λ o. o.size;
   pgn = λ o. o.pgn;
-  all = packets_of;
+  total = packet_count_of;
   IsQuiet = IsQuiet;
   Brings = BringsGroups;
   count = received;
@@ -103,16 +103,16 @@ spelling = record {
 }
 
 -- a session is open, with packets still to come
-abbrev pub Stands : List Happening → Opening → List Group → Type 0
+abbrev pub Stands : List SessionEvent → Opening → List Group → Type 0
 Stands = histories.Stands spelling
 
--- a happening is the last packet of a message
-abbrev pub IsWhole : List Happening → Happening → Message → Type 0
+-- an event is the last packet of a message
+abbrev pub IsWhole : List SessionEvent → SessionEvent → Message → Type 0
 IsWhole = histories.IsWhole spelling
 
 -- the CTS after so many packets, for 255 of those left at most
 abbrev pub clear_to_send : Opening → ℕ → Reply
-clear_to_send o count = ClearToSend (min 255 (packets_of o - count)) (count + 1) o.pgn
+clear_to_send o count = ClearToSend (min 255 (packet_count_of o - count)) (count + 1) o.pgn
 
 -- why an RTS of a size that doesn't open is refused
 abbrev pub refusal : Opening → Reason
@@ -125,7 +125,7 @@ first_reply o = if opens o then clear_to_send o 0 else Abort (refusal o) o.pgn
 -- the reply to packet j in its turn: the end, the next CTS where its group is whole, or none
 abbrev pub reply_to : Opening → ℕ → Bool → Option Reply
 reply_to o j whole =
-    if j == packets_of o then Some (End o.size o.pgn)
+    if j == packet_count_of o then Some (End o.size o.pgn)
     else if whole then Some (clear_to_send o j)
     else None
 
@@ -149,7 +149,7 @@ part_reply o groups (Offset count offset) = offset_reply o groups count offset
 part_reply o groups (Packet number bytes) = packet_reply o groups number
 
 -- the reply to x after hs
-abbrev pub IsAnswered : List Happening → Happening → Option Reply → Type 0
+abbrev pub IsAnswered : List SessionEvent → SessionEvent → Option Reply → Type 0
 IsAnswered hs TimedOut reply = reply ≡ None
 IsAnswered hs (Came (etp.Rts o)) reply = reply ≡ Some (first_reply o)
 IsAnswered hs (Came (etp.Part part)) reply =

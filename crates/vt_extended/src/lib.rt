@@ -1,18 +1,18 @@
 //! The extended transport protocol of ISO 11783-3, which carries messages of 9 to 1,048,576 bytes here.
 //!
+//! - `Receiver` hears the frames of all sources, and answers each by what it has `Heard`: nothing, a reply, or a
+//!   whole message with its `Bytes`.
+//! - `laws` has what the definitions come to.
+//!
 //! docs/PROFILE.md, "Transport", has the rules. Times are in microseconds.
 #![tactic(auto)]
 
-mod law;
+pub mod laws;
 mod messages;
 mod receiver;
 mod session;
 mod wire;
 
-pub use law::{
-    foreign_frames_say_nothing, messages_depend_on_own_frames, runs_hand_out_messages,
-    runs_hand_out_whole_messages, steps_are_timeless, steps_assemble_messages,
-};
 pub use receiver::Receiver;
 pub use vt_can::{Bytes, Heard};
 

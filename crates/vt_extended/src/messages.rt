@@ -1,7 +1,7 @@
 //! The messages of the extended transport protocol (ISO 11783-3).
 
 ghost use Rattle.std.specs.Prelude.{◌≡◌, ◌<◌, true};
-ghost use Rattle.vt_extended.specs.Messages.{opens, packets_of, edge_after, clear_to_send, refusal, first_reply};
+ghost use Rattle.vt_extended.specs.Messages.{opens, packet_count_of, edge_after, clear_to_send, refusal, first_reply};
 
 use vt_can::Reason;
 
@@ -55,7 +55,7 @@ impl Opening {
     /// The packets that the message takes.
     pub(crate) fn packets(&self) -> u32
         requires { opens self.now ≡ true }
-        ensures { result ≡ packets_of self.now }
+        ensures { result ≡ packet_count_of self.now }
     {
         (self.size + 6) / 7
     }
@@ -63,7 +63,7 @@ impl Opening {
     /// The last packet that a CTS opens after a count of packets.
     pub(crate) fn edge_after(&self, count: u32) -> u32
         requires opened { opens self.now ≡ true }
-        requires more { count < packets_of self.now }
+        requires more { count < packet_count_of self.now }
         ensures { result ≡ edge_after self.now count }
     {
         self.packets().min(count + MOST_PACKETS)
@@ -72,7 +72,7 @@ impl Opening {
     /// The CTS after a count of packets, which aren't all.
     pub(crate) fn clear_to_send(&self, count: u32) -> Reply
         requires opened { opens self.now ≡ true }
-        requires more { count < packets_of self.now }
+        requires more { count < packet_count_of self.now }
         ensures { result ≡ clear_to_send self.now count }
     {
         let left = self.packets() - count;

@@ -1,9 +1,9 @@
 //! A message as it comes in.
 
 ghost use Rattle.std.specs.Prelude.{◌≡◌, ◌≤◌, ℕ, max, true, Some, length, List, vec_len, vec_capacity};
-ghost use Rattle.vt_can.specs.declared.wire.Reason.TheVariants.{Disorder};
-ghost use Rattle.vt_can.specs.Messages.{told_of};
-ghost use Rattle.vt_can.specs.Protocols.{outcome_of};
+ghost use Rattle.vt_can.specs.declared.transport.wire.Reason.TheVariants.{Disorder};
+ghost use Rattle.vt_can.specs.transport.Messages.{size_and_first_byte};
+ghost use Rattle.vt_can.specs.transport.Protocols.{outcome_of};
 ghost use Rattle.vt_extended.specs.Messages.{opens};
 ghost use Rattle.vt_extended.specs.Steps.{fresh, is_open, is_next, after_part, after_offset, after_packet};
 ghost use Rattle.vt_extended.specs.declared.messages.Reply.TheVariants as replies;
@@ -19,7 +19,7 @@ pub(crate) struct Session {
     received: u32,
     // The packets that the last DPO announced, and how many of them came: none before the first.
     announced: u8,
-    taken: u8,
+    arrived: u8,
     // The last packet that is open.
     edge: u32,
     bytes: Vec<u8>,
@@ -27,15 +27,15 @@ pub(crate) struct Session {
 
 impl Model for Session {
     ghost use Rattle.std.specs.Prelude.{vec_len, vec_capacity};
-    ghost use Rattle.vt_can.specs.Histories.{IsReceiving};
+    ghost use Rattle.vt_can.specs.transport.Histories.{IsReceiving};
     ghost use Rattle.vt_extended.specs.Messages.{spelling};
-    ghost use Rattle.vt_extended.specs.Kept.{Kept, kept_code};
+    ghost use Rattle.vt_extended.specs.SessionState.{SessionState, session_state_code};
 
-    ghost Value = { Kept };
+    ghost Value = { SessionState };
 
-    ghost coded = { kept_code };
+    ghost coded = { session_state_code };
 
-    ghost view = { λ s. record { opening = s.opening; bytes = s.bytes.items; received = s.received; announced = s.announced; taken = s.taken; edge = s.edge } };
+    ghost view = { λ s. record { opening = s.opening; bytes = s.bytes.items; received = s.received; announced = s.announced; arrived = s.arrived; edge = s.edge } };
 
     ghost invariant = { λ s. IsReceiving spelling s.opening s.received (vec_len s.bytes) (vec_capacity s.bytes) };
 }
@@ -52,7 +52,7 @@ impl Session {
             opening,
             received: 0,
             announced: 0,
-            taken: 0,
+            arrived: 0,
             edge: opening.edge_after(0),
             bytes,
         }
@@ -81,7 +81,7 @@ impl Session {
             return Received::Refused(self.disorder());
         }
         self.announced = count;
-        self.taken = 0;
+        self.arrived = 0;
         Received::More(self, None)
     }
 
@@ -102,7 +102,7 @@ impl Session {
             };
         }
         self.received = received;
-        self.taken = number;
+        self.arrived = number;
         if number < self.announced {
             return Received::More(self, None);
         }
@@ -114,7 +114,7 @@ impl Session {
     /// The size and first byte of the message that a packet completes, if it does.
     pub(crate) fn completed_by(&self, number: u8) -> Option<(usize, u8)>
         ensures { (now last : ℕ) (packet : List ℕ) → length packet ≡ 7
-            → result ≡ told_of (after_packet now (record { last = last; session = self.now }) number packet).message }
+            → result ≡ size_and_first_byte (after_packet now (record { last = last; session = self.now }) number packet).message }
     {
         if self.is_next(number) && self.received + 1 == self.opening.packets() {
             Some((self.opening.size as usize, self.bytes[0]))
@@ -134,7 +134,7 @@ impl Session {
     fn is_next(&self, number: u8) -> bool
         ensures { result ≡ is_next self.now number }
     {
-        self.taken < self.announced && number == self.taken + 1
+        self.arrived < self.announced && number == self.arrived + 1
     }
 
     fn disorder(&self) -> Reply

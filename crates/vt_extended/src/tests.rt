@@ -9,13 +9,14 @@ mod sources;
 use super::*;
 use arrayvec::ArrayVec;
 use std::test::Fail;
+use vt_can::assigned::ETP_DT;
 use vt_can::{CanId, Frame, Line, parse_line, write_frame};
 
 const NODE: u8 = 0x26;
 
 const SOURCE: u8 = 0x80;
 
-// What a receiver is to say to a frame.
+// What a receiver is to answer to a frame.
 #[derive(Clone, Copy)]
 enum Wanted {
     Silence,
@@ -25,8 +26,8 @@ enum Wanted {
     Size(&'static [u8], usize),
 }
 
-fn is_said(said: Heard, wanted: Wanted) -> bool {
-    match (said, wanted) {
+fn is_answer(heard: Heard, wanted: Wanted) -> bool {
+    match (heard, wanted) {
         (Heard::Nothing, Wanted::Silence) => true,
         (Heard::Reply(frame), Wanted::Reply(text)) => write_frame(&frame).as_slice() == text,
         (Heard::Message { bytes, reply, .. }, Wanted::Message(text, message)) => {
@@ -39,10 +40,10 @@ fn is_said(said: Heard, wanted: Wanted) -> bool {
     }
 }
 
-// Whether a receiver says this to the frame of a line.
-fn says(receiver: &mut Receiver, line: &[u8], wanted: Wanted) -> Result<bool, OutOfMemory> {
+// Whether a receiver answers this to the frame of a line.
+fn answers(receiver: &mut Receiver, line: &[u8], wanted: Wanted) -> Result<bool, OutOfMemory> {
     match parse_line(line) {
-        Ok(Line::Frame { time, frame }) => Ok(is_said(receiver.hear(time, &frame)?, wanted)),
+        Ok(Line::Frame { time, frame }) => Ok(is_answer(receiver.hear(time, &frame)?, wanted)),
         _ => Ok(false),
     }
 }
@@ -63,7 +64,7 @@ fn packet(number: u8, bytes: [u8; 7]) -> Frame {
 fn packet_from(source: u8, number: u8, bytes: [u8; 7]) -> Frame {
     let [a, b, c, d, e, f, g] = bytes;
     Frame {
-        id: CanId::new(7, 0xC700, NODE, source),
+        id: CanId::new(7, ETP_DT, NODE, source),
         bytes: ArrayVec::from([number, a, b, c, d, e, f, g]),
     }
 }

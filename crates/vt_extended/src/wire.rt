@@ -5,33 +5,20 @@ ghost use Rattle.vt_extended.specs.Wire.{etp_frame, connection_management, reply
 
 use crate::messages::{EtpFrame, Opening, Part, Reply};
 use byteorder::{ByteOrder, LittleEndian};
-use vt_can::{Frame, abort_bytes, frame_of, is_heard, numbered_packet, three_bytes};
-
-const CONNECTION_MANAGEMENT: u32 = 0xC800;
-
-const DATA_TRANSFER: u32 = 0xC700;
-
-const RTS: u8 = 0x14;
-
-const CTS: u8 = 0x15;
-
-const OFFSET: u8 = 0x16;
-
-const END: u8 = 0x17;
-
-const ABORT: u8 = 0xFF;
+use vt_can::assigned::{ABORT, ETP_CM, ETP_CTS, ETP_DPO, ETP_DT, ETP_END, ETP_RTS};
+use vt_can::{Frame, abort_bytes, frame_of, is_transport_frame_to, numbered_packet, three_bytes};
 
 /// What a frame says to a node. It is of the extended transport protocol, to the node's address and of 8 bytes.
-pub(crate) fn etp_frame(own: u8, frame: &Frame) -> Option<EtpFrame>
-    ensures { result ≡ etp_frame own frame.now }
+pub(crate) fn etp_frame(own_address: u8, frame: &Frame) -> Option<EtpFrame>
+    ensures { result ≡ etp_frame own_address frame.now }
 {
-    if !is_heard(own, frame) {
+    if !is_transport_frame_to(own_address, frame) {
         return None;
     }
     let bytes = frame.bytes.as_slice();
     match frame.id.pgn() {
-        CONNECTION_MANAGEMENT => Some(connection_management(bytes)),
-        DATA_TRANSFER => {
+        ETP_CM => Some(connection_management(bytes)),
+        ETP_DT => {
             let (number, bytes) = numbered_packet(bytes);
             Some(EtpFrame::Part(Part::Packet { number, bytes }))
         }
@@ -44,11 +31,11 @@ fn connection_management(bytes: &[u8]) -> EtpFrame
     ensures { result ≡ connection_management bytes.now }
 {
     match bytes[0] {
-        RTS => EtpFrame::Rts(Opening {
+        ETP_RTS => EtpFrame::Rts(Opening {
             size: LittleEndian::read_u32(&bytes[1..]),
             pgn: LittleEndian::read_u24(&bytes[5..]),
         }),
-        OFFSET => EtpFrame::Part(Part::Offset {
+        ETP_DPO => EtpFrame::Part(Part::Offset {
             count: bytes[1],
             offset: LittleEndian::read_u24(&bytes[2..]),
         }),
@@ -58,10 +45,10 @@ fn connection_management(bytes: &[u8]) -> EtpFrame
 }
 
 /// The frame that a reply is, from this node to another.
-pub(crate) fn reply_frame(own: u8, to: u8, reply: Reply) -> Frame
-    ensures { result ≡ reply_frame own to reply }
+pub(crate) fn reply_frame(own_address: u8, to: u8, reply: Reply) -> Frame
+    ensures { result ≡ reply_frame own_address to reply }
 {
-    frame_of(CONNECTION_MANAGEMENT, own, to, reply_bytes(reply))
+    frame_of(ETP_CM, own_address, to, reply_bytes(reply))
 }
 
 fn reply_bytes(reply: Reply) -> [u8; 8]
@@ -71,12 +58,12 @@ fn reply_bytes(reply: Reply) -> [u8; 8]
         Reply::ClearToSend { count, next, pgn } => {
             let [next_0, next_1, next_2] = three_bytes(next);
             let [pgn_0, pgn_1, pgn_2] = three_bytes(pgn);
-            [CTS, count, next_0, next_1, next_2, pgn_0, pgn_1, pgn_2]
+            [ETP_CTS, count, next_0, next_1, next_2, pgn_0, pgn_1, pgn_2]
         }
         Reply::End { size, pgn } => {
             let [size_0, size_1, size_2, size_3] = size.to_le_bytes();
             let [pgn_0, pgn_1, pgn_2] = three_bytes(pgn);
-            [END, size_0, size_1, size_2, size_3, pgn_0, pgn_1, pgn_2]
+            [ETP_END, size_0, size_1, size_2, size_3, pgn_0, pgn_1, pgn_2]
         }
         Reply::Abort { reason, pgn } => abort_bytes(reason, pgn),
     }

@@ -5,7 +5,7 @@ use Rattle.std.proofs.lemmas.List.{append-nil, take_at}
 use Rattle.std.specs.List.{AllZip, AllByRecursion}
 use Rattle.std.specs.Io.KnownBytes.{Appends, Consumes, IsAtEnd}
 use Rattle.std.proofs.KnownBytes.{Appends-trans, Consumes-nil, Consumes-trans, Consumes-whole}
-use Rattle.vt_can.specs.Line.{Reads}
+use Rattle.vt_can.specs.lines.Line.{Reads}
 use Rattle.vt_replay.specs.declared.counts.Counts.{Counts}
 use Rattle.vt_replay.specs.Lines.{lines_of}
 use Rattle.vt_replay.specs.Texts.{no_counts, lines_text, with_lines, counts_text}

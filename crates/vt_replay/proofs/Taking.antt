@@ -6,8 +6,8 @@ use Rattle.std.proofs.lemmas.List.{append-nil}
 use Rattle.std.specs.List.{AllZip, AllByRecursion, onto_first}
 use Rattle.std.specs.Io.KnownBytes.{Appends}
 use Rattle.std.proofs.KnownBytes.{Appends-trans, Appends-nil}
-use Rattle.vt_can.specs.Line.{Reads}
-use Rattle.vt_can.specs.Readings.{FrameAt, Does, IsSkipped, Comments}
+use Rattle.vt_can.specs.lines.Line.{Reads}
+use Rattle.vt_can.specs.lines.Readings.{FrameAt, OperatorAction, SkippedFrame, CommentLine}
 use Rattle.vt_replay.specs.declared.counts.Counts.{Counts}
 use Rattle.vt_replay.specs.Lines.{lines_of}
 use Rattle.vt_replay.specs.Texts.{Reading, after_line, line_text, with_line, after_lines, lines_text, with_lines}
@@ -36,9 +36,9 @@ with_lines-append c (r ∷ rs) qs = with_lines-append (with_line c r) rs qs
 
 with_line-lines : (c : Counts) (r : Reading) → (with_line c r).lines ≡ c.lines + 1
 with_line-lines c (Ok (FrameAt time frame)) = refl
-with_line-lines c (Ok (Does deed)) = refl
-with_line-lines c (Ok (IsSkipped why)) = refl
-with_line-lines c (Ok Comments) = refl
+with_line-lines c (Ok (OperatorAction action)) = refl
+with_line-lines c (Ok (SkippedFrame why)) = refl
+with_line-lines c (Ok CommentLine) = refl
 with_line-lines c (Err fault) = refl
 
 with_lines-lines : (c : Counts) (rs : List Reading) → (with_lines c rs).lines ≡ c.lines + length rs
@@ -162,9 +162,9 @@ bytes_more a b c before xs pending ys left p q = record {
 
 AtMost-line : (n : ℕ) (c : Counts) (r : Reading) → AtMost n c → AtMost (n + 1) (with_line c r)
 AtMost-line n c (Ok (FrameAt time frame)) most = record { lines = omega (arith, most.lines); frames = omega (arith, most.frames); operator = omega (arith, most.operator); skipped = omega (arith, most.skipped); comments = omega (arith, most.comments); faults = omega (arith, most.faults) }
-AtMost-line n c (Ok (Does deed)) most = record { lines = omega (arith, most.lines); frames = omega (arith, most.frames); operator = omega (arith, most.operator); skipped = omega (arith, most.skipped); comments = omega (arith, most.comments); faults = omega (arith, most.faults) }
-AtMost-line n c (Ok (IsSkipped why)) most = record { lines = omega (arith, most.lines); frames = omega (arith, most.frames); operator = omega (arith, most.operator); skipped = omega (arith, most.skipped); comments = omega (arith, most.comments); faults = omega (arith, most.faults) }
-AtMost-line n c (Ok Comments) most = record { lines = omega (arith, most.lines); frames = omega (arith, most.frames); operator = omega (arith, most.operator); skipped = omega (arith, most.skipped); comments = omega (arith, most.comments); faults = omega (arith, most.faults) }
+AtMost-line n c (Ok (OperatorAction action)) most = record { lines = omega (arith, most.lines); frames = omega (arith, most.frames); operator = omega (arith, most.operator); skipped = omega (arith, most.skipped); comments = omega (arith, most.comments); faults = omega (arith, most.faults) }
+AtMost-line n c (Ok (SkippedFrame why)) most = record { lines = omega (arith, most.lines); frames = omega (arith, most.frames); operator = omega (arith, most.operator); skipped = omega (arith, most.skipped); comments = omega (arith, most.comments); faults = omega (arith, most.faults) }
+AtMost-line n c (Ok CommentLine) most = record { lines = omega (arith, most.lines); frames = omega (arith, most.frames); operator = omega (arith, most.operator); skipped = omega (arith, most.skipped); comments = omega (arith, most.comments); faults = omega (arith, most.faults) }
 AtMost-line n c (Err fault) most = record { lines = omega (arith, most.lines); frames = omega (arith, most.frames); operator = omega (arith, most.operator); skipped = omega (arith, most.skipped); comments = omega (arith, most.comments); faults = omega (arith, most.faults) }
 
 AtMost-lines : (n : ℕ) (c : Counts) (rs : List Reading) → AtMost n c → AtMost (n + length rs) (with_lines c rs)

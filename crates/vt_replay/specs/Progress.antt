@@ -2,7 +2,7 @@
 use Rattle.std.specs.Prelude.{◌≡◌, ◌⊎◌, ◌≤◌, ◌==◌, ℕ, not, List, ◌++◌, length, Option}
 use Rattle.std.specs.List.{AllZip, AllByRecursion, AllPass}
 use Rattle.std.specs.Io.KnownBytes.{Appends}
-use Rattle.vt_can.specs.Line.{Reads}
+use Rattle.vt_can.specs.lines.Line.{Reads}
 use Rattle.vt_replay.specs.declared.counts.Counts.{Counts}
 use Rattle.vt_replay.specs.declared.fault.ReplayFault.{ReplayFault}
 use Rattle.vt_replay.specs.declared.fault.ReplayFault.TheVariants.{Memory, TooLong, Write}

@@ -1,7 +1,7 @@
 -- A whole replay.
 use Rattle.std.specs.Prelude.{◌≡◌, ◌≤◌, ◌<◌, ℕ, List, ◌∷◌, ◌++◌, length}
 use Rattle.std.specs.List.{AllZip, AllByRecursion}
-use Rattle.vt_can.specs.Line.{Reads}
+use Rattle.vt_can.specs.lines.Line.{Reads}
 use Rattle.vt_replay.specs.declared.counts.Counts.{Counts}
 use Rattle.vt_replay.specs.Lines.{lines_of}
 use Rattle.vt_replay.specs.Texts.{Reading, after_lines, lines_text, with_lines, no_counts, counts_text}

@@ -2,10 +2,10 @@
 use Rattle.std.specs.Prelude.{ℕ, ◌+◌, List, [], ◌∷◌, ◌++◌, codes, Result, Ok, Err}
 use Rattle.std.specs.List.{flat_map}
 use Rattle.std.specs.Fmt.{decimal}
-use Rattle.vt_can.specs.declared.line.LineFault.{LineFault}
-use Rattle.vt_can.specs.declared.line.LineFault.TheVariants.{Time, Shape, Hex, Length, Operator}
-use Rattle.vt_can.specs.Frame.{frame_text}
-use Rattle.vt_can.specs.Readings.{Said, FrameAt, Does, IsSkipped, Comments}
+use Rattle.vt_can.specs.declared.lines.line.LineFault.{LineFault}
+use Rattle.vt_can.specs.declared.lines.line.LineFault.TheVariants.{Time, Shape, Hex, Length, Operator}
+use Rattle.vt_can.specs.lines.Writing.{frame_text}
+use Rattle.vt_can.specs.lines.Readings.{ParsedLine, FrameAt, OperatorAction, SkippedFrame, CommentLine}
 use Rattle.vt_replay.specs.declared.counts.Counts.{Counts}
 use Rattle.vt_server.specs.declared.input.Input.TheVariants as inputs
 use Rattle.vt_server.specs.declared.output.Output.{Output}
@@ -15,7 +15,7 @@ use Rattle.vt_server.specs.Terminals.{State}
 
 -- how a line was read
 abbrev pub Reading : Type 0
-Reading = Result Said LineFault
+Reading = Result ParsedLine LineFault
 
 abbrev pub newline : List ℕ
 newline = 10 ∷ []
@@ -23,9 +23,9 @@ newline = 10 ∷ []
 -- the terminal after a line: only a frame is an input yet
 abbrev pub after_line : State → Reading → State
 after_line s (Ok (FrameAt time frame)) = (step s (inputs.Frame time frame)).after
-after_line s (Ok (Does deed)) = s
-after_line s (Ok (IsSkipped why)) = s
-after_line s (Ok Comments) = s
+after_line s (Ok (OperatorAction action)) = s
+after_line s (Ok (SkippedFrame why)) = s
+after_line s (Ok CommentLine) = s
 after_line s (Err fault) = s
 
 abbrev pub fault_name : LineFault → List ℕ
@@ -45,9 +45,9 @@ fault_text n fault = codes "line " ++ decimal n ++ codes " " ++ fault_name fault
 -- what line n prints
 abbrev pub line_text : State → ℕ → Reading → List ℕ
 line_text s n (Ok (FrameAt time frame)) = flat_map output_text (outputs_of (step s (inputs.Frame time frame)).sent)
-line_text s n (Ok (Does deed)) = []
-line_text s n (Ok (IsSkipped why)) = []
-line_text s n (Ok Comments) = []
+line_text s n (Ok (OperatorAction action)) = []
+line_text s n (Ok (SkippedFrame why)) = []
+line_text s n (Ok CommentLine) = []
 line_text s n (Err fault) = fault_text n fault
 
 abbrev pub no_counts : Counts
@@ -56,9 +56,9 @@ no_counts = record { lines = 0; frames = 0; operator = 0; skipped = 0; comments 
 -- each line is one of the five
 abbrev pub with_line : Counts → Reading → Counts
 with_line c (Ok (FrameAt time frame)) = record c { lines = c.lines + 1; frames = c.frames + 1 }
-with_line c (Ok (Does deed)) = record c { lines = c.lines + 1; operator = c.operator + 1 }
-with_line c (Ok (IsSkipped why)) = record c { lines = c.lines + 1; skipped = c.skipped + 1 }
-with_line c (Ok Comments) = record c { lines = c.lines + 1; comments = c.comments + 1 }
+with_line c (Ok (OperatorAction action)) = record c { lines = c.lines + 1; operator = c.operator + 1 }
+with_line c (Ok (SkippedFrame why)) = record c { lines = c.lines + 1; skipped = c.skipped + 1 }
+with_line c (Ok CommentLine) = record c { lines = c.lines + 1; comments = c.comments + 1 }
 with_line c (Err fault) = record c { lines = c.lines + 1; faults = c.faults + 1 }
 
 -- ---- many lines, the first of them after n others

@@ -3,7 +3,7 @@
 ghost use Rattle.std.specs.Prelude.{◌≡◌, ◌^◌, ◌+◌, ◌++◌, ◌⊎◌, [], ◌∷◌, ◌≤◌, ◌<◌, length, OnOk, OnErr, IfErr, IsErrOf};
 ghost use Rattle.std.specs.List.{flat_map};
 ghost use Rattle.std.specs.Io.KnownBytes.{Appends};
-ghost use Rattle.vt_can.specs.Readings.{reading_of};
+ghost use Rattle.vt_can.specs.lines.Readings.{reading_of};
 ghost use Rattle.vt_replay.specs.Texts.{after_line, with_line, line_text, output_text};
 ghost use Rattle.vt_replay.specs.Progress.{AtMost, IsLineFault, IsStepFault, Takes, stand};
 ghost use Rattle.vt_replay.specs.Replays.{TakesSome};

@@ -1,7 +1,7 @@
 -- What happens at one address changes the part of that address, and no other.
 use Rattle.std.proofs.Common.{◌≡◌, ◌≢◌, ℕ, Bool, true, false, cond, ◌||◌, eqb, List, [], ◌∷◌, ◌++◌, map, Option, Some, None, refl, sym, ap, ◌∙◌, eq-eqb, ne_eqb, nat_eq}
 use Rattle.std.specs.Option.{option_eq}
-use Rattle.vt_can.specs.declared.frame.Frame.{Frame}
+use Rattle.vt_can.specs.declared.frames.frame.Frame.{Frame}
 use Rattle.vt_names.specs.Registry.{Set, set_at, with_set, without, has_place, joined}
 use Rattle.vt_objects.specs.Stores.{Contents}
 use Rattle.vt_objects.specs.Commands.{command_at}

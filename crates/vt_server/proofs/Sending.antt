@@ -1,8 +1,8 @@
 -- The frames of a step: at most one, a message to its source or a claim to all.
 use Rattle.std.proofs.Common.{◌≡◌, ◌<◌, ◌≤◌, ◌^◌, ℕ, Bool, true, false, cond, List, [], ◌∷◌, map, length, Option, Some, None, refl, sym, ap, subst, ◌∙◌, arith}
-use Rattle.vt_can.specs.declared.frame.Frame.{Frame}
-use Rattle.vt_can.specs.Identifier.{PartsAreIdentifiers, parts_of, pgn_of, destination_of, addressed}
-use Rattle.vt_can.specs.Nodes.{source_of}
+use Rattle.vt_can.specs.declared.frames.frame.Frame.{Frame}
+use Rattle.vt_can.specs.frames.Identifier.{PartsAreIdentifiers, parts_of, pgn_of, destination_of, addressed}
+use Rattle.vt_can.specs.frames.Frame.{source_of}
 use Rattle.vt_names.specs.Claims.{answer}
 use Rattle.vt_names.specs.Registry.{Set, set_at}
 use Rattle.vt_objects.specs.Commands.{command_at}

@@ -1,7 +1,7 @@
 -- The list of the sets after a step, and that they stay apart.
 use Rattle.std.proofs.Common.{◌≡◌, ◌≢◌, ℕ, Bool, true, false, cond, eqb, List, [], ◌∷◌, Option, Some, None, refl, sym, ap, subst, ◌∙◌, eq-eqb, ne_eqb}
-use Rattle.vt_can.specs.declared.frame.Frame.{Frame}
-use Rattle.vt_can.specs.Nodes.{source_of}
+use Rattle.vt_can.specs.declared.frames.frame.Frame.{Frame}
+use Rattle.vt_can.specs.frames.Frame.{source_of}
 use Rattle.vt_names.specs.Claims.{Claimed, OtherHoldersStay, holder_of}
 use Rattle.vt_names.specs.Registry.{Set, set_at, with_set, registering, joining, mastered, joined, has_place, preloaded}
 use Rattle.vt_objects.specs.Commands.{command_at}

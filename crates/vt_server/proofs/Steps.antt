@@ -5,8 +5,8 @@ use Rattle.vt_names.specs.Claims.{Claimed, answer, address_of, holder_of}
 use Rattle.vt_names.specs.declared.claims.Heard.{Heard}
 use Rattle.vt_names.specs.declared.claims.Heard.TheVariants as claims
 use Rattle.vt_names.specs.Registry.{Set, set_at, with_set, joining, has_place, joined}
-use Rattle.vt_can.specs.declared.frame.Frame.{Frame}
-use Rattle.vt_can.specs.Nodes.{source_of}
+use Rattle.vt_can.specs.declared.frames.frame.Frame.{Frame}
+use Rattle.vt_can.specs.frames.Frame.{source_of}
 use Rattle.vt_server.specs.Bus.{said}
 use Rattle.vt_server.specs.Messages.{claim_from}
 use Rattle.vt_server.specs.Parts.{Part, Local, Hears, Rebinds, unchanged, without_set, local, after_master, after_change, after_claim_heard, after_member}

@@ -2,9 +2,10 @@
 use Rattle.std.specs.Prelude.{ℕ, ◌==◌, ◌&&◌, ◌||◌, Bool, nat_le, nat_eq, if◌then◌else◌, List, [], ◌∷◌, length, Option, slice_index}
 use Rattle.std.specs.List.{starts_with}
 use Rattle.byteorder.specs.Endian.{little_number}
-use Rattle.vt_can.specs.declared.frame.Frame.{Frame}
-use Rattle.vt_can.specs.Identifier.{parts_of, pgn_of, destination_of}
-use Rattle.vt_can.specs.Nodes.{is_to, source_of}
+use Rattle.vt_can.specs.declared.frames.frame.Frame.{Frame}
+use Rattle.vt_can.specs.Assigned.{ADDRESS_CLAIMED, ECU_TO_VT, GLOBAL_ADDRESS, REQUEST, WORKING_SET_MASTER, WORKING_SET_MEMBER}
+use Rattle.vt_can.specs.frames.Identifier.{parts_of, pgn_of, destination_of}
+use Rattle.vt_can.specs.frames.Frame.{is_to, source_of}
 use Rattle.vt_server.specs.declared.bus.Notice.{Notice}
 use Rattle.vt_server.specs.declared.bus.Notice.TheVariants.{Claim, ClaimRequest, Master, Member, Message, Nothing}
 
@@ -19,12 +20,12 @@ asks_for_claim bytes = starts_with nat_eq bytes (0x00 ∷ 0xEE ∷ 0x00 ∷ [])
 -- A frame of a group to a destination. Shorter frames of the groups of claims and sets say nothing.
 abbrev pub said_in : ℕ → ℕ → Option ℕ → List ℕ → Notice
 said_in own pgn destination bytes =
-    if pgn == 0xEE00 then (if is_to 255 destination && nat_le 8 (length bytes) then Claim (name_in bytes) else Nothing)
-    else if pgn == 0xEA00 then
-    (if (is_to own destination || is_to 255 destination) && asks_for_claim bytes then ClaimRequest else Nothing)
-    else if pgn == 0xFE0D then (if nat_le 1 (length bytes) then Master (slice_index bytes 0) else Nothing)
-    else if pgn == 0xFE0C then (if nat_le 8 (length bytes) then Member (name_in bytes) else Nothing)
-    else if pgn == 0xE700 then (if is_to own destination then Message else Nothing)
+    if pgn == ADDRESS_CLAIMED then (if is_to GLOBAL_ADDRESS destination && nat_le 8 (length bytes) then Claim (name_in bytes) else Nothing)
+    else if pgn == REQUEST then
+    (if (is_to own destination || is_to GLOBAL_ADDRESS destination) && asks_for_claim bytes then ClaimRequest else Nothing)
+    else if pgn == WORKING_SET_MASTER then (if nat_le 1 (length bytes) then Master (slice_index bytes 0) else Nothing)
+    else if pgn == WORKING_SET_MEMBER then (if nat_le 8 (length bytes) then Member (name_in bytes) else Nothing)
+    else if pgn == ECU_TO_VT then (if is_to own destination then Message else Nothing)
     else Nothing
 
 abbrev pub said_by : ℕ → Frame → Notice

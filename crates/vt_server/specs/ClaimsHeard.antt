@@ -1,6 +1,6 @@
 -- The claims of a run, and the holders that they make (docs/PROFILE.md, "The holder of an address", "Loss of the address").
 use Rattle.std.specs.Prelude.{◌≡◌, ℕ, ◌==◌, ◌&&◌, Bool, false, nat_lt, if◌then◌else◌, List, [], ◌∷◌, ◌++◌}
-use Rattle.vt_can.specs.Nodes.{source_of}
+use Rattle.vt_can.specs.frames.Frame.{source_of}
 use Rattle.vt_names.specs.Claims.{Claim, IsHolder}
 use Rattle.vt_server.specs.Bus.{said}
 use Rattle.vt_server.specs.Terminals.{State, holder}

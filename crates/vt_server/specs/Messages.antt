@@ -1,16 +1,17 @@
 -- Messages from the terminal (docs/PROFILE.md, "Other messages", "Messages of address claim").
 use Rattle.std.specs.Prelude.{ℕ, ◌==◌, nat_le, if◌then◌else◌, List, [], ◌∷◌, length, drop, Option, Some, None}
 use Rattle.byteorder.specs.Endian.{little_number, little_bytes}
-use Rattle.vt_can.specs.declared.frame.Frame.{Frame}
-use Rattle.vt_can.specs.Identifier.{addressed, raw_of}
+use Rattle.vt_can.specs.declared.frames.frame.Frame.{Frame}
+use Rattle.vt_can.specs.Assigned.{ADDRESS_CLAIMED, GLOBAL_ADDRESS, VT_TO_ECU}
+use Rattle.vt_can.specs.frames.Identifier.{addressed, raw_of}
 
 -- a message from the terminal to the master of a set
 abbrev pub message_to : ℕ → ℕ → List ℕ → Frame
-message_to own address bytes = record { id = raw_of (addressed 5 0xE600 address own); bytes = record { items = bytes } }
+message_to own address bytes = record { id = raw_of (addressed 5 VT_TO_ECU address own); bytes = record { items = bytes } }
 
 -- Address Claimed of a NAME at an address, and from the null address Cannot Claim
 abbrev pub claim_from : ℕ → ℕ → Frame
-claim_from address name = record { id = raw_of (addressed 6 0xEE00 255 address); bytes = record { items = little_bytes 8 name } }
+claim_from address name = record { id = raw_of (addressed 6 ADDRESS_CLAIMED GLOBAL_ADDRESS address); bytes = record { items = little_bytes 8 name } }
 
 -- the status of Get Memory: whether there is less than asked for
 abbrev pub memory_status : ℕ → ℕ

@@ -1,15 +1,16 @@
 -- Where the frames of a step go (docs/PROFILE.md, "The outputs of one input").
 use Rattle.std.specs.Prelude.{◌≡◌, ◌<◌, ◌≤◌, ◌^◌, ℕ, List, [], ◌∷◌, length, Option, Some, None}
-use Rattle.vt_can.specs.declared.frame.Frame.{Frame}
-use Rattle.vt_can.specs.Identifier.{parts_of, pgn_of, destination_of, addressed}
+use Rattle.vt_can.specs.declared.frames.frame.Frame.{Frame}
+use Rattle.vt_can.specs.Assigned.{ADDRESS_CLAIMED, GLOBAL_ADDRESS, VT_TO_ECU}
+use Rattle.vt_can.specs.frames.Identifier.{parts_of, pgn_of, destination_of, addressed}
 use Rattle.vt_server.specs.Terminals.{State, Sent}
 use Rattle.vt_server.specs.States.{step}
 use Rattle.vt_server.specs.declared.input.Input.{Input}
 
 -- a message to one address, with priority 5; a claim to all
 abbrev pub IsAddressed : ℕ → Option ℕ → Frame → Type 0
-IsAddressed own (Some address) frame = parts_of frame.id ≡ addressed 5 0xE600 address own
-IsAddressed own None frame = (pgn_of (parts_of frame.id) ≡ 0xEE00) × (destination_of (parts_of frame.id) ≡ Some 255)
+IsAddressed own (Some address) frame = parts_of frame.id ≡ addressed 5 VT_TO_ECU address own
+IsAddressed own None frame = (pgn_of (parts_of frame.id) ≡ ADDRESS_CLAIMED) × (destination_of (parts_of frame.id) ≡ Some GLOBAL_ADDRESS)
 
 abbrev pub AreAddressed : ℕ → List Sent → Type 0
 AreAddressed own [] = Unit {0}

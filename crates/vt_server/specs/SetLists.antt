@@ -1,6 +1,6 @@
 -- The list of the sets after a step (docs/PROFILE.md, "Closing a set", "Working sets").
 use Rattle.std.specs.Prelude.{◌≡◌, ◌≢◌, ℕ, ◌==◌, Bool, if◌then◌else◌, List, [], ◌∷◌, map, filter, None}
-use Rattle.vt_can.specs.Nodes.{source_of}
+use Rattle.vt_can.specs.frames.Frame.{source_of}
 use Rattle.vt_names.specs.Registry.{Set, set_at, registering, joining}
 use Rattle.vt_objects.specs.Stores.{Contents}
 use Rattle.vt_server.specs.Bus.{said}

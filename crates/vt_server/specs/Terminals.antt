@@ -1,8 +1,9 @@
 -- The terminal as one step for each input (docs/PROFILE.md, "The step").
 use Rattle.std.specs.Prelude.{ℕ, ◌==◌, Bool, true, false, if◌then◌else◌, List, [], ◌∷◌, ◌++◌, map, Option, Some, None, nat_eq}
 use Rattle.std.specs.Option.{option_eq}
-use Rattle.vt_can.specs.declared.frame.Frame.{Frame}
-use Rattle.vt_can.specs.Nodes.{source_of}
+use Rattle.vt_can.specs.declared.frames.frame.Frame.{Frame}
+use Rattle.vt_can.specs.Assigned.{NULL_ADDRESS}
+use Rattle.vt_can.specs.frames.Frame.{source_of}
 use Rattle.vt_names.specs.Claims.{Claimed, heard, address_of, holder_of, answer}
 use Rattle.vt_names.specs.declared.claims.Heard.{Heard}
 use Rattle.vt_names.specs.declared.claims.Heard.TheVariants as claims
@@ -143,7 +144,7 @@ no_step s = record { after = s; sent = [] }
 
 -- Cannot Claim goes out, and nothing else happens, now or later.
 abbrev pub losing : State → Step
-losing s = record { after = record s { lost = true }; sent = to_all (claim_from 254 s.claims.name) ∷ [] }
+losing s = record { after = record s { lost = true }; sent = to_all (claim_from NULL_ADDRESS s.claims.name) ∷ [] }
 
 abbrev pub acting : State → ℕ → Notice → List ℕ → Step
 acting s source said bytes = let happenings = acts s source said bytes in record {

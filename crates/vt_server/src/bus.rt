@@ -7,25 +7,10 @@ ghost use Rattle.vt_server.specs.Bus.{said, said_by, unless_echo};
 
 use byteorder::{ByteOrder, LittleEndian};
 use vt_can::Frame;
+use vt_can::assigned::{
+    ADDRESS_CLAIMED, ECU_TO_VT, GLOBAL_ADDRESS, REQUEST, WORKING_SET_MASTER, WORKING_SET_MEMBER,
+};
 use vt_names::Name;
-
-/// The address of every node.
-pub(crate) const GLOBAL_ADDRESS: u8 = 255;
-
-/// The PGN of Address Claimed and Cannot Claim.
-pub(crate) const ADDRESS_CLAIMED: u32 = 0xEE00;
-
-/// The PGN of a Request.
-const REQUEST: u32 = 0xEA00;
-
-/// The PGN of Working Set Master.
-const WORKING_SET_MASTER: u32 = 0xFE0D;
-
-/// The PGN of Working Set Member.
-const WORKING_SET_MEMBER: u32 = 0xFE0C;
-
-/// The PGN of messages from an implement to the terminal.
-const ECU_TO_VT: u32 = 0xE700;
 
 /// What a frame says to the terminal.
 #[derive(Clone, Copy, Debug, PartialEq, Eq)]

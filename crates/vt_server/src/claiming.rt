@@ -14,10 +14,8 @@ use crate::messages::claim_from;
 use crate::output::Output;
 use crate::terminal::Terminal;
 use vt_can::Frame;
+use vt_can::assigned::NULL_ADDRESS;
 use vt_names::{Heard, Name};
-
-/// Cannot Claim is sent from this address.
-const NULL_ADDRESS: u8 = 254;
 
 impl Terminal {
     /// Hears that a NAME claims the source address. docs/PROFILE.md, "The terminal's claims", "Closing a set".

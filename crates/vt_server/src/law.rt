@@ -54,7 +54,7 @@ pub fn holders_are_of_runs()
 pub fn sent_are_addressed()
     ensures { SentAreAddressed }
 {
-    vt_can::parts_are_identifiers();
+    vt_can::laws::parts_are_identifiers();
 }
 
 /// What a terminal has heard of addresses stands by rising NAME, as the laws on its steps want.

@@ -4,15 +4,12 @@ ghost use Rattle.std.specs.Prelude.{◌≡◌, [], ◌∷◌};
 ghost use Rattle.vt_server.specs.Hiding.{reply_bytes};
 ghost use Rattle.vt_server.specs.Messages.{message_to, claim_from, memory_status, technical_reply};
 
-use crate::bus::{ADDRESS_CLAIMED, GLOBAL_ADDRESS};
 use arrayvec::ArrayVec;
 use byteorder::{ByteOrder, LittleEndian};
+use vt_can::assigned::{ADDRESS_CLAIMED, GLOBAL_ADDRESS, VT_TO_ECU};
 use vt_can::{CanId, Frame};
 use vt_names::Name;
 use vt_objects::ObjectId;
-
-/// The PGN of messages from the terminal to an implement.
-const VT_TO_ECU: u32 = 0xE600;
 
 /// The priority of the terminal's messages.
 const MESSAGE_PRIORITY: u8 = 5;

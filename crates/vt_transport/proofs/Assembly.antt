@@ -1,74 +1,75 @@
 -- The steps on the session of a source assemble the messages that were sent.
 use Rattle.std.proofs.Common.{◌≡◌, ℕ, suc, ◌+◌, ◌<◌, max, Bool, true, false, cond, eqb, List, [], ◌∷◌, ◌++◌, length, take, Option, Some, None, ap, ap₂, sym, subst, ◌∙◌, refl, arith, eq-eqb, eqb-true, ne_eqb}
 use Rattle.std.proofs.lemmas.Bool.{false≢true}
-use Rattle.vt_can.specs.declared.sessions.Timed.{Timed}
-use Rattle.vt_can.specs.declared.wire.Reason.TheVariants.{Disorder}
-use Rattle.vt_can.specs.Messages.{joined}
-use Rattle.vt_can.specs.Histories.{Came, TimedOut, Sent, AreQuiet, untimed}
-use Rattle.vt_can.specs.Protocols.{ended}
-use Rattle.vt_can.specs.Steps as steps
-use Rattle.vt_can.specs.Steps.{happens, session_after}
-use Rattle.vt_can.proofs.Joining.{take_again, take_none}
-use Rattle.vt_can.proofs.Standing.{sent_more, Last, AtRequest, Later, last_of, matches_none, matches_quiet, matches_end, matches_request}
+use Rattle.vt_can.specs.Assigned.{VT_TO_ECU}
+use Rattle.vt_can.specs.declared.transport.sessions.Timed.{Timed}
+use Rattle.vt_can.specs.declared.transport.wire.Reason.TheVariants.{Disorder}
+use Rattle.vt_can.specs.transport.Messages.{joined}
+use Rattle.vt_can.specs.transport.Histories.{Came, TimedOut, Sent, AreQuiet, untimed}
+use Rattle.vt_can.specs.transport.Protocols.{ended}
+use Rattle.vt_can.specs.transport.Steps as steps
+use Rattle.vt_can.specs.transport.Steps.{event_step, session_after}
+use Rattle.vt_can.proofs.lemmas.transport.Joining.{take_again, take_none}
+use Rattle.vt_can.proofs.lemmas.transport.Standing.{sent_more, Last, AtRequest, Later, last_of, matches_none, matches_quiet, matches_end, matches_request}
 use Rattle.vt_transport.specs.declared.messages.Opening.{Opening}
 use Rattle.vt_transport.specs.declared.messages.TpFrame.TheVariants.{Rts, Cts, EndOfMessage, Aborted, Data, Other}
 use Rattle.vt_transport.specs.declared.messages.Reply.TheVariants.{Abort}
-use Rattle.vt_transport.specs.Messages.{Happening, opens, sending_group, packets_in, numbered, spelling, reply_to}
-use Rattle.vt_transport.specs.Kept.{Kept}
-use Rattle.vt_transport.specs.Steps.{Outcome, after_packet, Has}
+use Rattle.vt_transport.specs.Messages.{SessionEvent, opens, packets_in, numbered, spelling, reply_to}
+use Rattle.vt_transport.specs.SessionState.{SessionState}
+use Rattle.vt_transport.specs.Steps.{Outcome, after_packet, HasPackets}
 use Rattle.vt_transport.specs.Protocol.{protocol}
 use Rattle.vt_transport.proofs.Openings.{opened_packets}
 
 -- the session of the steps and the one that stands are the same
-abbrev pub opening_of : Kept → Opening
-opening_of kept = kept.opening
+abbrev pub opening_of : SessionState → Opening
+opening_of current = current.opening
 
-abbrev pub Matches : List Happening → Option (Timed Kept) → Type 0
-Matches = steps.Matches spelling opening_of Has
+abbrev pub Matches : List SessionEvent → Option (Timed SessionState) → Type 0
+Matches = steps.Matches spelling opening_of HasPackets
 
-abbrev pub IsKept : List Happening → Timed Kept → Type 0
-IsKept = steps.IsKept spelling opening_of Has
+abbrev pub IsStanding : List SessionEvent → Timed SessionState → Type 0
+IsStanding = steps.IsStanding spelling opening_of HasPackets
 
 -- the step of a packet, in its three cases
 
-pub packet_more : (now number : ℕ) (packet : List ℕ) (kept : Timed Kept) → number ≡ kept.session.received + 1
-    → (kept.session.received + 1 ≡ kept.session.opening.packets → ⊥)
-    → ◌≡◌ {A = Outcome} (after_packet now (Some kept) number packet) (record {
-      session = Some (record { last = max now kept.last; session = record { opening = kept.session.opening; bytes = take kept.session.opening.size (kept.session.bytes ++ packet); received = kept.session.received + 1 } });
-      reply = reply_to kept.session.opening (kept.session.received + 1);
+pub packet_more : (now number : ℕ) (packet : List ℕ) (current : Timed SessionState) → number ≡ current.session.received + 1
+    → (current.session.received + 1 ≡ current.session.opening.packets → ⊥)
+    → ◌≡◌ {A = Outcome} (after_packet now (Some current) number packet) (record {
+      session = Some (record { last = max now current.last; session = record { opening = current.session.opening; bytes = take current.session.opening.size (current.session.bytes ++ packet); received = current.session.received + 1 } });
+      reply = reply_to current.session.opening (current.session.received + 1);
       message = None;
     })
-packet_more now number packet kept next more =
-    let e : eqb number (kept.session.received + 1) ≡ true = eq-eqb _ _ next in
-    let f : eqb (kept.session.received + 1) kept.session.opening.packets ≡ false = ne_eqb _ _ more in
+packet_more now number packet current next more =
+    let e : eqb number (current.session.received + 1) ≡ true = eq-eqb _ _ next in
+    let f : eqb (current.session.received + 1) current.session.opening.packets ≡ false = ne_eqb _ _ more in
     rw (e, f)
 
-pub packet_whole : (now number : ℕ) (packet : List ℕ) (kept : Timed Kept) → number ≡ kept.session.received + 1
-    → kept.session.received + 1 ≡ kept.session.opening.packets
-    → ◌≡◌ {A = Outcome} (after_packet now (Some kept) number packet) (record {
+pub packet_whole : (now number : ℕ) (packet : List ℕ) (current : Timed SessionState) → number ≡ current.session.received + 1
+    → current.session.received + 1 ≡ current.session.opening.packets
+    → ◌≡◌ {A = Outcome} (after_packet now (Some current) number packet) (record {
       session = None;
-      reply = reply_to kept.session.opening (kept.session.received + 1);
-      message = Some (record { pgn = kept.session.opening.pgn; bytes = take kept.session.opening.size (kept.session.bytes ++ packet) });
+      reply = reply_to current.session.opening (current.session.received + 1);
+      message = Some (record { pgn = current.session.opening.pgn; bytes = take current.session.opening.size (current.session.bytes ++ packet) });
     })
-packet_whole now number packet kept next whole =
-    let e : eqb number (kept.session.received + 1) ≡ true = eq-eqb _ _ next in
-    let f : eqb (kept.session.received + 1) kept.session.opening.packets ≡ true = eq-eqb _ _ whole in
+packet_whole now number packet current next whole =
+    let e : eqb number (current.session.received + 1) ≡ true = eq-eqb _ _ next in
+    let f : eqb (current.session.received + 1) current.session.opening.packets ≡ true = eq-eqb _ _ whole in
     rw (e, f)
 
-pub packet_wrong : (now number : ℕ) (packet : List ℕ) (kept : Timed Kept) → (number ≡ kept.session.received + 1 → ⊥)
-    → after_packet now (Some kept) number packet ≡ ended (Abort Disorder kept.session.opening.pgn)
-packet_wrong now number packet kept wrong =
-    let e : eqb number (kept.session.received + 1) ≡ false = ne_eqb _ _ wrong in
+pub packet_wrong : (now number : ℕ) (packet : List ℕ) (current : Timed SessionState) → (number ≡ current.session.received + 1 → ⊥)
+    → after_packet now (Some current) number packet ≡ ended (Abort Disorder current.session.opening.pgn)
+packet_wrong now number packet current wrong =
+    let e : eqb number (current.session.received + 1) ≡ false = ne_eqb _ _ wrong in
     rw e
 
 -- what a history has of one that is a packet shorter
-pub record IsNext (hs : List Happening) (number : ℕ) (packet : List ℕ) (o : Opening) (packets : List (List ℕ)) : Type 0 where
+pub record IsNext (hs : List SessionEvent) (number : ℕ) (packet : List ℕ) (o : Opening) (packets : List (List ℕ)) : Type 0 where
   pub before : List (List ℕ)
   pub all : packets ≡ packet ∷ before
   pub next : number ≡ length before + 1
   pub sent : Sent spelling hs o before
 
-next_of : (hs later earlier : List Happening) (number : ℕ) (packet : List ℕ) (o : Opening) (packets : List (List ℕ))
+next_of : (hs later earlier : List SessionEvent) (number : ℕ) (packet : List ℕ) (o : Opening) (packets : List (List ℕ))
     → hs ≡ later ++ Came (Rts o) ∷ earlier → opens o ≡ true → AreQuiet spelling later → (number, packet) ∷ packets_in later ≡ numbered packets
     → IsNext hs number packet o packets
 next_of hs later earlier number packet o [] split opened quiet in_order = absurd cc
@@ -85,13 +86,13 @@ not_rts : (number : ℕ) (packet : List ℕ) (o : Opening) → Came (Data number
 not_rts number packet o e = cc
 
 -- a packet that a history ends with
-pub packet_last : (hs : List Happening) (number : ℕ) (packet : List ℕ) (o : Opening) (packets : List (List ℕ))
+pub packet_last : (hs : List SessionEvent) (number : ℕ) (packet : List ℕ) (o : Opening) (packets : List (List ℕ))
     → Last spelling (Came (Data number packet)) hs o packets → IsNext hs number packet o packets
 packet_last hs number packet o packets (AtRequest is opened none) = absurd (not_rts number packet o is)
 packet_last hs number packet o packets (Later later earlier split opened quiet rest in_order) =
     next_of hs later earlier number packet o packets split opened rest in_order
 
-pub sent_packet : (hs : List Happening) (number : ℕ) (packet : List ℕ) (o : Opening) (packets : List (List ℕ)) → number ≡ length packets + 1
+pub sent_packet : (hs : List SessionEvent) (number : ℕ) (packet : List ℕ) (o : Opening) (packets : List (List ℕ)) → number ≡ length packets + 1
     → Sent spelling hs o packets → Sent spelling (Came (Data number packet) ∷ hs) o (packet ∷ packets)
 sent_packet hs number packet o packets next =
     sent_more spelling hs (Came (Data number packet)) o packets (packet ∷ packets) tt
@@ -99,126 +100,126 @@ sent_packet hs number packet o packets next =
 
 -- an RTS
 
-abbrev fresh : ℕ → Opening → Timed Kept
+abbrev fresh : ℕ → Opening → Timed SessionState
 fresh now o = record { last = now; session = record { opening = o; bytes = []; received = 0 } }
 
-has_fresh : (now : ℕ) (o : Opening) → Has (Some (fresh now o)) o []
+has_fresh : (now : ℕ) (o : Opening) → HasPackets (Some (fresh now o)) o []
 has_fresh now o = (refl, sym (take_none o.size), refl)
 
 no_packets : (packets : List (List ℕ)) → [] ≡ numbered packets → packets ≡ []
 no_packets [] e = refl
 no_packets (packet ∷ packets) e = absurd cc
 
-matches_rts : (now : ℕ) (hs : List Happening) (o : Opening) → Matches (Came (Rts o) ∷ hs) (cond (opens o) (Some (fresh now o)) None)
+matches_rts : (now : ℕ) (hs : List SessionEvent) (o : Opening) → Matches (Came (Rts o) ∷ hs) (cond (opens o) (Some (fresh now o)) None)
 matches_rts now hs o =
-    matches_request spelling opening_of Has o (fresh now o) [] refl (λ quiet. quiet) (λ o' e. cc) refl (opened_packets o)
-    (λ packets none. subst (λ (ps : List (List ℕ)). Has (Some (fresh now o)) o ps) (sym (no_packets packets none)) (has_fresh now o)) hs
+    matches_request spelling opening_of HasPackets o (fresh now o) [] refl (λ quiet. quiet) (λ o' e. cc) refl (opened_packets o)
+    (λ packets none. subst (λ (ps : List (List ℕ)). HasPackets (Some (fresh now o)) o ps) (sym (no_packets packets none)) (has_fresh now o)) hs
 
 -- a packet
 
-abbrev grown : ℕ → Timed Kept → List ℕ → Timed Kept
-grown now kept packet = record {
-  last = max now kept.last;
-  session = record { opening = kept.session.opening; bytes = take kept.session.opening.size (kept.session.bytes ++ packet); received = kept.session.received + 1 };
+abbrev grown : ℕ → Timed SessionState → List ℕ → Timed SessionState
+grown now current packet = record {
+  last = max now current.last;
+  session = record { opening = current.session.opening; bytes = take current.session.opening.size (current.session.bytes ++ packet); received = current.session.received + 1 };
 }
 
 -- the bytes of a session and a packet
-pub grown_bytes : (kept : Timed Kept) (packet : List ℕ) (o : Opening) (packets : List (List ℕ)) → Has (Some kept) o packets
-    → take kept.session.opening.size (kept.session.bytes ++ packet) ≡ take o.size (joined (packet ∷ packets))
-grown_bytes kept packet o packets h =
-    ap (λ (q : Opening). take q.size (kept.session.bytes ++ packet)) h.0
+pub grown_bytes : (current : Timed SessionState) (packet : List ℕ) (o : Opening) (packets : List (List ℕ)) → HasPackets (Some current) o packets
+    → take current.session.opening.size (current.session.bytes ++ packet) ≡ take o.size (joined (packet ∷ packets))
+grown_bytes current packet o packets h =
+    ap (λ (q : Opening). take q.size (current.session.bytes ++ packet)) h.0
     ∙ ap (λ (bytes : List ℕ). take o.size (bytes ++ packet)) h.1 ∙ take_again o.size (joined packets) packet
 
-has_grown : (now : ℕ) (kept : Timed Kept) (packet : List ℕ) (o : Opening) (packets : List (List ℕ)) → Has (Some kept) o packets
-    → Has (Some (grown now kept packet)) o (packet ∷ packets)
-has_grown now kept packet o packets h =
+has_grown : (now : ℕ) (current : Timed SessionState) (packet : List ℕ) (o : Opening) (packets : List (List ℕ)) → HasPackets (Some current) o packets
+    → HasPackets (Some (grown now current packet)) o (packet ∷ packets)
+has_grown now current packet o packets h =
     let count = h.2 in
-    (h.0, grown_bytes kept packet o packets h, omega arith)
+    (h.0, grown_bytes current packet o packets h, omega arith)
 
-has_packet : (now number : ℕ) (packet : List ℕ) (session : Option (Timed Kept)) (o : Opening) (packets : List (List ℕ)) → Has session o packets
-    → number ≡ length packets + 1 → length packets + 1 < o.packets → Has (after_packet now session number packet).session o (packet ∷ packets)
+has_packet : (now number : ℕ) (packet : List ℕ) (session : Option (Timed SessionState)) (o : Opening) (packets : List (List ℕ)) → HasPackets session o packets
+    → number ≡ length packets + 1 → length packets + 1 < o.packets → HasPackets (after_packet now session number packet).session o (packet ∷ packets)
 has_packet now number packet None o packets h next more = absurd h
-has_packet now number packet (Some kept) o packets h next more =
+has_packet now number packet (Some current) o packets h next more =
     let count = h.2 in
-    let all : kept.session.opening.packets ≡ o.packets = ap (λ (q : Opening). q.packets) h.0 in
-    subst (λ (out : Outcome). Has out.session o (packet ∷ packets)) (sym (packet_more now number packet kept (omega arith) (λ e. omega arith)))
-    (has_grown now kept packet o packets h)
+    let all : current.session.opening.packets ≡ o.packets = ap (λ (q : Opening). q.packets) h.0 in
+    subst (λ (out : Outcome). HasPackets out.session o (packet ∷ packets)) (sym (packet_more now number packet current (omega arith) (λ e. omega arith)))
+    (has_grown now current packet o packets h)
 
-stands_packet : (now number : ℕ) (packet : List ℕ) (hs : List Happening) (session : Option (Timed Kept)) (o : Opening) (packets : List (List ℕ))
-    → Matches hs session → IsNext hs number packet o packets → length packets < o.packets → Has (after_packet now session number packet).session o packets
+stands_packet : (now number : ℕ) (packet : List ℕ) (hs : List SessionEvent) (session : Option (Timed SessionState)) (o : Opening) (packets : List (List ℕ))
+    → Matches hs session → IsNext hs number packet o packets → length packets < o.packets → HasPackets (after_packet now session number packet).session o packets
 stands_packet now number packet hs session o packets m n more =
     let count : length packets ≡ suc (length n.before) = ap length n.all in
-    subst (λ (ps : List (List ℕ)). Has (after_packet now session number packet).session o ps) (sym n.all)
+    subst (λ (ps : List (List ℕ)). HasPackets (after_packet now session number packet).session o ps) (sym n.all)
     (has_packet now number packet session o n.before (m.stands o n.before (record { sent = n.sent; more = omega arith })) n.next (omega arith))
 
 -- a session that stands, and its next packet
-kept_grown : (now number : ℕ) (packet : List ℕ) (hs : List Happening) (kept : Timed Kept) → IsKept hs kept → number ≡ kept.session.received + 1
-    → (kept.session.received + 1 ≡ kept.session.opening.packets → ⊥) → IsKept (Came (Data number packet) ∷ hs) (grown now kept packet)
-kept_grown now number packet hs kept k next more =
+standing_grown : (now number : ℕ) (packet : List ℕ) (hs : List SessionEvent) (current : Timed SessionState) → IsStanding hs current → number ≡ current.session.received + 1
+    → (current.session.received + 1 ≡ current.session.opening.packets → ⊥) → IsStanding (Came (Data number packet) ∷ hs) (grown now current packet)
+standing_grown now number packet hs current k next more =
     let count = k.2.2 in
     let below = k.1.more in (
       packet ∷ k.0,
-      record { sent = sent_packet hs number packet kept.session.opening k.0 (omega arith) k.1.sent; more = omega (arith, more) },
-      has_grown now kept packet kept.session.opening k.0 k.2,
+      record { sent = sent_packet hs number packet current.session.opening k.0 (omega arith) k.1.sent; more = omega (arith, more) },
+      has_grown now current packet current.session.opening k.0 k.2,
     )
 
-kept_at : (now number : ℕ) (packet : List ℕ) (hs : List Happening) (kept kept' : Timed Kept) (whole : Bool)
-    → eqb (kept.session.received + 1) kept.session.opening.packets ≡ whole → number ≡ kept.session.received + 1 → IsKept hs kept
-    → (after_packet now (Some kept) number packet).session ≡ Some kept' → IsKept (Came (Data number packet) ∷ hs) kept'
-kept_at now number packet hs kept kept' true all next k is =
-    let none = ap (λ (out : Outcome). out.session) (packet_whole now number packet kept next (eqb-true _ _ all)) in absurd cc
-kept_at now number packet hs kept kept' false all next k is =
-    let more : kept.session.received + 1 ≡ kept.session.opening.packets → ⊥ = λ e. false≢true (sym all ∙ eq-eqb _ _ e) in
-    let some : Some (grown now kept packet) ≡ Some kept' =
-    sym (ap (λ (out : Outcome). out.session) (packet_more now number packet kept next more)) ∙ is in
-    let same : grown now kept packet ≡ kept' = cc in
-    subst (IsKept (Came (Data number packet) ∷ hs)) same (kept_grown now number packet hs kept k next more)
+standing_at : (now number : ℕ) (packet : List ℕ) (hs : List SessionEvent) (current current' : Timed SessionState) (whole : Bool)
+    → eqb (current.session.received + 1) current.session.opening.packets ≡ whole → number ≡ current.session.received + 1 → IsStanding hs current
+    → (after_packet now (Some current) number packet).session ≡ Some current' → IsStanding (Came (Data number packet) ∷ hs) current'
+standing_at now number packet hs current current' true all next k is =
+    let none = ap (λ (out : Outcome). out.session) (packet_whole now number packet current next (eqb-true _ _ all)) in absurd cc
+standing_at now number packet hs current current' false all next k is =
+    let more : current.session.received + 1 ≡ current.session.opening.packets → ⊥ = λ e. false≢true (sym all ∙ eq-eqb _ _ e) in
+    let some : Some (grown now current packet) ≡ Some current' =
+    sym (ap (λ (out : Outcome). out.session) (packet_more now number packet current next more)) ∙ is in
+    let same : grown now current packet ≡ current' = cc in
+    subst (IsStanding (Came (Data number packet) ∷ hs)) same (standing_grown now number packet hs current k next more)
 
-kept_number : (now number : ℕ) (packet : List ℕ) (hs : List Happening) (kept kept' : Timed Kept) (next : Bool) → eqb number (kept.session.received + 1) ≡ next
-    → IsKept hs kept → (after_packet now (Some kept) number packet).session ≡ Some kept' → IsKept (Came (Data number packet) ∷ hs) kept'
-kept_number now number packet hs kept kept' true next k is =
-    kept_at now number packet hs kept kept' _ refl (eqb-true _ _ next) k is
-kept_number now number packet hs kept kept' false next k is =
-    let none = ap (λ (out : Outcome). out.session) (packet_wrong now number packet kept (λ e. false≢true (sym next ∙ eq-eqb _ _ e))) in absurd cc
+standing_number : (now number : ℕ) (packet : List ℕ) (hs : List SessionEvent) (current current' : Timed SessionState) (next : Bool) → eqb number (current.session.received + 1) ≡ next
+    → IsStanding hs current → (after_packet now (Some current) number packet).session ≡ Some current' → IsStanding (Came (Data number packet) ∷ hs) current'
+standing_number now number packet hs current current' true next k is =
+    standing_at now number packet hs current current' _ refl (eqb-true _ _ next) k is
+standing_number now number packet hs current current' false next k is =
+    let none = ap (λ (out : Outcome). out.session) (packet_wrong now number packet current (λ e. false≢true (sym next ∙ eq-eqb _ _ e))) in absurd cc
 
-kept_packet : (now number : ℕ) (packet : List ℕ) (hs : List Happening) (session : Option (Timed Kept)) (kept' : Timed Kept) → Matches hs session
-    → (after_packet now session number packet).session ≡ Some kept' → IsKept (Came (Data number packet) ∷ hs) kept'
-kept_packet now number packet hs None kept' m is = absurd cc
-kept_packet now number packet hs (Some kept) kept' m is = kept_number now number packet hs kept kept' _ refl (m.kept kept refl) is
+standing_packet : (now number : ℕ) (packet : List ℕ) (hs : List SessionEvent) (session : Option (Timed SessionState)) (current' : Timed SessionState) → Matches hs session
+    → (after_packet now session number packet).session ≡ Some current' → IsStanding (Came (Data number packet) ∷ hs) current'
+standing_packet now number packet hs None current' m is = absurd cc
+standing_packet now number packet hs (Some current) current' m is = standing_number now number packet hs current current' _ refl (m.only current refl) is
 
-matches_packet : (now number : ℕ) (packet : List ℕ) (hs : List Happening) (session : Option (Timed Kept)) → Matches hs session
+matches_packet : (now number : ℕ) (packet : List ℕ) (hs : List SessionEvent) (session : Option (Timed SessionState)) → Matches hs session
     → Matches (Came (Data number packet) ∷ hs) (after_packet now session number packet).session
 matches_packet now number packet hs session m = record {
   stands = λ o packets s. stands_packet now number packet hs session o packets m (packet_last hs number packet o packets (last_of spelling _ hs o packets s.sent)) s.more;
-  kept = λ kept' is. kept_packet now number packet hs session kept' m is;
+  only = λ current' is. standing_packet now number packet hs session current' m is;
 }
 
--- each happening
+-- each event
 
-matches_abort : (hs : List Happening) (session : Option (Timed Kept)) (pgn : ℕ) (b : Bool) → eqb pgn sending_group ≡ b → Matches hs session
+matches_abort : (hs : List SessionEvent) (session : Option (Timed SessionState)) (pgn : ℕ) (b : Bool) → eqb pgn VT_TO_ECU ≡ b → Matches hs session
     → Matches (Came (Aborted pgn) ∷ hs) (cond b session None)
 matches_abort hs session pgn true is m =
-    matches_quiet spelling opening_of Has hs session (Came (Aborted pgn))
+    matches_quiet spelling opening_of HasPackets hs session (Came (Aborted pgn))
     (record { quiet = eqb-true _ _ is; other = λ o e. cc; more = λ o later packets brought. brought; less = λ o later packets brought. brought }) m
 matches_abort hs session pgn false is m =
-    matches_end spelling opening_of Has hs (Came (Aborted pgn)) (record { loud = λ quiet. false≢true (sym is ∙ eq-eqb _ _ quiet); other = λ o e. cc })
+    matches_end spelling opening_of HasPackets hs (Came (Aborted pgn)) (record { loud = λ quiet. false≢true (sym is ∙ eq-eqb _ _ quiet); other = λ o e. cc })
 
-matches_step : (now : ℕ) (hs : List Happening) (session : Option (Timed Kept)) (x : Happening) → Matches hs session
-    → Matches (x ∷ hs) (happens protocol now session x).session
-matches_step now hs session TimedOut m = matches_end spelling opening_of Has hs TimedOut (record { loud = λ quiet. quiet; other = λ o e. cc })
+matches_step : (now : ℕ) (hs : List SessionEvent) (session : Option (Timed SessionState)) (x : SessionEvent) → Matches hs session
+    → Matches (x ∷ hs) (event_step protocol now session x).session
+matches_step now hs session TimedOut m = matches_end spelling opening_of HasPackets hs TimedOut (record { loud = λ quiet. quiet; other = λ o e. cc })
 matches_step now hs session (Came (Rts o)) m = matches_rts now hs o
 matches_step now hs session (Came (Cts count next pgn)) m =
-    matches_quiet spelling opening_of Has hs session (Came (Cts count next pgn))
+    matches_quiet spelling opening_of HasPackets hs session (Came (Cts count next pgn))
     (record { quiet = tt; other = λ o e. cc; more = λ o later packets brought. brought; less = λ o later packets brought. brought }) m
 matches_step now hs session (Came (EndOfMessage pgn)) m =
-    matches_quiet spelling opening_of Has hs session (Came (EndOfMessage pgn))
+    matches_quiet spelling opening_of HasPackets hs session (Came (EndOfMessage pgn))
     (record { quiet = tt; other = λ o e. cc; more = λ o later packets brought. brought; less = λ o later packets brought. brought }) m
 matches_step now hs session (Came (Aborted pgn)) m = matches_abort hs session pgn _ refl m
 matches_step now hs session (Came (Data number packet)) m = matches_packet now number packet hs session m
 matches_step now hs session (Came Other) m =
-    matches_quiet spelling opening_of Has hs session (Came Other)
+    matches_quiet spelling opening_of HasPackets hs session (Came Other)
     (record { quiet = tt; other = λ o e. cc; more = λ o later packets brought. brought; less = λ o later packets brought. brought }) m
 
-pub matches : (xs : List (ℕ × Happening)) → Matches (untimed xs) (session_after protocol xs)
-matches [] = matches_none spelling opening_of Has
+pub matches : (xs : List (ℕ × SessionEvent)) → Matches (untimed xs) (session_after protocol xs)
+matches [] = matches_none spelling opening_of HasPackets
 matches (x ∷ xs) = matches_step x.0 (untimed xs) (session_after protocol xs) x.1 (matches xs)

@@ -1,7 +1,7 @@
 -- What an RTS that opens a session says.
 use Rattle.std.proofs.Common.{◌≡◌, ◌+◌, ◌/◌, ◌≤◌, ◌<◌, true, eqb, leb, arith}
 use Rattle.std.proofs.lemmas.Bool.{eqb-true, leb-true}
-use Rattle.vt_can.proofs.Booleans.{all_of}
+use Rattle.vt_can.proofs.lemmas.transport.Booleans.{all_of}
 use Rattle.vt_transport.specs.declared.messages.Opening.{Opening}
 use Rattle.vt_transport.specs.Messages.{opens}
 

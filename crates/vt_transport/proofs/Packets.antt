@@ -2,10 +2,11 @@
 use Rattle.std.proofs.Common.{◌≡◌, ℕ, zero, suc, ◌+◌, ◌-◌, ◌*◌, ◌<◌, List, [], ◌∷◌, ◌++◌, length, take, drop, map, min, refl, sym, ap, ◌∙◌, arith, inl, inr}
 use Rattle.std.proofs.lemmas.List.{take_all, length-drop, take-append-le}
 use Rattle.std.proofs.lemmas.Bool.{cases_lt}
+use Rattle.vt_can.specs.Assigned.{FILL}
 use Rattle.vt_transport.specs.Senders.{numbers_from}
 
 abbrev pub fill : List ℕ
-fill = 0xFF ∷ 0xFF ∷ 0xFF ∷ 0xFF ∷ 0xFF ∷ 0xFF ∷ 0xFF ∷ []
+fill = FILL ∷ FILL ∷ FILL ∷ FILL ∷ FILL ∷ FILL ∷ FILL ∷ []
 
 -- fewer than seven bytes, filled
 filled_short : (xs : List ℕ) → length xs < 7 → xs ++ drop (length xs) fill ≡ take 7 (xs ++ fill)

@@ -1,6 +1,6 @@
 pub mod Messages
 pub mod Wire
-pub mod Kept
+pub mod SessionState
 pub mod Steps
 pub mod Protocol
 pub mod Senders

@@ -1,10 +1,11 @@
 -- The messages of one source, over the whole list of what came from it (ISO 11783-3;
--- docs/PROFILE.md, "The TP receiver"). Every list of happenings and of packets has the latest first.
+-- docs/PROFILE.md, "The TP receiver"). Every list of events and of packets has the latest first.
 use Rattle.std.specs.Prelude.{◌≡◌, ℕ, ◌+◌, ◌-◌, ◌/◌, ◌%◌, Bool, nat_le, ◌==◌, ◌&&◌, if◌then◌else◌, min, Option, Some, None, List, [], ◌∷◌, length}
-use Rattle.vt_can.specs.declared.wire.Reason.TheVariants.{Disorder}
-use Rattle.vt_can.specs.Messages.{Message, joined}
-use Rattle.vt_can.specs.Histories as histories
-use Rattle.vt_can.specs.Histories.{Spelling, Came, TimedOut}
+use Rattle.vt_can.specs.declared.transport.wire.Reason.TheVariants.{Disorder}
+use Rattle.vt_can.specs.Assigned.{VT_TO_ECU}
+use Rattle.vt_can.specs.transport.Messages.{Message, joined}
+use Rattle.vt_can.specs.transport.Histories as histories
+use Rattle.vt_can.specs.transport.Histories.{Spelling, Came, TimedOut}
 use Rattle.vt_transport.specs.declared.messages.Opening.{Opening}
 use Rattle.vt_transport.specs.declared.messages.TpFrame.{TpFrame}
 use Rattle.vt_transport.specs.declared.messages.TpFrame.TheVariants.{Rts, Aborted, Data}
@@ -12,8 +13,8 @@ use Rattle.vt_transport.specs.declared.messages.Reply.{Reply}
 use Rattle.vt_transport.specs.declared.messages.Reply.TheVariants.{ClearToSend, End, Abort}
 
 -- A frame of the transport protocol came from the source, or its session was aborted for silence.
-abbrev pub Happening : Type 0
-Happening = histories.Happening TpFrame
+abbrev pub SessionEvent : Type 0
+SessionEvent = histories.SessionEvent TpFrame
 
 -- 9 to 1785 bytes, in packets of seven
 abbrev pub opens : Opening → Bool
@@ -23,19 +24,15 @@ opens o = nat_le 9 o.size && nat_le o.size 1785 && o.packets == (o.size + 6) / 7
 abbrev pub allowed : Opening → ℕ
 allowed o = if o.most == 0 then 255 else o.most
 
--- the parameter group of the messages that a terminal sends: an abort of it is one to a sender
-abbrev pub sending_group : ℕ
-sending_group = 0xE600
-
--- what leaves a session as it is: no RTS, no timeout, and no abort but of the sender's parameter group
-abbrev pub IsQuiet : Happening → Type 0
+-- what leaves a session as it is: no RTS, no timeout, and no abort but of VT_TO_ECU, which is one to a sender
+abbrev pub IsQuiet : SessionEvent → Type 0
 IsQuiet TimedOut = ⊥
 IsQuiet (Came (Rts o)) = ⊥
-IsQuiet (Came (Aborted pgn)) = pgn ≡ sending_group
+IsQuiet (Came (Aborted pgn)) = pgn ≡ VT_TO_ECU
 IsQuiet (Came _) = Unit {0}
 
 -- the packets that came, with their sequence numbers
-abbrev pub packets_in : List Happening → List (ℕ × List ℕ)
+abbrev pub packets_in : List SessionEvent → List (ℕ × List ℕ)
 packets_in [] = []
 packets_in (TimedOut ∷ hs) = packets_in hs
 packets_in (Came (Data number bytes) ∷ hs) = (number, bytes) ∷ packets_in hs
@@ -53,7 +50,7 @@ spelling = record {
   opens = opens;
   size = λ o. o.size;
   pgn = λ o. o.pgn;
-  all = λ o. o.packets;
+  total = λ o. o.packets;
   IsQuiet = IsQuiet;
   Brings = λ o later packets. packets_in later ≡ numbered packets;
   count = λ packets. length packets;
@@ -62,11 +59,11 @@ spelling = record {
 }
 
 -- a session is open, with packets still to come
-abbrev pub Stands : List Happening → Opening → List (List ℕ) → Type 0
+abbrev pub Stands : List SessionEvent → Opening → List (List ℕ) → Type 0
 Stands = histories.Stands spelling
 
--- a happening is the last packet of a message
-abbrev pub IsWhole : List Happening → Happening → Message → Type 0
+-- an event is the last packet of a message
+abbrev pub IsWhole : List SessionEvent → SessionEvent → Message → Type 0
 IsWhole = histories.IsWhole spelling
 
 -- the reply to an RTS
@@ -86,7 +83,7 @@ packet_reply o count number =
     if number == count + 1 then reply_to o number else Some (Abort Disorder o.pgn)
 
 -- the reply to x after hs
-abbrev pub IsAnswered : List Happening → Happening → Option Reply → Type 0
+abbrev pub IsAnswered : List SessionEvent → SessionEvent → Option Reply → Type 0
 IsAnswered hs TimedOut reply = reply ≡ None
 IsAnswered hs (Came (Rts o)) reply = reply ≡ Some (first_reply o)
 IsAnswered hs (Came (Data number bytes)) reply =

@@ -1,24 +1,25 @@
 -- The transport protocol, as the definitions of receivers, runs and histories take it, and its laws.
 use Rattle.std.specs.Prelude.{◌≡◌, ℕ, Bool, false}
 use Rattle.std.specs.FinMap as finite
-use Rattle.vt_can.specs.declared.wire.Reason.TheVariants.{Timeout}
-use Rattle.vt_can.specs.declared.frame.Frame.{Frame}
-use Rattle.vt_can.specs.Nodes.{source_of}
-use Rattle.vt_can.specs.Wire.{IsOfAnotherGroup}
-use Rattle.vt_can.specs.Protocols as protocols
-use Rattle.vt_can.specs.Protocols.{Protocol, silent}
-use Rattle.vt_can.specs.Receivers.{Listening, outcome}
-use Rattle.vt_can.specs.Steps as steps
-use Rattle.vt_can.specs.Bus as bus
-use Rattle.vt_can.specs.Marks as marks
+use Rattle.vt_can.specs.declared.transport.wire.Reason.TheVariants.{Timeout}
+use Rattle.vt_can.specs.declared.frames.frame.Frame.{Frame}
+use Rattle.vt_can.specs.Assigned.{TP_CM, TP_DT}
+use Rattle.vt_can.specs.frames.Frame.{source_of}
+use Rattle.vt_can.specs.transport.Wire.{IsOfAnotherGroup}
+use Rattle.vt_can.specs.transport.Protocols as protocols
+use Rattle.vt_can.specs.transport.Protocols.{Protocol, silent}
+use Rattle.vt_can.specs.transport.Receivers.{ReceiverState, outcome}
+use Rattle.vt_can.specs.transport.Steps as steps
+use Rattle.vt_can.specs.transport.Bus as bus
+use Rattle.vt_can.specs.transport.Marks as marks
 use Rattle.vt_transport.specs.declared.messages.TpFrame.{TpFrame}
 use Rattle.vt_transport.specs.declared.messages.TpFrame.TheVariants.{Rts}
 use Rattle.vt_transport.specs.declared.messages.Reply.{Reply}
 use Rattle.vt_transport.specs.declared.messages.Reply.TheVariants.{Abort}
 use Rattle.vt_transport.specs.Messages.{opens, spelling, IsWhole, IsAnswered}
 use Rattle.vt_transport.specs.Wire.{tp_frame, reply_frame}
-use Rattle.vt_transport.specs.Kept.{Kept}
-use Rattle.vt_transport.specs.Steps.{Has, step}
+use Rattle.vt_transport.specs.SessionState.{SessionState}
+use Rattle.vt_transport.specs.Steps.{HasPackets, step}
 
 -- An RTS opens a session, and no other frame does.
 abbrev pub opens_session : TpFrame → Bool
@@ -29,23 +30,23 @@ abbrev pub size_in : TpFrame → ℕ
 size_in (Rts o) = o.size
 size_in _ = 0
 
-abbrev pub protocol : Protocol Kept TpFrame Reply
+abbrev pub protocol : Protocol SessionState TpFrame Reply
 protocol = record {
   frame_in = tp_frame;
   opens = opens_session;
   size = size_in;
   step = step;
-  timeout = λ kept. Abort Timeout kept.opening.pgn;
+  timeout = λ current. Abort Timeout current.opening.pgn;
   reply_frame = reply_frame;
 }
 
 -- The steps keep the session that stands, and give its messages and its replies.
 abbrev pub StepsAssembleMessages : Type 0
-StepsAssembleMessages = steps.StepsAssembleMessages spelling (λ kept. kept.opening) Has protocol IsAnswered
+StepsAssembleMessages = steps.StepsAssembleMessages spelling (λ current. current.opening) HasPackets protocol IsAnswered
 
--- The messages of a source depend on its own frames and their times alone.
-abbrev pub MessagesDependOnOwnFrames : Type 0
-MessagesDependOnOwnFrames = bus.MessagesDependOnOwnFrames protocol
+-- The messages of a source depend on its frames and their times alone.
+abbrev pub MessagesDependOnTheirSource : Type 0
+MessagesDependOnTheirSource = bus.MessagesDependOnTheirSource protocol
 
 -- A run of a receiver hands out these messages.
 abbrev pub RunsHandOutMessages : Type 0
@@ -63,10 +64,10 @@ abbrev pub IsTimeless : Type 0
 IsTimeless = protocols.IsTimeless protocol
 
 -- a frame of neither of the protocol's groups
-abbrev pub IsForeign : Frame → Type 0
-IsForeign = IsOfAnotherGroup 0xEC00 0xEB00
+abbrev pub IsOfAnotherProtocol : Frame → Type 0
+IsOfAnotherProtocol = IsOfAnotherGroup TP_CM TP_DT
 
--- It says nothing to a receiver.
-abbrev pub ForeignFramesAreIgnored : Type 0
-ForeignFramesAreIgnored = (receiver : Listening Kept) (now : ℕ) (frame : Frame) → IsForeign frame
+-- A receiver ignores it.
+abbrev pub OtherGroupsAreIgnored : Type 0
+OtherGroupsAreIgnored = (receiver : ReceiverState SessionState) (now : ℕ) (frame : Frame) → IsOfAnotherProtocol frame
     → outcome protocol receiver now frame ≡ silent (finite.get receiver.sessions (source_of frame))

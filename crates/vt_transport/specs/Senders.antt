@@ -1,18 +1,18 @@
--- A sender as a value, and what its calls say (docs/PROFILE.md, "The TP sender").
+-- A sender as a value, and what its calls answer (docs/PROFILE.md, "The TP sender").
 use Rattle.std.specs.Prelude.{◌≡◌, ℕ, zero, suc, max, true, false, ◌+◌, ◌-◌, ◌/◌, Bool, nat_lt, nat_le, ◌==◌, ◌&&◌, ◌||◌, if◌then◌else◌, min, Option, Some, None, List, [], ◌∷◌, length, map, refl}
 use Rattle.std.specs.Coded.{Coded, code_by, coded×, coded_ℕ, coded_list}
 use Rattle.std.specs.FinMap as finite
-use Rattle.vt_can.specs.declared.frame.Frame.{Frame}
-use Rattle.vt_can.specs.declared.sessions.Timed.{Timed}
-use Rattle.vt_can.specs.Sessions.{ByAddress, timed_code, untimed_session, Expires}
-use Rattle.vt_can.specs.Messages.{Message}
-use Rattle.vt_can.specs.Nodes.{source_of}
-use Rattle.vt_can.specs.Wire.{IsOfAnotherGroup}
+use Rattle.vt_can.specs.declared.frames.frame.Frame.{Frame}
+use Rattle.vt_can.specs.declared.transport.sessions.Timed.{Timed}
+use Rattle.vt_can.specs.transport.Sessions.{ByAddress, timed_code, untimed_session, Expires}
+use Rattle.vt_can.specs.transport.Messages.{Message}
+use Rattle.vt_can.specs.Assigned.{TP_CM, TP_DT, VT_TO_ECU}
+use Rattle.vt_can.specs.frames.Frame.{source_of}
+use Rattle.vt_can.specs.transport.Wire.{IsOfAnotherGroup}
 use Rattle.vt_transport.specs.declared.messages.TpFrame.{TpFrame}
 use Rattle.vt_transport.specs.declared.messages.TpFrame.TheVariants.{Cts, EndOfMessage, Aborted}
-use Rattle.vt_can.specs.declared.wire.Reason.TheVariants.{Timeout, Disorder}
+use Rattle.vt_can.specs.declared.transport.wire.Reason.TheVariants.{Timeout, Disorder}
 use Rattle.vt_transport.specs.declared.messages.Reply.TheVariants.{Abort}
-use Rattle.vt_transport.specs.Messages.{sending_group}
 use Rattle.vt_transport.specs.Wire.{tp_frame, reply_frame, rts_frame, packet_frame}
 
 abbrev pub message_code : Coded Message
@@ -20,17 +20,17 @@ message_code =
     code_by (ℕ × List ℕ) (coded× coded_ℕ (coded_list coded_ℕ)) (λ m. (m.pgn, m.bytes)) (λ p. record { pgn = p.0; bytes = p.1 }) (λ _. refl)
 
 -- its address, and the messages that it sends, by destination
-pub record Sending : Type 0 where
-  pub own : ℕ
+pub record SenderState : Type 0 where
+  pub own_address : ℕ
   pub sessions : ByAddress Message
 
-abbrev pub sending_code : Coded Sending
-sending_code =
+abbrev pub sender_state_code : Coded SenderState
+sender_state_code =
     code_by (ℕ × ByAddress Message) (coded× coded_ℕ (finite.code coded_ℕ (timed_code message_code)))
-    (λ s. (s.own, s.sessions)) (λ p. record { own = p.0; sessions = p.1 }) (λ _. refl)
+    (λ s. (s.own_address, s.sessions)) (λ p. record { own_address = p.0; sessions = p.1 }) (λ _. refl)
 
-abbrev pub packets_of : Message → ℕ
-packets_of message = (length message.bytes + 6) / 7
+abbrev pub packet_count_of : Message → ℕ
+packet_count_of message = (length message.bytes + 6) / 7
 
 -- count numbers from next on
 abbrev pub numbers_from : ℕ → ℕ → List ℕ
@@ -43,20 +43,20 @@ pub record Answer : Type 0 where
   pub frames : List Frame
 
 abbrev pub refreshed : ℕ → Timed Message → Option (Timed Message)
-refreshed now kept = Some (record { last = max now kept.last; session = kept.session })
+refreshed now current = Some (record { last = max now current.last; session = current.session })
 
 -- the answer to a CTS of the session's group: none where it asks for none, an abort where its next
 -- packet isn't one of the message's, and else the packets asked for, up to the last
 abbrev pub clear_to_send : ℕ → ℕ → ℕ → Timed Message → ℕ → ℕ → Answer
-clear_to_send own to now kept count next =
-    let last = packets_of kept.session in
+clear_to_send own_address to now current count next =
+    let last = packet_count_of current.session in
     if count == 0
-    then record { session = refreshed now kept; frames = [] }
+    then record { session = refreshed now current; frames = [] }
     else if next == 0 || nat_lt last next
-    then record { session = None; frames = reply_frame own to (Abort Disorder kept.session.pgn) ∷ [] }
+    then record { session = None; frames = reply_frame own_address to (Abort Disorder current.session.pgn) ∷ [] }
     else record {
-      session = refreshed now kept;
-      frames = map (packet_frame own to kept.session.bytes) (numbers_from next (min count (last + 1 - next)));
+      session = refreshed now current;
+      frames = map (packet_frame own_address to current.session.bytes) (numbers_from next (min count (last + 1 - next)));
     }
 
 abbrev pub unanswered : Option (Timed Message) → Answer
@@ -64,35 +64,35 @@ unanswered session = record { session = session; frames = [] }
 
 -- the answer of an open session to a frame from its destination
 abbrev pub session_answer : ℕ → ℕ → ℕ → Timed Message → TpFrame → Answer
-session_answer own to now kept (Cts count next pgn) =
-    if pgn == kept.session.pgn then clear_to_send own to now kept count next else unanswered (Some kept)
-session_answer own to now kept (EndOfMessage pgn) = unanswered (if pgn == kept.session.pgn then None else Some kept)
-session_answer own to now kept (Aborted pgn) = unanswered (if pgn == sending_group then None else Some kept)
-session_answer own to now kept _ = unanswered (Some kept)
+session_answer own_address to now current (Cts count next pgn) =
+    if pgn == current.session.pgn then clear_to_send own_address to now current count next else unanswered (Some current)
+session_answer own_address to now current (EndOfMessage pgn) = unanswered (if pgn == current.session.pgn then None else Some current)
+session_answer own_address to now current (Aborted pgn) = unanswered (if pgn == VT_TO_ECU then None else Some current)
+session_answer own_address to now current _ = unanswered (Some current)
 
 abbrev pub answered : ℕ → ℕ → ℕ → Option (Timed Message) → Option TpFrame → Answer
-answered own to now None frame = unanswered None
-answered own to now (Some kept) None = unanswered (Some kept)
-answered own to now (Some kept) (Some frame) = session_answer own to now kept frame
+answered own_address to now None frame = unanswered None
+answered own_address to now (Some current) None = unanswered (Some current)
+answered own_address to now (Some current) (Some frame) = session_answer own_address to now current frame
 
 -- an answer without the time of its session
 abbrev pub untimed_answer : Answer → Answer
 untimed_answer given = record { session = untimed_session given.session; frames = given.frames }
 
 -- the answer of the session to a destination, if there is one
-abbrev pub answer_of : Sending → ℕ → ℕ → Option TpFrame → Answer
-answer_of sender to now frame = answered sender.own to now (finite.get sender.sessions to) frame
+abbrev pub answer_of : SenderState → ℕ → ℕ → Option TpFrame → Answer
+answer_of sender to now frame = answered sender.own_address to now (finite.get sender.sessions to) frame
 
-abbrev pub answer : Sending → ℕ → Frame → Answer
-answer sender now frame = answer_of sender (source_of frame) now (tp_frame sender.own frame)
+abbrev pub answer : SenderState → ℕ → Frame → Answer
+answer sender now frame = answer_of sender (source_of frame) now (tp_frame sender.own_address frame)
 
 abbrev pub is_of_group : ℕ → Option (Timed Message) → Bool
 is_of_group pgn None = false
-is_of_group pgn (Some kept) = pgn == kept.session.pgn
+is_of_group pgn (Some current) = pgn == current.session.pgn
 
 -- the session to a destination has given this answer, and those to the others stay
-pub record Answers (old new : Sending) (to : ℕ) (given : Answer) (frames : List Frame) : Type 0 where
-  pub own : new.own ≡ old.own
+pub record Answers (old new : SenderState) (to : ℕ) (given : Answer) (frames : List Frame) : Type 0 where
+  pub own_address : new.own_address ≡ old.own_address
   pub session : finite.get new.sessions to ≡ given.session
   pub frames_are : frames ≡ given.frames
   pub others : (other : ℕ) → (other ≡ to → ⊥) → finite.get new.sessions other ≡ finite.get old.sessions other
@@ -102,30 +102,30 @@ abbrev pub has_size : List ℕ → Bool
 has_size bytes = nat_le 9 (length bytes) && nat_le (length bytes) 1785
 
 -- a session to a destination without one was opened, and its RTS is the frame
-pub record Starts (old new : Sending) (now to : ℕ) (message : Message) (frame : Frame) : Type 0 where
+pub record Starts (old new : SenderState) (now to : ℕ) (message : Message) (frame : Frame) : Type 0 where
   pub free : finite.get old.sessions to ≡ None
   pub size : has_size message.bytes ≡ true
-  pub new_is : new ≡ record { own = old.own; sessions = finite.insert old.sessions to (record { last = now; session = message }) }
-  pub frame_is : frame ≡ rts_frame old.own to (length message.bytes) message.pgn
+  pub new_is : new ≡ record { own_address = old.own_address; sessions = finite.insert old.sessions to (record { last = now; session = message }) }
+  pub frame_is : frame ≡ rts_frame old.own_address to (length message.bytes) message.pgn
 
 -- the abort of a session to a destination that is overdue
 abbrev pub timeout_frame : ℕ → ℕ → Message → Frame
-timeout_frame own to message = reply_frame own to (Abort Timeout message.pgn)
+timeout_frame own_address to message = reply_frame own_address to (Abort Timeout message.pgn)
 
--- the session of the least destination that is overdue was taken out, and its abort is the frame
-pub record TimesOut (old new : Sending) (now : ℕ) (frame : Frame) : Type 0 where
-  pub own : new.own ≡ old.own
+-- the session of the least destination that is overdue was removed, and its abort is the frame
+pub record TimesOut (old new : SenderState) (now : ℕ) (frame : Frame) : Type 0 where
+  pub own_address : new.own_address ≡ old.own_address
   pub to : ℕ
   pub session : Message
   pub expired : Expires old.sessions new.sessions now to session
-  pub abort : frame ≡ timeout_frame old.own to session
+  pub abort : frame ≡ timeout_frame old.own_address to session
 
 -- Apart from the time that a session has afterwards, an answer depends on no time.
 abbrev pub AnswersAreTimeless : Type 0
-AnswersAreTimeless = (own to now : ℕ) (kept : Option (Timed Message)) (frame : Option TpFrame)
-    → untimed_answer (answered own to now kept frame) ≡ untimed_answer (answered own to 0 (untimed_session kept) frame)
+AnswersAreTimeless = (own_address to now : ℕ) (current : Option (Timed Message)) (frame : Option TpFrame)
+    → untimed_answer (answered own_address to now current frame) ≡ untimed_answer (answered own_address to 0 (untimed_session current) frame)
 
--- A frame of neither of the protocol's groups says nothing to a sender.
-abbrev pub ForeignFramesAreUnanswered : Type 0
-ForeignFramesAreUnanswered = (sender : Sending) (now : ℕ) (frame : Frame) → IsOfAnotherGroup 0xEC00 0xEB00 frame
+-- A sender ignores a frame of neither of the protocol's groups.
+abbrev pub OtherGroupsAreUnanswered : Type 0
+OtherGroupsAreUnanswered = (sender : SenderState) (now : ℕ) (frame : Frame) → IsOfAnotherGroup TP_CM TP_DT frame
     → answer sender now frame ≡ unanswered (finite.get sender.sessions (source_of frame))

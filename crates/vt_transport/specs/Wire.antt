@@ -1,10 +1,11 @@
 -- The bytes of the transport protocol's frames (docs/PROFILE.md, "Transport messages").
 use Rattle.std.specs.Prelude.{ℕ, ◌+◌, ◌-◌, ◌*◌, ◌/◌, ◌==◌, if◌then◌else◌, Option, List, ◌∷◌, ◌++◌, take, drop, slice_index, replicate}
 use Rattle.byteorder.specs.Endian.{little_number, little_bytes}
-use Rattle.vt_can.specs.declared.frame.Frame.{Frame}
-use Rattle.vt_can.specs.Nodes.{frame_of}
-use Rattle.vt_can.specs.Wire as wire
-use Rattle.vt_can.specs.Wire.{abort_bytes}
+use Rattle.vt_can.specs.declared.frames.frame.Frame.{Frame}
+use Rattle.vt_can.specs.Assigned.{ABORT, FILL, NO_LIMIT, TP_CM, TP_CTS, TP_DT, TP_END, TP_RTS}
+use Rattle.vt_can.specs.frames.Frame.{frame_of}
+use Rattle.vt_can.specs.transport.Wire as wire
+use Rattle.vt_can.specs.transport.Wire.{abort_bytes}
 use Rattle.vt_transport.specs.declared.messages.TpFrame.{TpFrame}
 use Rattle.vt_transport.specs.declared.messages.TpFrame.TheVariants.{Rts, Cts, EndOfMessage, Aborted, Data, Other}
 use Rattle.vt_transport.specs.declared.messages.Reply.{Reply}
@@ -15,33 +16,33 @@ abbrev pub connection_management : List ℕ → TpFrame
 connection_management bytes =
     let control = slice_index bytes 0 in
     let pgn = little_number 3 (drop 5 bytes) in
-    if control == 0x10
+    if control == TP_RTS
     then Rts (record { size = little_number 2 (drop 1 bytes); packets = slice_index bytes 3; most = slice_index bytes 4; pgn = pgn })
-    else if control == 0x11 then Cts (slice_index bytes 1) (slice_index bytes 2) pgn
-    else if control == 0x13 then EndOfMessage pgn
-    else if control == 0xFF then Aborted pgn
+    else if control == TP_CTS then Cts (slice_index bytes 1) (slice_index bytes 2) pgn
+    else if control == TP_END then EndOfMessage pgn
+    else if control == ABORT then Aborted pgn
     else Other
 
--- what a frame says to a node
+-- what a frame is to a node
 abbrev pub tp_frame : ℕ → Frame → Option TpFrame
-tp_frame = wire.frame_in 0xEC00 0xEB00 connection_management (λ number bytes. Data number bytes)
+tp_frame = wire.frame_in TP_CM TP_DT connection_management (λ number bytes. Data number bytes)
 
 abbrev pub reply_bytes : Reply → List ℕ
-reply_bytes (ClearToSend count next pgn) = 0x11 ∷ count ∷ next ∷ 0xFF ∷ 0xFF ∷ little_bytes 3 pgn
-reply_bytes (End size packets pgn) = 0x13 ∷ (little_bytes 2 size ++ packets ∷ 0xFF ∷ little_bytes 3 pgn)
+reply_bytes (ClearToSend count next pgn) = TP_CTS ∷ count ∷ next ∷ FILL ∷ FILL ∷ little_bytes 3 pgn
+reply_bytes (End size packets pgn) = TP_END ∷ (little_bytes 2 size ++ packets ∷ FILL ∷ little_bytes 3 pgn)
 reply_bytes (Abort reason pgn) = abort_bytes reason pgn
 
 abbrev pub reply_frame : ℕ → ℕ → Reply → Frame
-reply_frame own to reply = frame_of 0xEC00 own to (reply_bytes reply)
+reply_frame own_address to reply = frame_of TP_CM own_address to (reply_bytes reply)
 
 -- the RTS of a message, which allows FF packets in a CTS
 abbrev pub rts_frame : ℕ → ℕ → ℕ → ℕ → Frame
-rts_frame own to size pgn =
-    frame_of 0xEC00 own to (0x10 ∷ (little_bytes 2 size ++ (size + 6) / 7 ∷ 0xFF ∷ little_bytes 3 pgn))
+rts_frame own_address to size pgn =
+    frame_of TP_CM own_address to (TP_RTS ∷ (little_bytes 2 size ++ (size + 6) / 7 ∷ NO_LIMIT ∷ little_bytes 3 pgn))
 
 -- the bytes of packet j of a message, the last one filled with FF
 abbrev pub packet_bytes : List ℕ → ℕ → List ℕ
-packet_bytes bytes j = take 7 (drop (7 * (j - 1)) bytes ++ replicate 7 0xFF)
+packet_bytes bytes j = take 7 (drop (7 * (j - 1)) bytes ++ replicate 7 FILL)
 
 abbrev pub packet_frame : ℕ → ℕ → List ℕ → ℕ → Frame
-packet_frame own to bytes j = frame_of 0xEB00 own to (j ∷ packet_bytes bytes j)
+packet_frame own_address to bytes j = frame_of TP_DT own_address to (j ∷ packet_bytes bytes j)

@@ -1,9 +1,14 @@
 //! The transport protocol of ISO 11783-3, which carries messages of 9 to 1785 bytes in packets of seven.
 //!
+//! - `Receiver` hears the frames of all sources, and answers each by what it has `Heard`: nothing, a reply, or a
+//!   whole message with its `Bytes`.
+//! - `Sender` sends a message to each of any destinations, or refuses it by a `SendFault`.
+//! - `laws` has what the definitions come to.
+//!
 //! docs/PROFILE.md, "Transport", has the rules. Times are in microseconds.
 #![tactic(auto)]
 
-mod law;
+pub mod laws;
 mod messages;
 mod receiver;
 mod sender;
@@ -11,11 +16,6 @@ mod sending;
 mod session;
 mod wire;
 
-pub use law::{
-    answers_are_timeless, foreign_frames_say_nothing, messages_depend_on_own_frames,
-    runs_hand_out_messages, runs_hand_out_whole_messages, sent_is_received, steps_are_timeless,
-    steps_assemble_messages,
-};
 pub use receiver::Receiver;
 pub use sender::{SendFault, Sender};
 pub use vt_can::{Bytes, Heard};

@@ -8,9 +8,6 @@ use vt_can::Reason;
 /// The fewest and the most bytes of a message.
 pub(crate) const SIZES: (u16, u16) = (9, 1785);
 
-/// The parameter group of the messages that a terminal sends. An abort of it is one to a sender.
-pub(crate) const SENDING: u32 = 0xE600;
-
 /// What a request to send says.
 #[derive(Clone, Copy, Debug)]
 pub(crate) struct Opening {

@@ -2,22 +2,23 @@
 
 ghost use Rattle.std.specs.Prelude.{◌≡◌, ℕ, false, Some, None, List, length, IfOk, OnOk, OnErr, IsOk, IfSome, IfNone};
 ghost use Rattle.std.specs.FinMap as finite;
-ghost use Rattle.vt_can.specs.Sessions.{is_overdue, alive, AreOfAddresses};
-ghost use Rattle.vt_can.specs.Nodes.{source_of};
-ghost use Rattle.vt_can.specs.Messages.{told_of};
-ghost use Rattle.vt_can.specs.Receivers.{outcome, timely_outcome, Says, Takes, OthersStay, IsReadyFor, OpensNone, TimesOut};
+ghost use Rattle.vt_can.specs.transport.Sessions.{is_overdue, alive, AreOfAddresses};
+ghost use Rattle.vt_can.specs.frames.Frame.{source_of};
+ghost use Rattle.vt_can.specs.transport.Messages.{size_and_first_byte};
+ghost use Rattle.vt_can.specs.transport.Receivers.{outcome, timely_outcome, AnswersWith, MakesStep, OthersStay, IsReadyFor, OpensNone, TimesOut};
 ghost use Rattle.vt_transport.specs.Wire.{tp_frame};
 ghost use Rattle.vt_transport.specs.Messages.{opens};
 ghost use Rattle.vt_transport.specs.Steps.{after_rts, after_packet, step};
 ghost use Rattle.vt_transport.specs.Protocol.{protocol};
 ghost use Rattle.vt_transport.specs.declared.messages.TpFrame.TheVariants as declared;
 
-use crate::messages::{Opening, Reply, SENDING, TpFrame};
+use crate::messages::{Opening, Reply, TpFrame};
 use crate::session::Session;
 use crate::{OutOfMemory, wire};
 use std::alloc::Global;
 use std::marker::Model;
 use std::mem;
+use vt_can::assigned::VT_TO_ECU;
 use vt_can::{Frame, Heard, Reason, Received, Sessions, Timed};
 
 /// The receiver of a node: at most one session for each source, seen as the map of the sessions by
@@ -26,7 +27,7 @@ use vt_can::{Frame, Heard, Reason, Received, Sessions, Timed};
 /// docs/PROFILE.md, "The TP receiver".
 #[derive(Drop)]
 pub struct Receiver {
-    own: u8,
+    own_address: u8,
     sessions: Sessions<Session>,
     // The memory that `prepare` has set aside.
     spare: Vec<u8>,
@@ -35,27 +36,27 @@ pub struct Receiver {
 
 impl Model for Receiver {
     ghost use Rattle.std.specs.Prelude.{◌≡◌, vec_len, vec_capacity};
-    ghost use Rattle.vt_can.specs.Receivers.{Listening, listening_code};
-    ghost use Rattle.vt_transport.specs.Kept.{Kept, kept_code};
+    ghost use Rattle.vt_can.specs.transport.Receivers.{ReceiverState, receiver_state_code};
+    ghost use Rattle.vt_transport.specs.SessionState.{SessionState, session_state_code};
 
-    ghost Value = { Listening Kept };
+    ghost Value = { ReceiverState SessionState };
 
-    ghost coded = { listening_code kept_code };
+    ghost coded = { receiver_state_code session_state_code };
 
-    ghost view = { λ r. record { own = r.own; sessions = r.sessions; room = vec_capacity r.spare } };
+    ghost view = { λ r. record { own_address = r.own_address; sessions = r.sessions; room = vec_capacity r.spare } };
 
     ghost invariant = { λ r. vec_len r.spare ≡ 0 };
 }
 
 impl Receiver {
     /// The receiver of the node at this address, without sessions. It takes no memory.
-    pub fn new(alloc: Global, own: u8) -> Receiver
-        ensures own { result.own ≡ own }
+    pub fn new(alloc: Global, own_address: u8) -> Receiver
+        ensures own_address { result.own_address ≡ own_address }
         ensures sessions { result.sessions ≡ finite.empty }
         ensures room { result.room ≡ 0 }
     {
         Receiver {
-            own,
+            own_address,
             sessions: Sessions::new(),
             spare: Vec::new(alloc),
             alloc,
@@ -66,14 +67,14 @@ impl Receiver {
     /// it leaves the receiver as it was. docs/PROFILE.md, "The TP receiver".
     pub fn hear(&mut self, now: u64, frame: &Frame) -> Result<Heard, OutOfMemory>
         ensures step { IfOk result
-            (λ said. Takes protocol self.old self.new (source_of frame.now) (outcome protocol self.old now frame.now) said) }
+            (λ heard. MakesStep protocol self.old self.new (source_of frame.now) (outcome protocol self.old now frame.now) heard) }
         ensures others { OthersStay self.old self.new (source_of frame.now) }
         ensures err { OnErr result (self.new ≡ self.old) }
-        ensures ready { IsReadyFor protocol (tp_frame self.old.own frame.now) self.old.room → IsOk result }
-        ensures room { OpensNone protocol (tp_frame self.old.own frame.now) → self.new.room ≡ self.old.room }
+        ensures ready { IsReadyFor protocol (tp_frame self.old.own_address frame.now) self.old.room → IsOk result }
+        ensures room { OpensNone protocol (tp_frame self.old.own_address frame.now) → self.new.room ≡ self.old.room }
     {
         let source = frame.id.source();
-        match wire::tp_frame(self.own, frame) {
+        match wire::tp_frame(self.own_address, frame) {
             Some(TpFrame::Rts(opening)) => self.open(now, source, opening),
             Some(TpFrame::Data { number, bytes }) => Ok(self.packet(now, source, number, bytes)),
             Some(TpFrame::Aborted { pgn }) => Ok(self.aborted(source, pgn)),
@@ -81,10 +82,10 @@ impl Receiver {
         }
     }
 
-    /// The abort of a session that has had no frame of its own for more than 1,250,000 microseconds,
+    /// The abort of a session that has had none of its frames for more than 1,250,000 microseconds,
     /// the least source first. Call it until it answers `None`. docs/PROFILE.md, "Timeouts".
     pub fn expire(&mut self, now: u64) -> Option<Frame>
-        ensures own { self.new.own ≡ self.old.own }
+        ensures own_address { self.new.own_address ≡ self.old.own_address }
         ensures room { self.new.room ≡ self.old.room }
         ensures some { IfSome result (λ frame. TimesOut protocol self.old self.new now frame) }
         ensures none { IfNone result (self.new ≡ self.old) }
@@ -97,21 +98,21 @@ impl Receiver {
             reason: Reason::Timeout,
             pgn: session.pgn(),
         };
-        Some(wire::reply_frame(self.own, source, abort))
+        Some(wire::reply_frame(self.own_address, source, abort))
     }
 
     /// Sets aside what `hear` of this frame will take, so that it isn't refused, also after any calls
     /// of `expire`. The sessions stay. Answers the size and first byte of the message that `hear` will
     /// hand out after those calls, if it will. docs/PROFILE.md, "The TP receiver".
     pub fn prepare(&mut self, now: u64, frame: &Frame) -> Result<Option<(usize, u8)>, OutOfMemory>
-        ensures own { self.new.own ≡ self.old.own }
+        ensures own_address { self.new.own_address ≡ self.old.own_address }
         ensures sessions { self.new.sessions ≡ self.old.sessions }
-        ensures ready { OnOk result (IsReadyFor protocol (tp_frame self.old.own frame.now) self.new.room) }
-        ensures free { IsReadyFor protocol (tp_frame self.old.own frame.now) self.old.room → IsOk result }
-        ensures room { OpensNone protocol (tp_frame self.old.own frame.now) → self.new.room ≡ self.old.room }
-        ensures told { IfOk result (λ told. told ≡ told_of (timely_outcome protocol self.old now frame.now).message) }
+        ensures ready { OnOk result (IsReadyFor protocol (tp_frame self.old.own_address frame.now) self.new.room) }
+        ensures free { IsReadyFor protocol (tp_frame self.old.own_address frame.now) self.old.room → IsOk result }
+        ensures room { OpensNone protocol (tp_frame self.old.own_address frame.now) → self.new.room ≡ self.old.room }
+        ensures answer { IfOk result (λ answer. answer ≡ size_and_first_byte (timely_outcome protocol self.old now frame.now).message) }
     {
-        match wire::tp_frame(self.own, frame) {
+        match wire::tp_frame(self.own_address, frame) {
             Some(TpFrame::Rts(opening)) => {
                 self.set_aside(opening)?;
                 Ok(None)
@@ -124,7 +125,7 @@ impl Receiver {
     }
 
     fn open(&mut self, now: u64, source: u8, opening: Opening) -> Result<Heard, OutOfMemory>
-        ensures step { IfOk result (λ said. Takes protocol self.old self.new source (after_rts now opening) said) }
+        ensures step { IfOk result (λ heard. MakesStep protocol self.old self.new source (after_rts now opening) heard) }
         ensures others { OthersStay self.old self.new source }
         ensures err { OnErr result (self.new ≡ self.old) }
         ensures ready { IsReadyFor protocol (Some (declared.Rts opening)) self.old.room → IsOk result }
@@ -132,16 +133,16 @@ impl Receiver {
     {
         if !opening.opens() {
             self.sessions.remove(source);
-            return Ok(answered(self.own, source, Some(opening.first_reply())));
+            return Ok(answered(self.own_address, source, Some(opening.first_reply())));
         }
         self.spare.reserve_exact(usize::from(opening.size))?;
         let bytes = mem::replace(&mut self.spare, Vec::new(self.alloc));
         self.sessions.put(source, now, Session::new(opening, bytes));
-        Ok(answered(self.own, source, Some(opening.first_reply())))
+        Ok(answered(self.own_address, source, Some(opening.first_reply())))
     }
 
     fn packet(&mut self, now: u64, source: u8, number: u8, bytes: [u8; 7]) -> Heard
-        ensures step { Takes protocol self.old self.new source
+        ensures step { MakesStep protocol self.old self.new source
             (after_packet now (finite.get self.old.sessions source) number bytes) result }
         ensures others { OthersStay self.old self.new source }
         ensures room { self.new.room ≡ self.old.room }
@@ -150,28 +151,28 @@ impl Receiver {
             return Heard::Nothing;
         };
         match session.receive(number, bytes) {
-            Received::Refused(reply) => answered(self.own, source, Some(reply)),
+            Received::Refused(reply) => answered(self.own_address, source, Some(reply)),
             Received::More(session, reply) => {
                 self.sessions.put(source, now.max(last), session);
-                answered(self.own, source, reply)
+                answered(self.own_address, source, reply)
             }
             Received::Whole { pgn, bytes, reply } => Heard::Message {
                 source,
                 pgn,
                 bytes,
-                reply: wire::reply_frame(self.own, source, reply),
+                reply: wire::reply_frame(self.own_address, source, reply),
             },
         }
     }
 
     // An abort of the sender's parameter group is no receiver's.
     fn aborted(&mut self, source: u8, pgn: u32) -> Heard
-        ensures step { Takes protocol self.old self.new source
+        ensures step { MakesStep protocol self.old self.new source
             (step 0 (finite.get self.old.sessions source) (declared.Aborted pgn)) result }
         ensures others { OthersStay self.old self.new source }
         ensures room { self.new.room ≡ self.old.room }
     {
-        if pgn == SENDING {
+        if pgn == VT_TO_ECU {
             return Heard::Nothing;
         }
         self.sessions.remove(source);
@@ -179,7 +180,7 @@ impl Receiver {
     }
 
     fn set_aside(&mut self, opening: Opening) -> Result<(), OutOfMemory>
-        ensures own { self.new.own ≡ self.old.own }
+        ensures own_address { self.new.own_address ≡ self.old.own_address }
         ensures sessions { self.new.sessions ≡ self.old.sessions }
         ensures ready { OnOk result (IsReadyFor protocol (Some (declared.Rts opening)) self.new.room) }
         ensures free { IsReadyFor protocol (Some (declared.Rts opening)) self.old.room → IsOk result }
@@ -193,7 +194,7 @@ impl Receiver {
 
     fn completed_by(&self, now: u64, source: u8, number: u8) -> Option<(usize, u8)>
         ensures { (packet : List ℕ) → length packet ≡ 7
-            → result ≡ told_of (after_packet now (alive now (finite.get self.now.sessions source)) number packet).message }
+            → result ≡ size_and_first_byte (after_packet now (alive now (finite.get self.now.sessions source)) number packet).message }
     {
         let timed = self.sessions.get(source)?;
         if timed.is_overdue(now) {
@@ -204,11 +205,11 @@ impl Receiver {
     }
 }
 
-fn answered(own: u8, source: u8, reply: Option<Reply>) -> Heard
-    ensures { Says protocol own source reply None result }
+fn answered(own_address: u8, source: u8, reply: Option<Reply>) -> Heard
+    ensures { AnswersWith protocol own_address source reply None result }
 {
     match reply {
-        Some(reply) => Heard::Reply(wire::reply_frame(own, source, reply)),
+        Some(reply) => Heard::Reply(wire::reply_frame(own_address, source, reply)),
         None => Heard::Nothing,
     }
 }

@@ -2,19 +2,20 @@
 
 ghost use Rattle.std.specs.Prelude.{◌≡◌, ◌↔◌, ℕ, ◌%◌, ◌^◌, false, Some, None, Err, [], ◌∷◌, IsSome, IfOk, OnErr, IfSome, IfNone};
 ghost use Rattle.std.specs.FinMap as finite;
-ghost use Rattle.vt_can.specs.Sessions.{is_overdue, AreOfAddresses};
-ghost use Rattle.vt_can.specs.Nodes.{source_of};
+ghost use Rattle.vt_can.specs.transport.Sessions.{is_overdue, AreOfAddresses};
+ghost use Rattle.vt_can.specs.frames.Frame.{source_of};
 ghost use Rattle.vt_transport.specs.Wire.{rts_frame};
 ghost use Rattle.vt_transport.specs.declared.messages.TpFrame.TheVariants as declared;
 ghost use Rattle.vt_transport.specs.Senders.{Answers, Starts, TimesOut, has_size, answer, answer_of, is_of_group};
 
-use crate::messages::{Reply, SENDING, SIZES, TpFrame};
+use crate::messages::{Reply, SIZES, TpFrame};
 use crate::sending::Outgoing;
 use crate::wire;
 use arrayvec::ArrayVec;
 use std::alloc::Global;
 use std::marker::Model;
 use thiserror::Error;
+use vt_can::assigned::VT_TO_ECU;
 use vt_can::{Frame, Reason, Sessions, Timed};
 
 /// Why a message cannot be sent.
@@ -37,29 +38,29 @@ pub enum SendFault {
 /// docs/PROFILE.md, "The TP sender".
 #[derive(Drop)]
 pub struct Sender {
-    own: u8,
+    own_address: u8,
     sessions: Sessions<Outgoing>,
     alloc: Global,
 }
 
 impl Model for Sender {
     ghost use Rattle.vt_transport.specs.declared.messages.TpFrame.TheVariants as declared;
-    ghost use Rattle.vt_transport.specs.Senders.{Sending, sending_code};
+    ghost use Rattle.vt_transport.specs.Senders.{SenderState, sender_state_code};
 
-    ghost Value = { Sending };
+    ghost Value = { SenderState };
 
-    ghost coded = { sending_code };
+    ghost coded = { sender_state_code };
 
-    ghost view = { λ s. record { own = s.own; sessions = s.sessions } };
+    ghost view = { λ s. record { own_address = s.own_address; sessions = s.sessions } };
 }
 
 impl Sender {
     /// The sender of the node at this address, without sessions. It takes no memory.
-    pub fn new(alloc: Global, own: u8) -> Sender
-        ensures { result ≡ record { own = own; sessions = finite.empty } }
+    pub fn new(alloc: Global, own_address: u8) -> Sender
+        ensures { result ≡ record { own_address = own_address; sessions = finite.empty } }
     {
         Sender {
-            own,
+            own_address,
             sessions: Sessions::new(),
             alloc,
         }
@@ -91,7 +92,7 @@ impl Sender {
         };
         let pgn = pgn % (1 << 24);
         self.sessions.put(to, now, Outgoing::new(pgn, bytes));
-        Ok(wire::rts_frame(self.own, to, size as u16, pgn))
+        Ok(wire::rts_frame(self.own_address, to, size as u16, pgn))
     }
 
     /// Hears a frame, and answers the frames to be sent to its source. It takes no memory.
@@ -101,7 +102,7 @@ impl Sender {
             result.items }
     {
         let to = frame.id.source();
-        match wire::tp_frame(self.own, frame) {
+        match wire::tp_frame(self.own_address, frame) {
             Some(TpFrame::Cts { count, next, pgn }) => {
                 self.clear_to_send(now, to, count, next, pgn)
             }
@@ -111,7 +112,7 @@ impl Sender {
         }
     }
 
-    /// The abort of a session that has had no frame of its own for more than 1,250,000 microseconds,
+    /// The abort of a session that has had none of its frames for more than 1,250,000 microseconds,
     /// the least destination first. Call it until it answers `None`. docs/PROFILE.md, "Timeouts".
     pub fn expire(&mut self, now: u64) -> Option<Frame>
         ensures some { IfSome result (λ frame. TimesOut self.old self.new now frame) }
@@ -125,7 +126,7 @@ impl Sender {
             reason: Reason::Timeout,
             pgn: session.pgn(),
         };
-        Some(wire::reply_frame(self.own, to, abort))
+        Some(wire::reply_frame(self.own_address, to, abort))
     }
 
     fn clear_to_send(
@@ -155,9 +156,9 @@ impl Sender {
                 reason: Reason::Disorder,
                 pgn,
             };
-            return one(wire::reply_frame(self.own, to, abort));
+            return one(wire::reply_frame(self.own_address, to, abort));
         }
-        let frames = session.frames(self.own, to, next, count);
+        let frames = session.frames(self.own_address, to, next, count);
         self.sessions.put(to, now.max(last), session);
         frames
     }
@@ -177,7 +178,7 @@ impl Sender {
         ensures { Answers self.old self.new to
             (answer_of self.old to 0 (Some (declared.Aborted pgn))) result.items }
     {
-        if pgn != SENDING {
+        if pgn != VT_TO_ECU {
             return ArrayVec::new();
         }
         self.sessions.remove(to);

@@ -2,12 +2,13 @@
 
 ghost use Rattle.std.specs.Prelude.{◌≡◌, ◌≤◌, ◌<◌, ◌+◌, ◌-◌, true, map, min};
 ghost use Rattle.vt_transport.specs.Wire.{packet_bytes, packet_frame};
-ghost use Rattle.vt_transport.specs.Senders.{packets_of, has_size, numbers_from};
+ghost use Rattle.vt_transport.specs.Senders.{packet_count_of, has_size, numbers_from};
 
 use crate::wire;
 use arrayvec::ArrayVec;
 use std::marker::Model;
 use vt_can::Frame;
+use vt_can::assigned::FILL;
 
 /// A message of 9 to 1785 bytes that is being sent.
 #[derive(Drop)]
@@ -18,7 +19,7 @@ pub(crate) struct Outgoing {
 
 impl Model for Outgoing {
     ghost use Rattle.std.specs.Prelude.{◌≡◌, true};
-    ghost use Rattle.vt_can.specs.Messages.{Message};
+    ghost use Rattle.vt_can.specs.transport.Messages.{Message};
     ghost use Rattle.vt_transport.specs.Senders.{message_code, has_size};
 
     ghost Value = { Message };
@@ -46,23 +47,29 @@ impl Outgoing {
 
     /// The number of packets.
     pub(crate) fn packets(&self) -> u8
-        ensures { result ≡ packets_of self.now }
+        ensures { result ≡ packet_count_of self.now }
     {
         ((self.bytes.len() + 6) / 7) as u8
     }
 
     /// The frames of as many packets as are asked for from one on, up to the last packet.
-    pub(crate) fn frames(&self, own: u8, to: u8, next: u8, count: u8) -> ArrayVec<Frame, 255>
+    pub(crate) fn frames(
+        &self,
+        own_address: u8,
+        to: u8,
+        next: u8,
+        count: u8,
+    ) -> ArrayVec<Frame, 255>
         requires first { 1 ≤ next }
-        requires last { next ≤ packets_of self.now }
-        ensures { result.items ≡ map (packet_frame own to self.now.bytes)
-            (numbers_from next (min count (packets_of self.now + 1 - next))) }
+        requires last { next ≤ packet_count_of self.now }
+        ensures { result.items ≡ map (packet_frame own_address to self.now.bytes)
+            (numbers_from next (min count (packet_count_of self.now + 1 - next))) }
     {
         let mut frames = ArrayVec::new();
         let left = self.packets() - (next - 1);
         for sent in 0..count.min(left) {
             let number = next + sent;
-            frames.push(wire::data_frame(own, to, number, self.packet(number)));
+            frames.push(wire::data_frame(own_address, to, number, self.packet(number)));
         }
         frames
     }
@@ -70,12 +77,12 @@ impl Outgoing {
     // A packet, the last one filled with FF.
     fn packet(&self, number: u8) -> [u8; 7]
         requires first { 1 ≤ number }
-        requires last { number ≤ packets_of self.now }
+        requires last { number ≤ packet_count_of self.now }
         ensures { result ≡ packet_bytes self.now.bytes number }
     {
         let rest = &self.bytes[7 * (usize::from(number) - 1)..];
         let filled = rest.len().min(7);
-        let mut packet = [wire::FILL; 7];
+        let mut packet = [FILL; 7];
         packet[..filled].copy_from_slice(&rest[..filled]);
         packet
     }

@@ -1,8 +1,8 @@
 //! A message as it comes in.
 
 ghost use Rattle.std.specs.Prelude.{◌≡◌, ◌≤◌, ℕ, max, true, Some, [], length, List, vec_len, vec_capacity};
-ghost use Rattle.vt_can.specs.Messages.{told_of};
-ghost use Rattle.vt_can.specs.Protocols.{outcome_of};
+ghost use Rattle.vt_can.specs.transport.Messages.{size_and_first_byte};
+ghost use Rattle.vt_can.specs.transport.Protocols.{outcome_of};
 ghost use Rattle.vt_transport.specs.Messages.{opens};
 ghost use Rattle.vt_transport.specs.Steps.{after_packet};
 
@@ -20,13 +20,13 @@ pub(crate) struct Session {
 
 impl Model for Session {
     ghost use Rattle.std.specs.Prelude.{vec_len, vec_capacity};
-    ghost use Rattle.vt_can.specs.Histories.{IsReceiving};
+    ghost use Rattle.vt_can.specs.transport.Histories.{IsReceiving};
     ghost use Rattle.vt_transport.specs.Messages.{spelling};
-    ghost use Rattle.vt_transport.specs.Kept.{Kept, kept_code};
+    ghost use Rattle.vt_transport.specs.SessionState.{SessionState, session_state_code};
 
-    ghost Value = { Kept };
+    ghost Value = { SessionState };
 
-    ghost coded = { kept_code };
+    ghost coded = { session_state_code };
 
     ghost view = { λ s. record { opening = s.opening; bytes = s.bytes.items; received = s.received } };
 
@@ -87,7 +87,7 @@ impl Session {
     /// The size and first byte of the message that a packet completes, if it does.
     pub(crate) fn completed_by(&self, number: u8) -> Option<(usize, u8)>
         ensures { (now last : ℕ) (packet : List ℕ) → length packet ≡ 7
-            → result ≡ told_of (after_packet now (Some (record { last = last; session = self.now })) number packet).message }
+            → result ≡ size_and_first_byte (after_packet now (Some (record { last = last; session = self.now })) number packet).message }
     {
         if number == self.opening.packets && number == self.received + 1 {
             Some((usize::from(self.opening.size), self.bytes[0]))

@@ -10,7 +10,7 @@ use super::*;
 use std::test::Fail;
 use vt_can::{Frame, Line, parse_line, write_frame};
 
-// What a receiver is to say to a frame.
+// What a receiver is to answer to a frame.
 #[derive(Clone, Copy)]
 enum Wanted {
     Silence,
@@ -18,8 +18,8 @@ enum Wanted {
     Message(&'static [u8], &'static [u8]),
 }
 
-fn is_said(said: Heard, wanted: Wanted) -> bool {
-    match (said, wanted) {
+fn is_answer(heard: Heard, wanted: Wanted) -> bool {
+    match (heard, wanted) {
         (Heard::Nothing, Wanted::Silence) => true,
         (Heard::Reply(frame), Wanted::Reply(text)) => write_frame(&frame).as_slice() == text,
         (Heard::Message { bytes, reply, .. }, Wanted::Message(text, message)) => {
@@ -29,10 +29,10 @@ fn is_said(said: Heard, wanted: Wanted) -> bool {
     }
 }
 
-// Whether a receiver says this to the frame of a line.
-fn says(receiver: &mut Receiver, line: &[u8], wanted: Wanted) -> Result<bool, OutOfMemory> {
+// Whether a receiver answers this to the frame of a line.
+fn answers(receiver: &mut Receiver, line: &[u8], wanted: Wanted) -> Result<bool, OutOfMemory> {
     match parse_line(line) {
-        Ok(Line::Frame { time, frame }) => Ok(is_said(receiver.hear(time, &frame)?, wanted)),
+        Ok(Line::Frame { time, frame }) => Ok(is_answer(receiver.hear(time, &frame)?, wanted)),
         _ => Ok(false),
     }
 }

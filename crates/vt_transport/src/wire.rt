@@ -1,42 +1,26 @@
 //! The frames of the transport protocol as bytes (ISO 11783-3; docs/PROFILE.md, "Transport messages").
 
 ghost use Rattle.std.specs.Prelude.{◌≡◌, ◌≤◌, ◌∷◌, length};
-ghost use Rattle.vt_can.specs.Nodes.{frame_of};
+ghost use Rattle.vt_can.specs.Assigned.{TP_DT};
+ghost use Rattle.vt_can.specs.frames.Frame.{frame_of};
 ghost use Rattle.vt_transport.specs.Wire.{tp_frame, connection_management, reply_frame, reply_bytes, rts_frame};
 
 use crate::messages::{Opening, Reply, TpFrame};
 use byteorder::{ByteOrder, LittleEndian};
-use vt_can::{Frame, abort_bytes, frame_of, is_heard, numbered_packet, three_bytes};
-
-const CONNECTION_MANAGEMENT: u32 = 0xEC00;
-
-const DATA_TRANSFER: u32 = 0xEB00;
-
-const RTS: u8 = 0x10;
-
-const CTS: u8 = 0x11;
-
-const END: u8 = 0x13;
-
-const ABORT: u8 = 0xFF;
-
-// The byte of the places that say nothing.
-pub(crate) const FILL: u8 = 0xFF;
-
-// The most packets of a CTS that a request of this node allows.
-const NO_LIMIT: u8 = 0xFF;
+use vt_can::assigned::{ABORT, FILL, NO_LIMIT, TP_CM, TP_CTS, TP_DT, TP_END, TP_RTS};
+use vt_can::{Frame, abort_bytes, frame_of, is_transport_frame_to, numbered_packet, three_bytes};
 
 /// What a frame says to a node. It is of the transport protocol, to the node's address and of 8 bytes.
-pub(crate) fn tp_frame(own: u8, frame: &Frame) -> Option<TpFrame>
-    ensures { result ≡ tp_frame own frame.now }
+pub(crate) fn tp_frame(own_address: u8, frame: &Frame) -> Option<TpFrame>
+    ensures { result ≡ tp_frame own_address frame.now }
 {
-    if !is_heard(own, frame) {
+    if !is_transport_frame_to(own_address, frame) {
         return None;
     }
     let bytes = frame.bytes.as_slice();
     match frame.id.pgn() {
-        CONNECTION_MANAGEMENT => Some(connection_management(bytes)),
-        DATA_TRANSFER => {
+        TP_CM => Some(connection_management(bytes)),
+        TP_DT => {
             let (number, bytes) = numbered_packet(bytes);
             Some(TpFrame::Data { number, bytes })
         }
@@ -50,28 +34,28 @@ fn connection_management(bytes: &[u8]) -> TpFrame
 {
     let pgn = LittleEndian::read_u24(&bytes[5..]);
     match bytes[0] {
-        RTS => TpFrame::Rts(Opening {
+        TP_RTS => TpFrame::Rts(Opening {
             size: LittleEndian::read_u16(&bytes[1..]),
             packets: bytes[3],
             most: bytes[4],
             pgn,
         }),
-        CTS => TpFrame::Cts {
+        TP_CTS => TpFrame::Cts {
             count: bytes[1],
             next: bytes[2],
             pgn,
         },
-        END => TpFrame::EndOfMessage { pgn },
+        TP_END => TpFrame::EndOfMessage { pgn },
         ABORT => TpFrame::Aborted { pgn },
         _ => TpFrame::Other,
     }
 }
 
 /// The frame that a reply is, from this node to another.
-pub(crate) fn reply_frame(own: u8, to: u8, reply: Reply) -> Frame
-    ensures { result ≡ reply_frame own to reply }
+pub(crate) fn reply_frame(own_address: u8, to: u8, reply: Reply) -> Frame
+    ensures { result ≡ reply_frame own_address to reply }
 {
-    frame_of(CONNECTION_MANAGEMENT, own, to, reply_bytes(reply))
+    frame_of(TP_CM, own_address, to, reply_bytes(reply))
 }
 
 fn reply_bytes(reply: Reply) -> [u8; 8]
@@ -80,35 +64,37 @@ fn reply_bytes(reply: Reply) -> [u8; 8]
     match reply {
         Reply::ClearToSend { count, next, pgn } => {
             let [low, middle, high] = three_bytes(pgn);
-            [CTS, count, next, FILL, FILL, low, middle, high]
+            [TP_CTS, count, next, FILL, FILL, low, middle, high]
         }
         Reply::End { size, packets, pgn } => {
             let [size_low, size_high] = size.to_le_bytes();
             let [low, middle, high] = three_bytes(pgn);
-            [END, size_low, size_high, packets, FILL, low, middle, high]
+            [
+                TP_END, size_low, size_high, packets, FILL, low, middle, high,
+            ]
         }
         Reply::Abort { reason, pgn } => abort_bytes(reason, pgn),
     }
 }
 
 /// The request to send a message, which allows FF packets in a CTS.
-pub(crate) fn rts_frame(own: u8, to: u8, size: u16, pgn: u32) -> Frame
+pub(crate) fn rts_frame(own_address: u8, to: u8, size: u16, pgn: u32) -> Frame
     requires { size ≤ 1785 }
-    ensures { result ≡ rts_frame own to size pgn }
+    ensures { result ≡ rts_frame own_address to size pgn }
 {
     let [size_low, size_high] = size.to_le_bytes();
     let [low, middle, high] = three_bytes(pgn);
     let packets = ((size + 6) / 7) as u8;
     let bytes = [
-        RTS, size_low, size_high, packets, NO_LIMIT, low, middle, high,
+        TP_RTS, size_low, size_high, packets, NO_LIMIT, low, middle, high,
     ];
-    frame_of(CONNECTION_MANAGEMENT, own, to, bytes)
+    frame_of(TP_CM, own_address, to, bytes)
 }
 
 /// A packet of a message.
-pub(crate) fn data_frame(own: u8, to: u8, number: u8, packet: [u8; 7]) -> Frame
-    ensures { result ≡ frame_of 0xEB00 own to (number ∷ packet) }
+pub(crate) fn data_frame(own_address: u8, to: u8, number: u8, packet: [u8; 7]) -> Frame
+    ensures { result ≡ frame_of TP_DT own_address to (number ∷ packet) }
 {
     let [a, b, c, d, e, f, g] = packet;
-    frame_of(DATA_TRANSFER, own, to, [number, a, b, c, d, e, f, g])
+    frame_of(TP_DT, own_address, to, [number, a, b, c, d, e, f, g])
 }

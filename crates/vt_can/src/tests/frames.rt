@@ -1,5 +1,5 @@
 use super::Wanted::*;
-use super::{Wanted, says};
+use super::{Wanted, reads_as};
 use crate::{LineFault, Skipped};
 
 const TIMES: [(&[u8], Wanted); 31] = [
@@ -66,7 +66,7 @@ const TIMES: [(&[u8], Wanted); 31] = [
 #[test]
 fn times(rt: HostRuntime) {
     for (line, wanted) in TIMES {
-        assert!(rt; says(line, wanted), "{line:?}");
+        assert!(rt; reads_as(line, wanted), "{line:?}");
     }
 }
 
@@ -139,7 +139,7 @@ const SHAPES: [(&[u8], Wanted); 39] = [
 #[test]
 fn shapes(rt: HostRuntime) {
     for (line, wanted) in SHAPES {
-        assert!(rt; says(line, wanted), "{line:?}");
+        assert!(rt; reads_as(line, wanted), "{line:?}");
     }
 }
 
@@ -256,6 +256,6 @@ const DATA: [(&[u8], Wanted); 50] = [
 #[test]
 fn data_of_frames(rt: HostRuntime) {
     for (line, wanted) in DATA {
-        assert!(rt; says(line, wanted), "{line:?}");
+        assert!(rt; reads_as(line, wanted), "{line:?}");
     }
 }

@@ -1,5 +1,5 @@
 use super::Wanted::*;
-use super::{Wanted, says};
+use super::{Wanted, reads_as};
 use crate::{Action, LineFault};
 
 const ACTIONS: [(&[u8], Wanted); 60] = [
@@ -80,6 +80,6 @@ const ACTIONS: [(&[u8], Wanted); 60] = [
 #[test]
 fn actions(rt: HostRuntime) {
     for (line, wanted) in ACTIONS {
-        assert!(rt; says(line, wanted), "{line:?}");
+        assert!(rt; reads_as(line, wanted), "{line:?}");
     }
 }

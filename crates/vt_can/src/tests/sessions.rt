@@ -5,7 +5,7 @@ fn expired(sessions: &mut Sessions<u32>, now: u64) -> (u8, u32) {
     sessions.expire(now).unwrap_or((0, 0))
 }
 
-fn taken(sessions: &mut Sessions<u32>, address: u8) -> (u64, u32) {
+fn take_out(sessions: &mut Sessions<u32>, address: u8) -> (u64, u32) {
     match sessions.take(address) {
         Some(Timed { last, session }) => (last, session),
         None => (0, 0),
@@ -19,11 +19,11 @@ fn sessions_stand_at_each_address(rt: HostRuntime) {
         sessions.put(address, 5, u32::from(address) + 1);
     }
     assert!(rt; sessions.get(255).is_some_and(|timed| timed.session == 256));
-    assert_eq!(rt; taken(&mut sessions, 254), (5, 255));
-    assert_eq!(rt; taken(&mut sessions, 254), (0, 0));
+    assert_eq!(rt; take_out(&mut sessions, 254), (5, 255));
+    assert_eq!(rt; take_out(&mut sessions, 254), (0, 0));
     sessions.remove(0);
-    assert_eq!(rt; taken(&mut sessions, 0), (0, 0));
-    assert_eq!(rt; taken(&mut sessions, 255), (5, 256));
+    assert_eq!(rt; take_out(&mut sessions, 0), (0, 0));
+    assert_eq!(rt; take_out(&mut sessions, 255), (5, 256));
 }
 
 #[test]

@@ -4,8 +4,8 @@ use super::*;
 use std::alloc::Global;
 
 // What a receiver answers: the text of its reply, and whether it hands out this message.
-fn answer(said: Heard, sent: &[u8]) -> (ArrayVec<u8, 25>, bool) {
-    match said {
+fn answer(heard: Heard, sent: &[u8]) -> (ArrayVec<u8, 25>, bool) {
+    match heard {
         Heard::Nothing => (ArrayVec::new(), false),
         Heard::Reply(frame) => (write_frame(&frame), false),
         Heard::Message { bytes, reply, .. } => {
@@ -33,7 +33,7 @@ fn filled(part: &[u8]) -> [u8; 7] {
 
 // The packets that were announced, after so many that came: whether all but the last are taken in
 // silence, and what is answered to that.
-fn takes_packets(
+fn hears_packets(
     receiver: &mut Receiver,
     now: u64,
     count: u8,
@@ -42,12 +42,12 @@ fn takes_packets(
 ) -> Result<(bool, ArrayVec<u8, 25>, bool), OutOfMemory> {
     let mut silent = true;
     let mut whole = false;
-    let mut said = ArrayVec::new();
+    let mut heard = ArrayVec::new();
     for (number, part) in (1..=count).zip(sent.chunks(7).skip(done)) {
-        silent = silent && said.is_empty();
-        (said, whole) = answer(receiver.hear(now, &packet(number, filled(part)))?, sent);
+        silent = silent && heard.is_empty();
+        (heard, whole) = answer(receiver.hear(now, &packet(number, filled(part)))?, sent);
     }
-    Ok((silent, said, whole))
+    Ok((silent, heard, whole))
 }
 
 // Whether a receiver gives the answers of a log, and the bytes sent.
@@ -55,26 +55,26 @@ fn follows(alloc: Global, log: &[&[u8]], sent: &[u8]) -> Result<bool, OutOfMemor
     let mut receiver = Receiver::new(alloc, NODE);
     let mut same = true;
     let mut whole = false;
-    let mut said = ArrayVec::new();
+    let mut heard = ArrayVec::new();
     let mut done = 0usize;
     for line in log {
         let Ok(Line::Frame { time, frame }) = parse_line(line) else {
             return Ok(false);
         };
         if frame.id.source() == NODE {
-            same = same && write_frame(&frame).as_slice() == said.as_slice();
-            said = ArrayVec::new();
+            same = same && write_frame(&frame).as_slice() == heard.as_slice();
+            heard = ArrayVec::new();
         } else {
             let (reply, _) = answer(receiver.hear(time, &frame)?, sent);
             let count = announced(&frame);
-            let (silent, last, is_whole) = takes_packets(&mut receiver, time, count, done, sent)?;
-            same = same && said.is_empty() && silent && (count == 0 || reply.is_empty());
-            said = if count == 0 { reply } else { last };
+            let (silent, last, is_whole) = hears_packets(&mut receiver, time, count, done, sent)?;
+            same = same && heard.is_empty() && silent && (count == 0 || reply.is_empty());
+            heard = if count == 0 { reply } else { last };
             whole = is_whole;
             done = done.wrapping_add(usize::from(count));
         }
     }
-    Ok(same && whole && said.is_empty())
+    Ok(same && whole && heard.is_empty())
 }
 
 #[test]

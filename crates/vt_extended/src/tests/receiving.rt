@@ -2,12 +2,12 @@ use super::Wanted::*;
 use super::*;
 
 // The packets 1 to a count, each taken in silence but the last.
-fn takes_group(receiver: &mut Receiver, count: u8, last: Wanted) -> Result<bool, OutOfMemory> {
+fn hears_group(receiver: &mut Receiver, count: u8, last: Wanted) -> Result<bool, OutOfMemory> {
     let mut same = true;
     for number in 1..=count {
         let wanted = if number == count { last } else { Silence };
-        let said = receiver.hear(1_000_000, &packet(number, [number; 7]))?;
-        same = same && is_said(said, wanted);
+        let heard = receiver.hear(1_000_000, &packet(number, [number; 7]))?;
+        same = same && is_answer(heard, wanted);
     }
     Ok(same)
 }
@@ -15,17 +15,17 @@ fn takes_group(receiver: &mut Receiver, count: u8, last: Wanted) -> Result<bool,
 #[test]
 fn a_message_of_nine_bytes(rt: HostRuntime) -> Result<(), Fail> {
     let mut receiver = Receiver::new(rt.alloc(), NODE);
-    let opened = says(
+    let opened = answers(
         &mut receiver,
         b"(1.000000) can0 1CC82680#140900000000E700",
         Reply(b"1CC88026#150201000000E700"),
     )?;
-    let announced = says(
+    let announced = answers(
         &mut receiver,
         b"(1.000000) can0 1CC82680#160200000000E700",
         Silence,
     )?;
-    let heard = takes_group(
+    let heard = hears_group(
         &mut receiver,
         2,
         Message(
@@ -40,22 +40,22 @@ fn a_message_of_nine_bytes(rt: HostRuntime) -> Result<(), Fail> {
 #[test]
 fn requests_at_the_bounds_of_the_size(rt: HostRuntime) -> Result<(), Fail> {
     let mut receiver = Receiver::new(rt.alloc(), NODE);
-    let small = says(
+    let small = answers(
         &mut receiver,
         b"(1.000000) can0 1CC82680#140800000000E700",
         Reply(b"1CC88026#FF07FFFFFF00E700"),
     )?;
-    let large = says(
+    let large = answers(
         &mut receiver,
         b"(1.000000) can0 1CC82680#140100100000E700",
         Reply(b"1CC88026#FF02FFFFFF00E700"),
     )?;
-    let largest = says(
+    let largest = answers(
         &mut receiver,
         b"(1.000000) can0 1CC82680#140000100000E700",
         Reply(b"1CC88026#15FF01000000E700"),
     )?;
-    let huge = says(
+    let huge = answers(
         &mut receiver,
         b"(1.000000) can0 1CC82680#14FFFFFFFF00E700",
         Reply(b"1CC88026#FF02FFFFFF00E700"),
@@ -67,17 +67,17 @@ fn requests_at_the_bounds_of_the_size(rt: HostRuntime) -> Result<(), Fail> {
 #[test]
 fn a_message_of_255_packets(rt: HostRuntime) -> Result<(), Fail> {
     let mut receiver = Receiver::new(rt.alloc(), NODE);
-    let opened = says(
+    let opened = answers(
         &mut receiver,
         b"(1.000000) can0 1CC82680#14F906000000E700",
         Reply(b"1CC88026#15FF01000000E700"),
     )?;
-    let announced = says(
+    let announced = answers(
         &mut receiver,
         b"(1.000000) can0 1CC82680#16FF00000000E700",
         Silence,
     )?;
-    let heard = takes_group(&mut receiver, 255, Size(b"1CC88026#17F906000000E700", 1785))?;
+    let heard = hears_group(&mut receiver, 255, Size(b"1CC88026#17F906000000E700", 1785))?;
     assert!(rt; opened && announced && heard);
     Ok(())
 }
@@ -85,23 +85,23 @@ fn a_message_of_255_packets(rt: HostRuntime) -> Result<(), Fail> {
 #[test]
 fn a_message_of_256_packets(rt: HostRuntime) -> Result<(), Fail> {
     let mut receiver = Receiver::new(rt.alloc(), NODE);
-    let opened = says(
+    let opened = answers(
         &mut receiver,
         b"(1.000000) can0 1CC82680#14FA06000000E700",
         Reply(b"1CC88026#15FF01000000E700"),
     )?;
-    let announced = says(
+    let announced = answers(
         &mut receiver,
         b"(1.000000) can0 1CC82680#16FF00000000E700",
         Silence,
     )?;
-    let group = takes_group(&mut receiver, 255, Reply(b"1CC88026#150100010000E700"))?;
-    let last = says(
+    let group = hears_group(&mut receiver, 255, Reply(b"1CC88026#150100010000E700"))?;
+    let last = answers(
         &mut receiver,
         b"(1.000000) can0 1CC82680#1601FF000000E700",
         Silence,
     )?;
-    let heard = takes_group(&mut receiver, 1, Size(b"1CC88026#17FA06000000E700", 1786))?;
+    let heard = hears_group(&mut receiver, 1, Size(b"1CC88026#17FA06000000E700", 1786))?;
     assert!(rt; opened && announced && group && last && heard);
     Ok(())
 }
@@ -109,54 +109,54 @@ fn a_message_of_256_packets(rt: HostRuntime) -> Result<(), Fail> {
 #[test]
 fn a_message_of_257_packets(rt: HostRuntime) -> Result<(), Fail> {
     let mut receiver = Receiver::new(rt.alloc(), NODE);
-    let opened = says(
+    let opened = answers(
         &mut receiver,
         b"(1.000000) can0 1CC82680#140707000000E700",
         Reply(b"1CC88026#15FF01000000E700"),
     )?;
-    let announced = says(
+    let announced = answers(
         &mut receiver,
         b"(1.000000) can0 1CC82680#16FF00000000E700",
         Silence,
     )?;
-    let group = takes_group(&mut receiver, 255, Reply(b"1CC88026#150200010000E700"))?;
-    let last = says(
+    let group = hears_group(&mut receiver, 255, Reply(b"1CC88026#150200010000E700"))?;
+    let last = answers(
         &mut receiver,
         b"(1.000000) can0 1CC82680#1602FF000000E700",
         Silence,
     )?;
-    let heard = takes_group(&mut receiver, 2, Size(b"1CC88026#170707000000E700", 1799))?;
+    let heard = hears_group(&mut receiver, 2, Size(b"1CC88026#170707000000E700", 1799))?;
     assert!(rt; opened && announced && group && last && heard);
     Ok(())
 }
 
 // The groups of 600 packets, each with the answer to its last packet. A CTS opens 255 packets more.
 fn groups_of_600(receiver: &mut Receiver) -> Result<bool, OutOfMemory> {
-    let opened = says(
+    let opened = answers(
         receiver,
         b"(1.000000) can0 1CC82680#146810000000E700",
         Reply(b"1CC88026#15FF01000000E700"),
     )?;
-    let of_100 = says(
+    let of_100 = answers(
         receiver,
         b"(1.000000) can0 1CC82680#166400000000E700",
         Silence,
-    )? && takes_group(receiver, 100, Reply(b"1CC88026#15FF65000000E700"))?;
-    let of_155 = says(
+    )? && hears_group(receiver, 100, Reply(b"1CC88026#15FF65000000E700"))?;
+    let of_155 = answers(
         receiver,
         b"(1.000000) can0 1CC82680#169B64000000E700",
         Silence,
-    )? && takes_group(receiver, 155, Reply(b"1CC88026#15FF00010000E700"))?;
-    let of_255 = says(
+    )? && hears_group(receiver, 155, Reply(b"1CC88026#15FF00010000E700"))?;
+    let of_255 = answers(
         receiver,
         b"(1.000000) can0 1CC82680#16FFFF000000E700",
         Silence,
-    )? && takes_group(receiver, 255, Reply(b"1CC88026#155AFF010000E700"))?;
-    let of_90 = says(
+    )? && hears_group(receiver, 255, Reply(b"1CC88026#155AFF010000E700"))?;
+    let of_90 = answers(
         receiver,
         b"(1.000000) can0 1CC82680#165AFE010000E700",
         Silence,
-    )? && takes_group(receiver, 90, Size(b"1CC88026#176810000000E700", 4200))?;
+    )? && hears_group(receiver, 90, Size(b"1CC88026#176810000000E700", 4200))?;
     Ok(opened && of_100 && of_155 && of_255 && of_90)
 }
 
@@ -172,16 +172,16 @@ fn a_message_of_600_packets(rt: HostRuntime) -> Result<(), Fail> {
 fn an_offset_before_the_group_is_whole(rt: HostRuntime) -> Result<(), Fail> {
     let mut receiver = Receiver::new(rt.alloc(), NODE);
     let opened = opens_600(&mut receiver)?;
-    let first = says(
+    let first = answers(
         &mut receiver,
         b"(1.000000) can0 1CC82680#166400000000E700",
         Silence,
-    )? && takes_group(&mut receiver, 50, Silence)?;
-    let early = says(
+    )? && hears_group(&mut receiver, 50, Silence)?;
+    let early = answers(
         &mut receiver,
         b"(1.000000) can0 1CC82680#16CD32000000E700",
         Silence,
-    )? && takes_group(&mut receiver, 205, Reply(b"1CC88026#15FF00010000E700"))?;
+    )? && hears_group(&mut receiver, 205, Reply(b"1CC88026#15FF00010000E700"))?;
     assert!(rt; opened && first && early);
     Ok(())
 }
@@ -190,12 +190,12 @@ fn an_offset_before_the_group_is_whole(rt: HostRuntime) -> Result<(), Fail> {
 fn an_early_offset_opens_nothing(rt: HostRuntime) -> Result<(), Fail> {
     let mut receiver = Receiver::new(rt.alloc(), NODE);
     let opened = opens_600(&mut receiver)?;
-    let first = says(
+    let first = answers(
         &mut receiver,
         b"(1.000000) can0 1CC82680#166400000000E700",
         Silence,
-    )? && takes_group(&mut receiver, 50, Silence)?;
-    let past = says(
+    )? && hears_group(&mut receiver, 50, Silence)?;
+    let past = answers(
         &mut receiver,
         b"(1.000000) can0 1CC82680#16CE32000000E700",
         Reply(b"1CC88026#FF07FFFFFF00E700"),
@@ -205,7 +205,7 @@ fn an_early_offset_opens_nothing(rt: HostRuntime) -> Result<(), Fail> {
 }
 
 fn opens_600(receiver: &mut Receiver) -> Result<bool, OutOfMemory> {
-    says(
+    answers(
         receiver,
         b"(1.000000) can0 1CC82680#146810000000E700",
         Reply(b"1CC88026#15FF01000000E700"),
@@ -215,23 +215,23 @@ fn opens_600(receiver: &mut Receiver) -> Result<bool, OutOfMemory> {
 // Whether this frame is refused in a new session of nine bytes, and the session is gone after it.
 fn is_refused(receiver: &mut Receiver, line: &[u8]) -> Result<bool, OutOfMemory> {
     let refused = opens_nine(receiver)?
-        && says(receiver, line, Reply(b"1CC88026#FF07FFFFFF00E700"))?;
+        && answers(receiver, line, Reply(b"1CC88026#FF07FFFFFF00E700"))?;
     Ok(refused && is_gone(receiver)?)
 }
 
 // Whether a DPO and a packet are ignored.
 fn is_gone(receiver: &mut Receiver) -> Result<bool, OutOfMemory> {
-    let announced = says(
+    let announced = answers(
         receiver,
         b"(1.000000) can0 1CC82680#160200000000E700",
         Silence,
     )?;
-    let said = receiver.hear(1_000_000, &packet(1, [1; 7]))?;
-    Ok(announced && is_said(said, Silence))
+    let heard = receiver.hear(1_000_000, &packet(1, [1; 7]))?;
+    Ok(announced && is_answer(heard, Silence))
 }
 
 fn opens_nine(receiver: &mut Receiver) -> Result<bool, OutOfMemory> {
-    says(
+    answers(
         receiver,
         b"(1.000000) can0 1CC82680#140900000000E700",
         Reply(b"1CC88026#150201000000E700"),
@@ -253,23 +253,23 @@ fn frames_out_of_order(rt: HostRuntime) -> Result<(), Fail> {
 fn packets_out_of_order(rt: HostRuntime) -> Result<(), Fail> {
     let mut receiver = Receiver::new(rt.alloc(), NODE);
     let opened = opens_nine(&mut receiver)?
-        && says(
+        && answers(
             &mut receiver,
             b"(1.000000) can0 1CC82680#160100000000E700",
             Silence,
         )?;
-    let one = takes_group(&mut receiver, 1, Reply(b"1CC88026#150102000000E700"))?;
-    let unannounced = is_said(
+    let one = hears_group(&mut receiver, 1, Reply(b"1CC88026#150102000000E700"))?;
+    let unannounced = is_answer(
         receiver.hear(1_000_000, &packet(2, [2; 7]))?,
         Reply(b"1CC88026#FF07FFFFFF00E700"),
     );
     let again = opens_nine(&mut receiver)?
-        && says(
+        && answers(
             &mut receiver,
             b"(1.000000) can0 1CC82680#160200000000E700",
             Silence,
         )?;
-    let second_first = is_said(
+    let second_first = is_answer(
         receiver.hear(1_000_000, &packet(2, [2; 7]))?,
         Reply(b"1CC88026#FF07FFFFFF00E700"),
     );
@@ -281,14 +281,14 @@ fn packets_out_of_order(rt: HostRuntime) -> Result<(), Fail> {
 fn what_ends_a_session(rt: HostRuntime) -> Result<(), Fail> {
     let mut receiver = Receiver::new(rt.alloc(), NODE);
     let aborted = opens_nine(&mut receiver)?
-        && says(
+        && answers(
             &mut receiver,
             b"(1.000000) can0 1CC82680#FF07FFFFFF00E600",
             Silence,
         )?;
     let ignored = is_gone(&mut receiver)?;
     let refused = opens_nine(&mut receiver)?
-        && says(
+        && answers(
             &mut receiver,
             b"(1.000000) can0 1CC82680#140800000000EA00",
             Reply(b"1CC88026#FF07FFFFFF00EA00"),
@@ -302,7 +302,7 @@ fn what_ends_a_session(rt: HostRuntime) -> Result<(), Fail> {
 fn sessions_without_frames_are_aborted(rt: HostRuntime) -> Result<(), Fail> {
     let mut receiver = Receiver::new(rt.alloc(), NODE);
     let opened = opens_nine(&mut receiver)?
-        && says(
+        && answers(
             &mut receiver,
             b"(2.000000) can0 1CC82680#160200000000E700",
             Silence,
@@ -317,23 +317,23 @@ fn sessions_without_frames_are_aborted(rt: HostRuntime) -> Result<(), Fail> {
 #[test]
 fn frames_that_are_not_heard(rt: HostRuntime) -> Result<(), Fail> {
     let mut receiver = Receiver::new(rt.alloc(), NODE);
-    let short = says(
+    let short = answers(
         &mut receiver,
         b"(1.000000) can0 1CC82680#140900000000E7",
         Silence,
     )?;
-    let elsewhere = says(
+    let elsewhere = answers(
         &mut receiver,
         b"(1.000000) can0 1CC82780#140900000000E700",
         Silence,
     )?;
-    let small_transport = says(
+    let small_transport = answers(
         &mut receiver,
         b"(1.000000) can0 1CEC2680#140900000000E700",
         Silence,
     )?;
     let others = opens_nine(&mut receiver)?
-        && says(
+        && answers(
             &mut receiver,
             b"(1.000000) can0 1CC82680#150201000000E700",
             Silence,

@@ -24,9 +24,9 @@ const TOO_LARGE: &[u8] = b"1CC88026#FF02FFFFFF00E700";
 // Whether a session of nine bytes opens, and takes the first of two packets.
 fn opens(receiver: &mut Receiver) -> Result<bool, OutOfMemory> {
     Ok(
-        says(receiver, REQUEST, Reply(CLEAR))?
-            && says(receiver, OFFSET, Silence)?
-            && says(receiver, FIRST, Silence)?,
+        answers(receiver, REQUEST, Reply(CLEAR))?
+            && answers(receiver, OFFSET, Silence)?
+            && answers(receiver, FIRST, Silence)?,
     )
 }
 
@@ -34,14 +34,14 @@ fn opens(receiver: &mut Receiver) -> Result<bool, OutOfMemory> {
 fn is_ignored(receiver: &mut Receiver, line: &[u8]) -> Result<bool, OutOfMemory> {
     Ok(
         opens(receiver)?
-            && says(receiver, line, Silence)?
-            && says(receiver, LAST, Message(END, BYTES))?,
+            && answers(receiver, line, Silence)?
+            && answers(receiver, LAST, Message(END, BYTES))?,
     )
 }
 
 // Whether a frame after the first packet is answered so, and the last packet finds no session.
 fn ends(receiver: &mut Receiver, line: &[u8], wanted: Wanted) -> Result<bool, OutOfMemory> {
-    Ok(opens(receiver)? && says(receiver, line, wanted)? && says(receiver, LAST, Silence)?)
+    Ok(opens(receiver)? && answers(receiver, line, wanted)? && answers(receiver, LAST, Silence)?)
 }
 
 #[test]
@@ -97,8 +97,8 @@ fn packets_that_are_refused(rt: HostRuntime) -> Result<(), Fail> {
         && ends(&mut receiver, third, Reply(DISORDER))?;
     // After a new group the packets count from 1 again.
     let one_more = b"(1.000000) can0 1CC82680#160101000000E700";
-    let announced = opens(&mut receiver)? && says(&mut receiver, one_more, Silence)?;
-    let old_number = says(&mut receiver, LAST, Reply(DISORDER))?;
+    let announced = opens(&mut receiver)? && answers(&mut receiver, one_more, Silence)?;
+    let old_number = answers(&mut receiver, LAST, Reply(DISORDER))?;
     assert!(rt; refused && announced && old_number);
     Ok(())
 }
@@ -145,32 +145,37 @@ fn frames_of_other_kinds_are_ignored(rt: HostRuntime) -> Result<(), Fail> {
 #[test]
 fn aborts_of_any_group_end_a_session(rt: HostRuntime) -> Result<(), Fail> {
     let mut receiver = Receiver::new(rt.alloc(), NODE);
-    let own = b"(1.000000) can0 1CC82680#FF07FFFFFF00E700";
+    let own_address = b"(1.000000) can0 1CC82680#FF07FFFFFF00E700";
     let sending = b"(1.000000) can0 1CC82680#FF03FFFFFF00E600";
-    let ended = ends(&mut receiver, own, Silence)? && ends(&mut receiver, sending, Silence)?;
-    let without_session = says(&mut receiver, own, Silence)?;
+    let ended = ends(&mut receiver, own_address, Silence)?
+        && ends(&mut receiver, sending, Silence)?;
+    let without_session = answers(&mut receiver, own_address, Silence)?;
     assert!(rt; ended && without_session);
     Ok(())
 }
 
-// Whether a receiver says this, if need be when it is asked again.
-fn says_again(receiver: &mut Receiver, line: &[u8], wanted: Wanted) -> Result<bool, OutOfMemory> {
-    match says(receiver, line, wanted) {
+// Whether a receiver answers this, if need be when it is asked again.
+fn answers_again(
+    receiver: &mut Receiver,
+    line: &[u8],
+    wanted: Wanted,
+) -> Result<bool, OutOfMemory> {
+    match answers(receiver, line, wanted) {
         Ok(same) => Ok(same),
-        Err(_) => says(receiver, line, wanted),
+        Err(_) => answers(receiver, line, wanted),
     }
 }
 
 #[test]
 fn a_request_heard_again(rt: HostRuntime) -> Result<(), Fail> {
     let mut receiver = Receiver::new(rt.alloc(), NODE);
-    let opened = says_again(&mut receiver, REQUEST, Reply(CLEAR))?;
-    let first = says(&mut receiver, OFFSET, Silence)? && says(&mut receiver, FIRST, Silence)?;
+    let opened = answers_again(&mut receiver, REQUEST, Reply(CLEAR))?;
+    let first = answers(&mut receiver, OFFSET, Silence)? && answers(&mut receiver, FIRST, Silence)?;
     // Refused, a second request leaves the session that is open.
-    let refused = says(&mut receiver, REQUEST, Reply(CLEAR)).is_err();
+    let refused = answers(&mut receiver, REQUEST, Reply(CLEAR)).is_err();
     let first_again = refused
-        || says(&mut receiver, OFFSET, Silence)? && says(&mut receiver, FIRST, Silence)?;
-    let last = says(&mut receiver, LAST, Message(END, BYTES))?;
+        || answers(&mut receiver, OFFSET, Silence)? && answers(&mut receiver, FIRST, Silence)?;
+    let last = answers(&mut receiver, LAST, Message(END, BYTES))?;
     assert!(rt; opened && first && first_again && last);
     Ok(())
 }
@@ -183,7 +188,7 @@ fn is_ready(receiver: &mut Receiver, line: &[u8], wanted: Wanted) -> bool {
                 Ok(_) => true,
                 Err(_) => receiver.prepare(time, &frame).is_ok(),
             };
-            prepared && says(receiver, line, wanted).unwrap_or(false)
+            prepared && answers(receiver, line, wanted).unwrap_or(false)
         }
         _ => false,
     }

@@ -1,14 +1,14 @@
 ghost use Rattle.std.specs.Prelude.{◌≡◌, IfOk, OnErr};
-ghost use Rattle.vt_can.specs.Nodes.{source_of};
-ghost use Rattle.vt_can.specs.Messages.{told_of};
-ghost use Rattle.vt_can.specs.Receivers.{timely_outcome, Says};
-ghost use Rattle.vt_can.specs.Bus.{Serves, input_of};
+ghost use Rattle.vt_can.specs.frames.Frame.{source_of};
+ghost use Rattle.vt_can.specs.transport.Messages.{size_and_first_byte};
+ghost use Rattle.vt_can.specs.transport.Receivers.{timely_outcome, AnswersWith};
+ghost use Rattle.vt_can.specs.transport.Bus.{Serves, input_of};
 ghost use Rattle.vt_extended.specs.Protocol.{protocol};
 
 use super::*;
 use std::alloc::Global;
 
-// An input as a node takes it: room is set aside, the sessions that are overdue end, and the frame is
+// An input as a node serves it: room is set aside, the sessions that are overdue end, and the frame is
 // heard, which is not refused any more.
 fn served(
     receiver: &mut Receiver,
@@ -16,59 +16,59 @@ fn served(
     frame: &Frame,
 ) -> Result<(Option<(usize, u8)>, Heard), OutOfMemory>
     ensures err { OnErr result (receiver.new.sessions ≡ receiver.old.sessions) }
-    ensures own { IfOk result (λ done. receiver.new.own ≡ receiver.old.own) }
+    ensures own_address { IfOk result (λ done. receiver.new.own_address ≡ receiver.old.own_address) }
     ensures serves { IfOk result (λ done. Serves protocol receiver.old.sessions receiver.new.sessions
-        (input_of protocol receiver.old.own now frame.now) done.1) }
-    ensures said { IfOk result (λ done. Says protocol receiver.old.own (source_of frame.now)
+        (input_of protocol receiver.old.own_address now frame.now) done.1) }
+    ensures heard { IfOk result (λ done. AnswersWith protocol receiver.old.own_address (source_of frame.now)
         (timely_outcome protocol receiver.old now frame.now).reply
         (timely_outcome protocol receiver.old now frame.now).message done.1) }
-    ensures told { IfOk result
-        (λ done. done.0 ≡ told_of (timely_outcome protocol receiver.old now frame.now).message) }
+    ensures answer { IfOk result
+        (λ done. done.0 ≡ size_and_first_byte (timely_outcome protocol receiver.old now frame.now).message) }
 {
-    let told = receiver.prepare(now, frame)?;
+    let answer = receiver.prepare(now, frame)?;
     while let Some(_abort) = receiver.expire(now) {}
     match receiver.hear(now, frame) {
-        Ok(said) => Ok((told, said)),
+        Ok(heard) => Ok((answer, heard)),
         Err(_) => unreachable!(),
     }
 }
 
-// Whether a frame is served, and told as a message of this size and first byte.
-fn is_told(
+// Whether a frame is served, and prepared as a message of this size and first byte.
+fn is_prepared(
     receiver: &mut Receiver,
     line: &[u8],
-    told: Option<(usize, u8)>,
+    answer: Option<(usize, u8)>,
 ) -> Result<bool, OutOfMemory> {
     match parse_line(line) {
         Ok(Line::Frame { time, frame }) => {
-            let (size, said) = served(receiver, time, &frame)?;
-            Ok(size == told && told.is_some() == matches!(said, Heard::Message { .. }))
+            let (size, heard) = served(receiver, time, &frame)?;
+            Ok(size == answer && answer.is_some() == matches!(heard, Heard::Message { .. }))
         }
         _ => Ok(false),
     }
 }
 
-fn both_are_told(alloc: Global) -> Result<bool, OutOfMemory> {
+fn both_are_prepared(alloc: Global) -> Result<bool, OutOfMemory> {
     let mut receiver = Receiver::new(alloc, NODE);
     let request = b"(1.000000) can0 1CC82680#140900000000E700";
-    let opened = is_told(&mut receiver, request, None)?
-        && is_told(
+    let opened = is_prepared(&mut receiver, request, None)?
+        && is_prepared(
             &mut receiver,
             b"(1.000000) can0 1CC82680#160200000000E700",
             None,
         )?;
-    let first = is_told(
+    let first = is_prepared(
         &mut receiver,
         b"(2.000000) can0 1CC72680#01B4E8036400FFFF",
         None,
     )?;
-    let last = is_told(
+    let last = is_prepared(
         &mut receiver,
         b"(3.250000) can0 1CC72680#020500FFFFFFFFFF",
         Some((9, 0xB4)),
     )?;
-    let late = is_told(&mut receiver, request, None)?
-        && is_told(
+    let late = is_prepared(&mut receiver, request, None)?
+        && is_prepared(
             &mut receiver,
             b"(2.250001) can0 1CC82680#160200000000E700",
             None,
@@ -77,8 +77,8 @@ fn both_are_told(alloc: Global) -> Result<bool, OutOfMemory> {
 }
 
 #[test]
-fn a_message_is_told_before_it_is_heard(rt: HostRuntime) -> Result<(), Fail> {
-    let told = both_are_told(rt.alloc())?;
-    assert!(rt; told);
+fn a_message_is_prepared_before_it_is_heard(rt: HostRuntime) -> Result<(), Fail> {
+    let answer = both_are_prepared(rt.alloc())?;
+    assert!(rt; answer);
     Ok(())
 }

@@ -1,12 +1,13 @@
 use super::Wanted::*;
 use super::*;
+use vt_can::assigned::ETP_CM;
 
 // The first frames of nine bytes from a source, whose address stands in the texts.
 fn opens(receiver: &mut Receiver, first: Opening) -> Result<bool, OutOfMemory> {
-    let opened = says(receiver, first.request, Reply(first.clear))?;
-    let announced = says(receiver, first.offset, Silence)?;
-    let taken = says(receiver, first.packet, Silence)?;
-    Ok(opened && announced && taken)
+    let opened = answers(receiver, first.request, Reply(first.clear))?;
+    let announced = answers(receiver, first.offset, Silence)?;
+    let arrived = answers(receiver, first.packet, Silence)?;
+    Ok(opened && announced && arrived)
 }
 
 #[derive(Clone, Copy)]
@@ -38,7 +39,7 @@ fn two_sources_at_once(rt: HostRuntime) -> Result<(), Fail> {
             packet: b"(1.000000) can0 1CC72681#0111121314151617",
         },
     )?;
-    let first = says(
+    let first = answers(
         &mut receiver,
         b"(1.000000) can0 1CC72680#020809FFFFFFFFFF",
         Message(
@@ -46,7 +47,7 @@ fn two_sources_at_once(rt: HostRuntime) -> Result<(), Fail> {
             b"\x01\x02\x03\x04\x05\x06\x07\x08\x09",
         ),
     )?;
-    let second = says(
+    let second = answers(
         &mut receiver,
         b"(1.000000) can0 1CC72681#0218191AFFFFFFFF",
         Message(
@@ -61,7 +62,7 @@ fn two_sources_at_once(rt: HostRuntime) -> Result<(), Fail> {
 // A frame of connection management.
 fn control(from: u8, to: u8, bytes: [u8; 8]) -> Frame {
     Frame {
-        id: CanId::new(7, 0xC800, to, from),
+        id: CanId::new(7, ETP_CM, to, from),
         bytes: ArrayVec::from(bytes),
     }
 }
@@ -70,12 +71,12 @@ fn control(from: u8, to: u8, bytes: [u8; 8]) -> Frame {
 fn requests(receiver: &mut Receiver, source: u8) -> Result<bool, OutOfMemory> {
     let request = control(source, NODE, [0x14, 9, 0, 0, 0, source, 0xE7, 0]);
     let clear = control(NODE, source, [0x15, 2, 1, 0, 0, source, 0xE7, 0]);
-    let said = receiver.hear(0, &request)?;
-    Ok(is_reply(&said, write_frame(&clear).as_slice()))
+    let heard = receiver.hear(0, &request)?;
+    Ok(is_reply(&heard, write_frame(&clear).as_slice()))
 }
 
-fn is_reply(said: &Heard, text: &[u8]) -> bool {
-    match said {
+fn is_reply(heard: &Heard, text: &[u8]) -> bool {
+    match heard {
         Heard::Reply(reply) => write_frame(reply).as_slice() == text,
         _ => false,
     }
@@ -117,8 +118,8 @@ fn every_source_in_rounds(rt: HostRuntime) -> Result<(), Fail> {
         assert!(rt; opened, "the request of {source}");
     }
     for source in 0..=255u8 {
-        let taken = source == NODE || begins(&mut receiver, source)?;
-        assert!(rt; taken, "the first packet of {source}");
+        let arrived = source == NODE || begins(&mut receiver, source)?;
+        assert!(rt; arrived, "the first packet of {source}");
     }
     for source in 0..=255u8 {
         let whole = source == NODE || ends(&mut receiver, source)?;

@@ -3,14 +3,15 @@ use super::*;
 use arrayvec::ArrayVec;
 use std::alloc::Global;
 use vt_can::CanId;
+use vt_can::assigned::TP_DT;
 
 const LINUX: u8 = 0x80;
 
 const NODE: u8 = 0x26;
 
 // What a receiver answers: the text of its reply, and whether it hands out this message.
-fn answer(said: Heard, sent: &[u8]) -> (ArrayVec<u8, 25>, bool) {
-    match said {
+fn answer(heard: Heard, sent: &[u8]) -> (ArrayVec<u8, 25>, bool) {
+    match heard {
         Heard::Nothing => (ArrayVec::new(), false),
         Heard::Reply(frame) => (write_frame(&frame), false),
         Heard::Message { bytes, reply, .. } => {
@@ -24,20 +25,20 @@ fn follows(alloc: Global, log: &[&[u8]], sent: &[u8]) -> Result<bool, OutOfMemor
     let mut receiver = Receiver::new(alloc, NODE);
     let mut same = true;
     let mut whole = false;
-    let mut said = ArrayVec::new();
+    let mut heard = ArrayVec::new();
     for line in log {
         let Ok(Line::Frame { time, frame }) = parse_line(line) else {
             return Ok(false);
         };
         if frame.id.source() == LINUX {
-            same = same && said.is_empty();
-            (said, whole) = answer(receiver.hear(time, &frame)?, sent);
+            same = same && heard.is_empty();
+            (heard, whole) = answer(receiver.hear(time, &frame)?, sent);
         } else {
-            same = same && write_frame(&frame).as_slice() == said.as_slice();
-            said = ArrayVec::new();
+            same = same && write_frame(&frame).as_slice() == heard.as_slice();
+            heard = ArrayVec::new();
         }
     }
-    Ok(same && whole && said.is_empty())
+    Ok(same && whole && heard.is_empty())
 }
 
 #[test]
@@ -68,7 +69,7 @@ fn packet(number: u8, part: &[u8]) -> Frame {
     }
     let [a, b, c, d, e, f, g] = bytes;
     Frame {
-        id: CanId::new(7, 0xEB00, NODE, LINUX),
+        id: CanId::new(7, TP_DT, NODE, LINUX),
         bytes: ArrayVec::from([number, a, b, c, d, e, f, g]),
     }
 }
@@ -90,12 +91,12 @@ fn follows_packets(alloc: Global, log: &[&[u8]; 3], sent: &[u8]) -> Result<bool,
     let mut receiver = Receiver::new(alloc, NODE);
     let (opened, mut whole) = answer(receiver.hear(time, &frame)?, sent);
     let mut same = is_frame(clear, opened.as_slice());
-    let mut said = ArrayVec::new();
+    let mut heard = ArrayVec::new();
     for (number, part) in (1..=255u8).zip(sent.chunks(7)) {
-        same = same && said.is_empty();
-        (said, whole) = answer(receiver.hear(time, &packet(number, part))?, sent);
+        same = same && heard.is_empty();
+        (heard, whole) = answer(receiver.hear(time, &packet(number, part))?, sent);
     }
-    Ok(same && whole && is_frame(end, said.as_slice()))
+    Ok(same && whole && is_frame(end, heard.as_slice()))
 }
 
 // Whether a sender in the place of Linux's sends the request of a log and the packets of the bytes.

@@ -6,11 +6,11 @@ const NODE: u8 = 0x26;
 // The rest of a session whose first frames came.
 pub(super) fn both_packets(receiver: &mut Receiver) -> Result<bool, OutOfMemory> {
     Ok(
-        says(
+        answers(
             receiver,
             b"(1.000000) can0 1CEB2680#01B4E8036400FFFF",
             Silence,
-        )? && says(
+        )? && answers(
             receiver,
             b"(1.000000) can0 1CEB2680#020500FFFFFFFFFF",
             Message(
@@ -24,7 +24,7 @@ pub(super) fn both_packets(receiver: &mut Receiver) -> Result<bool, OutOfMemory>
 #[test]
 fn a_message_in_two_packets(rt: HostRuntime) -> Result<(), Fail> {
     let mut receiver = Receiver::new(rt.alloc(), NODE);
-    let opened = says(
+    let opened = answers(
         &mut receiver,
         b"(1.000000) can0 1CEC2680#10090002FF00E700",
         Reply(b"1CEC8026#110201FFFF00E700"),
@@ -37,17 +37,17 @@ fn a_message_in_two_packets(rt: HostRuntime) -> Result<(), Fail> {
 #[test]
 fn the_second_packet_first(rt: HostRuntime) -> Result<(), Fail> {
     let mut receiver = Receiver::new(rt.alloc(), NODE);
-    let opened = says(
+    let opened = answers(
         &mut receiver,
         b"(1.000000) can0 1CEC2680#10090002FF00E700",
         Reply(b"1CEC8026#110201FFFF00E700"),
     )?;
-    let aborted = says(
+    let aborted = answers(
         &mut receiver,
         b"(1.000000) can0 1CEB2680#020500FFFFFFFFFF",
         Reply(b"1CEC8026#FF07FFFFFF00E700"),
     )?;
-    let ignored = says(
+    let ignored = answers(
         &mut receiver,
         b"(1.000000) can0 1CEB2680#01B4E8036400FFFF",
         Silence,
@@ -59,7 +59,7 @@ fn the_second_packet_first(rt: HostRuntime) -> Result<(), Fail> {
 #[test]
 fn a_session_times_out(rt: HostRuntime) -> Result<(), Fail> {
     let mut receiver = Receiver::new(rt.alloc(), NODE);
-    let opened = says(
+    let opened = answers(
         &mut receiver,
         b"(1.000000) can0 1CEC2680#10090002FF00E700",
         Reply(b"1CEC8026#110201FFFF00E700"),
@@ -74,17 +74,17 @@ fn a_session_times_out(rt: HostRuntime) -> Result<(), Fail> {
 #[test]
 fn requests_of_the_wrong_size(rt: HostRuntime) -> Result<(), Fail> {
     let mut receiver = Receiver::new(rt.alloc(), NODE);
-    let small = says(
+    let small = answers(
         &mut receiver,
         b"(1.000000) can0 1CEC2680#10080002FF00E700",
         Reply(b"1CEC8026#FF07FFFFFF00E700"),
     )?;
-    let large = says(
+    let large = answers(
         &mut receiver,
         b"(1.000000) can0 1CEC2680#10FA06FFFF00E700",
         Reply(b"1CEC8026#FF07FFFFFF00E700"),
     )?;
-    let few = says(
+    let few = answers(
         &mut receiver,
         b"(1.000000) can0 1CEC2680#100F0002FF00E700",
         Reply(b"1CEC8026#FF07FFFFFF00E700"),
@@ -96,22 +96,22 @@ fn requests_of_the_wrong_size(rt: HostRuntime) -> Result<(), Fail> {
 #[test]
 fn a_cts_asks_for_what_is_allowed(rt: HostRuntime) -> Result<(), Fail> {
     let mut receiver = Receiver::new(rt.alloc(), NODE);
-    let opened = says(
+    let opened = answers(
         &mut receiver,
         b"(1.000000) can0 1CEC2680#100F00030200E700",
         Reply(b"1CEC8026#110201FFFF00E700"),
     )?;
-    let first = says(
+    let first = answers(
         &mut receiver,
         b"(1.000000) can0 1CEB2680#0111111111111111",
         Silence,
     )?;
-    let second = says(
+    let second = answers(
         &mut receiver,
         b"(1.000000) can0 1CEB2680#0222222222222222",
         Reply(b"1CEC8026#110103FFFF00E700"),
     )?;
-    let last = says(
+    let last = answers(
         &mut receiver,
         b"(1.000000) can0 1CEB2680#0333FFFFFFFFFFFF",
         Message(
@@ -126,28 +126,28 @@ fn a_cts_asks_for_what_is_allowed(rt: HostRuntime) -> Result<(), Fail> {
 #[test]
 fn aborts_that_end_and_that_do_not(rt: HostRuntime) -> Result<(), Fail> {
     let mut receiver = Receiver::new(rt.alloc(), NODE);
-    let opened = says(
+    let opened = answers(
         &mut receiver,
         b"(1.000000) can0 1CEC2680#10090002FF00E700",
         Reply(b"1CEC8026#110201FFFF00E700"),
     )?;
-    let senders = says(
+    let senders = answers(
         &mut receiver,
         b"(1.000000) can0 1CEC2680#FF07FFFFFF00E600",
         Silence,
     )?;
     let heard = both_packets(&mut receiver)?;
-    let again = says(
+    let again = answers(
         &mut receiver,
         b"(1.000000) can0 1CEC2680#10090002FF00E700",
         Reply(b"1CEC8026#110201FFFF00E700"),
     )?;
-    let ended = says(
+    let ended = answers(
         &mut receiver,
         b"(1.000000) can0 1CEC2680#FF07FFFFFF00CA00",
         Silence,
     )?;
-    let ignored = says(
+    let ignored = answers(
         &mut receiver,
         b"(1.000000) can0 1CEB2680#01B4E8036400FFFF",
         Silence,
@@ -159,22 +159,22 @@ fn aborts_that_end_and_that_do_not(rt: HostRuntime) -> Result<(), Fail> {
 #[test]
 fn frames_that_are_not_heard(rt: HostRuntime) -> Result<(), Fail> {
     let mut receiver = Receiver::new(rt.alloc(), NODE);
-    let short = says(
+    let short = answers(
         &mut receiver,
         b"(1.000000) can0 1CEC2680#10090002FF00E7",
         Silence,
     )?;
-    let elsewhere = says(
+    let elsewhere = answers(
         &mut receiver,
         b"(1.000000) can0 1CEC2780#10090002FF00E700",
         Silence,
     )?;
-    let to_all = says(
+    let to_all = answers(
         &mut receiver,
         b"(1.000000) can0 1CECFF80#20090002FF00E700",
         Silence,
     )?;
-    let no_session = says(
+    let no_session = answers(
         &mut receiver,
         b"(1.000000) can0 1CEB2680#01B4E8036400FFFF",
         Silence,

@@ -9,11 +9,15 @@ const FIRST: &[u8] = b"(1.000000) can0 1CEB2680#01B4E8036400FFFF";
 
 const LAST: &[u8] = b"(1.000000) can0 1CEB2680#020500FFFFFFFFFF";
 
-// Whether a receiver says this, if need be when it is asked again.
-fn says_again(receiver: &mut Receiver, line: &[u8], wanted: Wanted) -> Result<bool, OutOfMemory> {
-    match says(receiver, line, wanted) {
+// Whether a receiver answers this, if need be when it is asked again.
+fn answers_again(
+    receiver: &mut Receiver,
+    line: &[u8],
+    wanted: Wanted,
+) -> Result<bool, OutOfMemory> {
+    match answers(receiver, line, wanted) {
         Ok(same) => Ok(same),
-        Err(_) => says(receiver, line, wanted),
+        Err(_) => answers(receiver, line, wanted),
     }
 }
 
@@ -21,12 +25,12 @@ fn says_again(receiver: &mut Receiver, line: &[u8], wanted: Wanted) -> Result<bo
 fn a_request_heard_again(rt: HostRuntime) -> Result<(), Fail> {
     let mut receiver = Receiver::new(rt.alloc(), NODE);
     let clear = Wanted::Reply(b"1CEC8026#110201FFFF00E700");
-    let opened = says_again(&mut receiver, REQUEST, clear)?;
-    let first = says(&mut receiver, FIRST, Wanted::Silence)?;
+    let opened = answers_again(&mut receiver, REQUEST, clear)?;
+    let first = answers(&mut receiver, FIRST, Wanted::Silence)?;
     // Refused, a second request leaves the session that is open.
-    let refused = says(&mut receiver, REQUEST, clear).is_err();
-    let first_again = refused || says(&mut receiver, FIRST, Wanted::Silence)?;
-    let last = says(
+    let refused = answers(&mut receiver, REQUEST, clear).is_err();
+    let first_again = refused || answers(&mut receiver, FIRST, Wanted::Silence)?;
+    let last = answers(
         &mut receiver,
         LAST,
         Wanted::Message(
@@ -46,7 +50,7 @@ fn is_ready(receiver: &mut Receiver, line: &[u8], wanted: Wanted) -> bool {
                 Ok(_) => true,
                 Err(_) => receiver.prepare(time, &frame).is_ok(),
             };
-            prepared && says(receiver, line, wanted).unwrap_or(false)
+            prepared && answers(receiver, line, wanted).unwrap_or(false)
         }
         _ => false,
     }

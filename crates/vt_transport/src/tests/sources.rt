@@ -5,6 +5,7 @@ use super::receiving::both_packets;
 use super::*;
 use arrayvec::ArrayVec;
 use vt_can::CanId;
+use vt_can::assigned::{TP_CM, TP_DT};
 
 const NODE: u8 = 0x26;
 
@@ -12,7 +13,7 @@ const NODE: u8 = 0x26;
 fn two_sources_alternating(rt: HostRuntime) -> Result<(), Fail> {
     let mut receiver = Receiver::new(rt.alloc(), NODE);
     let message = b"\xB4\xE8\x03\x64\x00\xFF\xFF\x05\x00";
-    let said: [(&[u8], Wanted); 6] = [
+    let heard: [(&[u8], Wanted); 6] = [
         (
             b"(1.000000) can0 1CEC2680#10090002FF00E700",
             Reply(b"1CEC8026#110201FFFF00E700"),
@@ -32,8 +33,8 @@ fn two_sources_alternating(rt: HostRuntime) -> Result<(), Fail> {
             Message(b"1CEC8126#13090002FF00E700", message),
         ),
     ];
-    for (line, wanted) in said {
-        let same = says(&mut receiver, line, wanted)?;
+    for (line, wanted) in heard {
+        let same = answers(&mut receiver, line, wanted)?;
         assert!(rt; same);
     }
     Ok(())
@@ -42,7 +43,7 @@ fn two_sources_alternating(rt: HostRuntime) -> Result<(), Fail> {
 // A frame of connection management.
 fn control(from: u8, to: u8, bytes: [u8; 8]) -> Frame {
     Frame {
-        id: CanId::new(7, 0xEC00, to, from),
+        id: CanId::new(7, TP_CM, to, from),
         bytes: ArrayVec::from(bytes),
     }
 }
@@ -50,7 +51,7 @@ fn control(from: u8, to: u8, bytes: [u8; 8]) -> Frame {
 // A packet to the node.
 fn packet(from: u8, bytes: [u8; 8]) -> Frame {
     Frame {
-        id: CanId::new(7, 0xEB00, NODE, from),
+        id: CanId::new(7, TP_DT, NODE, from),
         bytes: ArrayVec::from(bytes),
     }
 }
@@ -59,8 +60,8 @@ fn packet(from: u8, bytes: [u8; 8]) -> Frame {
 fn requests(receiver: &mut Receiver, source: u8) -> Result<bool, OutOfMemory> {
     let request = control(source, NODE, [0x10, 9, 0, 2, 0xFF, source, 0xE7, 0]);
     let clear = control(NODE, source, [0x11, 2, 1, 0xFF, 0xFF, source, 0xE7, 0]);
-    let said = receiver.hear(0, &request)?;
-    Ok(is_reply(&said, write_frame(&clear).as_slice()))
+    let heard = receiver.hear(0, &request)?;
+    Ok(is_reply(&heard, write_frame(&clear).as_slice()))
 }
 
 // Whether the first packet of a source is taken.
@@ -100,8 +101,8 @@ fn every_source_in_rounds(rt: HostRuntime) -> Result<(), Fail> {
         assert!(rt; opened, "the request of {source}");
     }
     for source in 0..=255u8 {
-        let taken = source == NODE || begins(&mut receiver, source)?;
-        assert!(rt; taken, "the first packet of {source}");
+        let begun = source == NODE || begins(&mut receiver, source)?;
+        assert!(rt; begun, "the first packet of {source}");
     }
     for source in 0..=255u8 {
         let whole = source == NODE || ends(&mut receiver, source)?;
@@ -123,7 +124,7 @@ fn all_others_open(receiver: &mut Receiver) -> Result<bool, OutOfMemory> {
         answer[4] = high;
         answer[5] = low;
         if source != NODE && source != 0x80 {
-            all = all && answers(receiver, &line, &answer)?;
+            all = all && replies(receiver, &line, &answer)?;
         }
     }
     Ok(all)
@@ -140,18 +141,18 @@ fn digit(value: u8) -> u8
 }
 
 // Whether a receiver replies this to the frame of a line.
-fn answers(receiver: &mut Receiver, line: &[u8], text: &[u8]) -> Result<bool, OutOfMemory> {
+fn replies(receiver: &mut Receiver, line: &[u8], text: &[u8]) -> Result<bool, OutOfMemory> {
     match parse_line(line) {
         Ok(Line::Frame { time, frame }) => {
-            let said = receiver.hear(time, &frame)?;
-            Ok(is_reply(&said, text))
+            let heard = receiver.hear(time, &frame)?;
+            Ok(is_reply(&heard, text))
         }
         _ => Ok(false),
     }
 }
 
-fn is_reply(said: &Heard, text: &[u8]) -> bool {
-    match said {
+fn is_reply(heard: &Heard, text: &[u8]) -> bool {
+    match heard {
         Heard::Reply(reply) => write_frame(reply).as_slice() == text,
         _ => false,
     }
@@ -161,7 +162,7 @@ fn is_reply(said: &Heard, text: &[u8]) -> bool {
 fn a_session_among_252_others(rt: HostRuntime) -> Result<(), Fail> {
     let mut receiver = Receiver::new(rt.alloc(), NODE);
     let before = all_others_open(&mut receiver)?;
-    let opened = answers(
+    let opened = replies(
         &mut receiver,
         b"(1.000000) can0 1CEC2680#10090002FF00E700",
         b"1CEC8026#110201FFFF00E700",

@@ -1,5 +1,5 @@
 use Rattle.std.proofs.lemmas.Result.{on_err_weaker}
-use Rattle.vt_can.specs.Readings.{reading_of}
+use Rattle.vt_can.specs.lines.Readings.{reading_of}
 use Rattle.vt_replay.specs.Progress.{stand, Stand}
 use Rattle.vt_server.specs.States.{state_of}
 use Rattle.vt_replay.proofs.Taking.{takes_one}

@@ -1,5 +1,5 @@
 use Rattle.std.proofs.Common.{List, ℕ, ◌++◌, ◌∷◌, [], map, refl, sym, ap, ◌∙◌, append-nil}
-use Rattle.vt_can.specs.declared.frame.Frame.{Frame}
+use Rattle.vt_can.specs.declared.frames.frame.Frame.{Frame}
 use Rattle.vt_server.specs.Parts.{Hears}
 use Rattle.vt_server.specs.States.{state_of, outputs_of}
 use Rattle.vt_server.specs.Terminals.{Step, Sent, to_one}

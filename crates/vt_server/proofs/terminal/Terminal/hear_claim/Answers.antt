@@ -1,5 +1,5 @@
 use Rattle.std.proofs.Common.{List, ◌++◌, ◌∷◌, [], sym, ap, ◌∙◌, append-nil}
-use Rattle.vt_can.specs.declared.frame.Frame.{Frame}
+use Rattle.vt_can.specs.declared.frames.frame.Frame.{Frame}
 use Rattle.vt_names.specs.declared.claims.Heard.TheVariants as claims
 use Rattle.vt_server.specs.Messages.{claim_from}
 use Rattle.vt_server.specs.States.{state_of, outputs_of}

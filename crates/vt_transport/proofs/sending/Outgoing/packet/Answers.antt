@@ -1,5 +1,5 @@
 use Rattle.std.proofs.Common.{ap, ◌∙◌}
-use Rattle.vt_can.specs.Messages.{Message}
+use Rattle.vt_can.specs.transport.Messages.{Message}
 use Rattle.vt_transport.proofs.Packets.{filled_packet}
 use Rattle.vt_transport.proofs.sending.Outgoing.packet.Goals as goal
 

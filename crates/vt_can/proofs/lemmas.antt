@@ -1,0 +1,4 @@
+-- Lemmas, by subject.
+pub mod frames
+pub mod lines
+pub mod transport

@@ -1,0 +1,2 @@
+-- Identifiers and frames.
+pub mod Sums

@@ -1,0 +1,13 @@
+-- What both transport protocols share.
+pub mod Places
+pub mod ByAddress
+pub mod Overdue
+pub mod Timeless
+pub mod Joining
+pub mod Booleans
+pub mod OneSource
+pub mod Serving
+pub mod Runs
+pub mod Receiving
+pub mod Standing
+pub mod Marking

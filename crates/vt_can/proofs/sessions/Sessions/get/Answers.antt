@@ -1,7 +1,0 @@
-use Rattle.std.proofs.Common.{arith}
-use Rattle.vt_can.proofs.Filed.{filed_read}
-use Rattle.vt_can.proofs.sessions.Sessions.get.Goals as goal
-
-pub returns : goal.returns
-returns g c =
-    filed_read c.self.inside.places c.from.result _ _ _ _ c.as_ref.ensures.value c.from.ensures (omega (arith, c.self.invariant.all)) c.self.view_is

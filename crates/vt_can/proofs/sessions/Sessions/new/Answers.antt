@@ -1,9 +1,0 @@
-use Rattle.std.proofs.Common.{None}
-use Rattle.vt_can.proofs.Filed.{AreFiled-empty, filed-empty, empty_places}
-use Rattle.vt_can.proofs.sessions.Sessions.new.Goals as goal
-
-pub invariant_of-result : goal.invariant_of-result
-invariant_of-result g c = AreFiled-empty _ _ c.default.ensures.long (empty_places _ c.default.ensures.long (λ q h. c.default.ensures.at q None h))
-
-pub returns : goal.returns
-returns g c = filed-empty _ (empty_places _ c.default.ensures.long (λ q h. c.default.ensures.at q None h))

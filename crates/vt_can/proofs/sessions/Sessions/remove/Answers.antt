@@ -1,9 +1,0 @@
-use Rattle.std.proofs.Common.{refl, arith}
-use Rattle.vt_can.proofs.Filed.{filed_left, AreFiled-left}
-use Rattle.vt_can.proofs.sessions.Sessions.remove.Goals as goal
-
-pub invariant_of-self : goal.invariant_of-self
-invariant_of-self g c = AreFiled-left _ _ _ _ refl c.self.invariant (omega (arith, c.self.invariant.all))
-
-pub returns : goal.returns
-returns g c = filed_left _ _ _ _ _ refl c.from.ensures (omega (arith, c.self.invariant.all)) c.self.view_is

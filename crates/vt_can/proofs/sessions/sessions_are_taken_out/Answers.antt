@@ -1,5 +1,0 @@
-use Rattle.vt_can.proofs.Overdue.{taken_out}
-use Rattle.vt_can.proofs.sessions.sessions_are_taken_out.Goals as goal
-
-pub returns : goal.returns
-returns g c = taken_out

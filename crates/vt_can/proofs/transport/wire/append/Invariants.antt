@@ -1,0 +1,9 @@
+use Rattle.std.proofs.Common.{◌≡◌, ◌+◌, ◌++◌, take, vec_len, vec_capacity}
+use Rattle.vt_can.proofs.transport.wire.append.Given as goal
+
+abbrev pub invariant-loop-byte : goal.invariant-loop-byte
+invariant-loop-byte l = record {
+  items : l.bytes.items ≡ l.fn.bytes.items ++ take l.byte-index l.part;
+  len : vec_len l.bytes ≡ vec_len l.fn.bytes + l.byte-index;
+  room : vec_capacity l.bytes ≡ vec_capacity l.fn.bytes;
+}

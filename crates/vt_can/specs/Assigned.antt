@@ -1,0 +1,99 @@
+-- The numbers that the standard assigns: parameter groups, addresses, and the control bytes of both transport
+-- protocols (ISO 11783-3, -5, -6 and -7).
+use Rattle.std.specs.Prelude.{ℕ}
+
+-- Parameter groups
+
+-- messages of an implement to the virtual terminal
+abbrev pub ECU_TO_VT : ℕ
+ECU_TO_VT = 0xE700
+
+-- messages of the virtual terminal to an implement
+abbrev pub VT_TO_ECU : ℕ
+VT_TO_ECU = 0xE600
+
+-- the request of a parameter group
+abbrev pub REQUEST : ℕ
+REQUEST = 0xEA00
+
+-- Address Claimed, and Cannot Claim
+abbrev pub ADDRESS_CLAIMED : ℕ
+ADDRESS_CLAIMED = 0xEE00
+
+-- the master of a working set, with the number of its members
+abbrev pub WORKING_SET_MASTER : ℕ
+WORKING_SET_MASTER = 0xFE0D
+
+-- a member of a working set
+abbrev pub WORKING_SET_MEMBER : ℕ
+WORKING_SET_MEMBER = 0xFE0C
+
+-- connection management of the transport protocol
+abbrev pub TP_CM : ℕ
+TP_CM = 0xEC00
+
+-- data transfer of the transport protocol
+abbrev pub TP_DT : ℕ
+TP_DT = 0xEB00
+
+-- connection management of the extended transport protocol
+abbrev pub ETP_CM : ℕ
+ETP_CM = 0xC800
+
+-- data transfer of the extended transport protocol
+abbrev pub ETP_DT : ℕ
+ETP_DT = 0xC700
+
+-- Addresses
+
+-- the address of a node that has none, which sends Cannot Claim
+abbrev pub NULL_ADDRESS : ℕ
+NULL_ADDRESS = 254
+
+-- the address of every node
+abbrev pub GLOBAL_ADDRESS : ℕ
+GLOBAL_ADDRESS = 255
+
+-- Control bytes
+
+-- request to send
+abbrev pub TP_RTS : ℕ
+TP_RTS = 0x10
+
+-- clear to send
+abbrev pub TP_CTS : ℕ
+TP_CTS = 0x11
+
+-- end of message acknowledgement
+abbrev pub TP_END : ℕ
+TP_END = 0x13
+
+-- extended request to send
+abbrev pub ETP_RTS : ℕ
+ETP_RTS = 0x14
+
+-- extended clear to send
+abbrev pub ETP_CTS : ℕ
+ETP_CTS = 0x15
+
+-- extended data packet offset
+abbrev pub ETP_DPO : ℕ
+ETP_DPO = 0x16
+
+-- extended end of message acknowledgement
+abbrev pub ETP_END : ℕ
+ETP_END = 0x17
+
+-- the abort of a session, in both protocols
+abbrev pub ABORT : ℕ
+ABORT = 0xFF
+
+-- Other bytes
+
+-- a reserved byte
+abbrev pub FILL : ℕ
+FILL = 0xFF
+
+-- in a request to send: a CTS may ask for any number of packets
+abbrev pub NO_LIMIT : ℕ
+NO_LIMIT = 0xFF

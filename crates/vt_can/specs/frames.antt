@@ -1,0 +1,3 @@
+-- Identifiers and frames.
+pub mod Identifier
+pub mod Frame

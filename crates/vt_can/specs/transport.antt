@@ -1,0 +1,10 @@
+-- What both transport protocols share.
+pub mod Sessions
+pub mod Messages
+pub mod Histories
+pub mod Protocols
+pub mod Steps
+pub mod Receivers
+pub mod Wire
+pub mod Bus
+pub mod Marks

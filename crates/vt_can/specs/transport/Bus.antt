@@ -1,0 +1,96 @@
+-- One source among all that send on a bus, for a receiver with a session of each source.
+use Rattle.std.specs.Prelude.{◌≡◌, ◌≤◌, ℕ, Bool, ◌==◌, if◌then◌else◌, Option, Some, None, List, [], ◌∷◌, ◌++◌, filter}
+use Rattle.std.specs.FinMap as finite
+use Rattle.std.specs.Option.{option_to_list}
+use Rattle.vt_can.specs.declared.frames.frame.Frame.{Frame}
+use Rattle.vt_can.specs.declared.transport.sessions.Timed.{Timed}
+use Rattle.vt_can.specs.transport.Messages.{Message}
+use Rattle.vt_can.specs.declared.transport.heard.Heard.{Heard}
+use Rattle.vt_can.specs.declared.transport.heard.Heard.TheVariants as heard
+use Rattle.vt_can.specs.frames.Frame.{source_of}
+use Rattle.vt_can.specs.transport.Sessions.{ByAddress, alive}
+use Rattle.vt_can.specs.transport.Protocols.{Protocol}
+use Rattle.vt_can.specs.transport.Steps.{stepped}
+
+-- a frame on the bus, and what it is to this node
+pub record Input (F : Type 0) : Type 0 where
+  pub time : ℕ
+  pub source : ℕ
+  pub frame : Option F
+
+module _ {F : Type 0} where
+  -- Every list of inputs has the latest first, and time never goes back.
+  abbrev pub IsInOrder : ℕ → List (Input F) → Type 0
+  IsInOrder now [] = Unit {0}
+  IsInOrder now (i ∷ inputs) = (i.time ≤ now) × IsInOrder i.time inputs
+
+  abbrev pub is_from : ℕ → Input F → Bool
+  is_from source i = i.source == source
+
+-- the message of a source that is handed out
+abbrev pub handed_out : ℕ → Heard → Option Message
+handed_out source heard.Nothing = None
+handed_out source (heard.Reply reply) = None
+handed_out source (heard.Message from pgn bytes reply) =
+    if from == source then Some (record { pgn = pgn; bytes = bytes }) else None
+
+module _ {F : Type 0} where
+  abbrev pub inputs_of : List (Input F × Heard) → List (Input F)
+  inputs_of [] = []
+  inputs_of (x ∷ run) = x.0 ∷ inputs_of run
+
+  abbrev pub handed_out_in : ℕ → List (Input F × Heard) → List Message
+  handed_out_in source [] = []
+  handed_out_in source (x ∷ run) = option_to_list (handed_out source x.1) ++ handed_out_in source run
+
+module _ {S F R : Type 0} (protocol : Protocol S F R) where
+  -- a frame as an input of the node at an address
+  abbrev pub input_of : ℕ → ℕ → Frame → Input F
+  input_of own_address now frame = record { time = now; source = source_of frame; frame = protocol.frame_in own_address frame }
+
+  -- the session that a frame of a source leaves, and the message that it completes
+  abbrev pub session_after_frame : ℕ → Option (Timed S) → Option F → Option (Timed S)
+  session_after_frame now current frame = (stepped protocol now current frame).session
+
+  abbrev pub message_of_frame : ℕ → Option (Timed S) → Option F → Option Message
+  message_of_frame now current frame = (stepped protocol now current frame).message
+
+  -- The session of a source. At each input of the bus the sessions that are overdue end, before its
+  -- frame is heard.
+  abbrev pub session_of : ℕ → List (Input F) → Option (Timed S)
+  session_of source [] = None
+  session_of source (i ∷ inputs) =
+      let current = alive i.time (session_of source inputs) in
+      if is_from source i then session_after_frame i.time current i.frame else current
+
+  -- the message of a source that an input completes
+  abbrev pub message_at : ℕ → Input F → List (Input F) → Option Message
+  message_at source i inputs =
+      if is_from source i then message_of_frame i.time (alive i.time (session_of source inputs)) i.frame else None
+
+  -- the messages that were assembled for a source, the latest first
+  abbrev pub messages_of : ℕ → List (Input F) → List Message
+  messages_of source [] = []
+  messages_of source (i ∷ inputs) = option_to_list (message_at source i inputs) ++ messages_of source inputs
+
+  -- They depend on the frames of the source and their times alone.
+  abbrev pub MessagesDependOnTheirSource : Type 0
+  MessagesDependOnTheirSource = (source now : ℕ) (inputs : List (Input F)) → IsInOrder now inputs
+      → messages_of source inputs ≡ messages_of source (filter (is_from source) inputs)
+
+  -- An input is served: the sessions that are overdue end, and its source's makes a step and hands out its message.
+  pub record Serves (old new : ByAddress S) (i : Input F) (result : Heard) : Type 0 where
+    pub session : finite.get new i.source ≡ session_after_frame i.time (alive i.time (finite.get old i.source)) i.frame
+    pub others : (other : ℕ) → (other ≡ i.source → ⊥) → finite.get new other ≡ alive i.time (finite.get old other)
+    pub message : (source : ℕ) → handed_out source result
+        ≡ (if is_from source i then message_of_frame i.time (alive i.time (finite.get old i.source)) i.frame else None)
+
+  -- From no session, inputs were served, and this was answered to each.
+  abbrev pub IsRun : ByAddress S → List (Input F × Heard) → Type 0
+  IsRun sessions [] = sessions ≡ finite.empty
+  IsRun sessions (x ∷ run) = (old : ByAddress S) × IsRun old run × Serves old sessions x.0 x.1
+
+  -- A run hands out the messages of each source.
+  abbrev pub RunsHandOutMessages : Type 0
+  RunsHandOutMessages = (sessions : ByAddress S) (run : List (Input F × Heard)) (source : ℕ) → IsRun sessions run
+      → handed_out_in source run ≡ messages_of source (inputs_of run)

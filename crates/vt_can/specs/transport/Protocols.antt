@@ -1,0 +1,52 @@
+-- A transport protocol, as a receiver of it is stated: its session of a source (S), its frames (F) and its
+-- replies (R).
+use Rattle.std.specs.Prelude.{◌≡◌, ℕ, Bool, Option, Some, None}
+use Rattle.vt_can.specs.declared.frames.frame.Frame.{Frame}
+use Rattle.vt_can.specs.declared.transport.sessions.Timed.{Timed}
+use Rattle.vt_can.specs.declared.transport.received.Received.{Received}
+use Rattle.vt_can.specs.declared.transport.received.Received.TheVariants.{Refused, More, Whole}
+use Rattle.vt_can.specs.transport.Messages.{Message}
+use Rattle.vt_can.specs.transport.Sessions.{untimed_session}
+
+-- what a step leaves of a session, and what it gives
+pub record Outcome (S R : Type 0) : Type 0 where
+  pub session : Option (Timed S)
+  pub reply : Option R
+  pub message : Option Message
+
+module _ {S R : Type 0} where
+  abbrev pub silent : Option (Timed S) → Outcome S R
+  silent session = record { session = session; reply = None; message = None }
+
+  abbrev pub ended : R → Outcome S R
+  ended reply = record { session = None; reply = Some reply; message = None }
+
+  -- What a frame makes of a session, as an outcome: one with more to come has this time from then on.
+  abbrev pub outcome_of : ℕ → Received S R → Outcome S R
+  outcome_of last (Refused reply) = ended reply
+  outcome_of last (More session reply) =
+      record { session = Some (record { last = last; session = session }); reply = reply; message = None }
+  outcome_of last (Whole pgn bytes reply) =
+      record { session = None; reply = Some reply; message = Some (record { pgn = pgn; bytes = bytes }) }
+
+  -- an outcome without the time of its session
+  abbrev pub untimed_outcome : Outcome S R → Outcome S R
+  untimed_outcome out = record { session = untimed_session out.session; reply = out.reply; message = out.message }
+
+pub record Protocol (S F R : Type 0) : Type 0 where
+  -- what a frame is to the node at an address, if it is one of the protocol's
+  pub frame_in : ℕ → Frame → Option F
+  -- whether it opens a session, and the bytes of the message then
+  pub opens : F → Bool
+  pub size : F → ℕ
+  -- its step, at a time, on the session of its source
+  pub step : ℕ → Option (Timed S) → F → Outcome S R
+  -- the reply that ends a session without frames
+  pub timeout : S → R
+  -- the frame of a reply, from one address to another
+  pub reply_frame : ℕ → ℕ → R → Frame
+
+-- Apart from the time that a session has afterwards, a step depends on neither the time of the frame nor that of the session.
+abbrev pub IsTimeless : {S F R : Type 0} → Protocol S F R → Type 0
+IsTimeless {S} {F} {R} protocol = (now : ℕ) (current : Option (Timed S)) (frame : F)
+    → untimed_outcome (protocol.step now current frame) ≡ untimed_outcome (protocol.step 0 (untimed_session current) frame)

@@ -1,0 +1,76 @@
+//! The numbers that the standard assigns: parameter groups, addresses, and the control bytes of both transport
+//! protocols (ISO 11783-3, -5, -6 and -7).
+
+// Parameter groups
+
+/// Messages of an implement to the virtual terminal.
+pub const ECU_TO_VT: u32 = 0xE700;
+
+/// Messages of the virtual terminal to an implement.
+pub const VT_TO_ECU: u32 = 0xE600;
+
+/// The request of a parameter group.
+pub const REQUEST: u32 = 0xEA00;
+
+/// Address Claimed, and Cannot Claim.
+pub const ADDRESS_CLAIMED: u32 = 0xEE00;
+
+/// The master of a working set, with the number of its members.
+pub const WORKING_SET_MASTER: u32 = 0xFE0D;
+
+/// A member of a working set.
+pub const WORKING_SET_MEMBER: u32 = 0xFE0C;
+
+/// Connection management of the transport protocol.
+pub const TP_CM: u32 = 0xEC00;
+
+/// Data transfer of the transport protocol.
+pub const TP_DT: u32 = 0xEB00;
+
+/// Connection management of the extended transport protocol.
+pub const ETP_CM: u32 = 0xC800;
+
+/// Data transfer of the extended transport protocol.
+pub const ETP_DT: u32 = 0xC700;
+
+// Addresses
+
+/// The address of a node that has none, which sends Cannot Claim.
+pub const NULL_ADDRESS: u8 = 254;
+
+/// The address of every node.
+pub const GLOBAL_ADDRESS: u8 = 255;
+
+// Control bytes
+
+/// Request to send.
+pub const TP_RTS: u8 = 0x10;
+
+/// Clear to send.
+pub const TP_CTS: u8 = 0x11;
+
+/// End of message acknowledgement.
+pub const TP_END: u8 = 0x13;
+
+/// Extended request to send.
+pub const ETP_RTS: u8 = 0x14;
+
+/// Extended clear to send.
+pub const ETP_CTS: u8 = 0x15;
+
+/// Extended data packet offset.
+pub const ETP_DPO: u8 = 0x16;
+
+/// Extended end of message acknowledgement.
+pub const ETP_END: u8 = 0x17;
+
+/// The abort of a session, in both protocols.
+pub const ABORT: u8 = 0xFF;
+
+// Other bytes
+
+/// A reserved byte.
+pub const FILL: u8 = 0xFF;
+
+/// In a request to send: a CTS may ask for any number of packets.
+pub const NO_LIMIT: u8 = 0xFF;

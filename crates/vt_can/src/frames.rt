@@ -1,0 +1,7 @@
+//! Identifiers and frames.
+
+mod frame;
+mod identifier;
+
+pub use frame::Frame;
+pub use identifier::CanId;

@@ -1,0 +1,11 @@
+//! The lines of a log.
+
+mod action;
+mod digits;
+mod fields;
+mod frame_line;
+mod line;
+mod write;
+
+pub use line::{Action, Line, LineFault, Skipped, parse_line};
+pub use write::{write_frame, write_line};

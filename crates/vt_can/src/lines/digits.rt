@@ -1,0 +1,104 @@
+//! What digits say: numbers, an identifier, bytes of data.
+
+ghost use Rattle.std.specs.Prelude.{◌≡◌, ◌<◌, ◌≤◌, ◌^◌, ℕ, length, take, MatchOption, MatchResult};
+ghost use Rattle.std.specs.List.{AllPass, list_all};
+ghost use Rattle.std.specs.Option.{SomeIff};
+ghost use Rattle.std.specs.Str.Parse.{digits_value};
+ghost use Rattle.hex.specs.Hex.{decode_of, is_hex_digit};
+ghost use Rattle.vt_can.specs.lines.Actions.{IsNumber};
+ghost use Rattle.vt_can.specs.lines.Line.{AreDigits, IsFraction, id_of, data_reading};
+
+use crate::frames::CanId;
+use crate::lines::line::LineFault;
+use arrayvec::ArrayVec;
+use hex::FromHex;
+
+/// The number that a text of from `least` to `most` decimal digits writes.
+pub fn number(text: &[u8], least: usize, most: usize) -> Option<u64>
+    requires { most ≤ 19 }
+    ensures { MatchOption result
+        (AreDigits least most text.now → ⊥)
+        (λ n. AreDigits least most text.now × (n ≡ digits_value 10 text.now)) }
+{
+    if text.len() < least || most < text.len() {
+        return None;
+    }
+    let mut value = 0;
+    for byte in text {
+        if !byte.is_ascii_digit() {
+            return None;
+        }
+        value = value * 10 + u64::from(*byte - b'0');
+    }
+    Some(value)
+}
+
+/// The microseconds of a fraction of a second, of six digits or of nine.
+pub fn micros(fraction: &[u8]) -> Option<u64>
+    ensures { MatchOption result
+        (IsFraction fraction.now → ⊥)
+        (λ n. IsFraction fraction.now × (n ≡ digits_value 10 (take 6 fraction.now))) }
+{
+    if fraction.len() == 9 {
+        Some(number(fraction, 9, 9)? / 1000)
+    } else {
+        number(fraction, 6, 6)
+    }
+}
+
+/// The number that decimal digits write, if it is at most `most`. There may be any number of zeros
+/// in front.
+pub fn decimal(text: &[u8], most: u32) -> Option<u32>
+    ensures { MatchOption result ((n : ℕ) → IsNumber text.now n most → ⊥) (λ n. IsNumber text.now n most) }
+{
+    if text.is_empty() {
+        return None;
+    }
+    let mut value = 0;
+    for byte in text {
+        if !byte.is_ascii_digit() {
+            return None;
+        }
+        value = value * 10 + u64::from(*byte - b'0');
+        if value > u64::from(most) {
+            return None;
+        }
+    }
+    Some(value as u32)
+}
+
+/// Whether each byte is a hex digit.
+pub fn is_hex(text: &[u8]) -> bool
+    ensures { result ≡ list_all is_hex_digit text.now }
+{
+    text.iter().all(|byte| byte.is_ascii_hexdigit())
+}
+
+/// The identifier that eight hex digits write, or `None` above 1FFFFFFF.
+pub fn identifier(text: &[u8]) -> Option<CanId>
+    requires eight { length text.now ≡ 8 }
+    requires digits { AllPass is_hex_digit text.now }
+    ensures { SomeIff result (id_of (decode_of text.now) < 2 ^ 29) (id_of (decode_of text.now)) }
+{
+    let bytes = <[u8; 4]>::from_hex(text).ok()?;
+    CanId::from_raw(u32::from_be_bytes(bytes))
+}
+
+/// The data that up to sixteen hex digits write. A fault of the digits goes before one of their count.
+pub fn data_bytes(text: &[u8]) -> Result<ArrayVec<u8, 8>, LineFault>
+    ensures { MatchResult result
+        (λ v. (decode_of text.now ≡ Ok v.items) × (length v.items ≤ 8))
+        (λ e. (time id : ℕ) → data_reading time id (decode_of text.now) ≡ Err e) }
+{
+    let len = text.len() / 2;
+    if len > 8 {
+        if text.len() % 2 == 1 || !is_hex(text) {
+            return Err(LineFault::Hex);
+        }
+        return Err(LineFault::Length);
+    }
+    let mut bytes = ArrayVec::from([0; 8]);
+    bytes.truncate(len);
+    hex::decode_to_slice(text, bytes.as_mut_slice()).map_err(|_| LineFault::Hex)?;
+    Ok(bytes)
+}

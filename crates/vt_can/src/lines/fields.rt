@@ -1,0 +1,70 @@
+//! The fields of a frame line, cut at the bytes that stand between them.
+
+ghost use Rattle.std.specs.Prelude.{◌≡◌, ◌⊎◌, ◌↔◌, ℕ, List, codes, IsTrue, MatchOption};
+ghost use Rattle.vt_can.specs.lines.Line.{HasTime, HasShape};
+ghost use Rattle.vt_can.specs.lines.Fields.{Lacks, IsCut, IsThirdWord};
+
+use crate::lines::digits::{micros, number};
+
+/// The time that a line begins with, in microseconds, and what follows it.
+pub fn time_of(content: &[u8]) -> Option<(u64, &[u8])>
+    ensures { MatchOption result
+        ((time : ℕ) (rest : List ℕ) → HasTime content.now time rest → ⊥)
+        (λ x. HasTime content.now x.0 x.1.now) }
+{
+    let text = content.strip_prefix(b"(")?;
+    let (seconds, text) = cut(text, b'.')?;
+    let (fraction, rest) = cut(text, b')')?;
+    let seconds = number(seconds, 1, 12)?;
+    let micros = micros(fraction)?;
+    Some((seconds * 1_000_000 + micros, rest))
+}
+
+/// The ID and the data of what follows the time of a frame line, as they are written.
+pub fn shape_of(rest: &[u8]) -> Option<(&[u8], &[u8])>
+    ensures { MatchOption result
+        ((id text : List ℕ) → HasShape rest.now id text → ⊥)
+        (λ x. HasShape rest.now x.0.now x.1.now) }
+{
+    let words = rest.strip_prefix(b" ")?;
+    let (interface, last) = cut(words, b' ')?;
+    let word = third_word(last)?;
+    let (id, text) = cut(word, b'#')?;
+    if !(1..=15).contains(&interface.len()) {
+        return None;
+    }
+    if id.len() != 3 && id.len() != 8 {
+        return None;
+    }
+    Some((id, text))
+}
+
+// The third word of a frame line, where at most ` R` or ` T` follows it.
+fn third_word(text: &[u8]) -> Option<&[u8]>
+    ensures { MatchOption result
+        ((word : List ℕ) → IsThirdWord text.now word → ⊥)
+        (λ word. IsThirdWord text.now word.now) }
+{
+    let Some((word, suffix)) = cut(text, b' ') else {
+        return Some(text);
+    };
+    if !is_letter(suffix) {
+        return None;
+    }
+    Some(word)
+}
+
+// Whether it is the letter of a suffix.
+fn is_letter(text: &[u8]) -> bool
+    ensures { IsTrue result ↔ ((text.now ≡ codes "R") ⊎ (text.now ≡ codes "T")) }
+{
+    matches!(text, [b'R' | b'T'])
+}
+
+/// What stands before the first such byte, and what stands after it.
+pub fn cut(text: &[u8], byte: u8) -> Option<(&[u8], &[u8])>
+    ensures { MatchOption result (Lacks byte text.now) (λ p. IsCut byte text.now p.0.now p.1.now) }
+{
+    let place = text.iter().position(|other| *other == byte)?;
+    Some((&text[..place], &text[place + 1..]))
+}

@@ -1,0 +1,33 @@
+//! A frame line of the right shape, read.
+
+ghost use Rattle.std.specs.Prelude.{◌≡◌, ◌⊎◌, length};
+ghost use Rattle.vt_can.specs.lines.Readings.{reading_of};
+ghost use Rattle.vt_can.specs.lines.Line.{frame_line_reading};
+
+use crate::frames::Frame;
+use crate::lines::digits::{data_bytes, identifier, is_hex};
+use crate::lines::line::{Line, LineFault, Skipped};
+
+/// What a frame line says, by its time and its ID and data as they are written.
+pub fn read_frame_line(time: u64, id: &[u8], text: &[u8]) -> Result<Line<'static>, LineFault>
+    requires { (length id.now ≡ 3) ⊎ (length id.now ≡ 8) }
+    ensures { reading_of result ≡ frame_line_reading time id.now text.now }
+{
+    if !is_hex(id) {
+        return Err(LineFault::Hex);
+    }
+    if id.len() == 3 {
+        return Ok(Line::Skipped(Skipped::Short));
+    }
+    let Some(id) = identifier(id) else {
+        return Ok(Line::Skipped(Skipped::Error));
+    };
+    match text {
+        [b'R', ..] => return Ok(Line::Skipped(Skipped::Remote)),
+        [b'#', ..] => return Ok(Line::Skipped(Skipped::Fd)),
+        _ => {}
+    }
+    let bytes = data_bytes(text)?;
+    let frame = Frame { id, bytes };
+    Ok(Line::Frame { time, frame })
+}

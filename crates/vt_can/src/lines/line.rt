@@ -1,0 +1,114 @@
+//! The lines of a log.
+
+ghost use Rattle.std.specs.Prelude.{◌↔◌, IsTrue};
+ghost use Rattle.vt_can.specs.lines.Readings.{reading_of};
+ghost use Rattle.vt_can.specs.lines.Line.{IsContent, IsComment, Reads};
+
+use crate::frames::Frame;
+use crate::lines::action::action;
+use crate::lines::fields::{shape_of, time_of};
+use crate::lines::frame_line::read_frame_line;
+use thiserror::Error;
+
+/// What a line of a log says.
+#[derive(Debug, Drop)]
+pub enum Line<'a> {
+    /// A frame at a time, in microseconds.
+    Frame { time: u64, frame: Frame },
+    /// An action of the operator.
+    Operator(Action<'a>),
+    /// A frame that is not looked at.
+    Skipped(Skipped),
+    /// Nothing: an empty line, or one that begins with `#`.
+    Comment,
+}
+
+/// What the operator does, most of it to an object by its ID.
+#[derive(Clone, Copy, Debug, PartialEq, Eq)]
+pub enum Action<'a> {
+    /// Presses a key or button.
+    Press(u16),
+    /// Releases it.
+    Release(u16),
+    /// Selects an input.
+    Select(u16),
+    /// Enters a number into an input.
+    Number(u16, u32),
+    /// Enters a text into an input.
+    Text(u16, &'a [u8]),
+    /// Selects the set of an address.
+    Set(u8),
+}
+
+/// Why a frame is not looked at.
+#[derive(Clone, Copy, Debug, PartialEq, Eq)]
+pub enum Skipped {
+    /// It asks for data, and has none.
+    Remote,
+    /// It is one of CAN FD.
+    Fd,
+    /// Its identifier has three digits, as one of 11 bits has.
+    Short,
+    /// Its identifier is above 1FFFFFFF, as that of an error frame is.
+    Error,
+}
+
+/// Why a line cannot be read. A fault's number is its place here, from 1.
+#[derive(Clone, Copy, Debug, PartialEq, Eq, Error)]
+pub enum LineFault {
+    /// It does not begin with `(seconds.fraction)`.
+    #[error("Time")]
+    Time = 1,
+    /// It does not go on with ` interface ID#DATA`, and at most ` R` or ` T`.
+    #[error("Shape")]
+    Shape,
+    /// The ID or the data is not written in hex digits, two for each byte.
+    #[error("Hex")]
+    Hex,
+    /// There are more than eight bytes of data.
+    #[error("Length")]
+    Length,
+    /// It begins with `! `, and has the form of no action.
+    #[error("Operator")]
+    Operator,
+}
+
+/// Reads a line, given without its newline. One carriage return at its end is dropped.
+pub fn parse_line(line: &[u8]) -> Result<Line<'_>, LineFault>
+    ensures { Reads line.now (reading_of result) }
+{
+    let content = content_of(line);
+    if is_comment(content) {
+        return Ok(Line::Comment);
+    }
+    if let Some(rest) = content.strip_prefix(b"! ") {
+        let Some(action) = action(rest) else {
+            return Err(LineFault::Operator);
+        };
+        return Ok(Line::Operator(action));
+    }
+    let Some((time, rest)) = time_of(content) else {
+        return Err(LineFault::Time);
+    };
+    let Some((id, text)) = shape_of(rest) else {
+        return Err(LineFault::Shape);
+    };
+    read_frame_line(time, id, text)
+}
+
+// The line without the one carriage return that may end it.
+fn content_of(line: &[u8]) -> &[u8]
+    ensures { IsContent line.now result.now }
+{
+    match line {
+        [content @ .., b'\r'] => content,
+        _ => line,
+    }
+}
+
+// Whether it is empty or begins with a number sign.
+fn is_comment(content: &[u8]) -> bool
+    ensures { IsTrue result ↔ IsComment content.now }
+{
+    matches!(content, [] | [b'#', ..])
+}

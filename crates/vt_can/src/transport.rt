@@ -1,0 +1,16 @@
+//! What both transport protocols share.
+
+mod bytes;
+mod heard;
+mod received;
+mod sessions;
+mod wire;
+
+pub use bytes::Bytes;
+pub use heard::Heard;
+pub use received::Received;
+pub use sessions::{Sessions, Timed};
+pub use wire::{
+    Reason, abort_bytes, append_packet, frame_of, is_transport_frame_to, numbered_packet,
+    three_bytes,
+};

@@ -1,5 +1,0 @@
-use Rattle.vt_extended.proofs.Timeless.{ignored}
-use Rattle.vt_extended.proofs.law.foreign_frames_say_nothing.Goals as goal
-
-pub returns : goal.returns
-returns c = ignored

@@ -1,6 +1,0 @@
-use Rattle.vt_can.proofs.Runs.{run_messages}
-use Rattle.vt_extended.specs.Protocol.{protocol}
-use Rattle.vt_extended.proofs.law.runs_hand_out_messages.Goals as goal
-
-pub returns : goal.returns
-returns c = run_messages protocol

@@ -1,5 +1,0 @@
-use Rattle.vt_extended.proofs.Timeless.{timeless}
-use Rattle.vt_extended.proofs.law.steps_are_timeless.Goals as goal
-
-pub returns : goal.returns
-returns c = timeless

@@ -1,5 +1,0 @@
-use Rattle.vt_extended.proofs.Assembly.{agrees}
-use Rattle.vt_extended.proofs.law.steps_assemble_messages.Goals as goal
-
-pub returns : goal.returns
-returns c = agrees

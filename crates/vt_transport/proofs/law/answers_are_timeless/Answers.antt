@@ -1,5 +1,0 @@
-use Rattle.vt_transport.proofs.Timeless.{timeless_answers}
-use Rattle.vt_transport.proofs.law.answers_are_timeless.Goals as goal
-
-pub returns : goal.returns
-returns c = timeless_answers

@@ -1,6 +1,0 @@
-use Rattle.vt_can.proofs.OwnFrames.{same_messages}
-use Rattle.vt_transport.specs.Protocol.{protocol}
-use Rattle.vt_transport.proofs.law.messages_depend_on_own_frames.Goals as goal
-
-pub returns : goal.returns
-returns c = same_messages protocol

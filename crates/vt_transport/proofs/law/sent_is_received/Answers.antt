@@ -1,5 +1,0 @@
-use Rattle.vt_transport.proofs.BothEnds.{received}
-use Rattle.vt_transport.proofs.law.sent_is_received.Goals as goal
-
-pub returns : goal.returns
-returns c = received

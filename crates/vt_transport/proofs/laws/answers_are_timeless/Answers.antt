@@ -1,0 +1,5 @@
+use Rattle.vt_transport.proofs.Timeless.{timeless_answers}
+use Rattle.vt_transport.proofs.laws.answers_are_timeless.Goals as goal
+
+pub returns : goal.returns
+returns c = timeless_answers

@@ -1,0 +1,6 @@
+use Rattle.vt_can.proofs.lemmas.transport.Runs.{run_messages}
+use Rattle.vt_transport.specs.Protocol.{protocol}
+use Rattle.vt_transport.proofs.laws.runs_hand_out_messages.Goals as goal
+
+pub returns : goal.returns
+returns c = run_messages protocol
