@@ -3,7 +3,7 @@
 ghost use Rattle.std.specs.Prelude.{◌≡◌, ◌++◌, List, length, map, IfOk, OnOk};
 ghost use Rattle.vt_objects.specs.Layout.{Size, Numeral, row_spelling, rows_spelling};
 ghost use Rattle.vt_objects.specs.Tables.{child_sizes, child_numbers, macro_sizes, macro_numbers, language_sizes, language_numbers, id_sizes, id_numbers, point_sizes, point_numbers};
-ghost use Rattle.vt_pool.specs.Reading.{Gives, row_at, rows_at};
+ghost use Rattle.vt_pool.specs.Reading.{Finds, Gives, row_at, rows_at};
 
 use crate::reader::Reader;
 use crate::stop::Stop;
@@ -20,7 +20,7 @@ pub trait Entry: Drop {
     fn read(reader: &mut Reader<'_>) -> Result<Self, Stop>
     where
         Self: Sized,
-        ensures { Gives (λ x. (numbers x, reader.new)) result (row_at sizes reader.old) };
+        ensures { Finds (λ x. (numbers x, reader.new)) result (row_at sizes reader.old) };
 
     fn write(&self, out: &mut Vec<u8>) -> Result<(), AllocError>
         ensures { OnOk result (out.new.items ≡ out.old.items ++ row_spelling sizes (numbers self.now)) };
@@ -33,9 +33,10 @@ impl Entry for Child {
 
     #[tactic(auto, unfolding(crate::specs::Reading::row_at))]
     fn read(reader: &mut Reader<'_>) -> Result<Child, Stop> {
-        let id = reader.id()?;
-        let x = reader.i16()?;
-        let y = reader.i16()?;
+        reader.need(6)?;
+        let id = reader.id();
+        let x = reader.i16();
+        let y = reader.i16();
         Ok(Child { id, x, y })
     }
 
@@ -54,8 +55,9 @@ impl Entry for MacroEntry {
 
     #[tactic(auto, unfolding(crate::specs::Reading::row_at))]
     fn read(reader: &mut Reader<'_>) -> Result<MacroEntry, Stop> {
-        let event = reader.u8()?;
-        let macro_id = reader.u8()?;
+        reader.need(2)?;
+        let event = reader.u8();
+        let macro_id = reader.u8();
         Ok(MacroEntry { event, macro_id })
     }
 
@@ -73,8 +75,9 @@ impl Entry for Language {
 
     #[tactic(auto, unfolding(crate::specs::Reading::row_at))]
     fn read(reader: &mut Reader<'_>) -> Result<Language, Stop> {
-        let first = reader.u8()?;
-        let second = reader.u8()?;
+        reader.need(2)?;
+        let first = reader.u8();
+        let second = reader.u8();
         Ok(Language { first, second })
     }
 
@@ -92,7 +95,8 @@ impl Entry for ObjectId {
 
     #[tactic(auto, unfolding(crate::specs::Reading::row_at))]
     fn read(reader: &mut Reader<'_>) -> Result<ObjectId, Stop> {
-        reader.id()
+        reader.need(2)?;
+        Ok(reader.id())
     }
 
     fn write(&self, out: &mut Vec<u8>) -> Result<(), AllocError> {
@@ -108,8 +112,9 @@ impl Entry for Point {
 
     #[tactic(auto, unfolding(crate::specs::Reading::row_at))]
     fn read(reader: &mut Reader<'_>) -> Result<Point, Stop> {
-        let x = reader.u16()?;
-        let y = reader.u16()?;
+        reader.need(4)?;
+        let x = reader.u16();
+        let y = reader.u16();
         Ok(Point { x, y })
     }
 

@@ -1,9 +1,12 @@
 //! The records of output graphics.
 
-ghost use Rattle.std.specs.Prelude.{◌≡◌, OnOk};
-ghost use Rattle.vt_objects.specs.Layout.{fields, values, no_counts};
+ghost use Rattle.std.specs.Prelude.{◌≡◌, ◌≤◌, length, IfOk, OnOk};
+ghost use Rattle.vt_objects.specs.Layout.{fields, values};
+ghost use Rattle.vt_objects.specs.Records.{fields_of, values_of, kind_of};
+ghost use Rattle.vt_objects.specs.declared.kind.Kind.TheVariants as kinds;
 ghost use Rattle.vt_objects.specs.Tables.{meter, linear_bar, arched_bar};
-ghost use Rattle.vt_pool.specs.Reading.{Gives, values_at};
+ghost use Rattle.vt_pool.specs.Heads.{Reads, fields_at};
+ghost use Rattle.vt_pool.specs.Reading.{head_size};
 ghost use Rattle.vt_pool.specs.Writing.{written};
 
 use crate::entry::{entries, put_entries};
@@ -11,26 +14,28 @@ use crate::reader::Reader;
 use crate::stop::Stop;
 use crate::write::{put_id, put_u8, put_u16};
 use std::alloc::{AllocError, Global};
-use vt_objects::{ArchedBar, LinearBar, Meter};
+use vt_objects::{ArchedBar, LinearBar, Meter, Object};
 
-pub fn read_meter(alloc: Global, reader: &mut Reader<'_>) -> Result<Meter, Stop>
-    ensures { Gives (λ x. (values meter x, reader.new)) result (values_at (fields meter) no_counts reader.old) }
+pub fn read_meter<'a>(alloc: Global, reader: &mut Reader<'a>) -> Result<Object<&'a [u8]>, Stop>
+    requires { head_size (fields_of kinds.Meter) ≤ length reader.old }
+    ensures read { Reads (λ o. (values_of o, reader.new)) result (fields_at (fields_of kinds.Meter) reader.old) }
+    ensures kind { IfOk result (λ o. kind_of o ≡ kinds.Meter) }
 {
-    let width = reader.u16()?;
-    let needle_colour = reader.u8()?;
-    let border_colour = reader.u8()?;
-    let arc_colour = reader.u8()?;
-    let options = reader.u8()?;
-    let ticks = reader.u8()?;
-    let start = reader.u8()?;
-    let end = reader.u8()?;
-    let min = reader.u16()?;
-    let max = reader.u16()?;
-    let variable = reader.id()?;
-    let value = reader.u16()?;
-    let macro_count = reader.u8()?;
+    let width = reader.u16();
+    let needle_colour = reader.u8();
+    let border_colour = reader.u8();
+    let arc_colour = reader.u8();
+    let options = reader.u8();
+    let ticks = reader.u8();
+    let start = reader.u8();
+    let end = reader.u8();
+    let min = reader.u16();
+    let max = reader.u16();
+    let variable = reader.id();
+    let value = reader.u16();
+    let macro_count = reader.u8();
     let macros = entries(alloc, reader, macro_count)?;
-    Ok(Meter {
+    Ok(Object::Meter(Meter {
         width,
         needle_colour,
         border_colour,
@@ -44,7 +49,7 @@ pub fn read_meter(alloc: Global, reader: &mut Reader<'_>) -> Result<Meter, Stop>
         variable,
         value,
         macros,
-    })
+    }))
 }
 
 pub fn write_meter(out: &mut Vec<u8>, o: &Meter) -> Result<(), AllocError>
@@ -67,24 +72,26 @@ pub fn write_meter(out: &mut Vec<u8>, o: &Meter) -> Result<(), AllocError>
     Ok(())
 }
 
-pub fn read_linear_bar(alloc: Global, reader: &mut Reader<'_>) -> Result<LinearBar, Stop>
-    ensures { Gives (λ x. (values linear_bar x, reader.new)) result (values_at (fields linear_bar) no_counts reader.old) }
+pub fn read_linear_bar<'a>(alloc: Global, reader: &mut Reader<'a>) -> Result<Object<&'a [u8]>, Stop>
+    requires { head_size (fields_of kinds.LinearBar) ≤ length reader.old }
+    ensures read { Reads (λ o. (values_of o, reader.new)) result (fields_at (fields_of kinds.LinearBar) reader.old) }
+    ensures kind { IfOk result (λ o. kind_of o ≡ kinds.LinearBar) }
 {
-    let width = reader.u16()?;
-    let height = reader.u16()?;
-    let colour = reader.u8()?;
-    let target_colour = reader.u8()?;
-    let options = reader.u8()?;
-    let ticks = reader.u8()?;
-    let min = reader.u16()?;
-    let max = reader.u16()?;
-    let variable = reader.id()?;
-    let value = reader.u16()?;
-    let target_variable = reader.id()?;
-    let target = reader.u16()?;
-    let macro_count = reader.u8()?;
+    let width = reader.u16();
+    let height = reader.u16();
+    let colour = reader.u8();
+    let target_colour = reader.u8();
+    let options = reader.u8();
+    let ticks = reader.u8();
+    let min = reader.u16();
+    let max = reader.u16();
+    let variable = reader.id();
+    let value = reader.u16();
+    let target_variable = reader.id();
+    let target = reader.u16();
+    let macro_count = reader.u8();
     let macros = entries(alloc, reader, macro_count)?;
-    Ok(LinearBar {
+    Ok(Object::LinearBar(LinearBar {
         width,
         height,
         colour,
@@ -98,7 +105,7 @@ pub fn read_linear_bar(alloc: Global, reader: &mut Reader<'_>) -> Result<LinearB
         target_variable,
         target,
         macros,
-    })
+    }))
 }
 
 pub fn write_linear_bar(out: &mut Vec<u8>, o: &LinearBar) -> Result<(), AllocError>
@@ -121,26 +128,28 @@ pub fn write_linear_bar(out: &mut Vec<u8>, o: &LinearBar) -> Result<(), AllocErr
     Ok(())
 }
 
-pub fn read_arched_bar(alloc: Global, reader: &mut Reader<'_>) -> Result<ArchedBar, Stop>
-    ensures { Gives (λ x. (values arched_bar x, reader.new)) result (values_at (fields arched_bar) no_counts reader.old) }
+pub fn read_arched_bar<'a>(alloc: Global, reader: &mut Reader<'a>) -> Result<Object<&'a [u8]>, Stop>
+    requires { head_size (fields_of kinds.ArchedBar) ≤ length reader.old }
+    ensures read { Reads (λ o. (values_of o, reader.new)) result (fields_at (fields_of kinds.ArchedBar) reader.old) }
+    ensures kind { IfOk result (λ o. kind_of o ≡ kinds.ArchedBar) }
 {
-    let width = reader.u16()?;
-    let height = reader.u16()?;
-    let colour = reader.u8()?;
-    let target_colour = reader.u8()?;
-    let options = reader.u8()?;
-    let start = reader.u8()?;
-    let end = reader.u8()?;
-    let bar_width = reader.u16()?;
-    let min = reader.u16()?;
-    let max = reader.u16()?;
-    let variable = reader.id()?;
-    let value = reader.u16()?;
-    let target_variable = reader.id()?;
-    let target = reader.u16()?;
-    let macro_count = reader.u8()?;
+    let width = reader.u16();
+    let height = reader.u16();
+    let colour = reader.u8();
+    let target_colour = reader.u8();
+    let options = reader.u8();
+    let start = reader.u8();
+    let end = reader.u8();
+    let bar_width = reader.u16();
+    let min = reader.u16();
+    let max = reader.u16();
+    let variable = reader.id();
+    let value = reader.u16();
+    let target_variable = reader.id();
+    let target = reader.u16();
+    let macro_count = reader.u8();
     let macros = entries(alloc, reader, macro_count)?;
-    Ok(ArchedBar {
+    Ok(Object::ArchedBar(ArchedBar {
         width,
         height,
         colour,
@@ -156,7 +165,7 @@ pub fn read_arched_bar(alloc: Global, reader: &mut Reader<'_>) -> Result<ArchedB
         target_variable,
         target,
         macros,
-    })
+    }))
 }
 
 pub fn write_arched_bar(out: &mut Vec<u8>, o: &ArchedBar) -> Result<(), AllocError>

@@ -1,9 +1,12 @@
 //! The records of output shapes.
 
-ghost use Rattle.std.specs.Prelude.{◌≡◌, OnOk};
-ghost use Rattle.vt_objects.specs.Layout.{fields, values, no_counts};
+ghost use Rattle.std.specs.Prelude.{◌≡◌, ◌≤◌, length, IfOk, OnOk};
+ghost use Rattle.vt_objects.specs.Layout.{fields, values};
+ghost use Rattle.vt_objects.specs.Records.{fields_of, values_of, kind_of};
+ghost use Rattle.vt_objects.specs.declared.kind.Kind.TheVariants as kinds;
 ghost use Rattle.vt_objects.specs.Tables.{line, rectangle, ellipse, polygon};
-ghost use Rattle.vt_pool.specs.Reading.{Gives, values_at};
+ghost use Rattle.vt_pool.specs.Heads.{Reads, fields_at};
+ghost use Rattle.vt_pool.specs.Reading.{head_size};
 ghost use Rattle.vt_pool.specs.Writing.{written};
 
 use crate::entry::{entries, put_entries};
@@ -11,24 +14,26 @@ use crate::reader::Reader;
 use crate::stop::Stop;
 use crate::write::{put_id, put_u8, put_u16};
 use std::alloc::{AllocError, Global};
-use vt_objects::{Ellipse, Line, Polygon, Rectangle};
+use vt_objects::{Ellipse, Line, Object, Polygon, Rectangle};
 
-pub fn read_line(alloc: Global, reader: &mut Reader<'_>) -> Result<Line, Stop>
-    ensures { Gives (λ x. (values line x, reader.new)) result (values_at (fields line) no_counts reader.old) }
+pub fn read_line<'a>(alloc: Global, reader: &mut Reader<'a>) -> Result<Object<&'a [u8]>, Stop>
+    requires { head_size (fields_of kinds.Line) ≤ length reader.old }
+    ensures read { Reads (λ o. (values_of o, reader.new)) result (fields_at (fields_of kinds.Line) reader.old) }
+    ensures kind { IfOk result (λ o. kind_of o ≡ kinds.Line) }
 {
-    let line_attributes = reader.id()?;
-    let width = reader.u16()?;
-    let height = reader.u16()?;
-    let direction = reader.u8()?;
-    let macro_count = reader.u8()?;
+    let line_attributes = reader.id();
+    let width = reader.u16();
+    let height = reader.u16();
+    let direction = reader.u8();
+    let macro_count = reader.u8();
     let macros = entries(alloc, reader, macro_count)?;
-    Ok(Line {
+    Ok(Object::Line(Line {
         line_attributes,
         width,
         height,
         direction,
         macros,
-    })
+    }))
 }
 
 pub fn write_line(out: &mut Vec<u8>, o: &Line) -> Result<(), AllocError>
@@ -43,24 +48,26 @@ pub fn write_line(out: &mut Vec<u8>, o: &Line) -> Result<(), AllocError>
     Ok(())
 }
 
-pub fn read_rectangle(alloc: Global, reader: &mut Reader<'_>) -> Result<Rectangle, Stop>
-    ensures { Gives (λ x. (values rectangle x, reader.new)) result (values_at (fields rectangle) no_counts reader.old) }
+pub fn read_rectangle<'a>(alloc: Global, reader: &mut Reader<'a>) -> Result<Object<&'a [u8]>, Stop>
+    requires { head_size (fields_of kinds.Rectangle) ≤ length reader.old }
+    ensures read { Reads (λ o. (values_of o, reader.new)) result (fields_at (fields_of kinds.Rectangle) reader.old) }
+    ensures kind { IfOk result (λ o. kind_of o ≡ kinds.Rectangle) }
 {
-    let line_attributes = reader.id()?;
-    let width = reader.u16()?;
-    let height = reader.u16()?;
-    let suppression = reader.u8()?;
-    let fill = reader.id()?;
-    let macro_count = reader.u8()?;
+    let line_attributes = reader.id();
+    let width = reader.u16();
+    let height = reader.u16();
+    let suppression = reader.u8();
+    let fill = reader.id();
+    let macro_count = reader.u8();
     let macros = entries(alloc, reader, macro_count)?;
-    Ok(Rectangle {
+    Ok(Object::Rectangle(Rectangle {
         line_attributes,
         width,
         height,
         suppression,
         fill,
         macros,
-    })
+    }))
 }
 
 pub fn write_rectangle(out: &mut Vec<u8>, o: &Rectangle) -> Result<(), AllocError>
@@ -76,19 +83,21 @@ pub fn write_rectangle(out: &mut Vec<u8>, o: &Rectangle) -> Result<(), AllocErro
     Ok(())
 }
 
-pub fn read_ellipse(alloc: Global, reader: &mut Reader<'_>) -> Result<Ellipse, Stop>
-    ensures { Gives (λ x. (values ellipse x, reader.new)) result (values_at (fields ellipse) no_counts reader.old) }
+pub fn read_ellipse<'a>(alloc: Global, reader: &mut Reader<'a>) -> Result<Object<&'a [u8]>, Stop>
+    requires { head_size (fields_of kinds.Ellipse) ≤ length reader.old }
+    ensures read { Reads (λ o. (values_of o, reader.new)) result (fields_at (fields_of kinds.Ellipse) reader.old) }
+    ensures kind { IfOk result (λ o. kind_of o ≡ kinds.Ellipse) }
 {
-    let line_attributes = reader.id()?;
-    let width = reader.u16()?;
-    let height = reader.u16()?;
-    let ellipse_type = reader.u8()?;
-    let start = reader.u8()?;
-    let end = reader.u8()?;
-    let fill = reader.id()?;
-    let macro_count = reader.u8()?;
+    let line_attributes = reader.id();
+    let width = reader.u16();
+    let height = reader.u16();
+    let ellipse_type = reader.u8();
+    let start = reader.u8();
+    let end = reader.u8();
+    let fill = reader.id();
+    let macro_count = reader.u8();
     let macros = entries(alloc, reader, macro_count)?;
-    Ok(Ellipse {
+    Ok(Object::Ellipse(Ellipse {
         line_attributes,
         width,
         height,
@@ -97,7 +106,7 @@ pub fn read_ellipse(alloc: Global, reader: &mut Reader<'_>) -> Result<Ellipse, S
         end,
         fill,
         macros,
-    })
+    }))
 }
 
 pub fn write_ellipse(out: &mut Vec<u8>, o: &Ellipse) -> Result<(), AllocError>
@@ -115,19 +124,21 @@ pub fn write_ellipse(out: &mut Vec<u8>, o: &Ellipse) -> Result<(), AllocError>
     Ok(())
 }
 
-pub fn read_polygon(alloc: Global, reader: &mut Reader<'_>) -> Result<Polygon, Stop>
-    ensures { Gives (λ x. (values polygon x, reader.new)) result (values_at (fields polygon) no_counts reader.old) }
+pub fn read_polygon<'a>(alloc: Global, reader: &mut Reader<'a>) -> Result<Object<&'a [u8]>, Stop>
+    requires { head_size (fields_of kinds.Polygon) ≤ length reader.old }
+    ensures read { Reads (λ o. (values_of o, reader.new)) result (fields_at (fields_of kinds.Polygon) reader.old) }
+    ensures kind { IfOk result (λ o. kind_of o ≡ kinds.Polygon) }
 {
-    let width = reader.u16()?;
-    let height = reader.u16()?;
-    let line_attributes = reader.id()?;
-    let fill = reader.id()?;
-    let polygon_type = reader.u8()?;
-    let point_count = reader.u8()?;
-    let macro_count = reader.u8()?;
+    let width = reader.u16();
+    let height = reader.u16();
+    let line_attributes = reader.id();
+    let fill = reader.id();
+    let polygon_type = reader.u8();
+    let point_count = reader.u8();
+    let macro_count = reader.u8();
     let points = entries(alloc, reader, point_count)?;
     let macros = entries(alloc, reader, macro_count)?;
-    Ok(Polygon {
+    Ok(Object::Polygon(Polygon {
         width,
         height,
         line_attributes,
@@ -135,7 +146,7 @@ pub fn read_polygon(alloc: Global, reader: &mut Reader<'_>) -> Result<Polygon, S
         polygon_type,
         points,
         macros,
-    })
+    }))
 }
 
 pub fn write_polygon(out: &mut Vec<u8>, o: &Polygon) -> Result<(), AllocError>
