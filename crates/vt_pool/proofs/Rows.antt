@@ -1,11 +1,11 @@
 -- Reading rows one after the other, as a loop does.
-use Rattle.std.proofs.Common.{◌≡◌, ℕ, suc, ◌-◌, ◌+◌, ◌≤◌, ◌<◌, List, [], ◌∷◌, ◌++◌, length, Option, Some, None, refl, sym, ap, ◌∙◌, append_assoc, arith}
+use Rattle.std.proofs.Common.{◌≡◌, ◌⊎◌, ℕ, suc, ◌-◌, ◌+◌, ◌≤◌, ◌<◌, List, [], ◌∷◌, ◌++◌, length, Option, Some, None, refl, sym, ap, ◌∙◌, append_assoc, inr, arith}
 use Rattle.std.proofs.lemmas.List.{append-nil}
 use Rattle.vt_objects.specs.Layout.{Size, Unsigned, Signed, Numeral, natural, integer, bytes_in}
 use Rattle.vt_pool.specs.declared.stop.Stop.{Stop}
 use Rattle.vt_pool.specs.declared.stop.Stop.TheVariants as stops
 use Rattle.vt_pool.proofs.Numbers.{number_then_short, signed_then_short}
-use Rattle.vt_pool.specs.Reading.{◌>>=◌, Fails, row_at, rows_at}
+use Rattle.vt_pool.specs.Reading.{◌>>=◌, row_at, rows_at}
 
 -- the rows that were read before, and those that are still read
 abbrev pub with_front : List (List Numeral) → Option (List (List Numeral) × List ℕ) → Option (List (List Numeral) × List ℕ)
@@ -25,12 +25,12 @@ goes_on sizes front count i all row after total lt h so_far =
     sym one ∙ so_far
 
 pub ends : (sizes : List Size) (stop : Stop) (front : List (List Numeral)) (count i : ℕ) (all : List ℕ) (total : Option (List (List Numeral) × List ℕ)) → i < count → (stop ≡ stops.Truncated) × (row_at sizes all ≡ None)
-    → with_front front (rows_at sizes (count - i) all) ≡ total → Fails stop total
+    → with_front front (rows_at sizes (count - i) all) ≡ total → (stop ≡ stops.OutOfMemory) ⊎ ((stop ≡ stops.Truncated) × (total ≡ None))
 unfolding rows_at
 ends sizes stop front count i all total lt h so_far =
     let k : count - i ≡ suc (count - (i + 1)) = omega arith in
     let one : with_front front (rows_at sizes (count - i) all) ≡ None = rw (k, h.1) refl in
-    rw h.0 (sym so_far ∙ one)
+    inr (h.0, sym so_far ∙ one)
 
 pub is_done : (sizes : List Size) (front : List (List Numeral)) (count i : ℕ) (all : List ℕ) (total : Option (List (List Numeral) × List ℕ)) → count ≤ i → with_front front (rows_at sizes (count - i) all) ≡ total → total ≡ Some (front, all)
 unfolding rows_at

@@ -6,10 +6,9 @@ use Rattle.std.proofs.lemmas.List.Elements.{recursion_from_All, All-from_get_or}
 use Rattle.byteorder.specs.Endian.{little_bytes}
 use Rattle.std.specs.Int.{cast_unsigned}
 use Rattle.vt_objects.specs.Layout.{Size, Unsigned, Signed, Numeral, natural, integer, bytes_in, Field, Number, Count, Rows, Bytes, ScaleBytes, DecimalPlaces, Value, number, rows, bytes, Counts, counted, count_of, row_spelling, rows_spelling, spelling, RowFits, Shaped, no_counts}
-use Rattle.vt_pool.specs.declared.stop.Stop.{Stop}
 use Rattle.vt_pool.specs.declared.stop.Stop.TheVariants as stops
-use Rattle.vt_pool.specs.Heads.{Reads, fitting, fields_at}
-use Rattle.vt_pool.specs.Reading.{◌>>=◌, Fails, bytes_at, number_at, signed_at, row_at, rows_at, values_at, head_size}
+use Rattle.vt_pool.specs.Heads.{fitting, fields_at}
+use Rattle.vt_pool.specs.Reading.{◌>>=◌, bytes_at, number_at, signed_at, row_at, rows_at, values_at, head_size}
 use Rattle.vt_pool.proofs.Numbers.{IsBytes, bind_some, some_is, Takes, Takes-nothing, Takes-then, bytes_take, bytes_again, number_takes, number_again, signed_takes, signed_again, number_then_short, signed_then_short}
 
 -- ---- rows
@@ -183,13 +182,3 @@ values_short (DecimalPlaces ∷ fs) counts all lt = number_first 1 fs all (λ n.
 
 pub fields_short : (fs : List Field) (all : List ℕ) → length all < head_size fs → fields_at fs all ≡ Err stops.Truncated
 fields_short fs all lt = ap (fitting fs) (values_short fs no_counts all lt)
-
--- what fails makes all fields fail that begin with it
-pub reads_by : {A : Type 0} (fs : List Field) (stop : Stop) (r : Option A) (read : Option (List Value × List ℕ)) → Fails stop r → (r ≡ None → read ≡ None) → Reads (λ (x : List Value × List ℕ). x) (Err stop) (fitting fs read)
-reads_by fs stops.Truncated r read fails none = ap (fitting fs) (none fails)
-reads_by fs stops.OutOfMemory r read fails none = tt
-reads_by fs stops.UnknownType r read fails none = absurd fails
-reads_by fs stops.LeftOutType r read fails none = absurd fails
-reads_by fs (stops.Scale at) r read fails none = absurd fails
-reads_by fs (stops.Decimals at) r read fails none = absurd fails
-reads_by fs stops.NullId r read fails none = absurd fails

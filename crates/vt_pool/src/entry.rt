@@ -1,6 +1,7 @@
 //! The entries of the lists of a record.
 
 ghost use Rattle.std.specs.Prelude.{◌≡◌, ◌++◌, List, length, map, IfOk, OnOk};
+ghost use Rattle.byteorder.specs.Endian.{little_bytes};
 ghost use Rattle.vt_objects.specs.Layout.{Size, Numeral, row_spelling, rows_spelling};
 ghost use Rattle.vt_objects.specs.Tables.{child_sizes, child_numbers, macro_sizes, macro_numbers, language_sizes, language_numbers, id_sizes, id_numbers, point_sizes, point_numbers};
 ghost use Rattle.vt_pool.specs.Reading.{Finds, Gives, row_at, rows_at};
@@ -43,8 +44,7 @@ impl Entry for Child {
     fn write(&self, out: &mut Vec<u8>) -> Result<(), AllocError> {
         put_id(out, self.id)?;
         put_i16(out, self.x)?;
-        put_i16(out, self.y)?;
-        Ok(())
+        put_i16(out, self.y)
     }
 }
 
@@ -63,8 +63,7 @@ impl Entry for MacroEntry {
 
     fn write(&self, out: &mut Vec<u8>) -> Result<(), AllocError> {
         put_u8(out, self.event)?;
-        put_u8(out, self.macro_id)?;
-        Ok(())
+        put_u8(out, self.macro_id)
     }
 }
 
@@ -83,8 +82,7 @@ impl Entry for Language {
 
     fn write(&self, out: &mut Vec<u8>) -> Result<(), AllocError> {
         put_u8(out, self.first)?;
-        put_u8(out, self.second)?;
-        Ok(())
+        put_u8(out, self.second)
     }
 }
 
@@ -100,8 +98,7 @@ impl Entry for ObjectId {
     }
 
     fn write(&self, out: &mut Vec<u8>) -> Result<(), AllocError> {
-        put_id(out, *self)?;
-        Ok(())
+        put_id(out, *self)
     }
 }
 
@@ -120,8 +117,7 @@ impl Entry for Point {
 
     fn write(&self, out: &mut Vec<u8>) -> Result<(), AllocError> {
         put_u16(out, self.x)?;
-        put_u16(out, self.y)?;
-        Ok(())
+        put_u16(out, self.y)
     }
 }
 
@@ -149,4 +145,12 @@ pub fn put_entries<T: Entry>(out: &mut Vec<u8>, entries: &Entries<T>) -> Result<
         entry.write(out)?;
     }
     Ok(())
+}
+
+/// Writes how many entries there are, and then the entries.
+pub fn put_counted<T: Entry>(out: &mut Vec<u8>, entries: &Entries<T>) -> Result<(), AllocError>
+    ensures { OnOk result (out.new.items ≡ (out.old.items ++ little_bytes 1 (length entries.now)) ++ rows_spelling T.sizes (map T.numbers entries.now)) }
+{
+    put_u8(out, entries.len())?;
+    put_entries(out, entries)
 }

@@ -40,6 +40,14 @@ pub fn put_i16(out: &mut Vec<u8>, n: i16) -> Result<(), AllocError>
     put_u16(out, n.cast_unsigned())
 }
 
+/// A width and a height.
+pub fn put_size(out: &mut Vec<u8>, width: u16, height: u16) -> Result<(), AllocError>
+    ensures { OnOk result (out.new.items ≡ (out.old.items ++ little_bytes 2 width) ++ little_bytes 2 height) }
+{
+    put_u16(out, width)?;
+    put_u16(out, height)
+}
+
 pub fn put_u32(out: &mut Vec<u8>, n: u32) -> Result<(), AllocError>
     ensures { OnOk result (out.new.items ≡ out.old.items ++ little_bytes 4 n) }
 {

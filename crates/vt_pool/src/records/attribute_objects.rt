@@ -9,7 +9,7 @@ ghost use Rattle.vt_pool.specs.Heads.{Reads, fields_at};
 ghost use Rattle.vt_pool.specs.Reading.{head_size};
 ghost use Rattle.vt_pool.specs.Writing.{written};
 
-use crate::entry::{entries, put_entries};
+use crate::entry::{entries, put_counted};
 use crate::reader::Reader;
 use crate::stop::Stop;
 use crate::write::{put_bytes, put_id, put_u8, put_u16};
@@ -44,9 +44,7 @@ pub fn write_font(out: &mut Vec<u8>, o: &Font) -> Result<(), AllocError>
     put_u8(out, o.size)?;
     put_u8(out, o.font_type)?;
     put_u8(out, o.style)?;
-    put_u8(out, o.macros.len())?;
-    put_entries(out, &o.macros)?;
-    Ok(())
+    put_counted(out, &o.macros)
 }
 
 pub fn read_line_attributes<'a>(
@@ -76,9 +74,7 @@ pub fn write_line_attributes(out: &mut Vec<u8>, o: &LineAttributes) -> Result<()
     put_u8(out, o.colour)?;
     put_u8(out, o.width)?;
     put_u16(out, o.line_art)?;
-    put_u8(out, o.macros.len())?;
-    put_entries(out, &o.macros)?;
-    Ok(())
+    put_counted(out, &o.macros)
 }
 
 pub fn read_fill_attributes<'a>(
@@ -108,9 +104,7 @@ pub fn write_fill_attributes(out: &mut Vec<u8>, o: &FillAttributes) -> Result<()
     put_u8(out, o.fill_type)?;
     put_u8(out, o.colour)?;
     put_id(out, o.pattern)?;
-    put_u8(out, o.macros.len())?;
-    put_entries(out, &o.macros)?;
-    Ok(())
+    put_counted(out, &o.macros)
 }
 
 pub fn read_input_attributes<'a>(
@@ -143,7 +137,5 @@ pub fn write_input_attributes<B: AsSlice<u8>>(
     let text = o.text.as_slice();
     put_u8(out, text.len() as u8)?;
     put_bytes(out, text)?;
-    put_u8(out, o.macros.len())?;
-    put_entries(out, &o.macros)?;
-    Ok(())
+    put_counted(out, &o.macros)
 }

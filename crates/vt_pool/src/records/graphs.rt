@@ -9,10 +9,10 @@ ghost use Rattle.vt_pool.specs.Heads.{Reads, fields_at};
 ghost use Rattle.vt_pool.specs.Reading.{head_size};
 ghost use Rattle.vt_pool.specs.Writing.{written};
 
-use crate::entry::{entries, put_entries};
+use crate::entry::{entries, put_counted};
 use crate::reader::Reader;
 use crate::stop::Stop;
-use crate::write::{put_id, put_u8, put_u16};
+use crate::write::{put_id, put_size, put_u8, put_u16};
 use std::alloc::{AllocError, Global};
 use vt_objects::{ArchedBar, LinearBar, Meter, Object};
 
@@ -67,9 +67,7 @@ pub fn write_meter(out: &mut Vec<u8>, o: &Meter) -> Result<(), AllocError>
     put_u16(out, o.max)?;
     put_id(out, o.variable)?;
     put_u16(out, o.value)?;
-    put_u8(out, o.macros.len())?;
-    put_entries(out, &o.macros)?;
-    Ok(())
+    put_counted(out, &o.macros)
 }
 
 pub fn read_linear_bar<'a>(alloc: Global, reader: &mut Reader<'a>) -> Result<Object<&'a [u8]>, Stop>
@@ -111,8 +109,7 @@ pub fn read_linear_bar<'a>(alloc: Global, reader: &mut Reader<'a>) -> Result<Obj
 pub fn write_linear_bar(out: &mut Vec<u8>, o: &LinearBar) -> Result<(), AllocError>
     ensures { OnOk result (out.new.items ≡ written out.old.items (fields linear_bar) (values linear_bar o.now)) }
 {
-    put_u16(out, o.width)?;
-    put_u16(out, o.height)?;
+    put_size(out, o.width, o.height)?;
     put_u8(out, o.colour)?;
     put_u8(out, o.target_colour)?;
     put_u8(out, o.options)?;
@@ -123,9 +120,7 @@ pub fn write_linear_bar(out: &mut Vec<u8>, o: &LinearBar) -> Result<(), AllocErr
     put_u16(out, o.value)?;
     put_id(out, o.target_variable)?;
     put_u16(out, o.target)?;
-    put_u8(out, o.macros.len())?;
-    put_entries(out, &o.macros)?;
-    Ok(())
+    put_counted(out, &o.macros)
 }
 
 pub fn read_arched_bar<'a>(alloc: Global, reader: &mut Reader<'a>) -> Result<Object<&'a [u8]>, Stop>
@@ -171,8 +166,7 @@ pub fn read_arched_bar<'a>(alloc: Global, reader: &mut Reader<'a>) -> Result<Obj
 pub fn write_arched_bar(out: &mut Vec<u8>, o: &ArchedBar) -> Result<(), AllocError>
     ensures { OnOk result (out.new.items ≡ written out.old.items (fields arched_bar) (values arched_bar o.now)) }
 {
-    put_u16(out, o.width)?;
-    put_u16(out, o.height)?;
+    put_size(out, o.width, o.height)?;
     put_u8(out, o.colour)?;
     put_u8(out, o.target_colour)?;
     put_u8(out, o.options)?;
@@ -185,7 +179,5 @@ pub fn write_arched_bar(out: &mut Vec<u8>, o: &ArchedBar) -> Result<(), AllocErr
     put_u16(out, o.value)?;
     put_id(out, o.target_variable)?;
     put_u16(out, o.target)?;
-    put_u8(out, o.macros.len())?;
-    put_entries(out, &o.macros)?;
-    Ok(())
+    put_counted(out, &o.macros)
 }

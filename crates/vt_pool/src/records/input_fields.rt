@@ -9,10 +9,10 @@ ghost use Rattle.vt_pool.specs.Heads.{Reads, fields_at};
 ghost use Rattle.vt_pool.specs.Reading.{head_size};
 ghost use Rattle.vt_pool.specs.Writing.{written};
 
-use crate::entry::{entries, put_entries};
+use crate::entry::{entries, put_counted, put_entries};
 use crate::reader::Reader;
 use crate::stop::Stop;
-use crate::write::{put_bytes, put_i32, put_id, put_scale, put_u8, put_u16, put_u32};
+use crate::write::{put_bytes, put_i32, put_id, put_scale, put_size, put_u8, put_u16, put_u32};
 use std::alloc::{AllocError, Global};
 use std::convert::AsSlice;
 use vt_objects::{Decimals, InputBoolean, InputList, InputNumber, InputString, Object, Scale};
@@ -53,9 +53,7 @@ pub fn write_input_boolean(out: &mut Vec<u8>, o: &InputBoolean) -> Result<(), Al
     put_id(out, o.variable)?;
     put_u8(out, o.value)?;
     put_u8(out, o.enabled)?;
-    put_u8(out, o.macros.len())?;
-    put_entries(out, &o.macros)?;
-    Ok(())
+    put_counted(out, &o.macros)
 }
 
 pub fn read_input_string<'a>(
@@ -100,8 +98,7 @@ pub fn write_input_string<B: AsSlice<u8>>(
 ) -> Result<(), AllocError>
     ensures { OnOk result (out.new.items ≡ written out.old.items (fields (input_string {B = List ℕ})) (values input_string o.now)) }
 {
-    put_u16(out, o.width)?;
-    put_u16(out, o.height)?;
+    put_size(out, o.width, o.height)?;
     put_u8(out, o.colour)?;
     put_id(out, o.font)?;
     put_id(out, o.input_attributes)?;
@@ -112,9 +109,7 @@ pub fn write_input_string<B: AsSlice<u8>>(
     put_u8(out, text.len() as u8)?;
     put_bytes(out, text)?;
     put_u8(out, o.enabled)?;
-    put_u8(out, o.macros.len())?;
-    put_entries(out, &o.macros)?;
-    Ok(())
+    put_counted(out, &o.macros)
 }
 
 pub fn read_input_number<'a>(
@@ -171,8 +166,7 @@ pub fn read_input_number<'a>(
 pub fn write_input_number(out: &mut Vec<u8>, o: &InputNumber) -> Result<(), AllocError>
     ensures { OnOk result (out.new.items ≡ written out.old.items (fields input_number) (values input_number o.now)) }
 {
-    put_u16(out, o.width)?;
-    put_u16(out, o.height)?;
+    put_size(out, o.width, o.height)?;
     put_u8(out, o.colour)?;
     put_id(out, o.font)?;
     put_u8(out, o.options)?;
@@ -186,9 +180,7 @@ pub fn write_input_number(out: &mut Vec<u8>, o: &InputNumber) -> Result<(), Allo
     put_u8(out, o.format)?;
     put_u8(out, o.justification)?;
     put_u8(out, o.options_two)?;
-    put_u8(out, o.macros.len())?;
-    put_entries(out, &o.macros)?;
-    Ok(())
+    put_counted(out, &o.macros)
 }
 
 pub fn read_input_list<'a>(alloc: Global, reader: &mut Reader<'a>) -> Result<Object<&'a [u8]>, Stop>
@@ -219,14 +211,12 @@ pub fn read_input_list<'a>(alloc: Global, reader: &mut Reader<'a>) -> Result<Obj
 pub fn write_input_list(out: &mut Vec<u8>, o: &InputList) -> Result<(), AllocError>
     ensures { OnOk result (out.new.items ≡ written out.old.items (fields input_list) (values input_list o.now)) }
 {
-    put_u16(out, o.width)?;
-    put_u16(out, o.height)?;
+    put_size(out, o.width, o.height)?;
     put_id(out, o.variable)?;
     put_u8(out, o.value)?;
     put_u8(out, o.items.len())?;
     put_u8(out, o.options)?;
     put_u8(out, o.macros.len())?;
     put_entries(out, &o.items)?;
-    put_entries(out, &o.macros)?;
-    Ok(())
+    put_entries(out, &o.macros)
 }

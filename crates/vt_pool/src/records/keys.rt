@@ -12,7 +12,7 @@ ghost use Rattle.vt_pool.specs.Writing.{written};
 use crate::entry::{entries, put_entries};
 use crate::reader::Reader;
 use crate::stop::Stop;
-use crate::write::{put_u8, put_u16};
+use crate::write::{put_size, put_u8};
 use std::alloc::{AllocError, Global};
 use vt_objects::{Button, Key, Object, SoftKeyMask};
 
@@ -43,8 +43,7 @@ pub fn write_soft_key_mask(out: &mut Vec<u8>, o: &SoftKeyMask) -> Result<(), All
     put_u8(out, o.keys.len())?;
     put_u8(out, o.macros.len())?;
     put_entries(out, &o.keys)?;
-    put_entries(out, &o.macros)?;
-    Ok(())
+    put_entries(out, &o.macros)
 }
 
 pub fn read_key<'a>(alloc: Global, reader: &mut Reader<'a>) -> Result<Object<&'a [u8]>, Stop>
@@ -74,8 +73,7 @@ pub fn write_key(out: &mut Vec<u8>, o: &Key) -> Result<(), AllocError>
     put_u8(out, o.children.len())?;
     put_u8(out, o.macros.len())?;
     put_entries(out, &o.children)?;
-    put_entries(out, &o.macros)?;
-    Ok(())
+    put_entries(out, &o.macros)
 }
 
 pub fn read_button<'a>(alloc: Global, reader: &mut Reader<'a>) -> Result<Object<&'a [u8]>, Stop>
@@ -108,8 +106,7 @@ pub fn read_button<'a>(alloc: Global, reader: &mut Reader<'a>) -> Result<Object<
 pub fn write_button(out: &mut Vec<u8>, o: &Button) -> Result<(), AllocError>
     ensures { OnOk result (out.new.items ≡ written out.old.items (fields button) (values button o.now)) }
 {
-    put_u16(out, o.width)?;
-    put_u16(out, o.height)?;
+    put_size(out, o.width, o.height)?;
     put_u8(out, o.colour)?;
     put_u8(out, o.border)?;
     put_u8(out, o.key_code)?;
@@ -117,6 +114,5 @@ pub fn write_button(out: &mut Vec<u8>, o: &Button) -> Result<(), AllocError>
     put_u8(out, o.children.len())?;
     put_u8(out, o.macros.len())?;
     put_entries(out, &o.children)?;
-    put_entries(out, &o.macros)?;
-    Ok(())
+    put_entries(out, &o.macros)
 }

@@ -31,6 +31,5 @@ pub fn write_macro_object<B: AsSlice<u8>>(out: &mut Vec<u8>, o: &Macro<B>) -> Re
 {
     let bytes = o.bytes.as_slice();
     put_u16(out, bytes.len() as u16)?;
-    put_bytes(out, bytes)?;
-    Ok(())
+    put_bytes(out, bytes)
 }

@@ -12,7 +12,7 @@ ghost use Rattle.vt_pool.specs.Writing.{written};
 use crate::entry::{entries, put_entries};
 use crate::reader::Reader;
 use crate::stop::Stop;
-use crate::write::{put_id, put_u8, put_u16};
+use crate::write::{put_id, put_size, put_u8};
 use std::alloc::{AllocError, Global};
 use vt_objects::{AlarmMask, Container, DataMask, Object, WorkingSet};
 
@@ -54,8 +54,7 @@ pub fn write_working_set(out: &mut Vec<u8>, o: &WorkingSet) -> Result<(), AllocE
     put_u8(out, o.languages.len())?;
     put_entries(out, &o.children)?;
     put_entries(out, &o.macros)?;
-    put_entries(out, &o.languages)?;
-    Ok(())
+    put_entries(out, &o.languages)
 }
 
 pub fn read_data_mask<'a>(alloc: Global, reader: &mut Reader<'a>) -> Result<Object<&'a [u8]>, Stop>
@@ -85,8 +84,7 @@ pub fn write_data_mask(out: &mut Vec<u8>, o: &DataMask) -> Result<(), AllocError
     put_u8(out, o.children.len())?;
     put_u8(out, o.macros.len())?;
     put_entries(out, &o.children)?;
-    put_entries(out, &o.macros)?;
-    Ok(())
+    put_entries(out, &o.macros)
 }
 
 pub fn read_alarm_mask<'a>(alloc: Global, reader: &mut Reader<'a>) -> Result<Object<&'a [u8]>, Stop>
@@ -122,8 +120,7 @@ pub fn write_alarm_mask(out: &mut Vec<u8>, o: &AlarmMask) -> Result<(), AllocErr
     put_u8(out, o.children.len())?;
     put_u8(out, o.macros.len())?;
     put_entries(out, &o.children)?;
-    put_entries(out, &o.macros)?;
-    Ok(())
+    put_entries(out, &o.macros)
 }
 
 pub fn read_container<'a>(alloc: Global, reader: &mut Reader<'a>) -> Result<Object<&'a [u8]>, Stop>
@@ -150,12 +147,10 @@ pub fn read_container<'a>(alloc: Global, reader: &mut Reader<'a>) -> Result<Obje
 pub fn write_container(out: &mut Vec<u8>, o: &Container) -> Result<(), AllocError>
     ensures { OnOk result (out.new.items ≡ written out.old.items (fields container) (values container o.now)) }
 {
-    put_u16(out, o.width)?;
-    put_u16(out, o.height)?;
+    put_size(out, o.width, o.height)?;
     put_u8(out, o.hidden)?;
     put_u8(out, o.children.len())?;
     put_u8(out, o.macros.len())?;
     put_entries(out, &o.children)?;
-    put_entries(out, &o.macros)?;
-    Ok(())
+    put_entries(out, &o.macros)
 }

@@ -9,10 +9,10 @@ ghost use Rattle.vt_pool.specs.Heads.{Reads, fields_at};
 ghost use Rattle.vt_pool.specs.Reading.{head_size};
 ghost use Rattle.vt_pool.specs.Writing.{written};
 
-use crate::entry::{entries, put_entries};
+use crate::entry::{entries, put_counted};
 use crate::reader::Reader;
 use crate::stop::Stop;
-use crate::write::{put_bytes, put_i32, put_id, put_scale, put_u8, put_u16, put_u32};
+use crate::write::{put_bytes, put_i32, put_id, put_scale, put_size, put_u8, put_u16, put_u32};
 use std::alloc::{AllocError, Global};
 use std::convert::AsSlice;
 use vt_objects::{Decimals, Object, OutputNumber, OutputString, Scale};
@@ -55,8 +55,7 @@ pub fn write_output_string<B: AsSlice<u8>>(
 ) -> Result<(), AllocError>
     ensures { OnOk result (out.new.items ≡ written out.old.items (fields (output_string {B = List ℕ})) (values output_string o.now)) }
 {
-    put_u16(out, o.width)?;
-    put_u16(out, o.height)?;
+    put_size(out, o.width, o.height)?;
     put_u8(out, o.colour)?;
     put_id(out, o.font)?;
     put_u8(out, o.options)?;
@@ -65,9 +64,7 @@ pub fn write_output_string<B: AsSlice<u8>>(
     let text = o.text.as_slice();
     put_u16(out, text.len() as u16)?;
     put_bytes(out, text)?;
-    put_u8(out, o.macros.len())?;
-    put_entries(out, &o.macros)?;
-    Ok(())
+    put_counted(out, &o.macros)
 }
 
 pub fn read_output_number<'a>(
@@ -118,8 +115,7 @@ pub fn read_output_number<'a>(
 pub fn write_output_number(out: &mut Vec<u8>, o: &OutputNumber) -> Result<(), AllocError>
     ensures { OnOk result (out.new.items ≡ written out.old.items (fields output_number) (values output_number o.now)) }
 {
-    put_u16(out, o.width)?;
-    put_u16(out, o.height)?;
+    put_size(out, o.width, o.height)?;
     put_u8(out, o.colour)?;
     put_id(out, o.font)?;
     put_u8(out, o.options)?;
@@ -130,7 +126,5 @@ pub fn write_output_number(out: &mut Vec<u8>, o: &OutputNumber) -> Result<(), Al
     put_u8(out, o.decimals.count())?;
     put_u8(out, o.format)?;
     put_u8(out, o.justification)?;
-    put_u8(out, o.macros.len())?;
-    put_entries(out, &o.macros)?;
-    Ok(())
+    put_counted(out, &o.macros)
 }

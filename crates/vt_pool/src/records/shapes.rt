@@ -9,10 +9,10 @@ ghost use Rattle.vt_pool.specs.Heads.{Reads, fields_at};
 ghost use Rattle.vt_pool.specs.Reading.{head_size};
 ghost use Rattle.vt_pool.specs.Writing.{written};
 
-use crate::entry::{entries, put_entries};
+use crate::entry::{entries, put_counted, put_entries};
 use crate::reader::Reader;
 use crate::stop::Stop;
-use crate::write::{put_id, put_u8, put_u16};
+use crate::write::{put_id, put_size, put_u8};
 use std::alloc::{AllocError, Global};
 use vt_objects::{Ellipse, Line, Object, Polygon, Rectangle};
 
@@ -40,12 +40,9 @@ pub fn write_line(out: &mut Vec<u8>, o: &Line) -> Result<(), AllocError>
     ensures { OnOk result (out.new.items ≡ written out.old.items (fields line) (values line o.now)) }
 {
     put_id(out, o.line_attributes)?;
-    put_u16(out, o.width)?;
-    put_u16(out, o.height)?;
+    put_size(out, o.width, o.height)?;
     put_u8(out, o.direction)?;
-    put_u8(out, o.macros.len())?;
-    put_entries(out, &o.macros)?;
-    Ok(())
+    put_counted(out, &o.macros)
 }
 
 pub fn read_rectangle<'a>(alloc: Global, reader: &mut Reader<'a>) -> Result<Object<&'a [u8]>, Stop>
@@ -74,13 +71,10 @@ pub fn write_rectangle(out: &mut Vec<u8>, o: &Rectangle) -> Result<(), AllocErro
     ensures { OnOk result (out.new.items ≡ written out.old.items (fields rectangle) (values rectangle o.now)) }
 {
     put_id(out, o.line_attributes)?;
-    put_u16(out, o.width)?;
-    put_u16(out, o.height)?;
+    put_size(out, o.width, o.height)?;
     put_u8(out, o.suppression)?;
     put_id(out, o.fill)?;
-    put_u8(out, o.macros.len())?;
-    put_entries(out, &o.macros)?;
-    Ok(())
+    put_counted(out, &o.macros)
 }
 
 pub fn read_ellipse<'a>(alloc: Global, reader: &mut Reader<'a>) -> Result<Object<&'a [u8]>, Stop>
@@ -113,15 +107,12 @@ pub fn write_ellipse(out: &mut Vec<u8>, o: &Ellipse) -> Result<(), AllocError>
     ensures { OnOk result (out.new.items ≡ written out.old.items (fields ellipse) (values ellipse o.now)) }
 {
     put_id(out, o.line_attributes)?;
-    put_u16(out, o.width)?;
-    put_u16(out, o.height)?;
+    put_size(out, o.width, o.height)?;
     put_u8(out, o.ellipse_type)?;
     put_u8(out, o.start)?;
     put_u8(out, o.end)?;
     put_id(out, o.fill)?;
-    put_u8(out, o.macros.len())?;
-    put_entries(out, &o.macros)?;
-    Ok(())
+    put_counted(out, &o.macros)
 }
 
 pub fn read_polygon<'a>(alloc: Global, reader: &mut Reader<'a>) -> Result<Object<&'a [u8]>, Stop>
@@ -152,14 +143,12 @@ pub fn read_polygon<'a>(alloc: Global, reader: &mut Reader<'a>) -> Result<Object
 pub fn write_polygon(out: &mut Vec<u8>, o: &Polygon) -> Result<(), AllocError>
     ensures { OnOk result (out.new.items ≡ written out.old.items (fields polygon) (values polygon o.now)) }
 {
-    put_u16(out, o.width)?;
-    put_u16(out, o.height)?;
+    put_size(out, o.width, o.height)?;
     put_id(out, o.line_attributes)?;
     put_id(out, o.fill)?;
     put_u8(out, o.polygon_type)?;
     put_u8(out, o.points.len())?;
     put_u8(out, o.macros.len())?;
     put_entries(out, &o.points)?;
-    put_entries(out, &o.macros)?;
-    Ok(())
+    put_entries(out, &o.macros)
 }

@@ -28,8 +28,7 @@ pub fn read_number_variable<'a>(reader: &mut Reader<'a>) -> Result<Object<&'a [u
 pub fn write_number_variable(out: &mut Vec<u8>, o: &NumberVariable) -> Result<(), AllocError>
     ensures { OnOk result (out.new.items ≡ written out.old.items (fields number_variable) (values number_variable o.now)) }
 {
-    put_u32(out, o.value)?;
-    Ok(())
+    put_u32(out, o.value)
 }
 
 pub fn read_string_variable<'a>(reader: &mut Reader<'a>) -> Result<Object<&'a [u8]>, Stop>
@@ -50,8 +49,7 @@ pub fn write_string_variable<B: AsSlice<u8>>(
 {
     let text = o.text.as_slice();
     put_u16(out, text.len() as u16)?;
-    put_bytes(out, text)?;
-    Ok(())
+    put_bytes(out, text)
 }
 
 pub fn read_object_pointer<'a>(reader: &mut Reader<'a>) -> Result<Object<&'a [u8]>, Stop>
@@ -66,6 +64,5 @@ pub fn read_object_pointer<'a>(reader: &mut Reader<'a>) -> Result<Object<&'a [u8
 pub fn write_object_pointer(out: &mut Vec<u8>, o: &ObjectPointer) -> Result<(), AllocError>
     ensures { OnOk result (out.new.items ≡ written out.old.items (fields object_pointer) (values object_pointer o.now)) }
 {
-    put_id(out, o.value)?;
-    Ok(())
+    put_id(out, o.value)
 }
