@@ -11,7 +11,8 @@ use byteorder::{ByteOrder, LittleEndian};
 use std::marker::Model;
 use vt_objects::{LongText, MacroBytes, ObjectId, PictureBytes, ShortText};
 
-/// The bytes that are still to be read.
+/// The bytes that are still to be read. What takes a number wants its bytes to be there: `need` tests for those
+/// of all numbers at the head of a record at once.
 #[derive(Drop)]
 pub struct Reader<'a> {
     rest: &'a [u8],
