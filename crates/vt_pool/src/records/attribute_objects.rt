@@ -12,7 +12,7 @@ ghost use Rattle.vt_pool.specs.Writing.{written};
 use crate::entry::{entries, put_counted};
 use crate::reader::Reader;
 use crate::stop::Stop;
-use crate::write::{put_bytes, put_id, put_u8, put_u16};
+use crate::write::{put_bytes, put_id, put_u8, put_u8s, put_u16};
 use std::alloc::{AllocError, Global};
 use std::convert::AsSlice;
 use vt_objects::{FillAttributes, Font, InputAttributes, LineAttributes, Object};
@@ -40,10 +40,7 @@ pub fn read_font<'a>(alloc: Global, reader: &mut Reader<'a>) -> Result<Object<&'
 pub fn write_font(out: &mut Vec<u8>, o: &Font) -> Result<(), AllocError>
     ensures { OnOk result (out.new.items ≡ written out.old.items (fields font) (values font o.now)) }
 {
-    put_u8(out, o.colour)?;
-    put_u8(out, o.size)?;
-    put_u8(out, o.font_type)?;
-    put_u8(out, o.style)?;
+    put_u8s(out, &[o.colour, o.size, o.font_type, o.style])?;
     put_counted(out, &o.macros)
 }
 
@@ -71,8 +68,7 @@ pub fn read_line_attributes<'a>(
 pub fn write_line_attributes(out: &mut Vec<u8>, o: &LineAttributes) -> Result<(), AllocError>
     ensures { OnOk result (out.new.items ≡ written out.old.items (fields line_attributes) (values line_attributes o.now)) }
 {
-    put_u8(out, o.colour)?;
-    put_u8(out, o.width)?;
+    put_u8s(out, &[o.colour, o.width])?;
     put_u16(out, o.line_art)?;
     put_counted(out, &o.macros)
 }
@@ -101,8 +97,7 @@ pub fn read_fill_attributes<'a>(
 pub fn write_fill_attributes(out: &mut Vec<u8>, o: &FillAttributes) -> Result<(), AllocError>
     ensures { OnOk result (out.new.items ≡ written out.old.items (fields fill_attributes) (values fill_attributes o.now)) }
 {
-    put_u8(out, o.fill_type)?;
-    put_u8(out, o.colour)?;
+    put_u8s(out, &[o.fill_type, o.colour])?;
     put_id(out, o.pattern)?;
     put_counted(out, &o.macros)
 }

@@ -12,7 +12,7 @@ ghost use Rattle.vt_pool.specs.Writing.{written};
 use crate::entry::{entries, put_counted};
 use crate::reader::Reader;
 use crate::stop::Stop;
-use crate::write::{put_id, put_size, put_u8, put_u16};
+use crate::write::{put_u8s, put_u16, put_u16s};
 use std::alloc::{AllocError, Global};
 use vt_objects::{ArchedBar, LinearBar, Meter, Object};
 
@@ -56,17 +56,19 @@ pub fn write_meter(out: &mut Vec<u8>, o: &Meter) -> Result<(), AllocError>
     ensures { OnOk result (out.new.items ≡ written out.old.items (fields meter) (values meter o.now)) }
 {
     put_u16(out, o.width)?;
-    put_u8(out, o.needle_colour)?;
-    put_u8(out, o.border_colour)?;
-    put_u8(out, o.arc_colour)?;
-    put_u8(out, o.options)?;
-    put_u8(out, o.ticks)?;
-    put_u8(out, o.start)?;
-    put_u8(out, o.end)?;
-    put_u16(out, o.min)?;
-    put_u16(out, o.max)?;
-    put_id(out, o.variable)?;
-    put_u16(out, o.value)?;
+    put_u8s(
+        out,
+        &[
+            o.needle_colour,
+            o.border_colour,
+            o.arc_colour,
+            o.options,
+            o.ticks,
+            o.start,
+            o.end,
+        ],
+    )?;
+    put_u16s(out, &[o.min, o.max, o.variable.raw(), o.value])?;
     put_counted(out, &o.macros)
 }
 
@@ -109,17 +111,19 @@ pub fn read_linear_bar<'a>(alloc: Global, reader: &mut Reader<'a>) -> Result<Obj
 pub fn write_linear_bar(out: &mut Vec<u8>, o: &LinearBar) -> Result<(), AllocError>
     ensures { OnOk result (out.new.items ≡ written out.old.items (fields linear_bar) (values linear_bar o.now)) }
 {
-    put_size(out, o.width, o.height)?;
-    put_u8(out, o.colour)?;
-    put_u8(out, o.target_colour)?;
-    put_u8(out, o.options)?;
-    put_u8(out, o.ticks)?;
-    put_u16(out, o.min)?;
-    put_u16(out, o.max)?;
-    put_id(out, o.variable)?;
-    put_u16(out, o.value)?;
-    put_id(out, o.target_variable)?;
-    put_u16(out, o.target)?;
+    put_u16s(out, &[o.width, o.height])?;
+    put_u8s(out, &[o.colour, o.target_colour, o.options, o.ticks])?;
+    put_u16s(
+        out,
+        &[
+            o.min,
+            o.max,
+            o.variable.raw(),
+            o.value,
+            o.target_variable.raw(),
+            o.target,
+        ],
+    )?;
     put_counted(out, &o.macros)
 }
 
@@ -166,18 +170,19 @@ pub fn read_arched_bar<'a>(alloc: Global, reader: &mut Reader<'a>) -> Result<Obj
 pub fn write_arched_bar(out: &mut Vec<u8>, o: &ArchedBar) -> Result<(), AllocError>
     ensures { OnOk result (out.new.items ≡ written out.old.items (fields arched_bar) (values arched_bar o.now)) }
 {
-    put_size(out, o.width, o.height)?;
-    put_u8(out, o.colour)?;
-    put_u8(out, o.target_colour)?;
-    put_u8(out, o.options)?;
-    put_u8(out, o.start)?;
-    put_u8(out, o.end)?;
-    put_u16(out, o.bar_width)?;
-    put_u16(out, o.min)?;
-    put_u16(out, o.max)?;
-    put_id(out, o.variable)?;
-    put_u16(out, o.value)?;
-    put_id(out, o.target_variable)?;
-    put_u16(out, o.target)?;
+    put_u16s(out, &[o.width, o.height])?;
+    put_u8s(out, &[o.colour, o.target_colour, o.options, o.start, o.end])?;
+    put_u16s(
+        out,
+        &[
+            o.bar_width,
+            o.min,
+            o.max,
+            o.variable.raw(),
+            o.value,
+            o.target_variable.raw(),
+            o.target,
+        ],
+    )?;
     put_counted(out, &o.macros)
 }

@@ -12,7 +12,7 @@ ghost use Rattle.vt_pool.specs.Writing.{written};
 use crate::entry::{entries, put_counted, put_entries};
 use crate::reader::Reader;
 use crate::stop::Stop;
-use crate::write::{put_bytes, put_i32, put_id, put_scale, put_size, put_u8, put_u16, put_u32};
+use crate::write::{put_bytes, put_i32, put_id, put_scale, put_u8, put_u8s, put_u16s, put_u32};
 use std::alloc::{AllocError, Global};
 use std::convert::AsSlice;
 use vt_objects::{Decimals, InputBoolean, InputList, InputNumber, InputString, Object, Scale};
@@ -48,11 +48,8 @@ pub fn write_input_boolean(out: &mut Vec<u8>, o: &InputBoolean) -> Result<(), Al
     ensures { OnOk result (out.new.items ≡ written out.old.items (fields input_boolean) (values input_boolean o.now)) }
 {
     put_u8(out, o.colour)?;
-    put_u16(out, o.width)?;
-    put_id(out, o.font)?;
-    put_id(out, o.variable)?;
-    put_u8(out, o.value)?;
-    put_u8(out, o.enabled)?;
+    put_u16s(out, &[o.width, o.font.raw(), o.variable.raw()])?;
+    put_u8s(out, &[o.value, o.enabled])?;
     put_counted(out, &o.macros)
 }
 
@@ -98,10 +95,9 @@ pub fn write_input_string<B: AsSlice<u8>>(
 ) -> Result<(), AllocError>
     ensures { OnOk result (out.new.items ≡ written out.old.items (fields (input_string {B = List ℕ})) (values input_string o.now)) }
 {
-    put_size(out, o.width, o.height)?;
+    put_u16s(out, &[o.width, o.height])?;
     put_u8(out, o.colour)?;
-    put_id(out, o.font)?;
-    put_id(out, o.input_attributes)?;
+    put_u16s(out, &[o.font.raw(), o.input_attributes.raw()])?;
     put_u8(out, o.options)?;
     put_id(out, o.variable)?;
     put_u8(out, o.justification)?;
@@ -166,7 +162,7 @@ pub fn read_input_number<'a>(
 pub fn write_input_number(out: &mut Vec<u8>, o: &InputNumber) -> Result<(), AllocError>
     ensures { OnOk result (out.new.items ≡ written out.old.items (fields input_number) (values input_number o.now)) }
 {
-    put_size(out, o.width, o.height)?;
+    put_u16s(out, &[o.width, o.height])?;
     put_u8(out, o.colour)?;
     put_id(out, o.font)?;
     put_u8(out, o.options)?;
@@ -176,10 +172,10 @@ pub fn write_input_number(out: &mut Vec<u8>, o: &InputNumber) -> Result<(), Allo
     put_u32(out, o.max)?;
     put_i32(out, o.offset)?;
     put_scale(out, o.scale)?;
-    put_u8(out, o.decimals.count())?;
-    put_u8(out, o.format)?;
-    put_u8(out, o.justification)?;
-    put_u8(out, o.options_two)?;
+    put_u8s(
+        out,
+        &[o.decimals.count(), o.format, o.justification, o.options_two],
+    )?;
     put_counted(out, &o.macros)
 }
 
@@ -211,12 +207,8 @@ pub fn read_input_list<'a>(alloc: Global, reader: &mut Reader<'a>) -> Result<Obj
 pub fn write_input_list(out: &mut Vec<u8>, o: &InputList) -> Result<(), AllocError>
     ensures { OnOk result (out.new.items ≡ written out.old.items (fields input_list) (values input_list o.now)) }
 {
-    put_size(out, o.width, o.height)?;
-    put_id(out, o.variable)?;
-    put_u8(out, o.value)?;
-    put_u8(out, o.items.len())?;
-    put_u8(out, o.options)?;
-    put_u8(out, o.macros.len())?;
+    put_u16s(out, &[o.width, o.height, o.variable.raw()])?;
+    put_u8s(out, &[o.value, o.items.len(), o.options, o.macros.len()])?;
     put_entries(out, &o.items)?;
     put_entries(out, &o.macros)
 }

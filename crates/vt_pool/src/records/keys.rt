@@ -12,7 +12,7 @@ ghost use Rattle.vt_pool.specs.Writing.{written};
 use crate::entry::{entries, put_entries};
 use crate::reader::Reader;
 use crate::stop::Stop;
-use crate::write::{put_size, put_u8};
+use crate::write::{put_u8s, put_u16s};
 use std::alloc::{AllocError, Global};
 use vt_objects::{Button, Key, Object, SoftKeyMask};
 
@@ -39,9 +39,7 @@ pub fn read_soft_key_mask<'a>(
 pub fn write_soft_key_mask(out: &mut Vec<u8>, o: &SoftKeyMask) -> Result<(), AllocError>
     ensures { OnOk result (out.new.items ≡ written out.old.items (fields soft_key_mask) (values soft_key_mask o.now)) }
 {
-    put_u8(out, o.colour)?;
-    put_u8(out, o.keys.len())?;
-    put_u8(out, o.macros.len())?;
+    put_u8s(out, &[o.colour, o.keys.len(), o.macros.len()])?;
     put_entries(out, &o.keys)?;
     put_entries(out, &o.macros)
 }
@@ -68,10 +66,10 @@ pub fn read_key<'a>(alloc: Global, reader: &mut Reader<'a>) -> Result<Object<&'a
 pub fn write_key(out: &mut Vec<u8>, o: &Key) -> Result<(), AllocError>
     ensures { OnOk result (out.new.items ≡ written out.old.items (fields key) (values key o.now)) }
 {
-    put_u8(out, o.colour)?;
-    put_u8(out, o.key_code)?;
-    put_u8(out, o.children.len())?;
-    put_u8(out, o.macros.len())?;
+    put_u8s(
+        out,
+        &[o.colour, o.key_code, o.children.len(), o.macros.len()],
+    )?;
     put_entries(out, &o.children)?;
     put_entries(out, &o.macros)
 }
@@ -106,13 +104,18 @@ pub fn read_button<'a>(alloc: Global, reader: &mut Reader<'a>) -> Result<Object<
 pub fn write_button(out: &mut Vec<u8>, o: &Button) -> Result<(), AllocError>
     ensures { OnOk result (out.new.items ≡ written out.old.items (fields button) (values button o.now)) }
 {
-    put_size(out, o.width, o.height)?;
-    put_u8(out, o.colour)?;
-    put_u8(out, o.border)?;
-    put_u8(out, o.key_code)?;
-    put_u8(out, o.options)?;
-    put_u8(out, o.children.len())?;
-    put_u8(out, o.macros.len())?;
+    put_u16s(out, &[o.width, o.height])?;
+    put_u8s(
+        out,
+        &[
+            o.colour,
+            o.border,
+            o.key_code,
+            o.options,
+            o.children.len(),
+            o.macros.len(),
+        ],
+    )?;
     put_entries(out, &o.children)?;
     put_entries(out, &o.macros)
 }

@@ -12,7 +12,7 @@ ghost use Rattle.vt_pool.specs.Writing.{written};
 use crate::entry::{entries, put_entries};
 use crate::reader::Reader;
 use crate::stop::Stop;
-use crate::write::{put_id, put_size, put_u8};
+use crate::write::{put_id, put_u8, put_u8s, put_u16s};
 use std::alloc::{AllocError, Global};
 use vt_objects::{AlarmMask, Container, DataMask, Object, WorkingSet};
 
@@ -46,12 +46,9 @@ pub fn read_working_set<'a>(
 pub fn write_working_set(out: &mut Vec<u8>, o: &WorkingSet) -> Result<(), AllocError>
     ensures { OnOk result (out.new.items ≡ written out.old.items (fields working_set) (values working_set o.now)) }
 {
-    put_u8(out, o.colour)?;
-    put_u8(out, o.selectable)?;
+    put_u8s(out, &[o.colour, o.selectable])?;
     put_id(out, o.active_mask)?;
-    put_u8(out, o.children.len())?;
-    put_u8(out, o.macros.len())?;
-    put_u8(out, o.languages.len())?;
+    put_u8s(out, &[o.children.len(), o.macros.len(), o.languages.len()])?;
     put_entries(out, &o.children)?;
     put_entries(out, &o.macros)?;
     put_entries(out, &o.languages)
@@ -81,8 +78,7 @@ pub fn write_data_mask(out: &mut Vec<u8>, o: &DataMask) -> Result<(), AllocError
 {
     put_u8(out, o.colour)?;
     put_id(out, o.soft_key_mask)?;
-    put_u8(out, o.children.len())?;
-    put_u8(out, o.macros.len())?;
+    put_u8s(out, &[o.children.len(), o.macros.len()])?;
     put_entries(out, &o.children)?;
     put_entries(out, &o.macros)
 }
@@ -115,10 +111,10 @@ pub fn write_alarm_mask(out: &mut Vec<u8>, o: &AlarmMask) -> Result<(), AllocErr
 {
     put_u8(out, o.colour)?;
     put_id(out, o.soft_key_mask)?;
-    put_u8(out, o.priority)?;
-    put_u8(out, o.acoustic)?;
-    put_u8(out, o.children.len())?;
-    put_u8(out, o.macros.len())?;
+    put_u8s(
+        out,
+        &[o.priority, o.acoustic, o.children.len(), o.macros.len()],
+    )?;
     put_entries(out, &o.children)?;
     put_entries(out, &o.macros)
 }
@@ -147,10 +143,8 @@ pub fn read_container<'a>(alloc: Global, reader: &mut Reader<'a>) -> Result<Obje
 pub fn write_container(out: &mut Vec<u8>, o: &Container) -> Result<(), AllocError>
     ensures { OnOk result (out.new.items ≡ written out.old.items (fields container) (values container o.now)) }
 {
-    put_size(out, o.width, o.height)?;
-    put_u8(out, o.hidden)?;
-    put_u8(out, o.children.len())?;
-    put_u8(out, o.macros.len())?;
+    put_u16s(out, &[o.width, o.height])?;
+    put_u8s(out, &[o.hidden, o.children.len(), o.macros.len()])?;
     put_entries(out, &o.children)?;
     put_entries(out, &o.macros)
 }

@@ -12,7 +12,9 @@ ghost use Rattle.vt_pool.specs.Writing.{written};
 use crate::entry::{entries, put_counted};
 use crate::reader::Reader;
 use crate::stop::Stop;
-use crate::write::{put_bytes, put_i32, put_id, put_scale, put_size, put_u8, put_u16, put_u32};
+use crate::write::{
+    put_bytes, put_i32, put_id, put_scale, put_u8, put_u8s, put_u16, put_u16s, put_u32,
+};
 use std::alloc::{AllocError, Global};
 use std::convert::AsSlice;
 use vt_objects::{Decimals, Object, OutputNumber, OutputString, Scale};
@@ -55,7 +57,7 @@ pub fn write_output_string<B: AsSlice<u8>>(
 ) -> Result<(), AllocError>
     ensures { OnOk result (out.new.items ≡ written out.old.items (fields (output_string {B = List ℕ})) (values output_string o.now)) }
 {
-    put_size(out, o.width, o.height)?;
+    put_u16s(out, &[o.width, o.height])?;
     put_u8(out, o.colour)?;
     put_id(out, o.font)?;
     put_u8(out, o.options)?;
@@ -115,7 +117,7 @@ pub fn read_output_number<'a>(
 pub fn write_output_number(out: &mut Vec<u8>, o: &OutputNumber) -> Result<(), AllocError>
     ensures { OnOk result (out.new.items ≡ written out.old.items (fields output_number) (values output_number o.now)) }
 {
-    put_size(out, o.width, o.height)?;
+    put_u16s(out, &[o.width, o.height])?;
     put_u8(out, o.colour)?;
     put_id(out, o.font)?;
     put_u8(out, o.options)?;
@@ -123,8 +125,6 @@ pub fn write_output_number(out: &mut Vec<u8>, o: &OutputNumber) -> Result<(), Al
     put_u32(out, o.value)?;
     put_i32(out, o.offset)?;
     put_scale(out, o.scale)?;
-    put_u8(out, o.decimals.count())?;
-    put_u8(out, o.format)?;
-    put_u8(out, o.justification)?;
+    put_u8s(out, &[o.decimals.count(), o.format, o.justification])?;
     put_counted(out, &o.macros)
 }

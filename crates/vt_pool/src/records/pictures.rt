@@ -12,7 +12,7 @@ ghost use Rattle.vt_pool.specs.Writing.{written};
 use crate::entry::{entries, put_entries};
 use crate::reader::Reader;
 use crate::stop::Stop;
-use crate::write::{put_bytes, put_size, put_u8, put_u16, put_u32};
+use crate::write::{put_bytes, put_u8, put_u8s, put_u16s, put_u32};
 use std::alloc::{AllocError, Global};
 use std::convert::AsSlice;
 use vt_objects::{Object, Picture};
@@ -47,11 +47,8 @@ pub fn read_picture<'a>(alloc: Global, reader: &mut Reader<'a>) -> Result<Object
 pub fn write_picture<B: AsSlice<u8>>(out: &mut Vec<u8>, o: &Picture<B>) -> Result<(), AllocError>
     ensures { OnOk result (out.new.items ≡ written out.old.items (fields (picture {B = List ℕ})) (values picture o.now)) }
 {
-    put_u16(out, o.width)?;
-    put_size(out, o.actual_width, o.actual_height)?;
-    put_u8(out, o.format)?;
-    put_u8(out, o.options)?;
-    put_u8(out, o.transparency)?;
+    put_u16s(out, &[o.width, o.actual_width, o.actual_height])?;
+    put_u8s(out, &[o.format, o.options, o.transparency])?;
     let bytes = o.bytes.as_slice();
     put_u32(out, bytes.len() as u32)?;
     put_u8(out, o.macros.len())?;

@@ -12,7 +12,7 @@ ghost use Rattle.vt_pool.specs.Writing.{written};
 use crate::entry::{entries, put_counted, put_entries};
 use crate::reader::Reader;
 use crate::stop::Stop;
-use crate::write::{put_id, put_size, put_u8};
+use crate::write::{put_id, put_u8, put_u8s, put_u16s};
 use std::alloc::{AllocError, Global};
 use vt_objects::{Ellipse, Line, Object, Polygon, Rectangle};
 
@@ -39,8 +39,7 @@ pub fn read_line<'a>(alloc: Global, reader: &mut Reader<'a>) -> Result<Object<&'
 pub fn write_line(out: &mut Vec<u8>, o: &Line) -> Result<(), AllocError>
     ensures { OnOk result (out.new.items ≡ written out.old.items (fields line) (values line o.now)) }
 {
-    put_id(out, o.line_attributes)?;
-    put_size(out, o.width, o.height)?;
+    put_u16s(out, &[o.line_attributes.raw(), o.width, o.height])?;
     put_u8(out, o.direction)?;
     put_counted(out, &o.macros)
 }
@@ -70,8 +69,7 @@ pub fn read_rectangle<'a>(alloc: Global, reader: &mut Reader<'a>) -> Result<Obje
 pub fn write_rectangle(out: &mut Vec<u8>, o: &Rectangle) -> Result<(), AllocError>
     ensures { OnOk result (out.new.items ≡ written out.old.items (fields rectangle) (values rectangle o.now)) }
 {
-    put_id(out, o.line_attributes)?;
-    put_size(out, o.width, o.height)?;
+    put_u16s(out, &[o.line_attributes.raw(), o.width, o.height])?;
     put_u8(out, o.suppression)?;
     put_id(out, o.fill)?;
     put_counted(out, &o.macros)
@@ -106,11 +104,8 @@ pub fn read_ellipse<'a>(alloc: Global, reader: &mut Reader<'a>) -> Result<Object
 pub fn write_ellipse(out: &mut Vec<u8>, o: &Ellipse) -> Result<(), AllocError>
     ensures { OnOk result (out.new.items ≡ written out.old.items (fields ellipse) (values ellipse o.now)) }
 {
-    put_id(out, o.line_attributes)?;
-    put_size(out, o.width, o.height)?;
-    put_u8(out, o.ellipse_type)?;
-    put_u8(out, o.start)?;
-    put_u8(out, o.end)?;
+    put_u16s(out, &[o.line_attributes.raw(), o.width, o.height])?;
+    put_u8s(out, &[o.ellipse_type, o.start, o.end])?;
     put_id(out, o.fill)?;
     put_counted(out, &o.macros)
 }
@@ -143,12 +138,11 @@ pub fn read_polygon<'a>(alloc: Global, reader: &mut Reader<'a>) -> Result<Object
 pub fn write_polygon(out: &mut Vec<u8>, o: &Polygon) -> Result<(), AllocError>
     ensures { OnOk result (out.new.items ≡ written out.old.items (fields polygon) (values polygon o.now)) }
 {
-    put_size(out, o.width, o.height)?;
-    put_id(out, o.line_attributes)?;
-    put_id(out, o.fill)?;
-    put_u8(out, o.polygon_type)?;
-    put_u8(out, o.points.len())?;
-    put_u8(out, o.macros.len())?;
+    put_u16s(
+        out,
+        &[o.width, o.height, o.line_attributes.raw(), o.fill.raw()],
+    )?;
+    put_u8s(out, &[o.polygon_type, o.points.len(), o.macros.len()])?;
     put_entries(out, &o.points)?;
     put_entries(out, &o.macros)
 }
