@@ -1,8 +1,8 @@
 -- The numbers that are read from the front of some bytes, and those bytes again.
 use Rattle.std.proofs.Common.{◌≡◌, ℕ, zero, suc, ◌+◌, ◌*◌, ◌/◌, ◌%◌, ◌^◌, ◌<◌, ◌≤◌, Bool, true, false, cond, ltb, List, [], ◌∷◌, ◌++◌, length, get_or, take, drop, Option, Some, None, refl, sym, ap, subst, ◌∙◌, append_assoc, arith, inl, inr}
 use Rattle.std.proofs.Math.Nat.{div-div-eq-div-mul, pow-succ'}
-use Rattle.std.proofs.lemmas.Bool.{cases_lt, ltb-false, le-ltb}
-use Rattle.std.proofs.lemmas.List.{append-nil, take_at, drop_at, take-append-drop, length-append, length-take, get_or-drop, get_or-take, get_or_past}
+use Rattle.std.proofs.lemmas.Bool.{cases_lt, ltb-false, le-ltb, lt-ltb}
+use Rattle.std.proofs.lemmas.List.{append-nil, take_at, drop_at, take-append-drop, length-append, length-take, length-drop, get_or-drop, get_or-take, get_or_past}
 use Rattle.std.specs.Int.{byte_at, bytes_low_first}
 use Rattle.byteorder.specs.Endian.{little_number, little_bytes}
 use Rattle.byteorder.specs.Numbers.{little_from-cons, little_from-lt, little_number-reads_back, length-bytes_low_first}
@@ -136,3 +136,29 @@ unfolding signed_at
 signed_again w z rest fits =
     let below : cast_unsigned w z < 256 ^ bytes_in w = rw (width_is w) (of_z_fits w z fits).fits in
     rw (number_again (bytes_in w) (cast_unsigned w z) rest below, to_z-of_z w z fits) refl
+
+-- ---- bytes that are too few
+
+number_short : (size : ℕ) (all : List ℕ) → length all < size → number_at size all ≡ None
+unfolding number_at bytes_at
+number_short size all lt = rw (lt-ltb (length all) size lt) refl
+
+number_long : (size : ℕ) (all : List ℕ) → size ≤ length all → (n : ℕ) × (number_at size all ≡ Some (n, drop size all))
+unfolding number_at bytes_at
+number_long size all le = (little_number size (take size all), rw (le-ltb (length all) size le) refl)
+
+-- what reads a number and then more, where the bytes end before
+pub number_then_short : {A : Type 0} (size more : ℕ) (all : List ℕ) (f : ℕ × List ℕ → Option A) → length all < size + more → ((n : ℕ) (rest : List ℕ) → length rest < more → f (n, rest) ≡ None) → (number_at size all >>= f) ≡ None
+number_then_short size more all f lt later =
+    elim (cases_lt (length all) size) [
+      | inl short ↦ rw (number_short size all short) refl
+      | inr long ↦ let n = number_long size all long in rw n.1 (later n.0 (drop size all) (omega (arith, length-drop size all)))
+    ]
+
+pub signed_then_short : {A : Type 0} (w : Width) (more : ℕ) (all : List ℕ) (f : ℤ × List ℕ → Option A) → length all < bytes_in w + more → ((z : ℤ) (rest : List ℕ) → length rest < more → f (z, rest) ≡ None) → (signed_at w all >>= f) ≡ None
+unfolding signed_at
+signed_then_short w more all f lt later =
+    elim (cases_lt (length all) (bytes_in w)) [
+      | inl short ↦ rw (number_short (bytes_in w) all short) refl
+      | inr long ↦ let n = number_long (bytes_in w) all long in rw n.1 (later (cast_signed w n.0) (drop (bytes_in w) all) (omega (arith, length-drop (bytes_in w) all)))
+    ]

@@ -1,10 +1,11 @@
 -- Reading rows one after the other, as a loop does.
-use Rattle.std.proofs.Common.{◌≡◌, ℕ, suc, ◌-◌, ◌+◌, ◌≤◌, ◌<◌, List, [], ◌∷◌, ◌++◌, Option, Some, None, refl, sym, ap, ◌∙◌, append_assoc, arith}
+use Rattle.std.proofs.Common.{◌≡◌, ◌⊎◌, ℕ, suc, ◌-◌, ◌+◌, ◌≤◌, ◌<◌, List, [], ◌∷◌, ◌++◌, length, Option, Some, None, refl, sym, ap, ◌∙◌, append_assoc, inr, arith}
 use Rattle.std.proofs.lemmas.List.{append-nil}
-use Rattle.vt_objects.specs.Layout.{Size, Numeral}
+use Rattle.vt_objects.specs.Layout.{Size, Unsigned, Signed, Numeral, natural, integer, bytes_in}
 use Rattle.vt_pool.specs.declared.stop.Stop.{Stop}
 use Rattle.vt_pool.specs.declared.stop.Stop.TheVariants as stops
-use Rattle.vt_pool.specs.Reading.{◌>>=◌, Fails, row_at, rows_at}
+use Rattle.vt_pool.proofs.Numbers.{number_then_short, signed_then_short}
+use Rattle.vt_pool.specs.Reading.{◌>>=◌, row_at, rows_at}
 
 -- the rows that were read before, and those that are still read
 abbrev pub with_front : List (List Numeral) → Option (List (List Numeral) × List ℕ) → Option (List (List Numeral) × List ℕ)
@@ -23,19 +24,13 @@ goes_on sizes front count i all row after total lt h so_far =
     let one : with_front front (rows_at sizes (count - i) all) ≡ with_front (front ++ row ∷ []) (rows_at sizes (count - (i + 1)) after) = rw (k, h) (regroup front row (rows_at sizes (count - (i + 1)) after)) in
     sym one ∙ so_far
 
-pub ends : (sizes : List Size) (stop : Stop) (front : List (List Numeral)) (count i : ℕ) (all : List ℕ) (total : Option (List (List Numeral) × List ℕ)) → i < count → Fails stop (row_at sizes all)
-    → with_front front (rows_at sizes (count - i) all) ≡ total → Fails stop total
+pub ends : (sizes : List Size) (stop : Stop) (front : List (List Numeral)) (count i : ℕ) (all : List ℕ) (total : Option (List (List Numeral) × List ℕ)) → i < count → (stop ≡ stops.Truncated) × (row_at sizes all ≡ None)
+    → with_front front (rows_at sizes (count - i) all) ≡ total → (stop ≡ stops.OutOfMemory) ⊎ ((stop ≡ stops.Truncated) × (total ≡ None))
 unfolding rows_at
-ends sizes stops.Truncated front count i all total lt h so_far =
+ends sizes stop front count i all total lt h so_far =
     let k : count - i ≡ suc (count - (i + 1)) = omega arith in
-    let one : with_front front (rows_at sizes (count - i) all) ≡ None = rw (k, h) refl in
-    sym so_far ∙ one
-ends sizes stops.OutOfMemory front count i all total lt h so_far = tt
-ends sizes stops.UnknownType front count i all total lt h so_far = h
-ends sizes stops.LeftOutType front count i all total lt h so_far = h
-ends sizes (stops.Scale at) front count i all total lt h so_far = h
-ends sizes (stops.Decimals at) front count i all total lt h so_far = h
-ends sizes stops.NullId front count i all total lt h so_far = h
+    let one : with_front front (rows_at sizes (count - i) all) ≡ None = rw (k, h.1) refl in
+    inr (h.0, sym so_far ∙ one)
 
 pub is_done : (sizes : List Size) (front : List (List Numeral)) (count i : ℕ) (all : List ℕ) (total : Option (List (List Numeral) × List ℕ)) → count ≤ i → with_front front (rows_at sizes (count - i) all) ≡ total → total ≡ Some (front, all)
 unfolding rows_at
@@ -44,12 +39,16 @@ is_done sizes front count i all total le so_far =
     let one : with_front front (rows_at sizes (count - i) all) ≡ Some (front, all) = rw k (ap (λ (rows : List (List Numeral)). Some (rows, all)) (append-nil front)) in
     sym so_far ∙ one
 
--- what fails makes all fail that begins with it
-pub fails_by : {A Y : Type 0} (stop : Stop) (r : Option A) (read : Option Y) → Fails stop r → (r ≡ None → read ≡ None) → Fails stop read
-fails_by stops.Truncated r read fails none = none fails
-fails_by stops.OutOfMemory r read fails none = tt
-fails_by stops.UnknownType r read fails none = fails
-fails_by stops.LeftOutType r read fails none = fails
-fails_by (stops.Scale at) r read fails none = fails
-fails_by (stops.Decimals at) r read fails none = fails
-fails_by stops.NullId r read fails none = fails
+-- how many bytes the numbers of a row take
+abbrev pub row_size : List Size → ℕ
+row_size [] = 0
+row_size (Unsigned size ∷ sizes) = size + row_size sizes
+row_size (Signed width ∷ sizes) = bytes_in width + row_size sizes
+
+pub row_short : (sizes : List Size) (all : List ℕ) → length all < row_size sizes → row_at sizes all ≡ None
+unfolding row_at
+row_short [] all lt = absurd (omega arith)
+row_short (Unsigned size ∷ sizes) all lt =
+    number_then_short size (row_size sizes) all (λ n. row_at sizes n.1 >>= λ ns. Some (natural n.0 ∷ ns.0, ns.1)) lt (λ n rest less. rw (row_short sizes rest less) refl)
+row_short (Signed width ∷ sizes) all lt =
+    signed_then_short width (row_size sizes) all (λ n. row_at sizes n.1 >>= λ ns. Some (integer n.0 ∷ ns.0, ns.1)) lt (λ z rest less. rw (row_short sizes rest less) refl)

@@ -1,12 +1,14 @@
 -- The values of a table of fields that are read from the front of some bytes, and those bytes again.
-use Rattle.std.proofs.Common.{◌≡◌, ℕ, zero, suc, ◌<◌, List, [], ◌∷◌, ◌++◌, length, Some, refl, ap, subst, ◌∙◌, append_assoc}
+use Rattle.std.proofs.Common.{◌≡◌, ℕ, zero, suc, ◌+◌, ◌<◌, List, [], ◌∷◌, ◌++◌, length, Option, Some, None, Err, refl, ap, subst, ◌∙◌, append_assoc, arith}
 use Rattle.std.specs.List.{AllByRecursion}
 use Rattle.std.proofs.lemmas.List.Elements.{recursion_from_All, All-from_get_or}
 use Rattle.byteorder.specs.Endian.{little_bytes}
 use Rattle.std.specs.Int.{cast_unsigned}
-use Rattle.vt_objects.specs.Layout.{Size, Unsigned, Signed, Numeral, natural, integer, bytes_in, Field, Number, Count, Rows, Bytes, ScaleBytes, DecimalPlaces, Value, number, rows, bytes, Counts, counted, count_of, row_spelling, rows_spelling, spelling, RowFits, Shaped}
-use Rattle.vt_pool.specs.Reading.{◌>>=◌, bytes_at, number_at, signed_at, row_at, rows_at, values_at}
-use Rattle.vt_pool.proofs.Numbers.{IsBytes, bind_some, some_is, Takes, Takes-nothing, Takes-then, bytes_take, bytes_again, number_takes, number_again, signed_takes, signed_again}
+use Rattle.vt_objects.specs.Layout.{Size, Unsigned, Signed, Numeral, natural, integer, bytes_in, Field, Number, Count, Rows, Bytes, ScaleBytes, DecimalPlaces, Value, number, rows, bytes, Counts, counted, count_of, row_spelling, rows_spelling, spelling, RowFits, Shaped, no_counts}
+use Rattle.vt_pool.specs.declared.stop.Stop.TheVariants as stops
+use Rattle.vt_pool.specs.Heads.{fitting, fields_at}
+use Rattle.vt_pool.specs.Reading.{◌>>=◌, bytes_at, number_at, signed_at, row_at, rows_at, values_at, head_size}
+use Rattle.vt_pool.proofs.Numbers.{IsBytes, bind_some, some_is, Takes, Takes-nothing, Takes-then, bytes_take, bytes_again, number_takes, number_again, signed_takes, signed_again, number_then_short, signed_then_short}
 
 -- ---- rows
 
@@ -153,3 +155,29 @@ values_again (DecimalPlaces ∷ fs) counts (number (natural n) ∷ vs) rest fits
     ap (values_at (DecimalPlaces ∷ fs) counts) (append_assoc (little_bytes 1 n) (spelling fs vs) rest)
     ∙ rw (number_again 1 n (spelling fs vs ++ rest) fits.0, values_again fs counts vs rest fits.1) refl
 values_again fs counts vs rest fits = absurd fits
+
+-- ---- bytes that are too few
+
+abbrev then_values : Value → Option (List Value × List ℕ) → Option (List Value × List ℕ)
+then_values v read = read >>= λ vs. Some (v ∷ vs.0, vs.1)
+
+number_first : (size : ℕ) (fs : List Field) (all : List ℕ) (give : ℕ → Counts) (value : ℕ → Value) → length all < size + head_size fs
+    → ((counts : Counts) (rest : List ℕ) → length rest < head_size fs → values_at fs counts rest ≡ None)
+    → (number_at size all >>= λ n. then_values (value n.0) (values_at fs (give n.0) n.1)) ≡ None
+number_first size fs all give value lt short =
+    number_then_short size (head_size fs) all (λ n. then_values (value n.0) (values_at fs (give n.0) n.1)) lt (λ n rest less. ap (then_values (value n)) (short (give n) rest less))
+
+-- where the bytes end before the first list, the values are not all there
+pub values_short : (fs : List Field) (counts : Counts) (all : List ℕ) → length all < head_size fs → values_at fs counts all ≡ None
+values_short [] counts all lt = absurd (omega arith)
+values_short (Number (Unsigned size) ∷ fs) counts all lt = number_first size fs all (λ n. counts) (λ n. number (natural n)) lt (values_short fs)
+values_short (Number (Signed w) ∷ fs) counts all lt =
+    signed_then_short w (head_size fs) all (λ n. then_values (number (integer n.0)) (values_at fs counts n.1)) lt (λ z rest less. ap (then_values (number (integer z))) (values_short fs counts rest less))
+values_short (Count size of ∷ fs) counts all lt = number_first size fs all (λ n. counted of n counts) (λ n. number (natural n)) lt (values_short fs)
+values_short (Rows of sizes ∷ fs) counts all lt = absurd (omega arith)
+values_short (Bytes of ∷ fs) counts all lt = absurd (omega arith)
+values_short (ScaleBytes ∷ fs) counts all lt = number_first 4 fs all (λ n. counts) (λ n. number (natural n)) lt (values_short fs)
+values_short (DecimalPlaces ∷ fs) counts all lt = number_first 1 fs all (λ n. counts) (λ n. number (natural n)) lt (values_short fs)
+
+pub fields_short : (fs : List Field) (all : List ℕ) → length all < head_size fs → fields_at fs all ≡ Err stops.Truncated
+fields_short fs all lt = ap (fitting fs) (values_short fs no_counts all lt)

@@ -1,6 +1,6 @@
 -- How a table of fields is read from the front of some bytes: what it gives and the bytes after it, or
 -- `None` where the bytes end first.
-use Rattle.std.specs.Prelude.{◌≡◌, ℕ, ℤ, zero, suc, List, [], ◌∷◌, length, take, drop, nat_lt, if◌then◌else◌, Option, Some, None, Result, Ok, Err}
+use Rattle.std.specs.Prelude.{◌≡◌, ◌⊎◌, ℕ, ℤ, zero, suc, List, [], ◌∷◌, ◌+◌, length, take, drop, nat_lt, if◌then◌else◌, Option, Some, None, Result, Ok, Err}
 use Rattle.std.specs.Int.{Width, cast_signed}
 use Rattle.byteorder.specs.Endian.{little_number}
 use Rattle.vt_objects.specs.Layout.{Size, Unsigned, Signed, Numeral, natural, integer, bytes_in, Field, Number, Count, Rows, Bytes, ScaleBytes, DecimalPlaces, Value, number, rows, bytes, Counts, counted, count_of}
@@ -12,16 +12,16 @@ abbrev pub ◌>>=◌ : {A B : Type 0} → Option A → (A → Option B) → Opti
 (Some x) >>= f = f x
 None >>= f = None
 
--- what a stop says: the bytes end first, or memory ran out, and nothing else
-abbrev pub Fails : {Y : Type 0} → Stop → Option Y → Type 0
-Fails stops.Truncated read = read ≡ None
-Fails stops.OutOfMemory read = Unit {0}
-Fails _ read = ⊥
-
--- What a function returned, seen by view, is what reading gives, unless memory ran out.
+-- What a function returned, seen by view, is what reading gives: it stops only where memory runs out, or the bytes
+-- end first.
 abbrev pub Gives : {X Y : Type 0} → (X → Y) → Result X Stop → Option Y → Type 0
 Gives view (Ok x) read = read ≡ Some (view x)
-Gives view (Err stop) read = Fails stop read
+Gives view (Err stop) read = (stop ≡ stops.OutOfMemory) ⊎ ((stop ≡ stops.Truncated) × (read ≡ None))
+
+-- What a function returned, seen by view, is what reading finds: it stops only where the bytes end first.
+abbrev pub Finds : {X Y : Type 0} → (X → Y) → Result X Stop → Option Y → Type 0
+Finds view (Ok x) read = read ≡ Some (view x)
+Finds view (Err stop) read = (stop ≡ stops.Truncated) × (read ≡ None)
 
 unfoldable pub bytes_at : ℕ → List ℕ → Option (List ℕ × List ℕ)
 bytes_at count all = if nat_lt (length all) count then None else Some (take count all, drop count all)
@@ -84,3 +84,14 @@ values_at (DecimalPlaces ∷ fs) counts all = do
   n ← number_at 1 all
   vs ← values_at fs counts n.1
   Some (number (natural n.0) ∷ vs.0, vs.1)
+
+-- how many bytes the numbers take that come before any list
+abbrev pub head_size : List Field → ℕ
+head_size [] = 0
+head_size (Number (Unsigned size) ∷ fs) = size + head_size fs
+head_size (Number (Signed width) ∷ fs) = bytes_in width + head_size fs
+head_size (Count size of ∷ fs) = size + head_size fs
+head_size (Rows of sizes ∷ fs) = 0
+head_size (Bytes of ∷ fs) = 0
+head_size (ScaleBytes ∷ fs) = 4 + head_size fs
+head_size (DecimalPlaces ∷ fs) = 1 + head_size fs

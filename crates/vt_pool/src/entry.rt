@@ -1,9 +1,10 @@
 //! The entries of the lists of a record.
 
 ghost use Rattle.std.specs.Prelude.{◌≡◌, ◌++◌, List, length, map, IfOk, OnOk};
+ghost use Rattle.byteorder.specs.Endian.{little_bytes};
 ghost use Rattle.vt_objects.specs.Layout.{Size, Numeral, row_spelling, rows_spelling};
 ghost use Rattle.vt_objects.specs.Tables.{child_sizes, child_numbers, macro_sizes, macro_numbers, language_sizes, language_numbers, id_sizes, id_numbers, point_sizes, point_numbers};
-ghost use Rattle.vt_pool.specs.Reading.{Gives, row_at, rows_at};
+ghost use Rattle.vt_pool.specs.Reading.{Finds, Gives, row_at, rows_at};
 
 use crate::reader::Reader;
 use crate::stop::Stop;
@@ -20,7 +21,7 @@ pub trait Entry: Drop {
     fn read(reader: &mut Reader<'_>) -> Result<Self, Stop>
     where
         Self: Sized,
-        ensures { Gives (λ x. (numbers x, reader.new)) result (row_at sizes reader.old) };
+        ensures { Finds (λ x. (numbers x, reader.new)) result (row_at sizes reader.old) };
 
     fn write(&self, out: &mut Vec<u8>) -> Result<(), AllocError>
         ensures { OnOk result (out.new.items ≡ out.old.items ++ row_spelling sizes (numbers self.now)) };
@@ -33,17 +34,17 @@ impl Entry for Child {
 
     #[tactic(auto, unfolding(crate::specs::Reading::row_at))]
     fn read(reader: &mut Reader<'_>) -> Result<Child, Stop> {
-        let id = reader.id()?;
-        let x = reader.i16()?;
-        let y = reader.i16()?;
+        reader.need(6)?;
+        let id = reader.id();
+        let x = reader.i16();
+        let y = reader.i16();
         Ok(Child { id, x, y })
     }
 
     fn write(&self, out: &mut Vec<u8>) -> Result<(), AllocError> {
         put_id(out, self.id)?;
         put_i16(out, self.x)?;
-        put_i16(out, self.y)?;
-        Ok(())
+        put_i16(out, self.y)
     }
 }
 
@@ -54,15 +55,15 @@ impl Entry for MacroEntry {
 
     #[tactic(auto, unfolding(crate::specs::Reading::row_at))]
     fn read(reader: &mut Reader<'_>) -> Result<MacroEntry, Stop> {
-        let event = reader.u8()?;
-        let macro_id = reader.u8()?;
+        reader.need(2)?;
+        let event = reader.u8();
+        let macro_id = reader.u8();
         Ok(MacroEntry { event, macro_id })
     }
 
     fn write(&self, out: &mut Vec<u8>) -> Result<(), AllocError> {
         put_u8(out, self.event)?;
-        put_u8(out, self.macro_id)?;
-        Ok(())
+        put_u8(out, self.macro_id)
     }
 }
 
@@ -73,15 +74,15 @@ impl Entry for Language {
 
     #[tactic(auto, unfolding(crate::specs::Reading::row_at))]
     fn read(reader: &mut Reader<'_>) -> Result<Language, Stop> {
-        let first = reader.u8()?;
-        let second = reader.u8()?;
+        reader.need(2)?;
+        let first = reader.u8();
+        let second = reader.u8();
         Ok(Language { first, second })
     }
 
     fn write(&self, out: &mut Vec<u8>) -> Result<(), AllocError> {
         put_u8(out, self.first)?;
-        put_u8(out, self.second)?;
-        Ok(())
+        put_u8(out, self.second)
     }
 }
 
@@ -92,12 +93,12 @@ impl Entry for ObjectId {
 
     #[tactic(auto, unfolding(crate::specs::Reading::row_at))]
     fn read(reader: &mut Reader<'_>) -> Result<ObjectId, Stop> {
-        reader.id()
+        reader.need(2)?;
+        Ok(reader.id())
     }
 
     fn write(&self, out: &mut Vec<u8>) -> Result<(), AllocError> {
-        put_id(out, *self)?;
-        Ok(())
+        put_id(out, *self)
     }
 }
 
@@ -108,15 +109,15 @@ impl Entry for Point {
 
     #[tactic(auto, unfolding(crate::specs::Reading::row_at))]
     fn read(reader: &mut Reader<'_>) -> Result<Point, Stop> {
-        let x = reader.u16()?;
-        let y = reader.u16()?;
+        reader.need(4)?;
+        let x = reader.u16();
+        let y = reader.u16();
         Ok(Point { x, y })
     }
 
     fn write(&self, out: &mut Vec<u8>) -> Result<(), AllocError> {
         put_u16(out, self.x)?;
-        put_u16(out, self.y)?;
-        Ok(())
+        put_u16(out, self.y)
     }
 }
 
@@ -144,4 +145,12 @@ pub fn put_entries<T: Entry>(out: &mut Vec<u8>, entries: &Entries<T>) -> Result<
         entry.write(out)?;
     }
     Ok(())
+}
+
+/// Writes how many entries there are, and then the entries.
+pub fn put_counted<T: Entry>(out: &mut Vec<u8>, entries: &Entries<T>) -> Result<(), AllocError>
+    ensures { OnOk result (out.new.items ≡ (out.old.items ++ little_bytes 1 (length entries.now)) ++ rows_spelling T.sizes (map T.numbers entries.now)) }
+{
+    put_u8(out, entries.len())?;
+    put_entries(out, entries)
 }

@@ -1,16 +1,18 @@
 //! Reading numbers and bytes from the front of a slice.
 
-ghost use Rattle.std.specs.Prelude.{◌≡◌, length, IfOk};
+ghost use Rattle.std.specs.Prelude.{◌≡◌, ◌<◌, ◌≤◌, ◌+◌, length, Some, IfOk, IfErr};
 ghost use Rattle.std.specs.Int.{w16, w32};
 ghost use Rattle.byteorder.specs.Endian.{little_number};
-ghost use Rattle.vt_pool.specs.Reading.{Gives, number_at, signed_at, bytes_at};
+ghost use Rattle.vt_pool.specs.Reading.{Finds, number_at, signed_at, bytes_at};
+ghost use Rattle.vt_pool.specs.declared.stop.Stop.TheVariants as stops;
 
 use crate::stop::Stop;
 use byteorder::{ByteOrder, LittleEndian};
 use std::marker::Model;
 use vt_objects::{LongText, MacroBytes, ObjectId, PictureBytes, ShortText};
 
-/// The bytes that are still to be read.
+/// The bytes that are still to be read. What takes a number wants its bytes to be there: `need` tests for those
+/// of all numbers at the head of a record at once.
 #[derive(Drop)]
 pub struct Reader<'a> {
     rest: &'a [u8],
@@ -38,76 +40,115 @@ impl<'a> Reader<'a> {
         self.rest
     }
 
+    /// Whether so many bytes are left.
+    pub fn need(&self, count: usize) -> Result<(), Stop>
+        ensures ok { IfOk result (λ _. count ≤ length self.now) }
+        ensures err { IfErr result (λ stop. (stop ≡ stops.Truncated) × (length self.now < count)) }
+    {
+        if self.rest.len() < count {
+            return Err(Stop::Truncated);
+        }
+        Ok(())
+    }
+
     #[tactic(auto, unfolding(crate::specs::Reading::number_at))]
-    pub fn u8(&mut self) -> Result<u8, Stop>
-        ensures { Gives (λ x. (x, self.new)) result (number_at 1 self.old) }
+    pub fn u8(&mut self) -> u8
+        requires { 1 ≤ length self.old }
+        ensures read { number_at 1 self.old ≡ Some (result, self.new) }
+        ensures len { length self.new + 1 ≡ length self.old }
+    {
+        self.front(1)[0]
+    }
+
+    /// One more byte, if there is one.
+    #[tactic(auto, unfolding(crate::specs::Reading::number_at))]
+    pub fn try_u8(&mut self) -> Result<u8, Stop>
+        ensures { Finds (λ x. (x, self.new)) result (number_at 1 self.old) }
     {
         let front = self.bytes(1)?;
         Ok(front[0])
     }
 
     #[tactic(auto, unfolding(crate::specs::Reading::number_at))]
-    pub fn u16(&mut self) -> Result<u16, Stop>
-        ensures { Gives (λ x. (x, self.new)) result (number_at 2 self.old) }
+    pub fn u16(&mut self) -> u16
+        requires { 2 ≤ length self.old }
+        ensures read { number_at 2 self.old ≡ Some (result, self.new) }
+        ensures len { length self.new + 2 ≡ length self.old }
     {
-        let front = self.bytes(2)?;
-        Ok(LittleEndian::read_u16(front))
+        LittleEndian::read_u16(self.front(2))
     }
 
     #[tactic(auto, unfolding(crate::specs::Reading::number_at))]
-    pub fn u32(&mut self) -> Result<u32, Stop>
-        ensures { Gives (λ x. (x, self.new)) result (number_at 4 self.old) }
+    pub fn u32(&mut self) -> u32
+        requires { 4 ≤ length self.old }
+        ensures read { number_at 4 self.old ≡ Some (result, self.new) }
+        ensures len { length self.new + 4 ≡ length self.old }
     {
-        let front = self.bytes(4)?;
-        Ok(LittleEndian::read_u32(front))
+        LittleEndian::read_u32(self.front(4))
     }
 
-    pub fn id(&mut self) -> Result<ObjectId, Stop>
-        ensures { Gives (λ x. (x, self.new)) result (number_at 2 self.old) }
+    pub fn id(&mut self) -> ObjectId
+        requires { 2 ≤ length self.old }
+        ensures read { number_at 2 self.old ≡ Some (result, self.new) }
+        ensures len { length self.new + 2 ≡ length self.old }
     {
-        Ok(ObjectId::from_raw(self.u16()?))
-    }
-
-    #[tactic(auto, unfolding(crate::specs::Reading::signed_at))]
-    pub fn i16(&mut self) -> Result<i16, Stop>
-        ensures { Gives (λ x. (x, self.new)) result (signed_at w16 self.old) }
-    {
-        Ok(self.u16()?.cast_signed())
+        ObjectId::from_raw(self.u16())
     }
 
     #[tactic(auto, unfolding(crate::specs::Reading::signed_at))]
-    pub fn i32(&mut self) -> Result<i32, Stop>
-        ensures { Gives (λ x. (x, self.new)) result (signed_at w32 self.old) }
+    pub fn i16(&mut self) -> i16
+        requires { 2 ≤ length self.old }
+        ensures read { signed_at w16 self.old ≡ Some (result, self.new) }
+        ensures len { length self.new + 2 ≡ length self.old }
     {
-        Ok(self.u32()?.cast_signed())
+        self.u16().cast_signed()
+    }
+
+    #[tactic(auto, unfolding(crate::specs::Reading::signed_at))]
+    pub fn i32(&mut self) -> i32
+        requires { 4 ≤ length self.old }
+        ensures read { signed_at w32 self.old ≡ Some (result, self.new) }
+        ensures len { length self.new + 4 ≡ length self.old }
+    {
+        self.u32().cast_signed()
     }
 
     /// Four bytes, as the number that they are.
     #[tactic(auto, unfolding(crate::specs::Reading::number_at))]
-    pub fn four_bytes(&mut self) -> Result<[u8; 4], Stop>
-        ensures { Gives (λ x. (little_number 4 x, self.new)) result (number_at 4 self.old) }
+    pub fn four_bytes(&mut self) -> [u8; 4]
+        requires { 4 ≤ length self.old }
+        ensures read { number_at 4 self.old ≡ Some (little_number 4 result, self.new) }
+        ensures len { length self.new + 4 ≡ length self.old }
     {
-        let front = self.bytes(4)?;
-        Ok([front[0], front[1], front[2], front[3]])
+        let front = self.front(4);
+        [front[0], front[1], front[2], front[3]]
+    }
+
+    /// So many bytes, which are left.
+    #[tactic(auto, unfolding(crate::specs::Reading::bytes_at))]
+    fn front(&mut self, count: usize) -> &'a [u8]
+        requires { count ≤ length self.old }
+        ensures read { bytes_at count self.old ≡ Some (result.now, self.new) }
+        ensures front { length result.now ≡ count }
+        ensures len { length self.new + count ≡ length self.old }
+    {
+        let (front, rest) = self.rest.split_at(count);
+        self.rest = rest;
+        front
     }
 
     #[tactic(auto, unfolding(crate::specs::Reading::bytes_at))]
     pub fn bytes(&mut self, count: usize) -> Result<&'a [u8], Stop>
-        ensures read { Gives (λ x. (x.now, self.new)) result (bytes_at count self.old) }
+        ensures read { Finds (λ x. (x.now, self.new)) result (bytes_at count self.old) }
         ensures len { IfOk result (λ x. length x.now ≡ count) }
     {
-        let rest = self.rest;
-        if rest.len() < count {
-            return Err(Stop::Truncated);
-        }
-        let (front, rest) = rest.split_at(count);
-        self.rest = rest;
-        Ok(front)
+        self.need(count)?;
+        Ok(self.front(count))
     }
 
     /// A text of so many bytes.
     pub fn short_text(&mut self, count: u8) -> Result<ShortText<&'a [u8]>, Stop>
-        ensures read { Gives (λ x. (x, self.new)) result (bytes_at count self.old) }
+        ensures read { Finds (λ x. (x, self.new)) result (bytes_at count self.old) }
         ensures len { IfOk result (λ x. length x ≡ count) }
     {
         Ok(ShortText::new(self.bytes(usize::from(count))?))
@@ -115,7 +156,7 @@ impl<'a> Reader<'a> {
 
     /// A text of so many bytes.
     pub fn long_text(&mut self, count: u16) -> Result<LongText<&'a [u8]>, Stop>
-        ensures read { Gives (λ x. (x, self.new)) result (bytes_at count self.old) }
+        ensures read { Finds (λ x. (x, self.new)) result (bytes_at count self.old) }
         ensures len { IfOk result (λ x. length x ≡ count) }
     {
         Ok(LongText::new(self.bytes(usize::from(count))?))
@@ -123,7 +164,7 @@ impl<'a> Reader<'a> {
 
     /// So many bytes of a macro.
     pub fn macro_bytes(&mut self, count: u16) -> Result<MacroBytes<&'a [u8]>, Stop>
-        ensures read { Gives (λ x. (x, self.new)) result (bytes_at count self.old) }
+        ensures read { Finds (λ x. (x, self.new)) result (bytes_at count self.old) }
         ensures len { IfOk result (λ x. length x ≡ count) }
     {
         Ok(MacroBytes::new(self.bytes(usize::from(count))?))
@@ -131,7 +172,7 @@ impl<'a> Reader<'a> {
 
     /// So many bytes of a picture.
     pub fn picture_bytes(&mut self, count: u32) -> Result<PictureBytes<&'a [u8]>, Stop>
-        ensures read { Gives (λ x. (x, self.new)) result (bytes_at count self.old) }
+        ensures read { Finds (λ x. (x, self.new)) result (bytes_at count self.old) }
         ensures len { IfOk result (λ x. length x ≡ count) }
     {
         Ok(PictureBytes::new(self.bytes(count as usize)?))

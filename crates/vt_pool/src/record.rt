@@ -37,8 +37,9 @@ fn parse_record<'a>(alloc: Global, bytes: &'a [u8]) -> Result<Record<'a>, Stop>
     ensures { Reads (λ r. record { id = r.id; kind = kind_of r.object; values = values_of r.object; rest = r.rest.now }) result (record_at bytes.now) }
 {
     let mut reader = Reader::new(bytes);
-    let id = ObjectId::from_raw(reader.u16()?);
-    let number = reader.u8()?;
+    reader.need(3)?;
+    let id = reader.id();
+    let number = reader.u8();
     if id.is_null() {
         return Err(Stop::NullId);
     }

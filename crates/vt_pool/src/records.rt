@@ -3,6 +3,7 @@
 ghost use Rattle.std.specs.Prelude.{◌≡◌, IfOk, OnOk};
 ghost use Rattle.vt_objects.specs.Records.{fields_of, values_of, kind_of};
 ghost use Rattle.vt_pool.specs.Heads.{Reads, fields_at};
+ghost use Rattle.vt_pool.specs.Reading.{head_size};
 ghost use Rattle.vt_pool.specs.Writing.{written};
 
 mod attribute_objects;
@@ -62,36 +63,74 @@ pub fn read_fields<'a>(
     ensures read { Reads (λ o. (values_of o, reader.new)) result (fields_at (fields_of kind) reader.old) }
     ensures kind { IfOk result (λ o. kind_of o ≡ kind) }
 {
+    reader.need(head_size(kind))?;
     match kind {
-        Kind::WorkingSet => Ok(Object::WorkingSet(read_working_set(alloc, reader)?)),
-        Kind::DataMask => Ok(Object::DataMask(read_data_mask(alloc, reader)?)),
-        Kind::AlarmMask => Ok(Object::AlarmMask(read_alarm_mask(alloc, reader)?)),
-        Kind::Container => Ok(Object::Container(read_container(alloc, reader)?)),
-        Kind::SoftKeyMask => Ok(Object::SoftKeyMask(read_soft_key_mask(alloc, reader)?)),
-        Kind::Key => Ok(Object::Key(read_key(alloc, reader)?)),
-        Kind::Button => Ok(Object::Button(read_button(alloc, reader)?)),
-        Kind::InputBoolean => Ok(Object::InputBoolean(read_input_boolean(alloc, reader)?)),
-        Kind::InputString => Ok(Object::InputString(read_input_string(alloc, reader)?)),
-        Kind::InputNumber => Ok(Object::InputNumber(read_input_number(alloc, reader)?)),
-        Kind::InputList => Ok(Object::InputList(read_input_list(alloc, reader)?)),
-        Kind::OutputString => Ok(Object::OutputString(read_output_string(alloc, reader)?)),
-        Kind::OutputNumber => Ok(Object::OutputNumber(read_output_number(alloc, reader)?)),
-        Kind::Line => Ok(Object::Line(read_line(alloc, reader)?)),
-        Kind::Rectangle => Ok(Object::Rectangle(read_rectangle(alloc, reader)?)),
-        Kind::Ellipse => Ok(Object::Ellipse(read_ellipse(alloc, reader)?)),
-        Kind::Polygon => Ok(Object::Polygon(read_polygon(alloc, reader)?)),
-        Kind::Meter => Ok(Object::Meter(read_meter(alloc, reader)?)),
-        Kind::LinearBar => Ok(Object::LinearBar(read_linear_bar(alloc, reader)?)),
-        Kind::ArchedBar => Ok(Object::ArchedBar(read_arched_bar(alloc, reader)?)),
-        Kind::Picture => Ok(Object::Picture(read_picture(alloc, reader)?)),
-        Kind::NumberVariable => Ok(Object::NumberVariable(read_number_variable(reader)?)),
-        Kind::StringVariable => Ok(Object::StringVariable(read_string_variable(reader)?)),
-        Kind::Font => Ok(Object::Font(read_font(alloc, reader)?)),
-        Kind::LineAttributes => Ok(Object::LineAttributes(read_line_attributes(alloc, reader)?)),
-        Kind::FillAttributes => Ok(Object::FillAttributes(read_fill_attributes(alloc, reader)?)),
-        Kind::InputAttributes => Ok(Object::InputAttributes(read_input_attributes(alloc, reader)?)),
-        Kind::ObjectPointer => Ok(Object::ObjectPointer(read_object_pointer(reader)?)),
-        Kind::Macro => Ok(Object::Macro(read_macro_object(reader)?)),
+        Kind::WorkingSet => read_working_set(alloc, reader),
+        Kind::DataMask => read_data_mask(alloc, reader),
+        Kind::AlarmMask => read_alarm_mask(alloc, reader),
+        Kind::Container => read_container(alloc, reader),
+        Kind::SoftKeyMask => read_soft_key_mask(alloc, reader),
+        Kind::Key => read_key(alloc, reader),
+        Kind::Button => read_button(alloc, reader),
+        Kind::InputBoolean => read_input_boolean(alloc, reader),
+        Kind::InputString => read_input_string(alloc, reader),
+        Kind::InputNumber => read_input_number(alloc, reader),
+        Kind::InputList => read_input_list(alloc, reader),
+        Kind::OutputString => read_output_string(alloc, reader),
+        Kind::OutputNumber => read_output_number(alloc, reader),
+        Kind::Line => read_line(alloc, reader),
+        Kind::Rectangle => read_rectangle(alloc, reader),
+        Kind::Ellipse => read_ellipse(alloc, reader),
+        Kind::Polygon => read_polygon(alloc, reader),
+        Kind::Meter => read_meter(alloc, reader),
+        Kind::LinearBar => read_linear_bar(alloc, reader),
+        Kind::ArchedBar => read_arched_bar(alloc, reader),
+        Kind::Picture => read_picture(alloc, reader),
+        Kind::NumberVariable => read_number_variable(reader),
+        Kind::StringVariable => read_string_variable(reader),
+        Kind::Font => read_font(alloc, reader),
+        Kind::LineAttributes => read_line_attributes(alloc, reader),
+        Kind::FillAttributes => read_fill_attributes(alloc, reader),
+        Kind::InputAttributes => read_input_attributes(alloc, reader),
+        Kind::ObjectPointer => read_object_pointer(reader),
+        Kind::Macro => read_macro_object(reader),
+    }
+}
+
+/// How many bytes of a record of this kind come before its lists and texts, behind the ID and the type.
+fn head_size(kind: Kind) -> usize
+    ensures { result ≡ head_size (fields_of kind) }
+{
+    match kind {
+        Kind::WorkingSet => 7,
+        Kind::DataMask => 5,
+        Kind::AlarmMask => 7,
+        Kind::Container => 7,
+        Kind::SoftKeyMask => 3,
+        Kind::Key => 4,
+        Kind::Button => 10,
+        Kind::InputBoolean => 10,
+        Kind::InputString => 14,
+        Kind::InputNumber => 35,
+        Kind::InputList => 10,
+        Kind::OutputString => 13,
+        Kind::OutputNumber => 26,
+        Kind::Line => 8,
+        Kind::Rectangle => 10,
+        Kind::Ellipse => 12,
+        Kind::Polygon => 11,
+        Kind::Meter => 18,
+        Kind::LinearBar => 21,
+        Kind::ArchedBar => 24,
+        Kind::Picture => 14,
+        Kind::NumberVariable => 4,
+        Kind::StringVariable => 2,
+        Kind::Font => 5,
+        Kind::LineAttributes => 5,
+        Kind::FillAttributes => 5,
+        Kind::InputAttributes => 2,
+        Kind::ObjectPointer => 2,
+        Kind::Macro => 2,
     }
 }
 

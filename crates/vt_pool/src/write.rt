@@ -5,6 +5,7 @@ ghost use Rattle.std.specs.Int.{w16, w32, cast_unsigned};
 ghost use Rattle.byteorder.specs.Endian.{little_bytes};
 ghost use Rattle.vt_objects.specs.Records.{HasRecord, record_of, seen};
 ghost use Rattle.vt_objects.specs.Scales.{scale_number};
+ghost use Rattle.vt_pool.specs.Writing.{each_written};
 
 use crate::records::write_fields;
 use byteorder::{ByteOrder, LittleEndian};
@@ -38,6 +39,26 @@ pub fn put_i16(out: &mut Vec<u8>, n: i16) -> Result<(), AllocError>
     ensures { OnOk result (out.new.items ≡ out.old.items ++ little_bytes 2 (cast_unsigned w16 n)) }
 {
     put_u16(out, n.cast_unsigned())
+}
+
+/// Bytes, one after the other.
+pub fn put_u8s(out: &mut Vec<u8>, numbers: &[u8]) -> Result<(), AllocError>
+    ensures { OnOk result (out.new.items ≡ each_written 1 out.old.items numbers.now) }
+{
+    for n in numbers {
+        put_u8(out, *n)?;
+    }
+    Ok(())
+}
+
+/// Numbers, one after the other.
+pub fn put_u16s(out: &mut Vec<u8>, numbers: &[u16]) -> Result<(), AllocError>
+    ensures { OnOk result (out.new.items ≡ each_written 2 out.old.items numbers.now) }
+{
+    for n in numbers {
+        put_u16(out, *n)?;
+    }
+    Ok(())
 }
 
 pub fn put_u32(out: &mut Vec<u8>, n: u32) -> Result<(), AllocError>

@@ -1,36 +1,41 @@
 //! The records of output graphics.
 
-ghost use Rattle.std.specs.Prelude.{◌≡◌, OnOk};
-ghost use Rattle.vt_objects.specs.Layout.{fields, values, no_counts};
+ghost use Rattle.std.specs.Prelude.{◌≡◌, ◌≤◌, length, IfOk, OnOk};
+ghost use Rattle.vt_objects.specs.Layout.{fields, values};
+ghost use Rattle.vt_objects.specs.Records.{fields_of, values_of, kind_of};
+ghost use Rattle.vt_objects.specs.declared.kind.Kind.TheVariants as kinds;
 ghost use Rattle.vt_objects.specs.Tables.{meter, linear_bar, arched_bar};
-ghost use Rattle.vt_pool.specs.Reading.{Gives, values_at};
+ghost use Rattle.vt_pool.specs.Heads.{Reads, fields_at};
+ghost use Rattle.vt_pool.specs.Reading.{head_size};
 ghost use Rattle.vt_pool.specs.Writing.{written};
 
-use crate::entry::{entries, put_entries};
+use crate::entry::{entries, put_counted};
 use crate::reader::Reader;
 use crate::stop::Stop;
-use crate::write::{put_id, put_u8, put_u16};
+use crate::write::{put_u8s, put_u16, put_u16s};
 use std::alloc::{AllocError, Global};
-use vt_objects::{ArchedBar, LinearBar, Meter};
+use vt_objects::{ArchedBar, LinearBar, Meter, Object};
 
-pub fn read_meter(alloc: Global, reader: &mut Reader<'_>) -> Result<Meter, Stop>
-    ensures { Gives (λ x. (values meter x, reader.new)) result (values_at (fields meter) no_counts reader.old) }
+pub fn read_meter<'a>(alloc: Global, reader: &mut Reader<'a>) -> Result<Object<&'a [u8]>, Stop>
+    requires { head_size (fields_of kinds.Meter) ≤ length reader.old }
+    ensures read { Reads (λ o. (values_of o, reader.new)) result (fields_at (fields_of kinds.Meter) reader.old) }
+    ensures kind { IfOk result (λ o. kind_of o ≡ kinds.Meter) }
 {
-    let width = reader.u16()?;
-    let needle_colour = reader.u8()?;
-    let border_colour = reader.u8()?;
-    let arc_colour = reader.u8()?;
-    let options = reader.u8()?;
-    let ticks = reader.u8()?;
-    let start = reader.u8()?;
-    let end = reader.u8()?;
-    let min = reader.u16()?;
-    let max = reader.u16()?;
-    let variable = reader.id()?;
-    let value = reader.u16()?;
-    let macro_count = reader.u8()?;
+    let width = reader.u16();
+    let needle_colour = reader.u8();
+    let border_colour = reader.u8();
+    let arc_colour = reader.u8();
+    let options = reader.u8();
+    let ticks = reader.u8();
+    let start = reader.u8();
+    let end = reader.u8();
+    let min = reader.u16();
+    let max = reader.u16();
+    let variable = reader.id();
+    let value = reader.u16();
+    let macro_count = reader.u8();
     let macros = entries(alloc, reader, macro_count)?;
-    Ok(Meter {
+    Ok(Object::Meter(Meter {
         width,
         needle_colour,
         border_colour,
@@ -44,47 +49,49 @@ pub fn read_meter(alloc: Global, reader: &mut Reader<'_>) -> Result<Meter, Stop>
         variable,
         value,
         macros,
-    })
+    }))
 }
 
 pub fn write_meter(out: &mut Vec<u8>, o: &Meter) -> Result<(), AllocError>
     ensures { OnOk result (out.new.items ≡ written out.old.items (fields meter) (values meter o.now)) }
 {
     put_u16(out, o.width)?;
-    put_u8(out, o.needle_colour)?;
-    put_u8(out, o.border_colour)?;
-    put_u8(out, o.arc_colour)?;
-    put_u8(out, o.options)?;
-    put_u8(out, o.ticks)?;
-    put_u8(out, o.start)?;
-    put_u8(out, o.end)?;
-    put_u16(out, o.min)?;
-    put_u16(out, o.max)?;
-    put_id(out, o.variable)?;
-    put_u16(out, o.value)?;
-    put_u8(out, o.macros.len())?;
-    put_entries(out, &o.macros)?;
-    Ok(())
+    put_u8s(
+        out,
+        &[
+            o.needle_colour,
+            o.border_colour,
+            o.arc_colour,
+            o.options,
+            o.ticks,
+            o.start,
+            o.end,
+        ],
+    )?;
+    put_u16s(out, &[o.min, o.max, o.variable.raw(), o.value])?;
+    put_counted(out, &o.macros)
 }
 
-pub fn read_linear_bar(alloc: Global, reader: &mut Reader<'_>) -> Result<LinearBar, Stop>
-    ensures { Gives (λ x. (values linear_bar x, reader.new)) result (values_at (fields linear_bar) no_counts reader.old) }
+pub fn read_linear_bar<'a>(alloc: Global, reader: &mut Reader<'a>) -> Result<Object<&'a [u8]>, Stop>
+    requires { head_size (fields_of kinds.LinearBar) ≤ length reader.old }
+    ensures read { Reads (λ o. (values_of o, reader.new)) result (fields_at (fields_of kinds.LinearBar) reader.old) }
+    ensures kind { IfOk result (λ o. kind_of o ≡ kinds.LinearBar) }
 {
-    let width = reader.u16()?;
-    let height = reader.u16()?;
-    let colour = reader.u8()?;
-    let target_colour = reader.u8()?;
-    let options = reader.u8()?;
-    let ticks = reader.u8()?;
-    let min = reader.u16()?;
-    let max = reader.u16()?;
-    let variable = reader.id()?;
-    let value = reader.u16()?;
-    let target_variable = reader.id()?;
-    let target = reader.u16()?;
-    let macro_count = reader.u8()?;
+    let width = reader.u16();
+    let height = reader.u16();
+    let colour = reader.u8();
+    let target_colour = reader.u8();
+    let options = reader.u8();
+    let ticks = reader.u8();
+    let min = reader.u16();
+    let max = reader.u16();
+    let variable = reader.id();
+    let value = reader.u16();
+    let target_variable = reader.id();
+    let target = reader.u16();
+    let macro_count = reader.u8();
     let macros = entries(alloc, reader, macro_count)?;
-    Ok(LinearBar {
+    Ok(Object::LinearBar(LinearBar {
         width,
         height,
         colour,
@@ -98,49 +105,50 @@ pub fn read_linear_bar(alloc: Global, reader: &mut Reader<'_>) -> Result<LinearB
         target_variable,
         target,
         macros,
-    })
+    }))
 }
 
 pub fn write_linear_bar(out: &mut Vec<u8>, o: &LinearBar) -> Result<(), AllocError>
     ensures { OnOk result (out.new.items ≡ written out.old.items (fields linear_bar) (values linear_bar o.now)) }
 {
-    put_u16(out, o.width)?;
-    put_u16(out, o.height)?;
-    put_u8(out, o.colour)?;
-    put_u8(out, o.target_colour)?;
-    put_u8(out, o.options)?;
-    put_u8(out, o.ticks)?;
-    put_u16(out, o.min)?;
-    put_u16(out, o.max)?;
-    put_id(out, o.variable)?;
-    put_u16(out, o.value)?;
-    put_id(out, o.target_variable)?;
-    put_u16(out, o.target)?;
-    put_u8(out, o.macros.len())?;
-    put_entries(out, &o.macros)?;
-    Ok(())
+    put_u16s(out, &[o.width, o.height])?;
+    put_u8s(out, &[o.colour, o.target_colour, o.options, o.ticks])?;
+    put_u16s(
+        out,
+        &[
+            o.min,
+            o.max,
+            o.variable.raw(),
+            o.value,
+            o.target_variable.raw(),
+            o.target,
+        ],
+    )?;
+    put_counted(out, &o.macros)
 }
 
-pub fn read_arched_bar(alloc: Global, reader: &mut Reader<'_>) -> Result<ArchedBar, Stop>
-    ensures { Gives (λ x. (values arched_bar x, reader.new)) result (values_at (fields arched_bar) no_counts reader.old) }
+pub fn read_arched_bar<'a>(alloc: Global, reader: &mut Reader<'a>) -> Result<Object<&'a [u8]>, Stop>
+    requires { head_size (fields_of kinds.ArchedBar) ≤ length reader.old }
+    ensures read { Reads (λ o. (values_of o, reader.new)) result (fields_at (fields_of kinds.ArchedBar) reader.old) }
+    ensures kind { IfOk result (λ o. kind_of o ≡ kinds.ArchedBar) }
 {
-    let width = reader.u16()?;
-    let height = reader.u16()?;
-    let colour = reader.u8()?;
-    let target_colour = reader.u8()?;
-    let options = reader.u8()?;
-    let start = reader.u8()?;
-    let end = reader.u8()?;
-    let bar_width = reader.u16()?;
-    let min = reader.u16()?;
-    let max = reader.u16()?;
-    let variable = reader.id()?;
-    let value = reader.u16()?;
-    let target_variable = reader.id()?;
-    let target = reader.u16()?;
-    let macro_count = reader.u8()?;
+    let width = reader.u16();
+    let height = reader.u16();
+    let colour = reader.u8();
+    let target_colour = reader.u8();
+    let options = reader.u8();
+    let start = reader.u8();
+    let end = reader.u8();
+    let bar_width = reader.u16();
+    let min = reader.u16();
+    let max = reader.u16();
+    let variable = reader.id();
+    let value = reader.u16();
+    let target_variable = reader.id();
+    let target = reader.u16();
+    let macro_count = reader.u8();
     let macros = entries(alloc, reader, macro_count)?;
-    Ok(ArchedBar {
+    Ok(Object::ArchedBar(ArchedBar {
         width,
         height,
         colour,
@@ -156,27 +164,25 @@ pub fn read_arched_bar(alloc: Global, reader: &mut Reader<'_>) -> Result<ArchedB
         target_variable,
         target,
         macros,
-    })
+    }))
 }
 
 pub fn write_arched_bar(out: &mut Vec<u8>, o: &ArchedBar) -> Result<(), AllocError>
     ensures { OnOk result (out.new.items ≡ written out.old.items (fields arched_bar) (values arched_bar o.now)) }
 {
-    put_u16(out, o.width)?;
-    put_u16(out, o.height)?;
-    put_u8(out, o.colour)?;
-    put_u8(out, o.target_colour)?;
-    put_u8(out, o.options)?;
-    put_u8(out, o.start)?;
-    put_u8(out, o.end)?;
-    put_u16(out, o.bar_width)?;
-    put_u16(out, o.min)?;
-    put_u16(out, o.max)?;
-    put_id(out, o.variable)?;
-    put_u16(out, o.value)?;
-    put_id(out, o.target_variable)?;
-    put_u16(out, o.target)?;
-    put_u8(out, o.macros.len())?;
-    put_entries(out, &o.macros)?;
-    Ok(())
+    put_u16s(out, &[o.width, o.height])?;
+    put_u8s(out, &[o.colour, o.target_colour, o.options, o.start, o.end])?;
+    put_u16s(
+        out,
+        &[
+            o.bar_width,
+            o.min,
+            o.max,
+            o.variable.raw(),
+            o.value,
+            o.target_variable.raw(),
+            o.target,
+        ],
+    )?;
+    put_counted(out, &o.macros)
 }
