@@ -5,8 +5,11 @@ ghost use Rattle.vt_extended.specs.Messages.{opens, packet_count_of, edge_after,
 
 use vt_can::Reason;
 
-/// The fewest and the most bytes of a message.
-const SIZES: (u32, u32) = (9, 1_048_576);
+/// The fewest bytes of a message.
+const LEAST_SIZE: u32 = 9;
+
+/// The most bytes of a message.
+const GREATEST_SIZE: u32 = 1_048_576;
 
 /// The most packets that a CTS asks for.
 const MOST_PACKETS: u32 = 255;
@@ -48,8 +51,7 @@ impl Opening {
     pub(crate) fn opens(&self) -> bool
         ensures { result ≡ opens self.now }
     {
-        let (least, most) = SIZES;
-        least <= self.size && self.size <= most
+        LEAST_SIZE <= self.size && self.size <= GREATEST_SIZE
     }
 
     /// The packets that the message takes.
@@ -100,8 +102,7 @@ impl Opening {
     fn refusal(&self) -> Reason
         ensures { result ≡ refusal self.now }
     {
-        let (least, _) = SIZES;
-        if self.size < least {
+        if self.size < LEAST_SIZE {
             Reason::Disorder
         } else {
             Reason::TooLarge

@@ -5,8 +5,11 @@ ghost use Rattle.vt_transport.specs.Messages.{opens, allowed, first_reply, reply
 
 use vt_can::Reason;
 
-/// The fewest and the most bytes of a message.
-pub(crate) const SIZES: (u16, u16) = (9, 1785);
+/// The fewest bytes of a message.
+pub(crate) const LEAST_SIZE: u16 = 9;
+
+/// The most bytes of a message.
+pub(crate) const GREATEST_SIZE: u16 = 1785;
 
 /// What a request to send says.
 #[derive(Clone, Copy, Debug)]
@@ -42,8 +45,9 @@ impl Opening {
     pub(crate) fn opens(&self) -> bool
         ensures { result ≡ opens self.now }
     {
-        let (least, most) = SIZES;
-        least <= self.size && self.size <= most && u16::from(self.packets) == (self.size + 6) / 7
+        LEAST_SIZE <= self.size
+            && self.size <= GREATEST_SIZE
+            && u16::from(self.packets) == (self.size + 6) / 7
     }
 
     /// The packets that a CTS may ask for.

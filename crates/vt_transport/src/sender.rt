@@ -8,7 +8,7 @@ ghost use Rattle.vt_transport.specs.Wire.{rts_frame};
 ghost use Rattle.vt_transport.specs.declared.messages.TpFrame.TheVariants as declared;
 ghost use Rattle.vt_transport.specs.Senders.{Answers, Starts, TimesOut, has_size, answer, answer_of, is_of_group};
 
-use crate::messages::{Reply, SIZES, TpFrame};
+use crate::messages::{GREATEST_SIZE, LEAST_SIZE, Reply, TpFrame};
 use crate::sending::Outgoing;
 use crate::wire;
 use arrayvec::ArrayVec;
@@ -84,7 +84,7 @@ impl Sender {
             return Err(SendFault::Busy);
         }
         let size = message.len();
-        if size < usize::from(SIZES.0) || size > usize::from(SIZES.1) {
+        if size < usize::from(LEAST_SIZE) || size > usize::from(GREATEST_SIZE) {
             return Err(SendFault::Size);
         }
         let Ok(bytes) = Vec::from_slice(self.alloc, message) else {
