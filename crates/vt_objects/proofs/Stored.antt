@@ -1,9 +1,8 @@
 -- What stores of objects by rising ID answer, and what they hold after a write.
 use Rattle.std.proofs.Common.{◌≡◌, ℕ, zero, suc, ◌<◌, ◌≤◌, Bool, true, false, cond, eqb, List, [], ◌∷◌, length, get_or, set, map, Option, Some, None, refl, sym, ap, subst, ◌∙◌, arith, T}
-use Rattle.std.proofs.lemmas.List.Sorted.{All-permutation}
 use Rattle.std.proofs.lemmas.Map.Views.{All-map-IsPermutation}
 use Rattle.std.proofs.lemmas.Cmp.{nat_cmp_total}
-use Rattle.std.specs.Prelude.{slice_get, slice_index_or, IsPermutation, IfSome, IfNone}
+use Rattle.std.specs.Prelude.{slice_get, IsPermutation, IfSome, IfNone}
 use Rattle.std.specs.Option.{option_map}
 use Rattle.std.proofs.lemmas.List.Elements.{All-nil, All-cons}
 use Rattle.std.proofs.lemmas.Map.Keys.{IsDistinct-cons}
@@ -12,13 +11,12 @@ use Rattle.std.specs.Ordering.{nat_cmp}
 use Rattle.std.proofs.lemmas.Option.{slice_get-map}
 use Rattle.std.specs.FinMap as finite
 use Rattle.std.specs.FinMap.Entries.{put, is_sorted-put, below_all}
-use Rattle.std.specs.declared.cmp.Ordering.{Ordering}
-use Rattle.std.specs.declared.cmp.Ordering.TheVariants.{Equal, Greater}
+use Rattle.std.specs.declared.cmp.Ordering.TheVariants.{Equal}
 use Rattle.vt_objects.specs.declared.object.Object.{Object}
 use Rattle.vt_objects.specs.Records.{Seen, seen}
 use Rattle.vt_objects.specs.Stores.{Objects, Contents, AreNamed, AreStored, IsRising, IsPlace, shown, ids, by_rising_id, object_at, map_of, contents_of, with_object, replaced}
 use Rattle.vt_objects.proofs.Rising.{T_of, both_true, equal, greater, three, ids_shown, distinct_rising}
-use Rattle.vt_objects.proofs.Searching.{other_id, is_below, above_at, get_at, place_at}
+use Rattle.vt_objects.proofs.Searching.{other_id, above_at, get_at}
 
 -- ---- the map of objects by rising ID
 
@@ -168,6 +166,11 @@ module _ {B : Type 0} where
 
   pub found_some : (es : List (ℕ × Object B)) (s : Objects) (q p : ℕ) (x : ℕ × Object B) → map shown es ≡ s → IsPlace (map shown es) q p → x ≡ get_or es p x → Some (seen x.1) ≡ object_at s q
   found_some es s q p x view at is = subst (λ (t : Objects). Some (seen x.1) ≡ object_at t q) view (object_at_place es q p x at is)
+
+  pub named_in : (es : List (ℕ × Object B)) (s : Objects) → map shown es ≡ s → AreStored (map shown es) → All (λ id. id < 0xFFFF) (ids (finite.entries (map_of s)))
+  named_in es s view stored =
+      let is = subst AreStored view stored in
+      subst (λ (objects : Objects). All (λ id. id < 0xFFFF) (ids objects)) (sym (entries_from s is.rising)) is.named.named
 
   pub null_free_in : (es : List (ℕ × Object B)) (s : Objects) → map shown es ≡ s → AreStored (map shown es) → finite.get (map_of s) 0xFFFF ≡ None
   null_free_in es s view stored = null_free s (subst AreStored view stored)

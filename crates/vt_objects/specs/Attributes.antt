@@ -1,7 +1,6 @@
 -- The attributes that Change Attribute writes, by their numbers, and of which sort the values of each are
 -- (docs/PROFILE.md, "Attribute numbers"), and what each sort takes ("Values of attributes").
 use Rattle.std.specs.Prelude.{◌≡◌, ◌≢◌, ◌≤◌, ◌⊎◌, ℕ, zero, suc, ◌%◌, ◌^◌, List, [], ◌∷◌, ◌==◌, if◌then◌else◌, Option, Some, None, IsTrue, slice_get}
-use Rattle.std.specs.List.{list_any}
 use Rattle.vt_objects.specs.declared.kind.Kind.{Kind}
 use Rattle.vt_objects.specs.declared.kind.Kind.TheVariants as kinds
 use Rattle.vt_objects.specs.declared.place.Place.TheVariants as places
@@ -9,36 +8,35 @@ use Rattle.vt_objects.specs.declared.place.Place.{Place}
 use Rattle.vt_objects.specs.declared.fields.Attribute.{Attribute}
 use Rattle.vt_objects.specs.declared.fields.Field.{Field}
 use Rattle.vt_objects.specs.declared.fields.Field.TheVariants as fields
-use Rattle.vt_objects.specs.declared.fields.Values.{Values}
-use Rattle.vt_objects.specs.declared.fields.Values.TheVariants as values
-use Rattle.vt_objects.specs.Kinds.{kind_number}
-use Rattle.vt_objects.specs.References.{allowed, may_be_null, members}
+use Rattle.vt_objects.specs.declared.fields.ValueType.{ValueType}
+use Rattle.vt_objects.specs.declared.fields.ValueType.TheVariants as types
+use Rattle.vt_objects.specs.References.{allowed, may_be_null, members, is_among}
 use Rattle.vt_objects.specs.Scales.{IsScale}
 
-abbrev pub taking : Field → Values → Attribute
-taking field values = record { field = field; values = values }
+abbrev pub attribute : Field → ValueType → Attribute
+attribute field type = record { field = field; value_type = type }
 
 -- ---- what the values of each sort are
 
 -- how many bytes a field of a sort has
-abbrev pub width : Values → ℕ
-width values.Byte = 1
-width values.Word = 2
-width values.Long = 4
-width values.SignedLong = 4
-width (values.Reference place) = 2
-width values.Priority = 1
-width values.Scale = 4
-width values.Decimals = 1
+abbrev pub width : ValueType → ℕ
+width types.Byte = 1
+width types.Word = 2
+width types.Long = 4
+width types.SignedLong = 4
+width (types.Reference place) = 2
+width types.Priority = 1
+width types.Scale = 4
+width types.Decimals = 1
 
 -- what a field gets of a value: its lowest bytes
-abbrev pub lowest : Values → ℕ → ℕ
+abbrev pub lowest : ValueType → ℕ → ℕ
 lowest sort value = value % 256 ^ width sort
 
 -- an object that is there, of a kind among these
 abbrev pub IsAmong : List Kind → Option Kind → Type 0
 IsAmong kinds None = ⊥
-IsAmong kinds (Some kind) = IsTrue (list_any (λ member. kind_number member == kind_number kind) kinds)
+IsAmong kinds (Some kind) = IsTrue (is_among kinds kind)
 
 -- what may stand at a place of an object of a kind: NULL, where the place allows it, or an object of an allowed kind
 abbrev pub MayStand : Kind → Place → ℕ → Option Kind → Type 0
@@ -47,31 +45,31 @@ MayStand kind place id named =
 
 -- What a field of an object of a kind takes; of a reference, where `named` is the kind of the object that it names.
 -- The value of an object pointer has to meet more (docs/PROFILE.md, "Values of attributes").
-abbrev pub Takes : Kind → Values → ℕ → Option Kind → Type 0
-Takes kind (values.Reference place) n named = MayStand kind place n named
-Takes kind values.Priority n named = n ≤ 2
-Takes kind values.Scale n named = IsScale n
-Takes kind values.Decimals n named = n ≤ 7
-Takes kind _ n named = Unit {0}
+abbrev pub Accepts : Kind → ValueType → ℕ → Option Kind → Type 0
+Accepts kind (types.Reference place) n named = MayStand kind place n named
+Accepts kind types.Priority n named = n ≤ 2
+Accepts kind types.Scale n named = IsScale n
+Accepts kind types.Decimals n named = n ≤ 7
+Accepts kind _ n named = Unit {0}
 
 -- ---- the attributes of each kind
 
 -- a field of one, two or four bytes that takes every value, and a signed one of four
 abbrev pub byte : Field → Attribute
-byte field = taking field values.Byte
+byte field = attribute field types.Byte
 
 abbrev pub word : Field → Attribute
-word field = taking field values.Word
+word field = attribute field types.Word
 
 abbrev pub long : Field → Attribute
-long field = taking field values.Long
+long field = attribute field types.Long
 
 abbrev pub signed_long : Field → Attribute
-signed_long field = taking field values.SignedLong
+signed_long field = attribute field types.SignedLong
 
 -- a reference, which takes what its place allows
 abbrev pub reference : Field → Place → Attribute
-reference field place = taking field (values.Reference place)
+reference field place = attribute field (types.Reference place)
 
 abbrev pub soft_key_mask : Attribute
 soft_key_mask = reference fields.SoftKeyMask places.SoftKeyMask
@@ -96,13 +94,13 @@ fill = reference fields.Fill places.Fill
 
 -- a priority of 0 to 2, a scale of the four, and decimals of 0 to 7
 abbrev pub priority : Attribute
-priority = taking fields.Priority values.Priority
+priority = attribute fields.Priority types.Priority
 
 abbrev pub scale : Attribute
-scale = taking fields.Scale values.Scale
+scale = attribute fields.Scale types.Scale
 
 abbrev pub decimals : Attribute
-decimals = taking fields.Decimals values.Decimals
+decimals = attribute fields.Decimals types.Decimals
 
 -- The attributes of a kind, numbered from 1. Of an Input List they are those before the number that is left out.
 abbrev pub attributes_of : Kind → List Attribute

@@ -3,7 +3,7 @@ use Rattle.std.specs.Prelude.{ℕ, ℤ, List, [], ◌∷◌, take, drop, length,
 use Rattle.std.specs.Int.{w16, cast_signed}
 use Rattle.byteorder.specs.Endian.{little_number}
 use Rattle.vt_objects.specs.declared.command.Command.{Command}
-use Rattle.vt_objects.specs.declared.command.Command.TheVariants.{HideShow, EnableDisable, ControlAudio, SetVolume, ChangeChildLocation, ChangeSize, ChangeBackgroundColour, ChangeNumericValue, ChangeEndPoint, ChangeFontAttributes, ChangeLineAttributes, ChangeFillAttributes, ChangeActiveMask, ChangeSoftKeyMask, ChangeAttribute, ChangePriority, ChangeListItem, DeletePool, ChangeStringValue, ChangeChildPosition}
+use Rattle.vt_objects.specs.declared.command.Command.TheVariants.{HideShow, EnableDisable, ControlAudio, SetVolume, ChangeChildLocation, ChangeSize, ChangeBackgroundColour, ChangeNumericValue, ChangeEndPoint, ChangeFontAttributes, ChangeLineAttributes, ChangeFillAttributes, ChangeActiveMask, ChangeSoftKeyMask, ChangeAttribute, ChangePriority, ChangeListItem, DeletePool, ChangeStringValue, ChangeChildPosition, ExecuteMacro}
 
 -- the byte at a place, and the numbers of two and four bytes from a place
 abbrev pub byte : List ℕ → ℕ → ℕ
@@ -49,6 +49,7 @@ rows =
     ∷ row 0xB2 8 (λ b. DeletePool)
     ∷ row 0xB3 5 (λ b. ChangeStringValue (word b 1) (word b 3) (take (word b 3) (drop 5 b)))
     ∷ row 0xB4 9 (λ b. ChangeChildPosition (word b 1) (word b 3) (signed_word b 5) (signed_word b 7))
+    ∷ row 0xBE 8 (λ b. ExecuteMacro (word b 1))
     ∷ []
 
 -- the command of the row that has the function of the bytes, where they are at least as many

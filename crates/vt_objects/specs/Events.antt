@@ -1,13 +1,14 @@
--- The events of objects, by their numbers, and which of them each command raises (docs/PROFILE.md, "Event numbers",
--- "What a command may raise").
-use Rattle.std.specs.Prelude.{ℕ, Bool, true, false, ◌==◌, if◌then◌else◌, List, [], ◌∷◌, Option, Some, None}
+-- The events of objects by their numbers: those at which entries list macros, and those that each command raises
+-- (docs/PROFILE.md, "Event numbers", "What a command may raise").
+use Rattle.std.specs.Prelude.{ℕ, Bool, nat_le, ◌&&◌, ◌==◌, if◌then◌else◌, List, [], ◌∷◌, Option, Some, None}
 use Rattle.vt_objects.specs.declared.command.Command.{Command}
-use Rattle.vt_objects.specs.declared.command.Command.TheVariants.{HideShow, EnableDisable, ControlAudio, SetVolume, ChangeChildLocation, ChangeSize, ChangeBackgroundColour, ChangeNumericValue, ChangeEndPoint, ChangeFontAttributes, ChangeLineAttributes, ChangeFillAttributes, ChangeActiveMask, ChangeSoftKeyMask, ChangeAttribute, ChangePriority, ChangeListItem, DeletePool, ChangeStringValue, ChangeChildPosition}
+use Rattle.vt_objects.specs.declared.command.Command.TheVariants.{HideShow, EnableDisable, ControlAudio, SetVolume, ChangeChildLocation, ChangeSize, ChangeBackgroundColour, ChangeNumericValue, ChangeEndPoint, ChangeFontAttributes, ChangeLineAttributes, ChangeFillAttributes, ChangeActiveMask, ChangeSoftKeyMask, ChangeAttribute, ChangePriority, ChangeListItem, DeletePool, ChangeStringValue, ChangeChildPosition, ExecuteMacro}
 use Rattle.vt_objects.specs.declared.event.Event.{Event}
 use Rattle.vt_objects.specs.declared.event.Event.TheVariants as events
 use Rattle.vt_objects.specs.declared.raising.Raised.{Raised}
 
 abbrev pub event_number : Event → ℕ
+event_number events.RunByName = 0
 event_number events.Activate = 1
 event_number events.Deactivate = 2
 event_number events.Show = 3
@@ -38,7 +39,7 @@ event_number events.ChildPosition = 26
 -- all events, by their numbers
 abbrev pub every_event : List Event
 every_event =
-    events.Activate ∷ events.Deactivate ∷ events.Show ∷ events.Hide ∷ events.Enable ∷ events.Disable
+    events.RunByName ∷ events.Activate ∷ events.Deactivate ∷ events.Show ∷ events.Hide ∷ events.Enable ∷ events.Disable
     ∷ events.ActiveMask ∷ events.SoftKeyMask ∷ events.Attribute ∷ events.BackgroundColour ∷ events.Font ∷ events.Line
     ∷ events.Fill ∷ events.ChildLocation ∷ events.Size ∷ events.Value ∷ events.Priority ∷ events.EndPoint
     ∷ events.InputSelected ∷ events.InputDeselected ∷ events.Escape ∷ events.EntryOfValue ∷ events.EntryOfNewValue ∷ events.KeyPress
@@ -47,6 +48,10 @@ every_event =
 abbrev pub event_among : List Event → ℕ → Option Event
 event_among [] n = None
 event_among (e ∷ es) n = if n == event_number e then Some e else event_among es n
+
+-- the events at which the entries of objects list macros: entries with other numbers never fire and are not checked
+abbrev pub is_listable : ℕ → Bool
+is_listable event = nat_le 1 event && nat_le event 26
 
 -- the event of a number
 abbrev pub event_at : ℕ → Option Event
@@ -83,3 +88,4 @@ row_events (ChangeListItem id index item) = []
 row_events DeletePool = []
 row_events (ChangeStringValue id length text) = raise id events.Value ∷ []
 row_events (ChangeChildPosition parent child x y) = raise parent events.ChildPosition ∷ []
+row_events (ExecuteMacro id) = raise id events.RunByName ∷ []

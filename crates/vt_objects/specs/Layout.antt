@@ -1,9 +1,10 @@
 -- The layout of a record as a table of fields, and how such a table spells its values
 -- (docs/PROFILE.md, "Records").
-use Rattle.std.specs.Prelude.{◌≡◌, ◌<◌, ◌≤◌, ℕ, ℤ, ◌^◌, List, [], ◌∷◌, ◌++◌, length, map, FitsSigned}
+use Rattle.std.specs.Prelude.{◌≡◌, ◌<◌, ◌≤◌, ℕ, ℤ, ◌^◌, List, [], ◌∷◌, ◌++◌, length, map, Option, Some, None, FitsSigned}
 use Rattle.std.specs.Int.{Width, w8, w16, w32, w64, w128, cast_unsigned}
 use Rattle.std.specs.List.{flat_map, AllByRecursion}
 use Rattle.byteorder.specs.Endian.{little_bytes}
+use Rattle.vt_objects.specs.declared.fields.Field as names
 use Rattle.vt_objects.specs.Scales.{IsScale}
 
 -- What a count counts: children or keys, macros, or what else a record lists: languages, items, points or bytes.
@@ -42,9 +43,10 @@ pub data Value : Type 0 where
   rows : List (List Numeral) → Value
   bytes : List ℕ → Value
 
--- a field of the record of an A, and its value in an A
+-- a field of the record of an A, the attribute that it is, if it is one, and its value in an A
 pub record Named (A : Type 0) : Type 0 where
   pub field : Field
+  pub name : Option names.Field
   pub value : A → Value
 
 abbrev pub Table : Type 0 → Type 0
@@ -53,13 +55,16 @@ Table A = List (Named A)
 abbrev pub fields : {A : Type 0} → Table A → List Field
 fields t = map (λ f. f.field) t
 
+abbrev pub names_in : {A : Type 0} → Table A → List (Option names.Field)
+names_in t = map (λ f. f.name) t
+
 abbrev pub values : {A : Type 0} → Table A → A → List Value
 values t x = map (λ f. f.value x) t
 
 -- ---- how a table is written
 
 abbrev pub unsigned : {A : Type 0} → ℕ → (A → ℕ) → Named A
-unsigned size f = record { field = Number (Unsigned size); value = λ x. number (natural (f x)) }
+unsigned size f = record { field = Number (Unsigned size); name = None; value = λ x. number (natural (f x)) }
 
 abbrev pub byte : {A : Type 0} → (A → ℕ) → Named A
 byte f = unsigned 1 f
@@ -71,18 +76,22 @@ abbrev pub long : {A : Type 0} → (A → ℕ) → Named A
 long f = unsigned 4 f
 
 abbrev pub signed_long : {A : Type 0} → (A → ℤ) → Named A
-signed_long f = record { field = Number (Signed w32); value = λ x. number (integer (f x)) }
+signed_long f = record { field = Number (Signed w32); name = None; value = λ x. number (integer (f x)) }
+
+-- the field that is an attribute of its kind
+abbrev pub attribute : {A : Type 0} → names.Field → Named A → Named A
+attribute name f = record f { name = Some name }
 
 -- how many elements a list has
 abbrev pub count : {A X : Type 0} → ℕ → Counted → (A → List X) → Named A
-count size of f = record { field = Count size of; value = λ x. number (natural (length (f x))) }
+count size of f = record { field = Count size of; name = None; value = λ x. number (natural (length (f x))) }
 
 -- the elements of a list, each as a row of numbers
 abbrev pub rows_of : {A X : Type 0} → Counted → List Size → (X → List Numeral) → (A → List X) → Named A
-rows_of of sizes numbers f = record { field = Rows of sizes; value = λ x. rows (map numbers (f x)) }
+rows_of of sizes numbers f = record { field = Rows of sizes; name = None; value = λ x. rows (map numbers (f x)) }
 
 abbrev pub bytes_of : {A : Type 0} → Counted → (A → List ℕ) → Named A
-bytes_of of f = record { field = Bytes of; value = λ x. bytes (f x) }
+bytes_of of f = record { field = Bytes of; name = None; value = λ x. bytes (f x) }
 
 -- ---- the spelling of values
 

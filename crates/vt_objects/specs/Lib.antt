@@ -14,3 +14,4 @@ pub mod Decimals
 pub mod Pieces
 pub mod Texts
 pub mod Events
+pub mod Targets

@@ -1,5 +1,5 @@
 -- The record of an object under an ID (docs/PROFILE.md, "Records").
-use Rattle.std.specs.Prelude.{◌<◌, ℕ, List, [], ◌∷◌, ◌++◌}
+use Rattle.std.specs.Prelude.{◌<◌, ℕ, List, [], ◌∷◌, ◌++◌, Option}
 use Rattle.byteorder.specs.Endian.{little_bytes}
 use Rattle.vt_objects.specs.declared.kind.Kind.{Kind}
 use Rattle.vt_objects.specs.declared.entries.MacroEntry.{MacroEntry}
@@ -12,7 +12,8 @@ use Rattle.vt_objects.specs.declared.attribute_objects.InputAttributes.{InputAtt
 use Rattle.vt_objects.specs.declared.macros.Macro.{Macro}
 use Rattle.vt_objects.specs.declared.object.Object.{Object}
 use Rattle.vt_objects.specs.declared.object.Object.TheVariants as objects
-use Rattle.vt_objects.specs.Layout.{Field, Value, fields, values, spelling, Shaped, Proper, no_counts}
+use Rattle.vt_objects.specs.declared.fields.Field as names
+use Rattle.vt_objects.specs.Layout.{Field, Value, fields, names_in, values, spelling, Shaped, Proper, no_counts}
 use Rattle.vt_objects.specs.Kinds.{kind_number}
 use Rattle.vt_objects.specs.Tables.{working_set, data_mask, alarm_mask, container, soft_key_mask, key, button, input_boolean, input_string, input_number, input_list, output_string, output_number, line, rectangle, ellipse, polygon, meter, linear_bar, arched_bar, picture, number_variable, string_variable, font, line_attributes, fill_attributes, input_attributes, object_pointer, macro_object}
 
@@ -198,6 +199,38 @@ fields_of kinds.FillAttributes = fields fill_attributes
 fields_of kinds.InputAttributes = fields (input_attributes {B = List ℕ})
 fields_of kinds.ObjectPointer = fields object_pointer
 fields_of kinds.Macro = fields (macro_object {B = List ℕ})
+
+-- of each field the attribute that it is, if it is one
+abbrev pub names_of : Kind → List (Option names.Field)
+names_of kinds.WorkingSet = names_in working_set
+names_of kinds.DataMask = names_in data_mask
+names_of kinds.AlarmMask = names_in alarm_mask
+names_of kinds.Container = names_in container
+names_of kinds.SoftKeyMask = names_in soft_key_mask
+names_of kinds.Key = names_in key
+names_of kinds.Button = names_in button
+names_of kinds.InputBoolean = names_in input_boolean
+names_of kinds.InputString = names_in (input_string {B = List ℕ})
+names_of kinds.InputNumber = names_in input_number
+names_of kinds.InputList = names_in input_list
+names_of kinds.OutputString = names_in (output_string {B = List ℕ})
+names_of kinds.OutputNumber = names_in output_number
+names_of kinds.Line = names_in line
+names_of kinds.Rectangle = names_in rectangle
+names_of kinds.Ellipse = names_in ellipse
+names_of kinds.Polygon = names_in polygon
+names_of kinds.Meter = names_in meter
+names_of kinds.LinearBar = names_in linear_bar
+names_of kinds.ArchedBar = names_in arched_bar
+names_of kinds.Picture = names_in (picture {B = List ℕ})
+names_of kinds.NumberVariable = names_in number_variable
+names_of kinds.StringVariable = names_in (string_variable {B = List ℕ})
+names_of kinds.Font = names_in font
+names_of kinds.LineAttributes = names_in line_attributes
+names_of kinds.FillAttributes = names_in fill_attributes
+names_of kinds.InputAttributes = names_in (input_attributes {B = List ℕ})
+names_of kinds.ObjectPointer = names_in object_pointer
+names_of kinds.Macro = names_in (macro_object {B = List ℕ})
 
 abbrev pub values_of : {B : Type 0} → Object B → List Value
 values_of (objects.WorkingSet o) = values working_set o

@@ -1,9 +1,10 @@
 -- What the places of an object name: the kinds that may stand there, and whether NULL may
 -- (docs/PROFILE.md, "Places and their kinds").
-use Rattle.std.specs.Prelude.{ℕ, suc, Bool, true, false, not, List, [], ◌∷◌, map, filter}
+use Rattle.std.specs.Prelude.{ℕ, suc, Bool, true, false, not, ◌==◌, List, [], ◌∷◌, map, filter}
+use Rattle.std.specs.List.{list_any}
 use Rattle.vt_objects.specs.declared.kind.Kind.{Kind}
 use Rattle.vt_objects.specs.declared.kind.Kind.TheVariants as kinds
-use Rattle.vt_objects.specs.Kinds.{every_kind}
+use Rattle.vt_objects.specs.Kinds.{every_kind, kind_number}
 use Rattle.vt_objects.specs.declared.kinds.Kinds.{Kinds}
 use Rattle.vt_objects.specs.declared.kinds.Kinds.TheVariants as sets
 use Rattle.vt_objects.specs.declared.place.Place.{Place}
@@ -99,6 +100,13 @@ members sets.Texts = texts
 members sets.Lines = kinds.Line ∷ []
 members sets.WithAttributes = with_attributes
 members sets.Macros = kinds.Macro ∷ []
+
+-- a kind among others
+abbrev pub is_among : List Kind → Kind → Bool
+is_among kinds kind = list_any (λ member. kind_number member == kind_number kind) kinds
+
+abbrev pub is_member : Kinds → Kind → Bool
+is_member kinds kind = is_among (members kinds) kind
 
 -- ---- the kinds and NULL at the places of an object of a kind
 

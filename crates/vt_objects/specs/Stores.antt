@@ -23,7 +23,7 @@ pub record AreNamed (objects : Objects) : Type 0 where
 
 -- ---- by rising ID
 
--- distinct IDs with their objects, by rising ID
+-- IDs with their objects, by rising ID; of those under one ID the first counts
 unfoldable pub by_rising_id : Objects → Objects
 by_rising_id entries = finite.entries (finite.from_entries {R = nat_cmp} entries)
 

@@ -5,27 +5,27 @@ ghost use Rattle.vt_objects.specs.Attributes as table;
 ghost use Rattle.vt_objects.specs.Attributes.{attribute_at};
 ghost use Rattle.vt_objects.specs.Writing.{AttributesAreFields};
 
-use crate::fields::{Attribute, Field, Values};
+use crate::fields::{Attribute, Field, ValueType};
 use crate::kind::Kind;
 use crate::place::Place;
-use Values::{Byte, Decimals, Long, Priority, Reference, Scale, SignedLong, Word};
+use ValueType::{Byte, Decimals, Long, Priority, Reference, Scale, SignedLong, Word};
 
 /// A list of attributes: each is a field and the values that it takes.
 macro_rules! attributes {
-    ($($field:ident: $values:expr),+ $(,)?) => {
-        &[$(Attribute { field: Field::$field, values: $values }),+]
+    ($($field:ident: $value_type:expr),+ $(,)?) => {
+        &[$(Attribute { field: Field::$field, value_type: $value_type }),+]
     };
 }
 
-const FONT_PLACE: Values = Reference(Place::Font);
+const FONT_PLACE: ValueType = Reference(Place::Font);
 
-const VARIABLE: Values = Reference(Place::Variable);
+const VARIABLE: ValueType = Reference(Place::Variable);
 
-const LINE_ATTRIBUTES_PLACE: Values = Reference(Place::LineAttributes);
+const LINE_ATTRIBUTES_PLACE: ValueType = Reference(Place::LineAttributes);
 
-const FILL: Values = Reference(Place::Fill);
+const FILL: ValueType = Reference(Place::Fill);
 
-const TARGET_VARIABLE: Values = Reference(Place::TargetVariable);
+const TARGET_VARIABLE: ValueType = Reference(Place::TargetVariable);
 
 const WORKING_SET: &[Attribute] = attributes![Colour: Byte, Selectable: Byte];
 
@@ -203,7 +203,7 @@ const OBJECT_POINTER: &[Attribute] = attributes![Value: Reference(Place::Value)]
 /// The options of an Input List, whose number is 5.
 const OPTIONS_OF_A_LIST: Attribute = Attribute {
     field: Field::Options,
-    values: Byte,
+    value_type: Byte,
 };
 
 /// The attribute of a kind that has this number, if there is one.
@@ -259,8 +259,8 @@ fn numbered(attributes: &[Attribute], number: u8) -> Option<Attribute>
     attributes.get(index).copied()
 }
 
-/// The law that the attributes of each kind stand in fields of its record, in order, and that such a field gets the
-/// lowest bytes of the value as they are.
+/// The law that the attributes of each kind stand in fields of its record, and that such a field gets the lowest
+/// bytes of the value as they are.
 pub fn attributes_are_fields()
     ensures { AttributesAreFields }
 {}

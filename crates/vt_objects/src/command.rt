@@ -128,6 +128,10 @@ pub enum Command<'a> {
         x: i16,
         y: i16,
     },
+    /// Run a macro by its ID, function BE.
+    ExecuteMacro {
+        id: ObjectId,
+    },
 }
 
 impl<'a> Command<'a> {
@@ -267,6 +271,7 @@ fn eight_bytes<'a>(bytes: &[u8]) -> Option<Command<'a>>
             item: id(bytes, 4),
         }),
         0xB2 => Some(Command::DeletePool),
+        0xBE => Some(Command::ExecuteMacro { id: id(bytes, 1) }),
         _ => None,
     }
 }

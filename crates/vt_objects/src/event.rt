@@ -1,12 +1,14 @@
 //! The events of objects.
 
 ghost use Rattle.std.specs.Prelude.{◌≡◌};
-ghost use Rattle.vt_objects.specs.Events.{event_number, event_at};
+ghost use Rattle.vt_objects.specs.Events.{event_number, event_at, is_listable};
 
-/// An event of an object, at which it may list macros (ISO 11783-6; docs/PROFILE.md, "Event numbers").
+/// An event of an object (ISO 11783-6; docs/PROFILE.md, "Event numbers").
 #[derive(Clone, Copy, Debug, Default, PartialEq, Eq)]
 pub enum Event {
+    /// A macro is run by its ID. It is an event of macros alone, and no entry lists a macro at it.
     #[default]
+    RunByName,
     Activate,
     Deactivate,
     Show,
@@ -36,11 +38,12 @@ pub enum Event {
 }
 
 impl Event {
-    /// The number of the event, from 1 to 26.
+    /// The number of the event, from 0 to 26.
     pub fn number(self) -> u8
         ensures { result ≡ event_number self }
     {
         match self {
+            Event::RunByName => 0,
             Event::Activate => 1,
             Event::Deactivate => 2,
             Event::Show => 3,
@@ -75,6 +78,7 @@ impl Event {
         ensures { result ≡ event_at number }
     {
         match number {
+            0 => Some(Event::RunByName),
             1 => Some(Event::Activate),
             2 => Some(Event::Deactivate),
             3 => Some(Event::Show),
@@ -103,5 +107,11 @@ impl Event {
             26 => Some(Event::ChildPosition),
             _ => None,
         }
+    }
+    /// Whether the entries of objects list macros at the event of this number. Entries with other numbers never fire.
+    pub fn is_listable(number: u8) -> bool
+        ensures { result ≡ is_listable number }
+    {
+        (1..=26).contains(&number)
     }
 }

@@ -2,7 +2,7 @@
 
 ghost use Rattle.std.specs.Prelude.{◌≡◌, ◌↔◌, IsTrue};
 ghost use Rattle.vt_objects.specs.Attributes as table;
-ghost use Rattle.vt_objects.specs.Attributes.{Takes};
+ghost use Rattle.vt_objects.specs.Attributes.{Accepts};
 ghost use Rattle.vt_objects.specs.Scales.{IsScale};
 
 use crate::kind::Kind;
@@ -59,7 +59,7 @@ pub enum Field {
 /// Which values a field takes (docs/PROFILE.md, "Values of attributes"). A field of fewer than four bytes
 /// takes the lowest bytes of a value.
 #[derive(Clone, Copy, Debug, PartialEq, Eq)]
-pub enum Values {
+pub enum ValueType {
     /// Every value of one byte.
     Byte,
     /// Every value of two bytes.
@@ -78,15 +78,15 @@ pub enum Values {
     Decimals,
 }
 
-impl Values {
+impl ValueType {
     /// How many bytes the field has.
     pub fn width(self) -> u8
         ensures { result ≡ table.width self }
     {
         match self {
-            Values::Byte | Values::Priority | Values::Decimals => 1,
-            Values::Word | Values::Reference(_) => 2,
-            Values::Long | Values::SignedLong | Values::Scale => 4,
+            ValueType::Byte | ValueType::Priority | ValueType::Decimals => 1,
+            ValueType::Word | ValueType::Reference(_) => 2,
+            ValueType::Long | ValueType::SignedLong | ValueType::Scale => 4,
         }
     }
 
@@ -95,28 +95,28 @@ impl Values {
         ensures { result ≡ table.lowest self value }
     {
         match self {
-            Values::Byte | Values::Priority | Values::Decimals => value % 256,
-            Values::Word | Values::Reference(_) => value % 65_536,
-            Values::Long | Values::SignedLong | Values::Scale => value,
+            ValueType::Byte | ValueType::Priority | ValueType::Decimals => value % 256,
+            ValueType::Word | ValueType::Reference(_) => value % 65_536,
+            ValueType::Long | ValueType::SignedLong | ValueType::Scale => value,
         }
     }
 
     /// Whether the field takes the lowest bytes of a value, in an object of this kind. Of a reference, `named` is
     /// the kind of the object that they name, if that is there.
-    pub fn takes(self, kind: Kind, value: u32, named: Option<Kind>) -> bool
-        ensures { IsTrue result ↔ Takes kind self (table.lowest self value) named }
+    pub fn accepts(self, kind: Kind, value: u32, named: Option<Kind>) -> bool
+        ensures { IsTrue result ↔ Accepts kind self (table.lowest self value) named }
     {
         let lowest = self.lowest(value);
         match self {
-            Values::Byte | Values::Word | Values::Long | Values::SignedLong => true,
-            Values::Reference(place) if lowest == 0xFFFF => place.allows_null(),
-            Values::Reference(place) => match named {
+            ValueType::Byte | ValueType::Word | ValueType::Long | ValueType::SignedLong => true,
+            ValueType::Reference(place) if lowest == 0xFFFF => place.allows_null(),
+            ValueType::Reference(place) => match named {
                 Some(named) => place.kinds(kind).contains(named),
                 None => false,
             },
-            Values::Priority => lowest <= 2,
-            Values::Scale => is_scale(lowest),
-            Values::Decimals => lowest <= 7,
+            ValueType::Priority => lowest <= 2,
+            ValueType::Scale => is_scale(lowest),
+            ValueType::Decimals => lowest <= 7,
         }
     }
 }
@@ -132,5 +132,5 @@ fn is_scale(number: u32) -> bool
 #[derive(Clone, Copy, Debug, PartialEq, Eq)]
 pub struct Attribute {
     pub field: Field,
-    pub values: Values,
+    pub value_type: ValueType,
 }

@@ -1,8 +1,6 @@
 //! Sets of kinds.
 
-ghost use Rattle.std.specs.Prelude.{◌≡◌, ◌==◌};
-ghost use Rattle.std.specs.List.{list_any};
-ghost use Rattle.vt_objects.specs.Kinds.{kind_number};
+ghost use Rattle.std.specs.Prelude.{◌≡◌};
 ghost use Rattle.vt_objects.specs.References.{
   drawn_in_working_set,
   parents,
@@ -12,7 +10,8 @@ ghost use Rattle.vt_objects.specs.References.{
   numeric,
   texts,
   with_attributes,
-  members,
+  is_among,
+  is_member,
 };
 
 use crate::kind::Kind;
@@ -63,7 +62,7 @@ pub enum Kinds {
 impl Kinds {
     /// Whether a kind is in the set.
     pub fn contains(self, kind: Kind) -> bool
-        ensures { result ≡ list_any (λ member. kind_number member == kind_number kind) (members self) }
+        ensures { result ≡ is_member self kind }
     {
         match self {
             Kinds::Masks => matches!(kind, Kind::DataMask | Kind::AlarmMask),
@@ -97,7 +96,7 @@ impl Kinds {
 }
 
 fn is_drawn_in_working_set(kind: Kind) -> bool
-    ensures { result ≡ list_any (λ member. kind_number member == kind_number kind) drawn_in_working_set }
+    ensures { result ≡ is_among drawn_in_working_set kind }
 {
     matches!(
         kind,
@@ -122,7 +121,7 @@ fn is_drawn_in_working_set(kind: Kind) -> bool
 }
 
 fn is_parent(kind: Kind) -> bool
-    ensures { result ≡ list_any (λ member. kind_number member == kind_number kind) parents }
+    ensures { result ≡ is_among parents kind }
 {
     matches!(
         kind,
@@ -136,7 +135,7 @@ fn is_parent(kind: Kind) -> bool
 }
 
 fn is_sized(kind: Kind) -> bool
-    ensures { result ≡ list_any (λ member. kind_number member == kind_number kind) sized }
+    ensures { result ≡ is_among sized kind }
 {
     matches!(
         kind,
@@ -159,7 +158,7 @@ fn is_sized(kind: Kind) -> bool
 }
 
 fn is_coloured(kind: Kind) -> bool
-    ensures { result ≡ list_any (λ member. kind_number member == kind_number kind) coloured }
+    ensures { result ≡ is_among coloured kind }
 {
     matches!(
         kind,
@@ -178,7 +177,7 @@ fn is_coloured(kind: Kind) -> bool
 }
 
 fn is_input(kind: Kind) -> bool
-    ensures { result ≡ list_any (λ member. kind_number member == kind_number kind) inputs }
+    ensures { result ≡ is_among inputs kind }
 {
     matches!(
         kind,
@@ -187,7 +186,7 @@ fn is_input(kind: Kind) -> bool
 }
 
 fn is_numeric(kind: Kind) -> bool
-    ensures { result ≡ list_any (λ member. kind_number member == kind_number kind) numeric }
+    ensures { result ≡ is_among numeric kind }
 {
     matches!(
         kind,
@@ -204,7 +203,7 @@ fn is_numeric(kind: Kind) -> bool
 }
 
 fn is_text(kind: Kind) -> bool
-    ensures { result ≡ list_any (λ member. kind_number member == kind_number kind) texts }
+    ensures { result ≡ is_among texts kind }
 {
     matches!(
         kind,
@@ -213,7 +212,7 @@ fn is_text(kind: Kind) -> bool
 }
 
 fn has_attributes(kind: Kind) -> bool
-    ensures { result ≡ list_any (λ member. kind_number member == kind_number kind) with_attributes }
+    ensures { result ≡ is_among with_attributes kind }
 {
     !matches!(
         kind,

@@ -39,6 +39,7 @@ mod slot;
 mod sorted_store;
 mod sorting;
 mod store;
+mod target;
 mod variables;
 
 pub use attribute_objects::{FillAttributes, Font, InputAttributes, LineAttributes};
@@ -47,7 +48,7 @@ pub use command::Command;
 pub use decimal::{Decimal, shown_is_one};
 pub use entries::{Child, Entries, Language, MacroEntry, Point};
 pub use event::Event;
-pub use fields::{Attribute, Field, Values};
+pub use fields::{Attribute, Field, ValueType};
 pub use graphs::{ArchedBar, LinearBar, Meter};
 pub use has_record::objects_have_records;
 pub use id::ObjectId;
@@ -74,6 +75,7 @@ pub use short_text::ShortText;
 pub use slot::{Slot, Slots};
 pub use sorted_store::SortedStore;
 pub use store::Store;
+pub use target::{Target, targets};
 pub use variables::{NumberVariable, ObjectPointer, StringVariable};
 
 /// A growth that was refused.

@@ -51,6 +51,7 @@ pub fn row_events(command: &Command<'_>) -> ArrayVec<Raised, 2>
         Command::ChangeAttribute { id, .. } => one(id, Event::Attribute),
         Command::ChangePriority { id, .. } => one(id, Event::Priority),
         Command::ChangeChildPosition { parent, .. } => one(parent, Event::ChildPosition),
+        Command::ExecuteMacro { id } => one(id, Event::RunByName),
     }
 }
 

@@ -1,11 +1,12 @@
 //! Where the objects of a working set lie.
 
-ghost use Rattle.std.specs.Prelude.{◌≡◌, None, IfOk, IfSome, IfNone, map, slice_get};
+ghost use Rattle.std.specs.Prelude.{◌≡◌, ◌<◌, None, IfOk, IfSome, IfNone, map, slice_get};
 ghost use Rattle.std.specs.Option.{option_map};
+ghost use Rattle.std.specs.List.{All};
 ghost use Rattle.std.specs.FinMap as finite;
 ghost use Rattle.std.specs.Borrow.{sem, LendsSo};
 ghost use Rattle.vt_objects.specs.Records.{seen};
-ghost use Rattle.vt_objects.specs.Stores.{Contents, AreNamed, IsPlace, shown, contents_of, with_object};
+ghost use Rattle.vt_objects.specs.Stores.{Contents, AreNamed, IsPlace, ids, shown, contents_of, with_object};
 ghost use Rattle.vt_objects.specs.Rows.{object_row};
 
 use crate::id::ObjectId;
@@ -38,9 +39,10 @@ pub trait Store: Drop {
             (λ n. contents n ≡ contents self.old)) }
         ensures value { option_map (λ o. seen o.now) result ≡ finite.get (contents self.old) id };
 
-    /// How many objects there are.
+    /// How many objects there are. NULL is no object's ID.
     fn count(&self) -> usize
-        ensures { result ≡ finite.len (contents self.now) };
+        ensures count { result ≡ finite.len (contents self.now) }
+        ensures named { All (λ id. id < 0xFFFF) (ids (finite.entries (contents self.now))) };
 
     /// The object that stands at a place, by rising ID from 0, and its ID. None from `count` on.
     fn entry_at(&self, place: usize) -> Option<(ObjectId, &Object<Vec<u8>>)>

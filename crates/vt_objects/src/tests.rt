@@ -8,6 +8,7 @@ mod decimals;
 mod events;
 mod kind_sets;
 mod pieces;
+mod targets;
 mod values;
 
 use super::*;

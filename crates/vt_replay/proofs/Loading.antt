@@ -6,7 +6,7 @@ use Rattle.std.specs.FinMap as finite
 use Rattle.std.specs.FinMap.{nat_cmp-IsAntisymmetric}
 use Rattle.std.proofs.lemmas.Cmp.{nat_cmp_total}
 use Rattle.vt_objects.specs.Stores.{Contents, by_rising_id}
-use Rattle.vt_verify.specs.Rules.{IsAcceptable, IsRefused, IsWantOfMemory}
+use Rattle.vt_verify.specs.Rules.{IsAcceptable, IsRefused, IsWantOfMemory, terminal}
 use Rattle.vt_verify.specs.declared.refusal.Refusal.{Refusal}
 use Rattle.vt_replay.specs.declared.program.Fault.{Fault}
 use Rattle.vt_replay.specs.declared.program.Fault.TheVariants as fault
@@ -33,16 +33,16 @@ pub pool_of : (read : List ℕ) (pool : List Entry) → (records : List Entry) �
 pool_of read pool p = record { records = p.0; whole = p.1; spelled = p.2; in_force = p.3.last }
 
 pub accepted_pool : (read : List ℕ) (pool accepted : List Entry) → (records : List Entry) × AreRecords records × (read ≡ joined records) × IsInForce records pool
-    → accepted ≡ by_rising_id pool → IsAcceptable accepted → IsAcceptedPoolOf read (contents accepted)
+    → accepted ≡ by_rising_id pool → IsAcceptable terminal accepted → IsAcceptedPoolOf read (contents accepted)
 unfolding by_rising_id
 accepted_pool read pool accepted p is all =
     let same = same_objects pool accepted is in (
       subst (IsPoolOf read) (sym same) (pool_of read pool p),
-      subst IsAcceptable (is ∙ ap finite.entries (sym same)) all,
+      subst (IsAcceptable terminal) (is ∙ ap finite.entries (sym same)) all,
     )
 
 pub refused_pool : (read : List ℕ) (pool : List Entry) (why : Refusal) → (records : List Entry) × AreRecords records × (read ≡ joined records) × IsInForce records pool
-    → IsRefused (by_rising_id pool) why → (IsWantOfMemory why → ⊥) → IsRefusedPool read why
+    → IsRefused terminal (by_rising_id pool) why → (IsWantOfMemory why → ⊥) → IsRefusedPool read why
 unfolding by_rising_id
 refused_pool read pool why p refused named = record { objects = contents pool; pool = pool_of read pool p; refused = refused; named = named }
 

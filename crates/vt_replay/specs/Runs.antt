@@ -44,7 +44,7 @@ pub record IsPoolOf (bytes : List ℕ) (objects : Contents) : Type 0 where
 
 -- the same of a pool that meets all rules
 abbrev pub IsAcceptedPoolOf : List ℕ → Contents → Type 0
-IsAcceptedPoolOf bytes objects = IsPoolOf bytes objects × IsAcceptable (finite.entries objects)
+IsAcceptedPoolOf bytes objects = IsPoolOf bytes objects × IsAcceptable rules.terminal (finite.entries objects)
 
 -- The bytes are no pool, by a fault of theirs. Want of memory is none.
 pub record IsNoPool (bytes : List ℕ) (why : PoolFault) : Type 0 where
@@ -55,7 +55,7 @@ pub record IsNoPool (bytes : List ℕ) (why : PoolFault) : Type 0 where
 pub record IsRefusedPool (bytes : List ℕ) (why : PoolRefusal) : Type 0 where
   pub objects : Contents
   pub pool : IsPoolOf bytes objects
-  pub refused : IsRefused (finite.entries objects) why
+  pub refused : IsRefused rules.terminal (finite.entries objects) why
   pub named : rules.IsWantOfMemory why → ⊥
 
 -- a terminal that has heard nothing, with its address and NAME

@@ -1,16 +1,18 @@
 -- The last rules of a pool, after those before them.
+use Rattle.std.proofs.Common.{arith}
 use Rattle.vt_rank.specs.Paths.{HasNoCircle}
+use Rattle.vt_verify.specs.declared.limits.Limits.{Limits}
 use Rattle.vt_verify.specs.Shapes.{shape_of}
 use Rattle.vt_objects.specs.Stores.{Objects}
 use Rattle.vt_verify.specs.Triggers.{triggered}
-use Rattle.vt_verify.specs.Rules.{IsAcceptable, IsWithinBudget, HoldBefore, TriggersAreNoCircle, BudgetsAreWithin}
+use Rattle.vt_verify.specs.Rules.{GreaterLimitsAccept, IsAcceptable, IsWithinBudget, HoldBefore, TriggersAreNoCircle, BudgetsAreWithin}
 
-pub before_budgets : (objects : Objects) → HoldBefore objects TriggersAreNoCircle → HasNoCircle (triggered (shape_of objects)) → HoldBefore objects BudgetsAreWithin
-before_budgets objects b none = (b.0, (b.1.0, (b.1.1.0, (b.1.1.1.0, (b.1.1.1.1.0, (b.1.1.1.1.1.0, (b.1.1.1.1.1.1.0, (b.1.1.1.1.1.1.1.0, (b.1.1.1.1.1.1.1.1.0, (b.1.1.1.1.1.1.1.1.1.0, (none, tt)))))))))))
+pub before_budgets : (limits : Limits) (objects : Objects) → HoldBefore limits objects TriggersAreNoCircle → HasNoCircle (triggered (shape_of objects)) → HoldBefore limits objects BudgetsAreWithin
+before_budgets limits objects b none = (b.0, (b.1.0, (b.1.1.0, (b.1.1.1.0, (b.1.1.1.1.0, (b.1.1.1.1.1.0, (b.1.1.1.1.1.1.0, (b.1.1.1.1.1.1.1.0, (b.1.1.1.1.1.1.1.1.0, (b.1.1.1.1.1.1.1.1.1.0, (none, tt)))))))))))
 
-pub acceptable : (objects : Objects) → HoldBefore objects TriggersAreNoCircle → HasNoCircle (triggered (shape_of objects)) → IsWithinBudget (shape_of objects)
-    → IsAcceptable objects
-acceptable objects b none within = record {
+pub acceptable : (limits : Limits) (objects : Objects) → HoldBefore limits objects BudgetsAreWithin → IsWithinBudget limits.steps (shape_of objects)
+    → IsAcceptable limits objects
+acceptable limits objects b within = record {
   working_set = b.0;
   one_working_set = b.1.0;
   references_there = b.1.1.0;
@@ -21,6 +23,25 @@ acceptable objects b none within = record {
   targets_there = b.1.1.1.1.1.1.1.0;
   targets_fit = b.1.1.1.1.1.1.1.1.0;
   attributes_there = b.1.1.1.1.1.1.1.1.1.0;
-  no_circle = none;
+  no_circle = b.1.1.1.1.1.1.1.1.1.1.0;
   within_budget = within;
+}
+
+pub greater_accept : GreaterLimitsAccept
+greater_accept small great objects inclusions steps is = record {
+  working_set = is.working_set;
+  one_working_set = is.one_working_set;
+  references_there = is.references_there;
+  references_fit = is.references_fit;
+  chains_short = λ ids chain. let le = is.chains_short ids chain in omega arith;
+  macros_whole = is.macros_whole;
+  commands_allowed = is.commands_allowed;
+  targets_there = is.targets_there;
+  targets_fit = is.targets_fit;
+  attributes_there = is.attributes_there;
+  no_circle = is.no_circle;
+  within_budget = record {
+    costs = λ id. let le = is.within_budget.costs id in omega arith;
+    budgets = λ id event. let le = is.within_budget.budgets id event in omega arith;
+  };
 }

@@ -173,8 +173,8 @@ module _ (shape : Shape) (events : List Listing) (g : Graph) (are : AreTriggers 
       let same = cost_is n in
       omega arith
 
-  pub is_within : graphs.IsWithin g 65535 → IsWithinBudget shape
-  is_within within = record {
-    costs = λ id. costs_within 65535 id (within.nodes id);
-    budgets = λ id event. budget_within (listing id event) 65535 (λ k found. within.groups k);
+  pub is_within : (steps : ℕ) → graphs.IsWithin g steps → IsWithinBudget steps shape
+  is_within steps within = record {
+    costs = λ id. costs_within steps id (within.nodes id);
+    budgets = λ id event. budget_within (listing id event) steps (λ k found. within.groups k);
   }

@@ -147,11 +147,11 @@ module _ (shape : Shape) (events : List Listing) (g : Graph) (are : AreTriggers 
 
   -- ---- the first that is over it
 
-  pub first_macro : (n : ℕ) → graphs.IsFirstOver g 65535 (over.Node n) → IsFirstOver shape n
-  first_macro n first =
+  pub first_macro : (steps n : ℕ) → graphs.IsFirstOver g steps (over.Node n) → IsFirstOver steps shape n
+  first_macro steps n first =
       let same = cost_is shape events g are n in
       let lt = first.0 in
-      Macro (omega arith) (λ other less. costs_within shape events g are 65535 other (first.1 other less))
+      Macro (omega arith) (λ other less. costs_within shape events g are steps other (first.1 other less))
 
   module _ (rising : IsTrue (finite.is_sorted nat_cmp shape)) where
     -- groups of lesser IDs stand before
@@ -169,19 +169,19 @@ module _ (shape : Shape) (events : List Listing) (g : Graph) (are : AreTriggers 
           | inr ge ↦ let two = climbs_two 0 events k at.place raised climbs ge within in absurd (omega arith)
         ]
 
-    pub first_object : (k : ℕ) (raised : Listing) → k < length events → raised ≡ slice_index_or events k raised
-        → graphs.IsFirstOver g 65535 (over.Group k) → IsFirstOver shape raised.id
-    first_object k raised inside is first =
+    pub first_object : (steps k : ℕ) (raised : Listing) → k < length events → raised ≡ slice_index_or events k raised
+        → graphs.IsFirstOver g steps (over.Group k) → IsFirstOver steps shape raised.id
+    first_object steps k raised inside is first =
         let same = group_cost_is shape events g are k raised inside is in
         let lt = first.1 in
-        Object (λ other. costs_within shape events g are 65535 other (first.0 other)) raised.event (omega arith)
-        (λ other event less. budget_within shape events g are (listing other event) 65535
+        Object (λ other. costs_within shape events g are steps other (first.0 other)) raised.event (omega arith)
+        (λ other event less. budget_within shape events g are (listing other event) steps
         (λ j found. first.2 j (before k raised inside is other event j less found)))
 
 -- ---- what a cap on the graph says of objects whose IDs rise
 
 pub first_over : (objects : Objects) (events : List Listing) (g : Graph) → IsRising objects → AreTriggers (shape_of objects) events g
-    → (k : ℕ) (raised : Listing) → slice_get events k ≡ Some raised → graphs.IsFirstOver g 65535 (over.Group k) → IsFirstOver (shape_of objects) raised.id
-first_over objects events g rising are k raised is first =
+    → (steps k : ℕ) (raised : Listing) → slice_get events k ≡ Some raised → graphs.IsFirstOver g steps (over.Group k) → IsFirstOver steps (shape_of objects) raised.id
+first_over objects events g rising are steps k raised is first =
     let at = there events k raised is in
-    first_object (shape_of objects) events g are (rising_shape objects rising) k raised at.0 at.1 first
+    first_object (shape_of objects) events g are (rising_shape objects rising) steps k raised at.0 at.1 first

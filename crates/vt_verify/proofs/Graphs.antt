@@ -17,8 +17,7 @@ use Rattle.vt_rank.specs.Graphs.{lists, items_of, group_of, nodes_of}
 use Rattle.vt_verify.specs.declared.listing.Listing.{Listing}
 use Rattle.vt_verify.specs.Shapes.{Shape, Fixed, fixed_at}
 use Rattle.vt_verify.specs.Macros.{is_macro, commands_of, commands_in, commands}
-use Rattle.vt_verify.specs.Targets.{is_event}
-use Rattle.vt_verify.specs.Triggers.{listing, row_listings, changes_mask, hidden, masks, listed, listed_in, triggered_by, triggered}
+use Rattle.vt_verify.specs.Triggers.{listing, row_listings, changes_mask, hidden, masks, is_event, listed, listed_in, triggered_by, triggered}
 use Rattle.vt_verify.specs.Rules.{IsLeastCircle}
 use Rattle.vt_verify.specs.TriggerGraphs.{AreTriggers, is_event_of, has, if_any, if_listed, event_numbers, listed_events, group_of_event, groups_of, command_items}
 use Rattle.vt_verify.proofs.Passes.{each_of_each}
@@ -77,10 +76,8 @@ from_has n (suc count) start low high =
 
 a_number : (n : ℕ) → IsTrue (is_event n) → list_any (nat_eq n) event_numbers ≡ true
 a_number n is =
-    let parts = both_true (nat_le 1 n) (nat_le n 26) is in
-    let low = leb-true 1 n parts.0 in
-    let high = leb-true n 26 parts.1 in
-    ap (λ (ns : List ℕ). list_any (nat_eq n) ns) numbers_are ∙ from_has n 26 1 low (omega arith)
+    let high = leb-true n 26 is in
+    ap (λ (ns : List ℕ). list_any (nat_eq n) ns) numbers_are ∙ from_has n 27 0 (omega arith) (omega arith)
 
 object_case : (shape : Shape) (id n m : ℕ) (ms : List ℕ) (e : ℕ × Fixed) (rest : List Listing) (found : Option Fixed) (f : Fixed) (b : Bool)
     → listed shape (listing id n) ≡ m ∷ ms → IsTrue (is_event n) → (b ≡ true → id ≡ e.0) → (found ≡ Some f → has rest (listing id n) ≡ true)
@@ -99,22 +96,22 @@ among_objects shape (e ∷ es) id n m ms f is event found =
     object_case shape id n m ms e (flat_map (λ e. flat_map (λ event. if_listed shape (listing e.0 event)) event_numbers) es) (fixed_at es id) f (eq_by_cmp nat_cmp id e.0)
     is event (tied_same id e.0) (among_objects shape es id n m ms f is event) found
 
-found_case : (n m : ℕ) (ms : List ℕ) (found : Option Fixed) (P : Type 0) → ((f : Fixed) → found ≡ Some f → P) → flat_map (listed_in n) (option_to_list found) ≡ m ∷ ms → P
-found_case n m ms None P here is = absurd cc
-found_case n m ms (Some f) P here is = here f refl
+found_case : (n id m : ℕ) (ms : List ℕ) (found : Option Fixed) (P : Type 0) → ((f : Fixed) → found ≡ Some f → P) → flat_map (listed_in n id) (option_to_list found) ≡ m ∷ ms → P
+found_case n id m ms None P here is = absurd cc
+found_case n id m ms (Some f) P here is = here f refl
 
 event_case : (b : Bool) (m : ℕ) (ms l : List ℕ) (P : Type 0) → (b ≡ true → l ≡ m ∷ ms → P) → cond b l [] ≡ m ∷ ms → P
 event_case true m ms l P here is = here refl is
 event_case false m ms l P here is = absurd cc
 
-listed_is : (shape : Shape) (id n : ℕ) → listed shape (listing id n) ≡ cond (is_event n) (flat_map (listed_in n) (option_to_list (fixed_at shape id))) []
+listed_is : (shape : Shape) (id n : ℕ) → listed shape (listing id n) ≡ cond (is_event n) (flat_map (listed_in n id) (option_to_list (fixed_at shape id))) []
 unfolding listed
 listed_is shape id n = refl
 
 has_listed : (shape : Shape) (id n m : ℕ) (ms : List ℕ) → listed shape (listing id n) ≡ m ∷ ms → has (listed_events shape) (listing id n) ≡ true
 has_listed shape id n m ms is =
-    event_case (is_event n) m ms (flat_map (listed_in n) (option_to_list (fixed_at shape id))) (has (listed_events shape) (listing id n) ≡ true)
-    (λ event some. found_case n m ms (fixed_at shape id) (has (listed_events shape) (listing id n) ≡ true)
+    event_case (is_event n) m ms (flat_map (listed_in n id) (option_to_list (fixed_at shape id))) (has (listed_events shape) (listing id n) ≡ true)
+    (λ event some. found_case n id m ms (fixed_at shape id) (has (listed_events shape) (listing id n) ≡ true)
     (λ f found. among_objects shape shape id n m ms f is event found) some)
     (sym (listed_is shape id n) ∙ is)
 
@@ -123,7 +120,7 @@ unlisted_case [] true listed = refl
 unlisted_case [] false listed = refl
 unlisted_case (m ∷ ms) h listed = ap (λ h. cond h (m ∷ ms) []) (listed m ms refl)
 
-unlisted : (shape : Shape) (q : Listing) → cond (has (listed_events shape) q) (listed shape q) [] ≡ listed shape q
+pub unlisted : (shape : Shape) (q : Listing) → cond (has (listed_events shape) q) (listed shape q) [] ≡ listed shape q
 unlisted shape q = unlisted_case (listed shape q) (has (listed_events shape) q) (λ m ms is. has_listed shape q.id q.event m ms is)
 
 -- ---- the group of an event has the macros that are listed there

@@ -1,9 +1,13 @@
 pub mod Acceptance
-pub mod Chains
+pub mod Closing
 pub mod Copies
 pub mod Costs
 pub mod Cuts
-pub mod Depths
+pub mod Elements
+mod Places
+mod Slots
+mod Greatest
+mod Settling
 pub mod FirstOver
 pub mod Graphs
 pub mod Listings
@@ -12,3 +16,6 @@ pub mod Pieces
 pub mod Refusals
 pub mod ReportLines
 pub mod Shapes
+pub mod EventBudgets
+pub mod Ranking
+pub mod Updating

@@ -1,5 +1,5 @@
 -- The events at which objects list macros, and the groups of these.
-use Rattle.std.proofs.Common.{◌≡◌, ℕ, zero, suc, ◌+◌, ◌-◌, ◌<◌, ◌≤◌, Bool, true, false, cond, ◌&&◌, ◌||◌, List, [], ◌∷◌, ◌++◌, map, filter, take, drop, length, get_or, Option, Some, None, refl, sym, ap, ap₂, subst, ◌∙◌, arith}
+use Rattle.std.proofs.Common.{◌≡◌, ℕ, zero, suc, ◌+◌, ◌<◌, ◌≤◌, Bool, true, false, cond, ◌&&◌, ◌||◌, List, [], ◌∷◌, ◌++◌, map, filter, take, drop, length, get_or, Option, Some, None, refl, sym, ap, ap₂, subst, ◌∙◌, arith}
 use Rattle.std.proofs.Math.Seq.{drop-cons}
 use Rattle.std.proofs.lemmas.List.{append_assoc, append-nil, map-append, take_more}
 use Rattle.std.proofs.lemmas.List.Folds.{list_any-append}
@@ -16,8 +16,7 @@ use Rattle.std.specs.FinMap as finite
 use Rattle.std.specs.FinMap.Entries.{below_all}
 use Rattle.vt_objects.specs.declared.object.Object.{Object}
 use Rattle.vt_objects.specs.Pieces.{cut}
-use Rattle.vt_objects.specs.Records.{Seen, seen, kind_of, macros_of}
-use Rattle.vt_objects.specs.declared.entries.MacroEntry.{MacroEntry}
+use Rattle.vt_objects.specs.Records.{Seen, seen, kind_of}
 use Rattle.vt_objects.specs.declared.kind.Kind.{Kind}
 use Rattle.vt_objects.specs.Stores.{shown, Objects, IsRising}
 use Rattle.vt_rank.specs.declared.graph.Item.{Item}
@@ -26,12 +25,11 @@ use Rattle.vt_verify.specs.declared.listing.Listing.{Listing}
 use Rattle.vt_verify.specs.Lists.{first_failing}
 use Rattle.vt_verify.specs.Shapes.{Shape, Fixed, fixed, shape_of, fixed_at}
 use Rattle.vt_verify.specs.Macros.{bytes_in, named_macro, macros, is_whole, commands_of, commands}
-use Rattle.vt_verify.specs.Triggers.{listing, is_mask, masks, listed, listed_in}
-use Rattle.vt_verify.specs.Targets.{is_event}
+use Rattle.vt_verify.specs.Triggers.{listing, is_mask, masks, is_event, listed, listed_in}
 use Rattle.vt_verify.proofs.Passes.{all_pass, each_of_each}
-use Rattle.vt_verify.proofs.Shapes.{seen_kind, seen_macros}
+use Rattle.vt_verify.proofs.Shapes.{seen_kind}
 use Rattle.vt_objects.proofs.Rising.{Three, three, below, same, above, equal, greater, both_true}
-use Rattle.vt_verify.specs.TriggerGraphs.{is_event_of, has, macros_at, non_empty, if_any, if_listed, event_numbers, listed_events, group_of_event, groups_of}
+use Rattle.vt_verify.specs.TriggerGraphs.{is_event_of, has, events_in, groups_in, non_empty, if_any, if_listed, event_numbers, listed_events, group_of_event, groups_of}
 
 is_equal : (o : Ordering) → is_eq o ≡ true → o ≡ Equal
 is_equal Less is = absurd cc
@@ -151,17 +149,16 @@ from_at (suc count) start (suc k) d lt =
     let later = from_at count (suc start) k d (omega arith) in
     later ∙ omega arith
 
-pub numbers_are : event_numbers ≡ from 26 1
+pub numbers_are : event_numbers ≡ from 27 0
 unfolding from
 numbers_are = refl
 
-pub next_event : (n : ℕ) → 1 ≤ n → n < 27 → drop (n - 1) event_numbers ≡ n ∷ drop ((n + 1) - 1) event_numbers
-next_event n low high =
-    let len : length event_numbers ≡ 26 = refl in
-    let at : get_or event_numbers (n - 1) n ≡ 1 + (n - 1) = ap (λ (ns : List ℕ). get_or ns (n - 1) n) numbers_are ∙ from_at 26 1 (n - 1) n (omega arith) in
-    let one : (n - 1) + 1 ≡ (n + 1) - 1 = omega arith in
-    let back : 1 + (n - 1) ≡ n = omega arith in
-    next_is event_numbers (n - 1) n (omega arith) (sym (at ∙ back)) ∙ ap (λ (k : ℕ). n ∷ drop k event_numbers) one
+pub next_event : (n : ℕ) → n < 27 → drop n event_numbers ≡ n ∷ drop (n + 1) event_numbers
+next_event n high =
+    let len : length event_numbers ≡ 27 = refl in
+    let at : get_or event_numbers n n ≡ 0 + n = ap (λ (ns : List ℕ). get_or ns n n) numbers_are ∙ from_at 27 0 n n high in
+    let back : 0 + n ≡ n = omega arith in
+    next_is event_numbers n n (omega arith) (sym (at ∙ back))
 
 never_both : (b c : Bool) → c ≡ false → (b && c) ≡ false
 never_both true c is = is
@@ -186,22 +183,22 @@ still_new id n event keys ms le none =
 -- ---- the events of objects whose IDs rise
 
 -- what an object adds
-pub events_of : ℕ × Fixed → List Listing
-events_of e = flat_map (λ event. if_any (listing e.0 event) (macros_at event e.1.macros)) event_numbers
+abbrev pub events_of : ℕ × Fixed → List Listing
+events_of e = events_in e.0 e.1
 
-pub macros_of_events : ℕ × Fixed → List (List ℕ)
-macros_of_events e = flat_map (λ event. non_empty (macros_at event e.1.macros)) event_numbers
+abbrev pub groups_of_events : ℕ × Fixed → List (List ℕ)
+groups_of_events e = groups_in e.0 e.1
 
 other_events : (q : Listing) (id : ℕ) (f : Fixed) (ns : List ℕ) → nat_eq q.id id ≡ false
-    → has (flat_map (λ event. if_any (listing id event) (macros_at event f.macros)) ns) q ≡ false
+    → has (flat_map (λ event. if_any (listing id event) (listed_in event id f)) ns) q ≡ false
 other_events q id f [] other = refl
 other_events q id f (n ∷ ns) other =
-    list_any-append (is_event_of q) (if_any (listing id n) (macros_at n f.macros)) (flat_map (λ event. if_any (listing id event) (macros_at event f.macros)) ns)
-    ∙ neither (has (if_any (listing id n) (macros_at n f.macros)) q) (has (flat_map (λ event. if_any (listing id event) (macros_at event f.macros)) ns) q)
-    (none_if_any q (listing id n) (macros_at n f.macros) (ap (λ b. b && nat_eq q.event n) other)) (other_events q id f ns other)
+    list_any-append (is_event_of q) (if_any (listing id n) (listed_in n id f)) (flat_map (λ event. if_any (listing id event) (listed_in event id f)) ns)
+    ∙ neither (has (if_any (listing id n) (listed_in n id f)) q) (has (flat_map (λ event. if_any (listing id event) (listed_in event id f)) ns) q)
+    (none_if_any q (listing id n) (listed_in n id f) (ap (λ b. b && nat_eq q.event n) other)) (other_events q id f ns other)
 
 others : (q : Listing) (shape : Shape) → AllByRecursion (λ e. nat_eq q.id e.0 ≡ false) shape → has (flat_map events_of shape) q ≡ false
-unfolding events_of
+unfolding events_in
 others q [] all = refl
 others q (e ∷ shape) all =
     list_any-append (is_event_of q) (events_of e) (flat_map events_of shape)
@@ -249,14 +246,6 @@ module _ {B : Type 0} where
       ∙ flat_map-append F (shape_of (map shown (take i es))) ((e.0, fixed (seen e.1)) ∷ [])
       ∙ ap (λ more. flat_map F (shape_of (map shown (take i es))) ++ more) (append-nil (F (e.0, fixed (seen e.1))))
 
-  pub events_seen : (e : ℕ × Object B) → events_of (e.0, fixed (seen e.1)) ≡ flat_map (λ event. if_any (listing e.0 event) (macros_at event (macros_of e.1))) event_numbers
-  unfolding events_of
-  events_seen e = ap (λ (entries : List MacroEntry). flat_map (λ event. if_any (listing e.0 event) (macros_at event entries)) event_numbers) (seen_macros e.1)
-
-  pub groups_seen : (e : ℕ × Object B) → macros_of_events (e.0, fixed (seen e.1)) ≡ flat_map (λ event. non_empty (macros_at event (macros_of e.1))) event_numbers
-  unfolding macros_of_events
-  groups_seen e = ap (λ (entries : List MacroEntry). flat_map (λ event. non_empty (macros_at event entries)) event_numbers) (seen_macros e.1)
-
 -- ---- these are the events at which macros are listed, and their macros
 
 IsFound : Shape → ℕ × Fixed → Type 0
@@ -283,15 +272,15 @@ all_found (e ∷ shape) rising =
 
 -- the macros listed at an event of an object that is there
 pub listed_here : (shape : Shape) (id : ℕ) (f : Fixed) (event : ℕ) → fixed_at shape id ≡ Some f → IsTrue (is_event event)
-    → listed shape (listing id event) ≡ macros_at event f.macros
+    → listed shape (listing id event) ≡ listed_in event id f
 unfolding listed
 listed_here shape id f event found is =
-    ap (λ (b : Bool). cond b (flat_map (listed_in event) (option_to_list (fixed_at shape id))) []) is
-    ∙ ap (λ (o : Option Fixed). flat_map (listed_in event) (option_to_list o)) found
-    ∙ append-nil (macros_at event f.macros)
+    ap (λ (b : Bool). cond b (flat_map (listed_in event id) (option_to_list (fixed_at shape id))) []) is
+    ∙ ap (λ (o : Option Fixed). flat_map (listed_in event id) (option_to_list o)) found
+    ∙ append-nil (listed_in event id f)
 
 same_events : (shape : Shape) (id : ℕ) (f : Fixed) (ns : List ℕ) → fixed_at shape id ≡ Some f → IsTrue (list_all is_event ns)
-    → flat_map (λ event. if_any (listing id event) (macros_at event f.macros)) ns ≡ flat_map (λ event. if_listed shape (listing id event)) ns
+    → flat_map (λ event. if_any (listing id event) (listed_in event id f)) ns ≡ flat_map (λ event. if_listed shape (listing id event)) ns
 same_events shape id f [] found all = refl
 same_events shape id f (n ∷ ns) found all =
     let parts = both_true (is_event n) (list_all is_event ns) all in
@@ -299,7 +288,7 @@ same_events shape id f (n ∷ ns) found all =
 
 all_events : (shape es : Shape) → AllByRecursion (IsFound shape) es
     → flat_map events_of es ≡ flat_map (λ e. flat_map (λ event. if_listed shape (listing e.0 event)) event_numbers) es
-unfolding IsFound events_of
+unfolding IsFound events_in
 all_events shape [] all = refl
 all_events shape (e ∷ es) all =
     ap₂ (λ (one more : List Listing). one ++ more) (same_events shape e.0 e.1 event_numbers all.0 refl) (all_events shape es all.1)
@@ -309,17 +298,17 @@ group_case shape r [] is = refl
 group_case shape r (m ∷ ms) is = ap (λ (l : List ℕ). l ∷ []) is
 
 same_groups : (shape : Shape) (id : ℕ) (ns : List ℕ) (f : Fixed) → fixed_at shape id ≡ Some f → IsTrue (list_all is_event ns)
-    → flat_map (λ event. non_empty (macros_at event f.macros)) ns ≡ map (listed shape) (flat_map (λ event. if_any (listing id event) (macros_at event f.macros)) ns)
+    → flat_map (λ event. non_empty (listed_in event id f)) ns ≡ map (listed shape) (flat_map (λ event. if_any (listing id event) (listed_in event id f)) ns)
 same_groups shape id [] f found all = refl
 same_groups shape id (n ∷ ns) f found all =
     let parts = both_true (is_event n) (list_all is_event ns) all in
-    let rest = flat_map (λ event. if_any (listing id event) (macros_at event f.macros)) ns in
+    let rest = flat_map (λ event. if_any (listing id event) (listed_in event id f)) ns in
     ap₂ (λ (one more : List (List ℕ)). one ++ more)
-    (sym (group_case shape (listing id n) (macros_at n f.macros) (listed_here shape id f n found parts.0))) (same_groups shape id ns f found parts.1)
-    ∙ sym (map-append (listed shape) (if_any (listing id n) (macros_at n f.macros)) rest)
+    (sym (group_case shape (listing id n) (listed_in n id f) (listed_here shape id f n found parts.0))) (same_groups shape id ns f found parts.1)
+    ∙ sym (map-append (listed shape) (if_any (listing id n) (listed_in n id f)) rest)
 
-all_groups : (shape es : Shape) → AllByRecursion (IsFound shape) es → flat_map macros_of_events es ≡ map (listed shape) (flat_map events_of es)
-unfolding IsFound events_of macros_of_events
+all_groups : (shape es : Shape) → AllByRecursion (IsFound shape) es → flat_map groups_of_events es ≡ map (listed shape) (flat_map events_of es)
+unfolding IsFound events_in groups_in
 all_groups shape [] all = refl
 all_groups shape (e ∷ es) all =
     ap₂ (λ (one more : List (List ℕ)). one ++ more) (same_groups shape e.0 event_numbers e.1 all.0 refl) (all_groups shape es all.1)
@@ -341,7 +330,7 @@ pub events_listed : (objects : Objects) → IsRising objects → flat_map events
 events_listed objects rising = all_events (shape_of objects) (shape_of objects) (all_found (shape_of objects) (shape_rises objects ∙ rising))
 
 pub groups_listed : (objects : Objects) → IsRising objects
-    → flat_map macros_of_events (shape_of objects) ≡ map (listed (shape_of objects)) (listed_events (shape_of objects))
+    → flat_map groups_of_events (shape_of objects) ≡ map (listed (shape_of objects)) (listed_events (shape_of objects))
 groups_listed objects rising =
     all_groups (shape_of objects) (shape_of objects) (all_found (shape_of objects) (shape_rises objects ∙ rising))
     ∙ ap (map (listed (shape_of objects))) (events_listed objects rising)

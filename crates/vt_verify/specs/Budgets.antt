@@ -1,5 +1,5 @@
 -- What macros cost, and what events may cost (docs/PROFILE.md, "Costs and budgets").
-use Rattle.std.specs.Prelude.{◌≡◌, ℕ, zero, suc, ◌+◌, if◌then◌else◌, sum_by}
+use Rattle.std.specs.Prelude.{◌≡◌, ℕ, zero, suc, ◌+◌, if◌then◌else◌, sum_by, List, map}
 use Rattle.vt_objects.specs.declared.command.Command.{Command}
 use Rattle.vt_rank.specs.Costs.{greatest}
 use Rattle.vt_objects.specs.declared.event.Event.TheVariants.{Hide}
@@ -7,6 +7,7 @@ use Rattle.vt_objects.specs.Events.{event_number}
 use Rattle.vt_verify.specs.declared.listing.Listing.{Listing}
 use Rattle.vt_verify.specs.Shapes.{Shape}
 use Rattle.vt_verify.specs.Macros.{commands}
+use Rattle.vt_verify.specs.TriggerGraphs.{listed_events}
 use Rattle.vt_verify.specs.Triggers.{listing, listed, row_listings, changes_mask, masks}
 
 -- ---- where each macro costs this much
@@ -19,7 +20,7 @@ abbrev pub hidden_cost : (ℕ → ℕ) → Shape → Command → ℕ
 hidden_cost cost shape command =
     if changes_mask command then greatest (λ mask. total cost shape (listing mask (event_number Hide))) (masks shape) else 0
 
--- one for the command, and what it may listing
+-- one for the command, and what it may raise
 abbrev pub command_cost : (ℕ → ℕ) → Shape → Command → ℕ
 command_cost cost shape command = 1 + hidden_cost cost shape command + sum_by (total cost shape) (row_listings command)
 
@@ -44,3 +45,8 @@ budget shape id event = total (cost shape) shape (listing id event)
 -- each macro costs what its commands cost
 abbrev pub CostsAreTotals : Shape → Type 0
 CostsAreTotals shape = (id : ℕ) → cost shape id ≡ macro_cost (cost shape) shape id
+
+-- the events at which macros run, and the budget of each
+pub record AreBudgets (shape : Shape) (events : List Listing) (steps : List ℕ) : Type 0 where
+  pub events_are : events ≡ listed_events shape
+  pub steps_are : steps ≡ map (λ e. budget shape e.id e.event) events

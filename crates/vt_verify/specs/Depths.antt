@@ -1,57 +1,69 @@
--- How many inclusions in a row the objects begin, as far as was looked.
-use Rattle.std.specs.Prelude.{◌≡◌, ◌≤◌, ◌<◌, ℕ, zero, suc, List, length, slice_get, slice_index, Some, None, Contains}
-use Rattle.vt_objects.specs.Records.{Seen}
-use Rattle.vt_objects.specs.Stores.{Objects, object_at, IsPlace}
-use Rattle.vt_verify.specs.Inclusions.{included}
+-- How many inclusions in a row begin with each object at most: its depth.
+use Rattle.std.specs.Prelude.{◌≡◌, ◌≢◌, ◌≤◌, ◌<◌, ◌+◌, ℕ, suc, List, length, slice_get, slice_index, Some, Contains}
+use Rattle.std.specs.FinMap as finite
+use Rattle.vt_objects.specs.Stores.{Contents, ids}
+use Rattle.vt_verify.specs.Inclusions.{included, IsChain}
 
--- a chain of so many inclusions begins with the ID
-abbrev pub Begins : Objects → ℕ → ℕ → Type 0
-Begins objects zero id = Unit {0}
-Begins objects (suc count) id = (next : ℕ) × Contains (included objects id) next × Begins objects count next
+-- the IDs of a store, by rising ID, and what the object of each includes
+abbrev pub ids_of : Contents → List ℕ
+ids_of store = ids (finite.entries store)
 
--- the most inclusions in a row, among counts up to `most`, that the ID begins
-pub record IsDepth (objects : Objects) (most id depth : ℕ) : Type 0 where
-  pub begins : Begins objects depth id
-  pub within : depth ≤ most
-  pub greatest : (count : ℕ) → count ≤ most → Begins objects count id → count ≤ depth
+abbrev pub inclusions_of : Contents → ℕ → List ℕ
+inclusions_of store = included (finite.entries store)
 
--- an object of the ID stands at the place
-abbrev pub Stands : Objects → ℕ → ℕ → Type 0
-Stands objects place id = (object : Seen) × (slice_get objects place ≡ Some (id, object))
+-- an ID stands at the place
+abbrev pub Stands : List ℕ → ℕ → ℕ → Type 0
+Stands ids place id = slice_get ids place ≡ Some id
 
--- at each place the depth of the object that stands there
-pub record AreDepths (objects : Objects) (most : ℕ) (depths : List ℕ) : Type 0 where
-  pub each : length depths ≡ length objects
-  pub found : (place id : ℕ) → Stands objects place id → IsDepth objects most id (slice_index depths place)
+-- an ID that stands at a place of a depth
+pub record IsAt (ids depths : List ℕ) (id depth : ℕ) : Type 0 where
+  pub place : ℕ
+  pub there : Stands ids place id
+  pub is : slice_index depths place ≡ depth
 
--- no object is of more than this depth
-abbrev pub AreWithin : Objects → ℕ → List ℕ → Type 0
-AreWithin objects depth depths = (place id : ℕ) → Stands objects place id → slice_index depths place ≤ depth
+-- an ID that stands at a place of less depth
+pub record IsBelow (ids depths : List ℕ) (id most : ℕ) : Type 0 where
+  pub place : ℕ
+  pub there : Stands ids place id
+  pub less : slice_index depths place < most
 
--- ---- one inclusion
+-- all that is included stands at a place
+abbrev pub IsClosed : List ℕ → (ℕ → List ℕ) → Type 0
+IsClosed ids included = (id other : ℕ) → Contains (included id) other → (place : ℕ) × Stands ids place other
 
--- an ID that the ID includes, at a place of at least this depth
-pub record IsNext (objects : Objects) (depths : List ℕ) (id depth place : ℕ) : Type 0 where
-  pub next : ℕ
-  pub includes : Contains (included objects id) next
-  pub there : IsPlace objects next place
-  pub deep : depth ≤ slice_index depths place
+-- the depth of an ID: one more than the greatest of what it includes
+pub record IsDepth (ids : List ℕ) (included : ℕ → List ℕ) (depths : List ℕ) (id depth : ℕ) : Type 0 where
+  pub above : (other : ℕ) → Contains (included id) other → IsBelow ids depths other depth
+  pub reached : (less : ℕ) → depth ≡ suc less → (other : ℕ) × Contains (included id) other × IsAt ids depths other less
 
--- an ID that is not there, or at a place of less depth
-pub data IsShort (objects : Objects) (depths : List ℕ) (depth id : ℕ) : Type 0 where
-  Gone : object_at objects id ≡ None → IsShort objects depths depth id
-  Less : (place : ℕ) → IsPlace objects id place → slice_index depths place < depth → IsShort objects depths depth id
+-- the depth of each, at most this
+pub record AreDepths (ids : List ℕ) (included : ℕ → List ℕ) (most : ℕ) (depths : List ℕ) : Type 0 where
+  pub each : length depths ≡ length ids
+  pub within : (place : ℕ) → slice_index depths place ≤ most
+  pub depth : (place id : ℕ) → Stands ids place id → IsDepth ids included depths id (slice_index depths place)
 
--- all that the ID includes is so
-abbrev pub IncludesShort : Objects → List ℕ → ℕ → ℕ → Type 0
-IncludesShort objects depths id depth = (next : ℕ) → Contains (included objects id) next → IsShort objects depths depth next
+-- ---- while depths are found
 
--- ---- at a place
+-- no depth was found yet
+abbrev pub unset : ℕ
+unset = 255
 
--- what stands there includes an ID at a place of at least this depth
-abbrev pub HasNext : Objects → List ℕ → ℕ → ℕ → Type 0
-HasNext objects depths place depth = (id : ℕ) → Stands objects place id → (next : ℕ) × IsNext objects depths id depth next
+-- the depths that were found so far
+pub record AreFound (ids : List ℕ) (included : ℕ → List ℕ) (depths : List ℕ) : Type 0 where
+  pub each : length depths ≡ length ids
+  pub within : (place : ℕ) → slice_index depths place ≤ unset
+  pub found : (place id : ℕ) → Stands ids place id → slice_index depths place ≢ unset → IsDepth ids included depths id (slice_index depths place)
 
--- what stands there includes none
-abbrev pub HasNoNext : Objects → List ℕ → ℕ → ℕ → Type 0
-HasNoNext objects depths place depth = (id : ℕ) → Stands objects place id → IncludesShort objects depths id depth
+-- what was found stays
+abbrev pub Keeps : List ℕ → List ℕ → Type 0
+Keeps old new = (place : ℕ) → slice_index old place ≢ unset → slice_index new place ≡ slice_index old place
+
+-- a chain of so many inclusions that begins with an ID
+pub record BeginsChain (included : ℕ → List ℕ) (id count : ℕ) (chain : List ℕ) : Type 0 where
+  pub is : IsChain included chain
+  pub first : slice_get chain 0 ≡ Some id
+  pub long : length chain ≡ count + 1
+
+-- a chain of so many inclusions that begins with what an ID includes
+abbrev pub IncludesChain : (ℕ → List ℕ) → ℕ → ℕ → List ℕ → Type 0
+IncludesChain included id count chain = (other : ℕ) × Contains (included id) other × BeginsChain included other count chain

@@ -1,5 +1,5 @@
 -- Which objects include which, and chains of them (docs/PROFILE.md, "Inclusions and chains").
-use Rattle.std.specs.Prelude.{◌≡◌, ◌≤◌, ℕ, Bool, true, false, ◌==◌, ◌&&◌, not, List, [], ◌∷◌, filter, map, length, Option, Some, None, Contains}
+use Rattle.std.specs.Prelude.{◌≡◌, ◌≤◌, ◌+◌, ℕ, Bool, true, false, ◌==◌, ◌&&◌, not, List, [], ◌∷◌, filter, map, length, Option, Some, None, Contains}
 use Rattle.vt_objects.specs.declared.place.Place.{Place}
 use Rattle.vt_objects.specs.declared.place.Place.TheVariants as places
 use Rattle.vt_objects.specs.declared.slot.Slot.{Slot}
@@ -27,16 +27,18 @@ included_by (Some o) = map (λ slot. slot.id) (filter includes (slots_of o))
 abbrev pub included : Objects → ℕ → List ℕ
 included objects id = included_by (object_at objects id)
 
+-- ---- chains, by the IDs that each ID includes
+
 -- each of them includes the next
-abbrev pub IsChain : Objects → List ℕ → Type 0
-IsChain objects [] = Unit {0}
-IsChain objects (a ∷ []) = Unit {0}
-IsChain objects (a ∷ b ∷ ids) = Contains (included objects a) b × IsChain objects (b ∷ ids)
+abbrev pub IsChain : (ℕ → List ℕ) → List ℕ → Type 0
+IsChain included [] = Unit {0}
+IsChain included (a ∷ []) = Unit {0}
+IsChain included (a ∷ b ∷ ids) = Contains (included a) b × IsChain included (b ∷ ids)
 
--- no chain has more than 16 inclusions
-abbrev pub IsShallow : Objects → Type 0
-IsShallow objects = (ids : List ℕ) → IsChain objects ids → length ids ≤ 17
+-- no chain has more than this many inclusions
+abbrev pub IsShallow : ℕ → (ℕ → List ℕ) → Type 0
+IsShallow most included = (ids : List ℕ) → IsChain included ids → length ids ≤ most + 1
 
--- a chain of 17 inclusions
-abbrev pub IsTooDeep : Objects → List ℕ → Type 0
-IsTooDeep objects ids = IsChain objects ids × (length ids ≡ 18)
+-- a chain with one inclusion too many
+abbrev pub IsTooDeep : ℕ → (ℕ → List ℕ) → List ℕ → Type 0
+IsTooDeep most included ids = IsChain included ids × (length ids ≡ most + 2)

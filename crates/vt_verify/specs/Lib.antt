@@ -10,3 +10,5 @@ pub mod Budgets
 pub mod TriggerGraphs
 pub mod Rules
 pub mod Reports
+pub mod Orders
+pub mod Updates

@@ -1,35 +1,37 @@
 -- The IDs that objects name, and what may stand there (docs/PROFILE.md, "Places and their kinds", "Pointers").
-use Rattle.std.specs.Prelude.{ℕ, Bool, true, ◌==◌, if◌then◌else◌, List, [], ◌∷◌, map, Option, Some, None, is_some}
-use Rattle.std.specs.List.{flat_map, list_any}
+use Rattle.std.specs.Prelude.{ℕ, Bool, true, nat_le, ◌&&◌, ◌==◌, if◌then◌else◌, List, [], ◌∷◌, map, Option, Some, None, is_some}
+use Rattle.std.specs.List.{flat_map}
 use Rattle.vt_objects.specs.declared.kind.Kind.{Kind}
 use Rattle.vt_objects.specs.declared.kinds.Kinds.{Kinds}
+use Rattle.vt_objects.specs.declared.kinds.Kinds.TheVariants as sets
 use Rattle.vt_objects.specs.declared.slot.Slot.{Slot}
 use Rattle.vt_objects.specs.declared.object.Object.TheVariants as objects
-use Rattle.vt_objects.specs.Kinds.{kind_number}
 use Rattle.vt_objects.specs.Records.{Seen}
-use Rattle.vt_objects.specs.References.{slots_of, members}
+use Rattle.vt_objects.specs.References.{slots_of, is_member}
 use Rattle.vt_verify.specs.declared.reference.Reference.{Reference}
 use Rattle.vt_verify.specs.declared.reference.Test.{Test}
 use Rattle.vt_verify.specs.declared.reference.Test.TheVariants.{IsThere, Fits}
 use Rattle.vt_verify.specs.Shapes.{Shape, kind_at}
 use Rattle.vt_objects.specs.Stores.{Objects, object_at}
 
-abbrev pub is_member : Kinds → Kind → Bool
-is_member kinds kind = list_any (λ member. kind_number member == kind_number kind) (members kinds)
-
 -- ---- tests of a reference
 
 -- NULL, where NULL may stand, or an ID that is there
 abbrev pub is_there : Shape → Reference → Bool
-is_there shape r = if r.id == 0xFFFF then r.null else is_some (kind_at shape r.id)
+is_there shape r = if r.id == 0xFFFF then r.may_be_null else is_some (kind_at shape r.id)
 
-abbrev pub allows : Kinds → Option Kind → Bool
-allows kinds None = true
-allows kinds (Some kind) = is_member kinds kind
+-- macros above 255 are no macros that can be named
+abbrev pub may_stand : Kinds → ℕ → Kind → Bool
+may_stand sets.Macros id kind = is_member sets.Macros kind && nat_le id 255
+may_stand kinds id kind = is_member kinds kind
+
+abbrev pub allows : Kinds → ℕ → Option Kind → Bool
+allows kinds id None = true
+allows kinds id (Some kind) = may_stand kinds id kind
 
 -- a kind that is allowed; NULL and an ID that is not there are not looked at
 abbrev pub fits : Shape → Reference → Bool
-fits shape r = if r.id == 0xFFFF then true else allows r.kinds (kind_at shape r.id)
+fits shape r = if r.id == 0xFFFF then true else allows r.kinds r.id (kind_at shape r.id)
 
 abbrev pub passes : Test → Shape → Reference → Bool
 passes IsThere shape r = is_there shape r
@@ -38,7 +40,7 @@ passes Fits shape r = fits shape r
 -- ---- the references of slots
 
 abbrev pub of_slot : ℕ → Slot → Reference
-of_slot parent slot = record { parent = parent; id = slot.id; null = slot.null; kinds = slot.kinds }
+of_slot parent slot = record { parent = parent; id = slot.id; may_be_null = slot.null; kinds = slot.kinds }
 
 -- the slots of an object
 abbrev pub slot_references : ℕ × Seen → List Reference

@@ -5,6 +5,7 @@ use Rattle.std.specs.List.{flat_map, AllByRecursion}
 use Rattle.vt_objects.specs.declared.kind.Kind.{Kind}
 use Rattle.vt_objects.specs.declared.kind.Kind.TheVariants as kinds
 use Rattle.vt_rank.specs.Paths.{IsCircle, IsDistinct, HasNoCircle, IsLeastOnCircles}
+use Rattle.vt_verify.specs.declared.limits.Limits.{Limits}
 use Rattle.vt_verify.specs.declared.reference.Reference.{Reference}
 use Rattle.vt_verify.specs.declared.refusal.Refusal.{Refusal}
 use Rattle.vt_verify.specs.declared.refusal.Refusal.TheVariants as refusals
@@ -12,7 +13,7 @@ use Rattle.vt_verify.specs.Lists.{first_failing}
 use Rattle.vt_verify.specs.Shapes.{Shape, shape_of}
 use Rattle.vt_objects.specs.Stores.{Objects}
 use Rattle.vt_verify.specs.References.{references, is_there, fits, values_of}
-use Rattle.vt_verify.specs.Inclusions.{IsShallow, IsTooDeep}
+use Rattle.vt_verify.specs.Inclusions.{included, IsShallow, IsTooDeep}
 use Rattle.vt_verify.specs.Macros.{Piece, macros, is_whole, pieces, is_allowed}
 use Rattle.vt_verify.specs.Targets.{macro_references, has_attribute}
 use Rattle.vt_verify.specs.Triggers.{triggered}
@@ -49,19 +50,16 @@ macro_wrong_kind shape = first_failing (fits shape) (macro_references shape)
 abbrev pub other_attribute : Shape → Option Piece
 other_attribute shape = first_failing (has_attribute shape) (pieces shape)
 
--- no cost of a macro and no budget of an event is over it
-abbrev pub greatest_budget : ℕ
-greatest_budget = 65535
+-- no macro and no event costs more steps than this
+pub record IsWithinBudget (steps : ℕ) (shape : Shape) : Type 0 where
+  pub costs : (id : ℕ) → cost shape id ≤ steps
+  pub budgets : (id event : ℕ) → budget shape id event ≤ steps
 
-pub record IsWithinBudget (shape : Shape) : Type 0 where
-  pub costs : (id : ℕ) → cost shape id ≤ greatest_budget
-  pub budgets : (id event : ℕ) → budget shape id event ≤ greatest_budget
-
--- the least macro over it, or where there is none the least object with such an event
-pub data IsFirstOver (shape : Shape) (id : ℕ) : Type 0 where
-  Macro : greatest_budget < cost shape id → ((other : ℕ) → other < id → cost shape other ≤ greatest_budget) → IsFirstOver shape id
-  Object : ((other : ℕ) → cost shape other ≤ greatest_budget) → (event : ℕ) → greatest_budget < budget shape id event
-      → ((other of : ℕ) → other < id → budget shape other of ≤ greatest_budget) → IsFirstOver shape id
+-- the least macro that costs more, or where there is none the least object with such an event
+pub data IsFirstOver (steps : ℕ) (shape : Shape) (id : ℕ) : Type 0 where
+  Macro : steps < cost shape id → ((other : ℕ) → other < id → cost shape other ≤ steps) → IsFirstOver steps shape id
+  Object : ((other : ℕ) → cost shape other ≤ steps) → (event : ℕ) → steps < budget shape id event
+      → ((other of : ℕ) → other < id → budget shape other of ≤ steps) → IsFirstOver steps shape id
 
 -- ---- the rules
 
@@ -85,34 +83,38 @@ rules =
     HasWorkingSet ∷ HasOneWorkingSet ∷ ReferencesAreThere ∷ ReferencesFit ∷ ChainsAreShort ∷ MacrosAreWhole
     ∷ CommandsAreAllowed ∷ TargetsAreThere ∷ TargetsFit ∷ AttributesAreThere ∷ TriggersAreNoCircle ∷ BudgetsAreWithin ∷ []
 
-abbrev pub Holds : Objects → Rule → Type 0
-Holds objects HasWorkingSet = 1 ≤ working_sets (shape_of objects)
-Holds objects HasOneWorkingSet = working_sets (shape_of objects) ≤ 1
-Holds objects ReferencesAreThere = missing objects ≡ None
-Holds objects ReferencesFit = wrong_kind objects ≡ None
-Holds objects ChainsAreShort = IsShallow objects
-Holds objects MacrosAreWhole = cut_short (shape_of objects) ≡ None
-Holds objects CommandsAreAllowed = other_command (shape_of objects) ≡ None
-Holds objects TargetsAreThere = macro_missing (shape_of objects) ≡ None
-Holds objects TargetsFit = macro_wrong_kind (shape_of objects) ≡ None
-Holds objects AttributesAreThere = other_attribute (shape_of objects) ≡ None
-Holds objects TriggersAreNoCircle = HasNoCircle (triggered (shape_of objects))
-Holds objects BudgetsAreWithin = IsWithinBudget (shape_of objects)
+-- the limits of this terminal
+abbrev pub terminal : Limits
+terminal = record { inclusions = 32; steps = 1000000 }
+
+abbrev pub Holds : Limits → Objects → Rule → Type 0
+Holds limits objects HasWorkingSet = 1 ≤ working_sets (shape_of objects)
+Holds limits objects HasOneWorkingSet = working_sets (shape_of objects) ≤ 1
+Holds limits objects ReferencesAreThere = missing objects ≡ None
+Holds limits objects ReferencesFit = wrong_kind objects ≡ None
+Holds limits objects ChainsAreShort = IsShallow limits.inclusions (included objects)
+Holds limits objects MacrosAreWhole = cut_short (shape_of objects) ≡ None
+Holds limits objects CommandsAreAllowed = other_command (shape_of objects) ≡ None
+Holds limits objects TargetsAreThere = macro_missing (shape_of objects) ≡ None
+Holds limits objects TargetsFit = macro_wrong_kind (shape_of objects) ≡ None
+Holds limits objects AttributesAreThere = other_attribute (shape_of objects) ≡ None
+Holds limits objects TriggersAreNoCircle = HasNoCircle (triggered (shape_of objects))
+Holds limits objects BudgetsAreWithin = IsWithinBudget limits.steps (shape_of objects)
 
 -- A pool is acceptable where all rules hold.
-pub record IsAcceptable (objects : Objects) : Type 0 where
-  pub working_set : Holds objects HasWorkingSet
-  pub one_working_set : Holds objects HasOneWorkingSet
-  pub references_there : Holds objects ReferencesAreThere
-  pub references_fit : Holds objects ReferencesFit
-  pub chains_short : Holds objects ChainsAreShort
-  pub macros_whole : Holds objects MacrosAreWhole
-  pub commands_allowed : Holds objects CommandsAreAllowed
-  pub targets_there : Holds objects TargetsAreThere
-  pub targets_fit : Holds objects TargetsFit
-  pub attributes_there : Holds objects AttributesAreThere
-  pub no_circle : Holds objects TriggersAreNoCircle
-  pub within_budget : Holds objects BudgetsAreWithin
+pub record IsAcceptable (limits : Limits) (objects : Objects) : Type 0 where
+  pub working_set : Holds limits objects HasWorkingSet
+  pub one_working_set : Holds limits objects HasOneWorkingSet
+  pub references_there : Holds limits objects ReferencesAreThere
+  pub references_fit : Holds limits objects ReferencesFit
+  pub chains_short : Holds limits objects ChainsAreShort
+  pub macros_whole : Holds limits objects MacrosAreWhole
+  pub commands_allowed : Holds limits objects CommandsAreAllowed
+  pub targets_there : Holds limits objects TargetsAreThere
+  pub targets_fit : Holds limits objects TargetsFit
+  pub attributes_there : Holds limits objects AttributesAreThere
+  pub no_circle : Holds limits objects TriggersAreNoCircle
+  pub within_budget : Holds limits objects BudgetsAreWithin
 
 -- ---- refusals
 
@@ -146,25 +148,25 @@ place TriggersAreNoCircle = 10
 place BudgetsAreWithin = 11
 
 -- the rules before this one hold
-abbrev pub HoldBefore : Objects → Rule → Type 0
-HoldBefore objects rule = AllByRecursion (Holds objects) (take (place rule) rules)
+abbrev pub HoldBefore : Limits → Objects → Rule → Type 0
+HoldBefore limits objects rule = AllByRecursion (Holds limits objects) (take (place rule) rules)
 
 -- What a refusal says of a pool: the first rule that fails, and its first culprit. Memory may run out at any growth.
-abbrev pub IsRefused : Objects → Refusal → Type 0
-IsRefused objects refusals.NoWorkingSet = working_sets (shape_of objects) ≡ 0
-IsRefused objects refusals.TwoWorkingSets = 1 < working_sets (shape_of objects)
-IsRefused objects (refusals.Missing parent id) = HoldBefore objects ReferencesAreThere × Names (missing objects) parent id
-IsRefused objects (refusals.WrongKind parent id) = HoldBefore objects ReferencesFit × Names (wrong_kind objects) parent id
-IsRefused objects (refusals.TooDeep chain) = HoldBefore objects ChainsAreShort × IsTooDeep objects chain.items
-IsRefused objects (refusals.MacroBytes id) =
-    HoldBefore objects MacrosAreWhole × ((m : ℕ × List ℕ) × (cut_short (shape_of objects) ≡ Some m) × (m.0 ≡ id))
-IsRefused objects (refusals.MacroCommand id at) = HoldBefore objects CommandsAreAllowed × IsAt (other_command (shape_of objects)) id at
-IsRefused objects (refusals.MacroMissing parent id) = HoldBefore objects TargetsAreThere × Names (macro_missing (shape_of objects)) parent id
-IsRefused objects (refusals.MacroKind parent id) = HoldBefore objects TargetsFit × Names (macro_wrong_kind (shape_of objects)) parent id
-IsRefused objects (refusals.MacroValue id at) = HoldBefore objects AttributesAreThere × IsAt (other_attribute (shape_of objects)) id at
-IsRefused objects (refusals.MacroCircle path) = HoldBefore objects TriggersAreNoCircle × IsLeastCircle (shape_of objects) path.items
-IsRefused objects (refusals.OverBudget id) = HoldBefore objects BudgetsAreWithin × IsFirstOver (shape_of objects) id
-IsRefused objects refusals.OutOfMemory = Unit {0}
+abbrev pub IsRefused : Limits → Objects → Refusal → Type 0
+IsRefused limits objects refusals.NoWorkingSet = working_sets (shape_of objects) ≡ 0
+IsRefused limits objects refusals.TwoWorkingSets = 1 < working_sets (shape_of objects)
+IsRefused limits objects (refusals.Missing parent id) = HoldBefore limits objects ReferencesAreThere × Names (missing objects) parent id
+IsRefused limits objects (refusals.WrongKind parent id) = HoldBefore limits objects ReferencesFit × Names (wrong_kind objects) parent id
+IsRefused limits objects (refusals.TooDeep chain) = HoldBefore limits objects ChainsAreShort × IsTooDeep limits.inclusions (included objects) chain.items
+IsRefused limits objects (refusals.MacroBytes id) =
+    HoldBefore limits objects MacrosAreWhole × ((m : ℕ × List ℕ) × (cut_short (shape_of objects) ≡ Some m) × (m.0 ≡ id))
+IsRefused limits objects (refusals.MacroCommand id at) = HoldBefore limits objects CommandsAreAllowed × IsAt (other_command (shape_of objects)) id at
+IsRefused limits objects (refusals.MacroMissing parent id) = HoldBefore limits objects TargetsAreThere × Names (macro_missing (shape_of objects)) parent id
+IsRefused limits objects (refusals.MacroKind parent id) = HoldBefore limits objects TargetsFit × Names (macro_wrong_kind (shape_of objects)) parent id
+IsRefused limits objects (refusals.MacroValue id at) = HoldBefore limits objects AttributesAreThere × IsAt (other_attribute (shape_of objects)) id at
+IsRefused limits objects (refusals.MacroCircle path) = HoldBefore limits objects TriggersAreNoCircle × IsLeastCircle (shape_of objects) path.items
+IsRefused limits objects (refusals.OverBudget id) = HoldBefore limits objects BudgetsAreWithin × IsFirstOver limits.steps (shape_of objects) id
+IsRefused limits objects refusals.OutOfMemory = Unit {0}
 
 abbrev pub IsWantOfMemory : Refusal → Type 0
 IsWantOfMemory refusals.OutOfMemory = Unit {0}
@@ -172,7 +174,7 @@ IsWantOfMemory refusal = ⊥
 
 -- Of a pool that is acceptable no refusal says anything but want of memory.
 abbrev pub RefusalsAreTrue : Type 0
-RefusalsAreTrue = (objects : Objects) (refusal : Refusal) → IsAcceptable objects → IsRefused objects refusal → IsWantOfMemory refusal
+RefusalsAreTrue = (limits : Limits) (objects : Objects) (refusal : Refusal) → IsAcceptable limits objects → IsRefused limits objects refusal → IsWantOfMemory refusal
 
 -- ---- the rule that a refusal names
 
@@ -193,9 +195,16 @@ rule_of (refusals.OverBudget id) = Some BudgetsAreWithin
 rule_of refusals.OutOfMemory = None
 
 -- The rule that a refusal names fails, and those before it hold.
-pub record IsFirstToFail (objects : Objects) (rule : Rule) : Type 0 where
-  pub before : HoldBefore objects rule
-  pub fails : Holds objects rule → ⊥
+pub record IsFirstToFail (limits : Limits) (objects : Objects) (rule : Rule) : Type 0 where
+  pub before : HoldBefore limits objects rule
+  pub fails : Holds limits objects rule → ⊥
 
 abbrev pub FirstRulesFail : Type 0
-FirstRulesFail = (objects : Objects) (refusal : Refusal) → IsRefused objects refusal → IfSome (rule_of refusal) (IsFirstToFail objects)
+FirstRulesFail = (limits : Limits) (objects : Objects) (refusal : Refusal) → IsRefused limits objects refusal → IfSome (rule_of refusal) (IsFirstToFail limits objects)
+
+-- ---- greater limits
+
+-- What is acceptable stays so where the limits grow.
+abbrev pub GreaterLimitsAccept : Type 0
+GreaterLimitsAccept = (small great : Limits) (objects : Objects) → small.inclusions ≤ great.inclusions → small.steps ≤ great.steps
+    → IsAcceptable small objects → IsAcceptable great objects

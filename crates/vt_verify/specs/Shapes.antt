@@ -1,6 +1,6 @@
--- The objects of a pool by rising ID, and what no command changes of them: which IDs there are, their kinds, the
--- macros of their events, and the bytes of macros (docs/PROFILE.md, "What every store keeps").
-use Rattle.std.specs.Prelude.{ℕ, List, [], map, Option, IsTrue}
+-- What no command changes of the objects of a pool: which IDs there are, their kinds, the macros of their events, and
+-- the bytes of macros (docs/PROFILE.md, "What every store keeps").
+use Rattle.std.specs.Prelude.{ℕ, List, [], map, Option}
 use Rattle.std.specs.Option.{option_map}
 use Rattle.std.specs.Ordering.{nat_cmp}
 use Rattle.std.specs.FinMap as finite
@@ -8,24 +8,7 @@ use Rattle.vt_objects.specs.declared.kind.Kind.{Kind}
 use Rattle.vt_objects.specs.declared.entries.MacroEntry.{MacroEntry}
 use Rattle.vt_objects.specs.declared.object.Object.TheVariants as objects
 use Rattle.vt_objects.specs.Records.{Seen, kind_of, macros_of}
-
--- objects with their IDs
-abbrev pub Objects : Type 0
-Objects = List (ℕ × Seen)
-
--- distinct IDs with their objects, by rising ID
-unfoldable pub by_rising_id : Objects → Objects
-by_rising_id entries = finite.entries (finite.from_entries {R = nat_cmp} entries)
-
--- each ID is below those after it
-abbrev pub IsRising : Objects → Type 0
-IsRising objects = IsTrue (finite.is_sorted nat_cmp objects)
-
--- what there is under an ID
-abbrev pub object_at : Objects → ℕ → Option Seen
-object_at objects id = finite.find nat_cmp id objects
-
--- ---- what stays
+use Rattle.vt_objects.specs.Stores.{Objects}
 
 pub record Fixed : Type 0 where
   pub kind : Kind

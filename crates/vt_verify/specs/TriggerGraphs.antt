@@ -1,8 +1,7 @@
--- The triggers of macros as a graph, whose groups are the macros listed at events.
-use Rattle.std.specs.Prelude.{◌≡◌, ◌<◌, ℕ, List, [], ◌∷◌, ◌++◌, map, if◌then◌else◌, Option, nat_eq, ◌&&◌, ◌==◌, Bool, filter}
+-- The triggers of macros as a graph, whose groups are the macros that run at events.
+use Rattle.std.specs.Prelude.{◌≡◌, ◌<◌, ℕ, List, [], ◌∷◌, ◌++◌, map, if◌then◌else◌, Option, nat_eq, ◌&&◌, Bool}
 use Rattle.std.specs.Option.{option_to_list}
 use Rattle.std.specs.List.{flat_map, list_any, position_from}
-use Rattle.vt_objects.specs.declared.entries.MacroEntry.{MacroEntry}
 use Rattle.vt_objects.specs.declared.command.Command.{Command}
 use Rattle.vt_rank.specs.declared.graph.Graph.{Graph}
 use Rattle.vt_rank.specs.declared.graph.Item.{Item}
@@ -11,29 +10,32 @@ use Rattle.vt_rank.specs.Graphs.{items_of, lists}
 use Rattle.vt_objects.specs.declared.event.Event.TheVariants.{Hide}
 use Rattle.vt_objects.specs.Events.{event_number}
 use Rattle.vt_verify.specs.declared.listing.Listing.{Listing}
-use Rattle.vt_verify.specs.Shapes.{Shape}
+use Rattle.vt_verify.specs.Shapes.{Shape, Fixed}
 use Rattle.vt_verify.specs.Macros.{commands}
-use Rattle.vt_verify.specs.Triggers.{listing, row_listings, changes_mask, masks, listed}
+use Rattle.vt_verify.specs.Triggers.{listing, row_listings, changes_mask, masks, listed, listed_in}
 
 -- the events, in order
 abbrev pub event_numbers : List ℕ
 event_numbers =
-    1 ∷ 2 ∷ 3 ∷ 4 ∷ 5 ∷ 6 ∷ 7 ∷ 8 ∷ 9 ∷ 10 ∷ 11 ∷ 12 ∷ 13 ∷ 14 ∷ 15 ∷ 16 ∷ 17 ∷ 18 ∷ 19 ∷ 20 ∷ 21 ∷ 22 ∷ 23 ∷ 24 ∷ 25
+    0 ∷ 1 ∷ 2 ∷ 3 ∷ 4 ∷ 5 ∷ 6 ∷ 7 ∷ 8 ∷ 9 ∷ 10 ∷ 11 ∷ 12 ∷ 13 ∷ 14 ∷ 15 ∷ 16 ∷ 17 ∷ 18 ∷ 19 ∷ 20 ∷ 21 ∷ 22 ∷ 23 ∷ 24 ∷ 25
     ∷ 26 ∷ []
 
--- an event at which an object lists a macro
+-- an event, where macros run at it
 abbrev pub if_any : Listing → List ℕ → List Listing
 if_any raised [] = []
 if_any raised (m ∷ ms) = raised ∷ []
-
--- the macros that entries list at an event
-abbrev pub macros_at : ℕ → List MacroEntry → List ℕ
-macros_at event entries = map (λ e. e.macro_id) (filter (λ e. e.event == event) entries)
 
 -- a list, where it is not empty
 abbrev pub non_empty : List ℕ → List (List ℕ)
 non_empty [] = []
 non_empty (m ∷ ms) = (m ∷ ms) ∷ []
+
+-- the events of an object at which macros run, and the macros of each
+unfoldable pub events_in : ℕ → Fixed → List Listing
+events_in id f = flat_map (λ event. if_any (listing id event) (listed_in event id f)) event_numbers
+
+unfoldable pub groups_in : ℕ → Fixed → List (List ℕ)
+groups_in id f = flat_map (λ event. non_empty (listed_in event id f)) event_numbers
 
 abbrev pub if_listed : Shape → Listing → List Listing
 if_listed shape raised = if_any raised (listed shape raised)
@@ -61,7 +63,7 @@ abbrev pub command_items : List Listing → Command → List Item
 command_items events command =
     items.Step ∷ (if changes_mask command then items.Most ∷ [] else []) ++ map items.Group (groups_of events (row_listings command))
 
--- The events at which macros are listed, and the graph of the macros: each group has the macros of the event at its
+-- The events at which macros run, and the graph of the macros: each group has the macros of the event at its
 -- place, and each macro the items of its commands.
 pub record AreTriggers (shape : Shape) (events : List Listing) (graph : Graph) : Type 0 where
   pub events_are : events ≡ listed_events shape

@@ -1,19 +1,19 @@
--- What a command may listing, and which macros that starts (docs/PROFILE.md, "What a command may listing", "Triggers and
+-- What a command may raise, and which macros that starts (docs/PROFILE.md, "What a command may raise", "Triggers and
 -- circles").
-use Rattle.std.specs.Prelude.{ℕ, Bool, true, false, ◌==◌, if◌then◌else◌, List, [], ◌∷◌, ◌++◌, filter, map}
+use Rattle.std.specs.Prelude.{ℕ, Bool, true, false, nat_le, ◌==◌, if◌then◌else◌, List, [], ◌∷◌, ◌++◌, filter, map}
 use Rattle.std.specs.Option.{option_to_list}
 use Rattle.std.specs.List.{flat_map}
 use Rattle.vt_objects.specs.declared.kind.Kind.{Kind}
 use Rattle.vt_objects.specs.declared.kind.Kind.TheVariants as kinds
+use Rattle.vt_objects.specs.declared.entries.MacroEntry.{MacroEntry}
 use Rattle.vt_objects.specs.declared.command.Command.{Command}
 use Rattle.vt_objects.specs.declared.command.Command.TheVariants.{ChangeActiveMask}
-use Rattle.vt_objects.specs.declared.event.Event.TheVariants.{Hide}
+use Rattle.vt_objects.specs.declared.event.Event.TheVariants.{Hide, RunByName}
 use Rattle.vt_objects.specs.declared.raising.Raised.{Raised}
 use Rattle.vt_objects.specs.Events.{event_number, row_events}
 use Rattle.vt_verify.specs.declared.listing.Listing.{Listing}
 use Rattle.vt_verify.specs.Shapes.{Shape, Fixed, fixed_at}
-use Rattle.vt_verify.specs.Macros.{commands}
-use Rattle.vt_verify.specs.Targets.{is_event}
+use Rattle.vt_verify.specs.Macros.{may_be_named, commands}
 
 abbrev pub listing : ℕ → ℕ → Listing
 listing id event = record { id = id; event = event }
@@ -44,19 +44,32 @@ changes_mask command = false
 abbrev pub hidden : Shape → Command → List Listing
 hidden shape command = if changes_mask command then map (λ mask. listing mask (event_number Hide)) (masks shape) else []
 
--- what a command may listing
+-- what a command may raise
 abbrev pub may_raise : Shape → Command → List Listing
 may_raise shape command = hidden shape command ++ row_listings command
 
 -- ---- the macros that are listed
 
-abbrev pub listed_in : ℕ → Fixed → List ℕ
-listed_in event f = map (λ e. e.macro_id) (filter (λ e. e.event == event) f.macros)
+-- the macros that entries list at an event
+abbrev pub macros_at : ℕ → List MacroEntry → List ℕ
+macros_at event entries = map (λ e. e.macro_id) (filter (λ e. e.event == event) entries)
 
--- the macros listed at an event of an object, in the order of its list
+-- a macro that can be named is run by its name: that is an event of itself
+abbrev pub run_by_name : ℕ → Fixed → List ℕ
+run_by_name id f = if may_be_named id f then id ∷ [] else []
+
+-- the macros that run at an event of an object, in the order of its list
+abbrev pub listed_in : ℕ → ℕ → Fixed → List ℕ
+listed_in event id f = if event == event_number RunByName then run_by_name id f else macros_at event f.macros
+
+-- the events that there are
+abbrev pub is_event : ℕ → Bool
+is_event event = nat_le event 26
+
+-- the macros that run at an event
 unfoldable pub listed : Shape → Listing → List ℕ
 listed shape raised =
-    if is_event raised.event then flat_map (listed_in raised.event) (option_to_list (fixed_at shape raised.id)) else []
+    if is_event raised.event then flat_map (listed_in raised.event raised.id) (option_to_list (fixed_at shape raised.id)) else []
 
 abbrev pub triggered_by : Shape → Command → List ℕ
 triggered_by shape command = flat_map (listed shape) (may_raise shape command)

@@ -5,39 +5,38 @@ ghost use Rattle.std.specs.List.{flat_map};
 ghost use Rattle.vt_objects.specs.Stores.{shown, AreStored};
 ghost use Rattle.vt_verify.specs.Shapes.{shape_of};
 ghost use Rattle.vt_verify.specs.Budgets.{CostsAreTotals, budget};
-ghost use Rattle.vt_verify.specs.Rules.{IsAcceptable};
+ghost use Rattle.vt_verify.specs.Orders.{IsByRank};
+ghost use Rattle.vt_verify.specs.Rules.{IsAcceptable, terminal};
 ghost use Rattle.vt_verify.specs.Reports.{report_text, budget_line};
 
+use crate::budgets::Budgets;
 use crate::listing::Listing;
-use crate::triggers::Triggers;
 use std::alloc::{AllocError, Global};
 use std::marker::Model;
 use vt_objects::{Object, ObjectId, SortedStore};
-use vt_rank::Costs;
 
 /// The objects of a pool that meets all rules, in memory of their own, and what their events can cost.
 #[derive(Drop)]
 pub struct Accepted {
     pub(crate) objects: SortedStore,
-    pub(crate) triggers: Triggers,
-    pub(crate) costs: Costs,
+    pub(crate) budgets: Budgets,
+    pub(crate) order: Vec<u8>,
 }
 
 impl Model for Accepted {
-    ghost use Rattle.vt_rank.specs.Costs.{AreCosts};
-    ghost use Rattle.vt_verify.specs.Shapes.{shape_of};
     ghost use Rattle.vt_objects.specs.Stores.{Objects, AreStored};
-    ghost use Rattle.vt_verify.specs.Rules.{IsAcceptable};
-    ghost use Rattle.vt_verify.specs.Budgets.{CostsAreTotals};
-    ghost use Rattle.vt_verify.specs.TriggerGraphs.{AreTriggers};
+    ghost use Rattle.vt_verify.specs.Shapes.{shape_of};
+    ghost use Rattle.vt_verify.specs.Rules.{IsAcceptable, terminal};
+    ghost use Rattle.vt_verify.specs.Budgets.{CostsAreTotals, AreBudgets};
+    ghost use Rattle.vt_verify.specs.Orders.{IsByRank};
 
     ghost Value = { Objects };
 
     ghost view = { λ a. a.objects };
 
-    ghost invariant = { λ a. AreStored a.objects × IsAcceptable a.objects
-        × AreTriggers (shape_of a.objects) a.triggers.events.keys a.triggers.graph
-        × AreCosts a.triggers.graph a.costs × CostsAreTotals (shape_of a.objects) };
+    ghost invariant = { λ a. AreStored a.objects × IsAcceptable terminal a.objects
+        × AreBudgets (shape_of a.objects) a.budgets.events.keys a.budgets.steps.items
+        × IsByRank (shape_of a.objects) a.order.items × CostsAreTotals (shape_of a.objects) };
 }
 
 impl Accepted {
@@ -46,27 +45,34 @@ impl Accepted {
         ensures all { map shown result.now ≡ self.now }
         // The IDs rise, and none is NULL.
         ensures stored { AreStored self.now }
-        ensures acceptable { IsAcceptable self.now }
+        ensures acceptable { IsAcceptable terminal self.now }
         // Each macro costs what its commands cost.
         ensures totals { CostsAreTotals (shape_of self.now) }
     {
         self.objects.entries()
     }
 
-    /// How many steps an event of an object can cost at most: 0 where it lists no macro, and for a number that is no
-    /// event's.
+    /// The macros whose IDs are at most 255, each once, so that each triggers only macros before it.
+    pub fn by_rank(&self) -> &[u8]
+        ensures { IsByRank (shape_of self.now) result.now }
+    {
+        &self.order
+    }
+
+    /// How many steps an event of an object can cost at most: 0 where no macro runs at it, and for a number that is no
+    /// event's. Event 0 of a macro is that it is run by its name.
     pub fn budget(&self, id: ObjectId, event: u8) -> u32
         ensures budget { result ≡ budget (shape_of self.now) id event }
         // Each macro costs what its commands cost.
         ensures totals { CostsAreTotals (shape_of self.now) }
     {
-        match self.triggers.events.get_index_of(&Listing { id, event }) {
-            Some(group) => self.costs.group(&self.triggers.graph, group),
+        match self.budgets.events.get_index_of(&Listing { id, event }) {
+            Some(place) => self.budgets.steps[place],
             None => 0,
         }
     }
 
-    /// Appends the report: how many objects there are, and the budget of each event that lists a macro. After
+    /// Appends the report: how many objects there are, and the budget of each event at which macros run. After
     /// `OutOfMemory` the vector is as it was. docs/PROFILE.md, "The report of an accepted pool".
     pub fn report(&self, out: &mut Vec<u8>) -> Result<(), AllocError>
         ensures ok { OnOk result (out.new.items ≡ out.old.items ++ report_text self.now) }
@@ -82,9 +88,8 @@ impl Accepted {
         let mut text = Vec::new(alloc);
         let count = self.objects().len();
         text.extend_from_slice(format!(in alloc; "accepted {count} objects\n")?.as_bytes())?;
-        for group in 0..self.triggers.events.len() {
-            let raised = self.triggers.events[group];
-            let line = line(alloc, raised, self.budget(raised.id, raised.event))?;
+        for place in 0..self.budgets.events.len() {
+            let line = line(alloc, self.budgets.events[place], self.budgets.steps[place])?;
             text.extend_from_slice(line.as_bytes())?;
         }
         Ok(text)

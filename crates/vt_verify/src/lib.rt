@@ -6,11 +6,14 @@
 #![tactic(auto)]
 
 mod accepted;
+mod budgets;
+mod chains;
 mod commands;
-mod inclusions;
+mod limits;
 mod listing;
 mod macros;
 mod objects;
+mod order;
 mod reference;
 mod references;
 mod refusal;
@@ -19,8 +22,13 @@ mod triggers;
 mod verification;
 
 pub use accepted::Accepted;
+pub use chains::{Chain, find_depths};
+pub use limits::{Limits, TERMINAL_LIMITS};
+pub use objects::updates_replace;
 pub use refusal::Refusal;
-pub use verification::{first_rules_fail, refusals_are_true, verify};
+pub use verification::{
+    first_rules_fail, greater_limits_accept, refusals_are_true, verify, verify_update,
+};
 
 /// A growth that was refused.
 pub use std::alloc::AllocError as OutOfMemory;

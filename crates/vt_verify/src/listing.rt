@@ -1,12 +1,11 @@
-//! The events at which objects list macros, by their numbers.
+//! The events at which macros run, by their numbers.
 
 ghost use Rattle.std.specs.Prelude.{◌≡◌};
-ghost use Rattle.vt_verify.specs.Targets.{is_event};
 ghost use Rattle.vt_verify.specs.Triggers.{listing_of};
 
 use vt_objects::{ObjectId, Raised};
 
-/// An object and the number of an event, as an entry of the object names it.
+/// An object and the number of an event of it.
 #[derive(Clone, Copy, Debug, PartialEq, Eq, Hash)]
 pub(crate) struct Listing {
     /// The object.
@@ -16,7 +15,7 @@ pub(crate) struct Listing {
 }
 
 impl Listing {
-    /// Where the macros are listed that run when this is raised.
+    /// The event that is raised, by its number.
     pub(crate) fn of(raised: Raised) -> Listing
         ensures { result ≡ listing_of raised }
     {
@@ -29,10 +28,3 @@ impl Listing {
 
 /// The last event.
 pub(crate) const LAST_EVENT: u8 = 26;
-
-/// Whether there is an event of this number.
-pub(crate) fn is_event(event: u8) -> bool
-    ensures { result ≡ is_event event }
-{
-    (1..=LAST_EVENT).contains(&event)
-}

@@ -1,10 +1,14 @@
-//! The objects of a pool by rising ID.
+//! The objects of a pool, and of an update, by rising ID.
 
-ghost use Rattle.std.specs.Prelude.{◌≡◌, IfOk, map};
+ghost use Rattle.std.specs.Prelude.{◌≡◌, IfOk, OnOk, map};
+ghost use Rattle.std.specs.FinMap as finite;
+ghost use Rattle.vt_objects.specs.Records.{seen};
 ghost use Rattle.vt_objects.specs.Stores.{shown, by_rising_id, AreStored};
-ghost use Rattle.vt_pool.specs.Pools.{AreObjects};
+ghost use Rattle.vt_pool.specs.Pools.{AreObjects, contents};
 ghost use Rattle.vt_verify.specs.Shapes.{kind_at, shape_of};
+ghost use Rattle.vt_verify.specs.Updates.{updated, unless, UpdatesReplace};
 
+use crate::chains::entry;
 use std::alloc::{AllocError, Global};
 use vt_objects::{Kind, Object, ObjectId, SortedStore, Store};
 use vt_pool::Pool;
@@ -18,6 +22,44 @@ pub(crate) fn sorted(alloc: Global, pool: &Pool<'_>) -> Result<SortedStore, Allo
     let objects = SortedStore::from_vec(entries)?;
     Ok(objects)
 }
+
+/// Copies of the objects of an update, and of those of a store under other IDs, by rising ID.
+pub(crate) fn updated<S: Store>(
+    alloc: Global,
+    store: &S,
+    update: &Pool<'_>,
+) -> Result<SortedStore, AllocError>
+    ensures made { IfOk result (λ objects. objects ≡ updated (S.contents store.now) update.now) }
+    ensures stored { IfOk result AreStored }
+{
+    let mut entries = copies(alloc, update)?;
+    for place in 0..store.count() {
+        let (id, object) = entry(store, place);
+        put_unless_updated(alloc, &mut entries, update, id, object)?;
+    }
+    SortedStore::from_vec(entries)
+}
+
+/// Appends a copy of an object, unless an update has another one under its ID.
+fn put_unless_updated(
+    alloc: Global,
+    entries: &mut Vec<(ObjectId, Object<Vec<u8>>)>,
+    update: &Pool<'_>,
+    id: ObjectId,
+    object: &Object<Vec<u8>>,
+) -> Result<(), AllocError>
+    ensures { OnOk result (map shown entries.new.items ≡ unless (finite.get (contents update.now) id) (map shown entries.old.items) id (seen object.now)) }
+{
+    if update.get(id).is_none() {
+        entries.push((id, object.copied(alloc)?))?;
+    }
+    Ok(())
+}
+
+/// The law that an update replaces the objects whose IDs it has, and no others.
+pub fn updates_replace()
+    ensures { UpdatesReplace }
+{}
 
 /// Copies of the objects of a pool, in its order.
 fn copies(alloc: Global, pool: &Pool<'_>) -> Result<Vec<(ObjectId, Object<Vec<u8>>)>, AllocError>

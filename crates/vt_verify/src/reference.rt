@@ -2,11 +2,11 @@
 
 ghost use Rattle.std.specs.Prelude.{◌≡◌};
 ghost use Rattle.vt_verify.specs.Shapes.{shape_of};
-ghost use Rattle.vt_verify.specs.References.{of_slot, is_there, fits, passes};
-ghost use Rattle.vt_verify.specs.Targets.{object, object_or_null};
+ghost use Rattle.vt_verify.specs.References.{of_slot, is_there, fits, passes, may_stand};
+ghost use Rattle.vt_verify.specs.Targets.{of_target, macro_reference};
 
 use crate::objects::kind_at;
-use vt_objects::{Kinds, ObjectId, Slot, SortedStore};
+use vt_objects::{Kind, Kinds, ObjectId, Slot, SortedStore, Target};
 
 /// An ID that an object names, and what may stand there.
 #[derive(Clone, Copy, Debug, PartialEq, Eq)]
@@ -16,7 +16,7 @@ pub(crate) struct Reference {
     /// The ID, or NULL.
     pub(crate) id: ObjectId,
     /// Whether NULL may stand there.
-    pub(crate) null: bool,
+    pub(crate) may_be_null: bool,
     /// The kinds that may stand there.
     pub(crate) kinds: Kinds,
 }
@@ -38,32 +38,32 @@ impl Reference {
         Reference {
             parent,
             id: slot.id,
-            null: slot.null,
+            may_be_null: slot.null,
             kinds: slot.kinds,
         }
     }
 
-    /// An object of these kinds.
-    pub(crate) fn to_object(parent: ObjectId, id: ObjectId, kinds: Kinds) -> Reference
-        ensures { result ≡ object parent id kinds }
+    /// The reference of what a command of a macro names.
+    pub(crate) fn of_target(parent: ObjectId, target: Target) -> Reference
+        ensures { result ≡ of_target parent target }
     {
         Reference {
             parent,
-            id,
-            null: false,
-            kinds,
+            id: target.id,
+            may_be_null: target.may_be_null,
+            kinds: target.kinds,
         }
     }
 
-    /// NULL or an object of these kinds.
-    pub(crate) fn to_object_or_null(parent: ObjectId, id: ObjectId, kinds: Kinds) -> Reference
-        ensures { result ≡ object_or_null parent id kinds }
+    /// The reference to a macro that can be named.
+    pub(crate) fn to_macro(parent: ObjectId, id: ObjectId) -> Reference
+        ensures { result ≡ macro_reference parent id }
     {
         Reference {
             parent,
             id,
-            null: true,
-            kinds,
+            may_be_null: false,
+            kinds: Kinds::Macros,
         }
     }
 
@@ -81,7 +81,7 @@ impl Reference {
         ensures { result ≡ is_there (shape_of objects.now) self.now }
     {
         if self.id.is_null() {
-            return self.null;
+            return self.may_be_null;
         }
         kind_at(objects, self.id).is_some()
     }
@@ -94,7 +94,18 @@ impl Reference {
         }
         match kind_at(objects, self.id) {
             None => true,
-            Some(kind) => self.kinds.contains(kind),
+            Some(kind) => may_stand(self.kinds, self.id, kind),
         }
+    }
+}
+
+/// Whether an object of a kind may stand where these kinds are allowed. Macros above 255 are no macros that can be
+/// named.
+fn may_stand(kinds: Kinds, id: ObjectId, kind: Kind) -> bool
+    ensures { result ≡ may_stand kinds id kind }
+{
+    match kinds {
+        Kinds::Macros => kinds.contains(kind) && id.raw() <= 255,
+        _ => kinds.contains(kind),
     }
 }

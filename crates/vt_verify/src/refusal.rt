@@ -4,6 +4,7 @@ ghost use Rattle.std.specs.Prelude.{◌≡◌, Some};
 ghost use Rattle.vt_verify.specs.declared.refusal.Refusal.TheVariants as refusals;
 ghost use Rattle.vt_verify.specs.Reports.{numbers, refusal_text};
 
+use crate::chains::Chain;
 use arrayvec::ArrayVec;
 use std::alloc::AllocError;
 use std::fmt;
@@ -22,8 +23,8 @@ pub enum Refusal {
     /// A slot of `parent` names an object of another kind than may stand there, or a pointer to such an object; `id`
     /// is then the pointer's value.
     WrongKind { parent: ObjectId, id: ObjectId },
-    /// A chain of 17 inclusions: each ID includes the next.
-    TooDeep { chain: ArrayVec<ObjectId, 18> },
+    /// A chain of one inclusion too many: each ID includes the next.
+    TooDeep { chain: Chain },
     /// The bytes of a macro end inside a command.
     MacroBytes { id: ObjectId },
     /// A macro has a command that macros may not have, at this place of its bytes.
@@ -36,7 +37,7 @@ pub enum Refusal {
     MacroValue { id: ObjectId, at: usize },
     /// Each macro of the path triggers the next, and the last one the first, which is the least on any circle.
     MacroCircle { path: ArrayVec<u8, 256> },
-    /// A macro can cost more than 65,535 steps, or where none can, an event of an object: `id` is the macro or the object.
+    /// A macro can cost too many steps, or where none can, an event of an object: `id` is the macro or the object.
     OverBudget { id: ObjectId },
     /// A growth was refused.
     OutOfMemory,

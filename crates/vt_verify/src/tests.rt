@@ -3,6 +3,8 @@
 mod budgets;
 mod inclusions;
 mod refusals;
+mod runs;
+mod updates;
 
 use super::*;
 use std::alloc::{AllocError, Global};
@@ -101,7 +103,13 @@ const EACH_KIND: &[u8] = &[
 
 #[test]
 fn one_object_of_each_kind(rt: HostRuntime) -> Result<(), Fail> {
-    assert!(rt; reports(rt.alloc(), &[EACH_KIND], "accepted 29 objects\n")?);
+    assert!(rt;
+        reports(
+            rt.alloc(),
+            &[EACH_KIND],
+            "accepted 29 objects\nobject 28 event 0 budget 0\n"
+        )?
+    );
     Ok(())
 }
 
@@ -139,8 +147,9 @@ const MACROS: &[u8] = &[
 #[test]
 fn budgets_of_events(rt: HostRuntime) -> Result<(), Fail> {
     let records = [WORKING_SET, MASK, LISTING, FONT, MACROS];
-    let wanted =
-        "accepted 7 objects\nobject 100 event 3 budget 2\nobject 100 event 4 budget 2\nobject 261 event 11 budget 1\n";
+    let wanted = "accepted 7 objects\nobject 1 event 0 budget 2\nobject 2 event 0 budget 2\n\
+        object 3 event 0 budget 1\nobject 100 event 3 budget 2\nobject 100 event 4 budget 2\n\
+        object 261 event 11 budget 1\n";
     assert!(rt; reports(rt.alloc(), &records, wanted)?);
     Ok(())
 }

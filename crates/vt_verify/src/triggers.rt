@@ -5,25 +5,26 @@ ghost use Rattle.std.specs.Option.{option_map, option_to_list};
 ghost use Rattle.std.specs.List.{flat_map};
 ghost use Rattle.vt_objects.specs.Events.{event_number};
 ghost use Rattle.vt_objects.specs.Pieces.{cut};
+ghost use Rattle.vt_objects.specs.Records.{seen};
 ghost use Rattle.vt_rank.specs.Graphs.{lists};
-ghost use Rattle.vt_verify.specs.Shapes.{shape_of, fixed_at};
+ghost use Rattle.vt_verify.specs.Shapes.{shape_of, fixed, fixed_at};
 ghost use Rattle.vt_verify.specs.Macros.{bytes_in, macro_command, commands_of, commands};
-ghost use Rattle.vt_verify.specs.Triggers.{listing, listed, is_mask, masks, changes_mask};
-ghost use Rattle.vt_verify.specs.TriggerGraphs.{AreTriggers, macros_at, has, if_any, non_empty, event_numbers, listed_events, command_items, group_of_event, groups_of};
+ghost use Rattle.vt_verify.specs.Triggers.{listing, listed, listed_in, run_by_name, macros_at, is_mask, masks, changes_mask};
+ghost use Rattle.vt_verify.specs.TriggerGraphs.{AreTriggers, events_in, groups_in, has, if_any, non_empty, listed_events, command_items, group_of_event, groups_of};
 ghost use Rattle.vt_verify.specs.Rules as rules;
 
 use crate::commands::{macro_command, named_macro};
 use crate::listing::{LAST_EVENT, Listing};
+use crate::order::put_macro;
 use indexmap::IndexSet;
 use std::alloc::{AllocError, Global};
 use vt_objects::{
-    Command, Event, Kind, MacroEntry, ObjectId, SortedStore, Store, cut_is_one, row_events,
+    Command, Event, Kind, MacroEntry, Object, ObjectId, SortedStore, Store, cut_is_one, row_events,
     split_command,
 };
 use vt_rank::{Graph, Item};
 
-/// The events at which objects list macros, and the graph of the macros. The macros of an event are the group of its
-/// place.
+/// The events at which macros run, and the graph of the macros. The macros of an event are the group of its place.
 #[derive(Drop)]
 pub(crate) struct Triggers {
     pub(crate) events: IndexSet<Listing>,
@@ -48,7 +49,7 @@ impl Triggers {
     }
 }
 
-/// The events at which objects list macros, by rising ID and number, and the macros of each.
+/// The events at which macros run, by rising ID and number, and the macros of each.
 fn listings(
     alloc: Global,
     objects: &SortedStore,
@@ -59,42 +60,42 @@ fn listings(
     let mut events = IndexSet::new(alloc);
     let mut groups = Vec::new(alloc);
     for (id, object) in objects.entries() {
-        put_listings(alloc, &mut events, &mut groups, *id, object.macros())?;
+        put_listings(alloc, &mut events, &mut groups, *id, object)?;
     }
     Ok((events, groups))
 }
 
-/// Appends the events at which an object lists macros, and the macros of each.
+/// Appends the events of an object at which macros run, and the macros of each.
 fn put_listings(
     alloc: Global,
     events: &mut IndexSet<Listing>,
     groups: &mut Vec<Vec<u8>>,
     id: ObjectId,
-    entries: &[MacroEntry],
+    object: &Object<Vec<u8>>,
 ) -> Result<(), AllocError>
     requires { (event : ℕ) → has events.old.keys (listing id event) ≡ false }
-    ensures events { OnOk result (events.new.keys ≡ events.old.keys ++ flat_map (λ event. if_any (listing id event) (macros_at event entries.now)) event_numbers) }
-    ensures groups { OnOk result (lists groups.new ≡ lists groups.old ++ flat_map (λ event. non_empty (macros_at event entries.now)) event_numbers) }
+    ensures events { OnOk result (events.new.keys ≡ events.old.keys ++ events_in id (fixed (seen object.now))) }
+    ensures groups { OnOk result (lists groups.new ≡ lists groups.old ++ groups_in id (fixed (seen object.now))) }
 {
-    for event in 1..LAST_EVENT + 1 {
-        put_listing(alloc, events, groups, Listing { id, event }, entries)?;
+    for event in 0..LAST_EVENT + 1 {
+        put_listing(alloc, events, groups, Listing { id, event }, object)?;
     }
     Ok(())
 }
 
-/// Appends an event and its macros, where entries list any.
+/// Appends an event and its macros, where any run.
 fn put_listing(
     alloc: Global,
     events: &mut IndexSet<Listing>,
     groups: &mut Vec<Vec<u8>>,
     raised: Listing,
-    entries: &[MacroEntry],
+    object: &Object<Vec<u8>>,
 ) -> Result<(), AllocError>
     requires { has events.old.keys raised ≡ false }
-    ensures events { OnOk result (events.new.keys ≡ events.old.keys ++ if_any raised (macros_at raised.event entries.now)) }
-    ensures groups { OnOk result (lists groups.new ≡ lists groups.old ++ non_empty (macros_at raised.event entries.now)) }
+    ensures events { OnOk result (events.new.keys ≡ events.old.keys ++ if_any raised (listed_in raised.event raised.id (fixed (seen object.now)))) }
+    ensures groups { OnOk result (lists groups.new ≡ lists groups.old ++ non_empty (listed_in raised.event raised.id (fixed (seen object.now)))) }
 {
-    let listed = listed_at(alloc, entries, raised.event)?;
+    let listed = listed_in(alloc, raised.id, raised.event, object)?;
     if listed.is_empty() {
         return Ok(());
     }
@@ -103,17 +104,41 @@ fn put_listing(
     Ok(())
 }
 
+/// The macros that run at an event of an object, in their order.
+fn listed_in(
+    alloc: Global,
+    id: ObjectId,
+    event: u8,
+    object: &Object<Vec<u8>>,
+) -> Result<Vec<u8>, AllocError>
+    ensures { IfOk result (λ macros. macros.items ≡ listed_in event id (fixed (seen object.now))) }
+{
+    match event {
+        0 => run_by_name(alloc, id, object),
+        event => macros_at(alloc, object.macros(), event),
+    }
+}
+
+/// The macro itself, if it is one that can be named.
+fn run_by_name(alloc: Global, id: ObjectId, object: &Object<Vec<u8>>) -> Result<Vec<u8>, AllocError>
+    ensures { IfOk result (λ macros. macros.items ≡ run_by_name id (fixed (seen object.now))) }
+{
+    let mut macros = Vec::new(alloc);
+    put_macro(&mut macros, id, object)?;
+    Ok(macros)
+}
+
 /// The macros that entries list at an event, in their order.
-fn listed_at(alloc: Global, entries: &[MacroEntry], event: u8) -> Result<Vec<u8>, AllocError>
+fn macros_at(alloc: Global, entries: &[MacroEntry], event: u8) -> Result<Vec<u8>, AllocError>
     ensures { IfOk result (λ macros. macros.items ≡ macros_at event entries.now) }
 {
-    let mut listed = Vec::new(alloc);
+    let mut macros = Vec::new(alloc);
     for entry in entries {
         if entry.event == event {
-            listed.push(entry.macro_id)?;
+            macros.push(entry.macro_id)?;
         }
     }
-    Ok(listed)
+    Ok(macros)
 }
 
 /// The items of each macro that may be named.

@@ -1,56 +1,86 @@
 //! The tests of a pool, in their order.
 
-ghost use Rattle.std.specs.Prelude.{◌≡◌, OnOk, IfOk, IfErr};
-ghost use Rattle.vt_rank.specs.Costs.{AreCosts};
-ghost use Rattle.vt_verify.specs.Shapes.{shape_of};
+ghost use Rattle.std.specs.Prelude.{◌≡◌, ◌≤◌, OnOk, IfOk, IfErr};
 ghost use Rattle.vt_objects.specs.Stores.{AreStored, by_rising_id};
+ghost use Rattle.vt_rank.specs.Costs.{AreCosts};
+ghost use Rattle.vt_rank.specs.Paths.{AreRanks, HasNoCircle};
+ghost use Rattle.vt_verify.specs.Shapes.{shape_of};
 ghost use Rattle.vt_verify.specs.Budgets.{CostsAreTotals};
 ghost use Rattle.vt_verify.specs.TriggerGraphs.{AreTriggers};
-ghost use Rattle.vt_verify.specs.Rules.{IsAcceptable, IsRefused, RefusalsAreTrue, FirstRulesFail, HoldBefore, ReferencesAreThere, ChainsAreShort, MacrosAreWhole, TargetsAreThere, TriggersAreNoCircle};
+ghost use Rattle.vt_verify.specs.Updates.{updated};
+ghost use Rattle.vt_verify.specs.Rules.{IsAcceptable, IsRefused, IsWantOfMemory, RefusalsAreTrue, FirstRulesFail, GreaterLimitsAccept, HoldBefore, ReferencesAreThere, ChainsAreShort, MacrosAreWhole, TargetsAreThere, TriggersAreNoCircle, BudgetsAreWithin, terminal};
 
 use crate::accepted::Accepted;
-use crate::inclusions::too_deep;
+use crate::budgets::Budgets;
+use crate::chains::find_depths;
+use crate::limits::{Limits, TERMINAL_LIMITS};
 use crate::macros::{PieceTest, cut_short, failing_piece};
-use crate::objects::sorted;
+use crate::objects::{sorted, updated};
+use crate::order::by_rank;
 use crate::reference::Test;
 use crate::references::{missing, wrong_kind};
 use crate::refusal::Refusal;
 use crate::targets::failing_target;
 use crate::triggers::Triggers;
 use std::alloc::Global;
-use vt_objects::{Kind, ObjectId, SortedStore};
+use vt_objects::{Kind, ObjectId, SortedStore, Store};
 use vt_pool::Pool;
-use vt_rank::{Costs, OverBudget, costs, rank};
-
-/// The most that a macro or an event may cost.
-const GREATEST_BUDGET: u32 = 65_535;
+use vt_rank::{Costs, OverBudget, Ranks, costs, rank};
 
 /// Verifies a pool. A refusal names the first rule that it breaks, and of that the first culprit, or a chain or a
 /// circle that there is.
 pub fn verify(alloc: Global, pool: &Pool<'_>) -> Result<Accepted, Refusal>
     // What is accepted are the objects of the pool, and they meet all rules.
-    ensures accepted { IfOk result (λ accepted. (accepted ≡ by_rising_id pool.now) × IsAcceptable accepted) }
+    ensures accepted { IfOk result (λ accepted. (accepted ≡ by_rising_id pool.now) × IsAcceptable terminal accepted) }
     // A refusal names the first rule that fails, and its first culprit, or a chain or a circle.
-    ensures refused { IfErr result (IsRefused (by_rising_id pool.now)) }
+    ensures refused { IfErr result (IsRefused terminal (by_rising_id pool.now)) }
 {
     let objects = sorted(alloc, pool)?;
+    accept(alloc, objects)
+}
+
+/// Verifies an update of a store: the objects of the pool, and those of the store under other IDs. The rules are those
+/// of a pool, and so are the refusals. Nothing is changed.
+pub fn verify_update<S: Store>(
+    alloc: Global,
+    store: &S,
+    update: &Pool<'_>,
+) -> Result<Accepted, Refusal>
+    // What is accepted is the store with the update, and it meets all rules.
+    ensures accepted { IfOk result (λ accepted. (accepted ≡ updated (S.contents store.now) update.now) × IsAcceptable terminal accepted) }
+    // A refusal names the first rule that fails, and its first culprit, or a chain or a circle.
+    ensures refused { IfErr result (IsRefused terminal (updated (S.contents store.now) update.now)) }
+{
+    let objects = updated(alloc, store, update)?;
+    accept(alloc, objects)
+}
+
+fn accept(alloc: Global, objects: SortedStore) -> Result<Accepted, Refusal>
+    requires { AreStored objects }
+    ensures accepted { IfOk result (λ accepted. (accepted ≡ objects) × IsAcceptable terminal accepted) }
+    ensures refused { IfErr result (IsRefused terminal objects) }
+{
     check_working_sets(&objects)?;
     check_references(&objects)?;
-    check_inclusions(alloc, &objects)?;
+    check_inclusions(alloc, &objects, TERMINAL_LIMITS)?;
     check_macros(&objects)?;
     check_targets(&objects)?;
     let triggers = Triggers::of_objects(alloc, &objects)?;
-    let costs = check_costs(&objects, &triggers)?;
+    let ranks = check_circles(&objects, &triggers)?;
+    let costs = check_costs(&objects, &triggers, &ranks, TERMINAL_LIMITS)?;
+    let order = by_rank(alloc, &objects, &triggers, &ranks)?;
+    let budgets = Budgets::of_triggers(alloc, triggers, &costs)?;
     Ok(Accepted {
         objects,
-        triggers,
-        costs,
+        budgets,
+        order,
     })
 }
 
 fn check_working_sets(objects: &SortedStore) -> Result<(), Refusal>
-    ensures ok { OnOk result (HoldBefore objects.now ReferencesAreThere) }
-    ensures refused { IfErr result (IsRefused objects.now) }
+    ensures ok { OnOk result (HoldBefore terminal objects.now ReferencesAreThere) }
+    ensures refused { IfErr result (IsRefused terminal objects.now) }
+    ensures no_memory { IfErr result (λ refusal. IsWantOfMemory refusal → ⊥) }
 {
     let mut count = 0usize;
     for (_, object) in objects.entries() {
@@ -66,9 +96,10 @@ fn check_working_sets(objects: &SortedStore) -> Result<(), Refusal>
 }
 
 fn check_references(objects: &SortedStore) -> Result<(), Refusal>
-    requires { HoldBefore objects.now ReferencesAreThere }
-    ensures ok { OnOk result (HoldBefore objects.now ChainsAreShort) }
-    ensures refused { IfErr result (IsRefused objects.now) }
+    requires { HoldBefore terminal objects.now ReferencesAreThere }
+    ensures ok { OnOk result (HoldBefore terminal objects.now ChainsAreShort) }
+    ensures refused { IfErr result (IsRefused terminal objects.now) }
+    ensures no_memory { IfErr result (λ refusal. IsWantOfMemory refusal → ⊥) }
 {
     if let Some(reference) = missing(objects) {
         return Err(Refusal::Missing {
@@ -85,21 +116,25 @@ fn check_references(objects: &SortedStore) -> Result<(), Refusal>
     }
 }
 
-fn check_inclusions(alloc: Global, objects: &SortedStore) -> Result<(), Refusal>
-    requires { HoldBefore objects.now ChainsAreShort }
-    ensures ok { OnOk result (HoldBefore objects.now MacrosAreWhole) }
-    ensures refused { IfErr result (IsRefused objects.now) }
+fn check_inclusions(alloc: Global, objects: &SortedStore, limits: Limits) -> Result<(), Refusal>
+    requires stored { AreStored objects.now }
+    requires before { HoldBefore limits objects.now ChainsAreShort }
+    requires inclusions { limits.inclusions ≤ 32 }
+    ensures ok { OnOk result (HoldBefore limits objects.now MacrosAreWhole) }
+    ensures refused { IfErr result (IsRefused limits objects.now) }
 {
-    match too_deep(alloc, objects)? {
-        None => Ok(()),
-        Some(chain) => Err(Refusal::TooDeep { chain }),
+    let mut depths = Vec::from_elem(alloc, 0, objects.count())?;
+    match find_depths(objects, &mut depths, limits.inclusions) {
+        Ok(()) => Ok(()),
+        Err(chain) => Err(Refusal::TooDeep { chain }),
     }
 }
 
 fn check_macros(objects: &SortedStore) -> Result<(), Refusal>
-    requires { HoldBefore objects.now MacrosAreWhole }
-    ensures ok { OnOk result (HoldBefore objects.now TargetsAreThere) }
-    ensures refused { IfErr result (IsRefused objects.now) }
+    requires { HoldBefore terminal objects.now MacrosAreWhole }
+    ensures ok { OnOk result (HoldBefore terminal objects.now TargetsAreThere) }
+    ensures refused { IfErr result (IsRefused terminal objects.now) }
+    ensures no_memory { IfErr result (λ refusal. IsWantOfMemory refusal → ⊥) }
 {
     if let Some(id) = cut_short(objects) {
         return Err(Refusal::MacroBytes { id });
@@ -111,9 +146,10 @@ fn check_macros(objects: &SortedStore) -> Result<(), Refusal>
 }
 
 fn check_targets(objects: &SortedStore) -> Result<(), Refusal>
-    requires { HoldBefore objects.now TargetsAreThere }
-    ensures ok { OnOk result (HoldBefore objects.now TriggersAreNoCircle) }
-    ensures refused { IfErr result (IsRefused objects.now) }
+    requires { HoldBefore terminal objects.now TargetsAreThere }
+    ensures ok { OnOk result (HoldBefore terminal objects.now TriggersAreNoCircle) }
+    ensures refused { IfErr result (IsRefused terminal objects.now) }
+    ensures no_memory { IfErr result (λ refusal. IsWantOfMemory refusal → ⊥) }
 {
     if let Some(reference) = failing_target(objects, Test::IsThere) {
         return Err(Refusal::MacroMissing {
@@ -133,20 +169,37 @@ fn check_targets(objects: &SortedStore) -> Result<(), Refusal>
     }
 }
 
-fn check_costs(objects: &SortedStore, triggers: &Triggers) -> Result<Costs, Refusal>
-    requires stored { AreStored objects.now }
-    requires before { HoldBefore objects.now TriggersAreNoCircle }
+fn check_circles(objects: &SortedStore, triggers: &Triggers) -> Result<Ranks, Refusal>
+    requires before { HoldBefore terminal objects.now TriggersAreNoCircle }
     requires triggers { AreTriggers (shape_of objects.now) triggers.now.events.keys triggers.now.graph }
-    ensures ok { OnOk result (IsAcceptable objects.now) }
+    ensures ok { OnOk result (HoldBefore terminal objects.now BudgetsAreWithin) }
+    ensures ranks { IfOk result (AreRanks triggers.now.graph) }
+    ensures refused { IfErr result (IsRefused terminal objects.now) }
+    ensures no_memory { IfErr result (λ refusal. IsWantOfMemory refusal → ⊥) }
+{
+    match rank(&triggers.graph) {
+        Ok(ranks) => Ok(ranks),
+        Err(circle) => Err(Refusal::MacroCircle { path: circle.path }),
+    }
+}
+
+fn check_costs(
+    objects: &SortedStore,
+    triggers: &Triggers,
+    ranks: &Ranks,
+    limits: Limits,
+) -> Result<Costs, Refusal>
+    requires stored { AreStored objects.now }
+    requires before { HoldBefore limits objects.now BudgetsAreWithin }
+    requires triggers { AreTriggers (shape_of objects.now) triggers.now.events.keys triggers.now.graph }
+    requires ranks { AreRanks triggers.now.graph ranks.now }
+    ensures ok { OnOk result (IsAcceptable limits objects.now) }
     ensures costs { IfOk result (AreCosts triggers.now.graph) }
     ensures totals { IfOk result (λ _. CostsAreTotals (shape_of objects.now)) }
-    ensures refused { IfErr result (IsRefused objects.now) }
+    ensures refused { IfErr result (IsRefused limits objects.now) }
+    ensures no_memory { IfErr result (λ refusal. IsWantOfMemory refusal → ⊥) }
 {
-    let ranks = match rank(&triggers.graph) {
-        Ok(ranks) => ranks,
-        Err(circle) => return Err(Refusal::MacroCircle { path: circle.path }),
-    };
-    match costs(&triggers.graph, &ranks, GREATEST_BUDGET) {
+    match costs(&triggers.graph, ranks, limits.steps) {
         Ok(costs) => Ok(costs),
         Err(OverBudget::Node(id)) => Err(Refusal::OverBudget {
             id: ObjectId::from_raw(u16::from(id)),
@@ -165,4 +218,10 @@ pub fn refusals_are_true()
 /// The law that a refusal names the first rule that fails: it fails, and those before it hold.
 pub fn first_rules_fail()
     ensures { FirstRulesFail }
+{}
+
+/// The law that what meets all rules under some limits meets them under greater ones. Its report, of which no limit is
+/// a part, is the same.
+pub fn greater_limits_accept()
+    ensures { GreaterLimitsAccept }
 {}

@@ -1,12 +1,12 @@
 //! The attributes of each kind.
 
 use crate::Field::*;
-use crate::Values::{Byte, Long, Reference, SignedLong, Word};
-use crate::{Attribute, Field, Kind, Place, Values, attribute};
+use crate::ValueType::{Byte, Long, Reference, SignedLong, Word};
+use crate::{Attribute, Field, Kind, Place, ValueType, attribute};
 use std::process::Abort;
 
 // The attributes of each kind by their numbers, from 1.
-const ATTRIBUTES: [(Kind, &[Option<(Field, Values)>]); 29] = [
+const ATTRIBUTES: [(Kind, &[Option<(Field, ValueType)>]); 29] = [
     (
         Kind::WorkingSet,
         &[Some((Colour, Byte)), Some((Selectable, Byte))],
@@ -23,7 +23,7 @@ const ATTRIBUTES: [(Kind, &[Option<(Field, Values)>]); 29] = [
         &[
             Some((Colour, Byte)),
             Some((SoftKeyMask, Reference(Place::SoftKeyMask))),
-            Some((Priority, Values::Priority)),
+            Some((Priority, ValueType::Priority)),
             Some((Acoustic, Byte)),
         ],
     ),
@@ -78,8 +78,8 @@ const ATTRIBUTES: [(Kind, &[Option<(Field, Values)>]); 29] = [
             Some((Min, Long)),
             Some((Max, Long)),
             Some((Offset, SignedLong)),
-            Some((Scale, Values::Scale)),
-            Some((Decimals, Values::Decimals)),
+            Some((Scale, ValueType::Scale)),
+            Some((Decimals, ValueType::Decimals)),
             Some((Format, Byte)),
             Some((Justification, Byte)),
         ],
@@ -116,8 +116,8 @@ const ATTRIBUTES: [(Kind, &[Option<(Field, Values)>]); 29] = [
             Some((Options, Byte)),
             Some((Variable, Reference(Place::Variable))),
             Some((Offset, SignedLong)),
-            Some((Scale, Values::Scale)),
-            Some((Decimals, Values::Decimals)),
+            Some((Scale, ValueType::Scale)),
+            Some((Decimals, ValueType::Decimals)),
             Some((Format, Byte)),
             Some((Justification, Byte)),
         ],
@@ -256,14 +256,14 @@ const ATTRIBUTES: [(Kind, &[Option<(Field, Values)>]); 29] = [
     (Kind::Macro, &[]),
 ];
 
-fn are_attributes(rt: &impl Abort, attributes: &[(Kind, &[Option<(Field, Values)>])]) {
+fn are_attributes(rt: &impl Abort, attributes: &[(Kind, &[Option<(Field, ValueType)>])]) {
     for (kind, wanted) in attributes {
         assert_eq!(rt; attribute(*kind, 0), None, "{kind}");
         for number in 1..=255u8 {
             let wanted = match wanted.get(usize::from(number) - 1) {
-                Some(Some((field, values))) => Some(Attribute {
+                Some(Some((field, value_type))) => Some(Attribute {
                     field: *field,
-                    values: *values,
+                    value_type: *value_type,
                 }),
                 _ => None,
             };

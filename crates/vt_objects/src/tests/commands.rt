@@ -150,11 +150,12 @@ fn parts_of(command: &Command<'_>) -> (u8, [u32; 5]) {
                 0,
             ],
         ),
+        Command::ExecuteMacro { id } => (0xBE, [id_of(*id), 0, 0, 0, 0]),
     }
 }
 
 // The bytes of each command, and its function and numbers.
-const COMMANDS: [(&[u8], (u8, [u32; 5])); 22] = [
+const COMMANDS: [(&[u8], (u8, [u32; 5])); 23] = [
     (
         b"\xA0\x64\x00\x01\xFF\xFF\xFF\xFF",
         (0xA0, [100, 1, 0, 0, 0]),
@@ -231,6 +232,10 @@ const COMMANDS: [(&[u8], (u8, [u32; 5])); 22] = [
         b"\xB4\x64\x00\x65\x00\xFF\xFF\x05\x00",
         (0xB4, [100, 101, 65_535, 5, 0]),
     ),
+    (
+        b"\xBE\x2C\x01\xFF\xFF\xFF\xFF\xFF",
+        (0xBE, [300, 0, 0, 0, 0]),
+    ),
 ];
 
 #[test]
@@ -257,7 +262,7 @@ fn refuses_what_is_too_short(rt: HostRuntime) {
         assert!(rt; Command::read(short).is_none(), "{bytes:?}");
     }
     assert!(rt; Command::read(b"").is_none());
-    for function in [0x00, 0x11, 0x92, 0x9F, 0xA2, 0xB5, 0xFF] {
+    for function in [0x00, 0x11, 0x92, 0x9F, 0xA2, 0xB5, 0xBD, 0xBF, 0xFF] {
         let bytes = [function, 0, 0, 0, 0, 0, 0, 0, 0];
         assert!(rt; Command::read(&bytes).is_none(), "{function}");
     }

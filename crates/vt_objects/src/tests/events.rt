@@ -7,13 +7,15 @@ use std::process::Abort;
 fn numbers_of_events(rt: HostRuntime) {
     for number in 0..=255u8 {
         let event = Event::from_number(number).map(|event| event.number());
-        let wanted = (1..=26).contains(&number).then_some(number);
+        let wanted = (number <= 26).then_some(number);
         assert_eq!(rt; event, wanted, "{number}");
+        let is_listable = (1..=26).contains(&number);
+        assert_eq!(rt; Event::is_listable(number), is_listable, "{number}");
     }
 }
 
 // The bytes of commands, and the objects and numbers of the events that they raise.
-const RAISED: [(&[u8], &[(u16, u8)]); 23] = [
+const RAISED: [(&[u8], &[(u16, u8)]); 24] = [
     (b"\xA0\x64\x00\x00\xFF\xFF\xFF\xFF", &[(100, 4)]),
     (b"\xA0\x64\x00\x01\xFF\xFF\xFF\xFF", &[(100, 3)]),
     (b"\xA0\x64\x00\x02\xFF\xFF\xFF\xFF", &[]),
@@ -37,6 +39,7 @@ const RAISED: [(&[u8], &[(u16, u8)]); 23] = [
     (b"\xB2\xFF\xFF\xFF\xFF\xFF\xFF\xFF", &[]),
     (b"\xB3\x2C\x01\x02\x00AB\xFF", &[(300, 16)]),
     (b"\xB4\x64\x00\x65\x00\xFF\xFF\x05\x00", &[(100, 26)]),
+    (b"\xBE\x05\x00\xFF\xFF\xFF\xFF\xFF", &[(5, 0)]),
 ];
 
 fn raises(bytes: &[u8], wanted: &[(u16, u8)]) -> bool {

@@ -1,63 +1,63 @@
 //! What a value of Change Attribute has to meet.
 
-use crate::{Kind, Place, Values};
+use crate::{Kind, Place, ValueType};
 
-// Each sort of values, what its field gets of 0x04030201, and how many bytes it has.
-const WIDTHS: [(Values, u32, u8); 8] = [
-    (Values::Byte, 0x01, 1),
-    (Values::Word, 0x0201, 2),
-    (Values::Long, 0x0403_0201, 4),
-    (Values::SignedLong, 0x0403_0201, 4),
-    (Values::Reference(Place::Font), 0x0201, 2),
-    (Values::Priority, 0x01, 1),
-    (Values::Scale, 0x0403_0201, 4),
-    (Values::Decimals, 0x01, 1),
+// Each type of values, what its field gets of 0x04030201, and how many bytes it has.
+const WIDTHS: [(ValueType, u32, u8); 8] = [
+    (ValueType::Byte, 0x01, 1),
+    (ValueType::Word, 0x0201, 2),
+    (ValueType::Long, 0x0403_0201, 4),
+    (ValueType::SignedLong, 0x0403_0201, 4),
+    (ValueType::Reference(Place::Font), 0x0201, 2),
+    (ValueType::Priority, 0x01, 1),
+    (ValueType::Scale, 0x0403_0201, 4),
+    (ValueType::Decimals, 0x01, 1),
 ];
 
 #[test]
 fn lowest_bytes(rt: HostRuntime) {
-    for (values, lowest, width) in WIDTHS {
-        assert_eq!(rt; values.width(), width, "{values:?}");
-        assert_eq!(rt; values.lowest(0x0403_0201), lowest, "{values:?}");
-        assert_eq!(rt; values.lowest(0), 0, "{values:?}");
+    for (value_type, lowest, width) in WIDTHS {
+        assert_eq!(rt; value_type.width(), width, "{value_type:?}");
+        assert_eq!(rt; value_type.lowest(0x0403_0201), lowest, "{value_type:?}");
+        assert_eq!(rt; value_type.lowest(0), 0, "{value_type:?}");
     }
 }
 
 // Values, and whether a field of this sort takes their lowest bytes.
-const NUMBERS: [(Values, u32, bool); 26] = [
-    (Values::Byte, 0, true),
-    (Values::Byte, 255, true),
-    (Values::Word, 0, true),
-    (Values::Word, 65_535, true),
-    (Values::Long, 0, true),
-    (Values::Long, 4_294_967_295, true),
-    (Values::SignedLong, 0, true),
-    (Values::SignedLong, 4_294_967_295, true),
-    (Values::Priority, 0, true),
-    (Values::Priority, 2, true),
-    (Values::Priority, 3, false),
-    (Values::Priority, 255, false),
-    (Values::Scale, 0x3F80_0000, true),
-    (Values::Scale, 0x3DCC_CCCD, true),
-    (Values::Scale, 0x3C23_D70A, true),
-    (Values::Scale, 0x3A83_126F, true),
-    (Values::Scale, 0, false),
-    (Values::Scale, 0x3F00_0000, false),
-    (Values::Scale, 0xBF80_0000, false),
-    (Values::Decimals, 0, true),
-    (Values::Decimals, 7, true),
-    (Values::Decimals, 8, false),
-    (Values::Decimals, 255, false),
-    (Values::Decimals, 0xFFFF_FF07, true),
-    (Values::Priority, 0x0100, true),
-    (Values::Priority, 0x0103, false),
+const NUMBERS: [(ValueType, u32, bool); 26] = [
+    (ValueType::Byte, 0, true),
+    (ValueType::Byte, 255, true),
+    (ValueType::Word, 0, true),
+    (ValueType::Word, 65_535, true),
+    (ValueType::Long, 0, true),
+    (ValueType::Long, 4_294_967_295, true),
+    (ValueType::SignedLong, 0, true),
+    (ValueType::SignedLong, 4_294_967_295, true),
+    (ValueType::Priority, 0, true),
+    (ValueType::Priority, 2, true),
+    (ValueType::Priority, 3, false),
+    (ValueType::Priority, 255, false),
+    (ValueType::Scale, 0x3F80_0000, true),
+    (ValueType::Scale, 0x3DCC_CCCD, true),
+    (ValueType::Scale, 0x3C23_D70A, true),
+    (ValueType::Scale, 0x3A83_126F, true),
+    (ValueType::Scale, 0, false),
+    (ValueType::Scale, 0x3F00_0000, false),
+    (ValueType::Scale, 0xBF80_0000, false),
+    (ValueType::Decimals, 0, true),
+    (ValueType::Decimals, 7, true),
+    (ValueType::Decimals, 8, false),
+    (ValueType::Decimals, 255, false),
+    (ValueType::Decimals, 0xFFFF_FF07, true),
+    (ValueType::Priority, 0x0100, true),
+    (ValueType::Priority, 0x0103, false),
 ];
 
 #[test]
 fn numbers_taken(rt: HostRuntime) {
-    for (values, number, wanted) in NUMBERS {
-        let taken = values.takes(Kind::OutputNumber, number, None);
-        assert_eq!(rt; taken, wanted, "{values:?} {number}");
+    for (value_type, number, wanted) in NUMBERS {
+        let taken = value_type.accepts(Kind::OutputNumber, number, None);
+        assert_eq!(rt; taken, wanted, "{value_type:?} {number}");
     }
 }
 
@@ -140,15 +140,21 @@ const REFERENCES: [(Kind, Place, Kind, Kind); 12] = [
 #[test]
 fn references_taken(rt: HostRuntime) {
     for (kind, place, allowed, other) in REFERENCES {
-        let values = Values::Reference(place);
+        let value_type = ValueType::Reference(place);
         for id in [0, 100, 65_534] {
-            assert!(rt; values.takes(kind, id, Some(allowed)), "{kind} {place:?}");
-            assert!(rt; !values.takes(kind, id, Some(other)), "{kind} {place:?}");
-            assert!(rt; !values.takes(kind, id, None), "{kind} {place:?}");
+            assert!(rt;
+                value_type.accepts(kind, id, Some(allowed)),
+                "{kind} {place:?}"
+            );
+            assert!(rt;
+                !value_type.accepts(kind, id, Some(other)),
+                "{kind} {place:?}"
+            );
+            assert!(rt; !value_type.accepts(kind, id, None), "{kind} {place:?}");
         }
-        assert!(rt; values.takes(kind, 65_535, None), "{kind} {place:?}");
+        assert!(rt; value_type.accepts(kind, 65_535, None), "{kind} {place:?}");
     }
-    let child = Values::Reference(Place::Child(0));
-    assert!(rt; !child.takes(Kind::Container, 65_535, None));
-    assert!(rt; child.takes(Kind::Container, 100, Some(Kind::Container)));
+    let child = ValueType::Reference(Place::Child(0));
+    assert!(rt; !child.accepts(Kind::Container, 65_535, None));
+    assert!(rt; child.accepts(Kind::Container, 100, Some(Kind::Container)));
 }

@@ -3,8 +3,9 @@
 ghost use Rattle.std.specs.Prelude.{◌≤◌};
 
 use super::{CONTAINER, MASK, WORKING_SET, prints, put};
-use crate::verify;
+use crate::{Accepted, verify};
 use std::alloc::Global;
+use std::process::Abort;
 use std::test::Fail;
 use vt_objects::ObjectId;
 use vt_pool::read_pool;
@@ -12,7 +13,7 @@ use vt_pool::read_pool;
 /// So many fonts 301, 302 and on, and macros 1, 2 and on: font 300 + k lists macro k at event 11, and each macro but
 /// the last changes the next font twice.
 fn doubling(alloc: Global, count: u8) -> Result<Vec<u8>, Fail>
-    requires { count ≤ 17 }
+    requires { count ≤ 20 }
 {
     let mut bytes = Vec::new(alloc);
     put(&mut bytes, &[WORKING_SET, MASK, CONTAINER])?;
@@ -28,25 +29,76 @@ fn doubling(alloc: Global, count: u8) -> Result<Vec<u8>, Fail>
     Ok(bytes)
 }
 
+/// The budget at event 11 of font 301, where the last is font 300 + `count`.
+fn budget(alloc: Global, count: u8) -> Result<u32, Fail>
+    requires { count ≤ 20 }
+{
+    let bytes = doubling(alloc, count)?;
+    let pool = read_pool(alloc, &bytes)?;
+    let Ok(accepted) = verify(alloc, &pool) else {
+        return Err(Fail::new("not accepted"));
+    };
+    Ok(accepted.budget(ObjectId::from_raw(301), 11))
+}
+
 #[test]
-fn greatest_budget(rt: HostRuntime) -> Result<(), Fail> {
+fn budgets_that_double(rt: HostRuntime) -> Result<(), Fail> {
+    assert_eq!(rt; budget(rt.alloc(), 16)?, 65_534);
+    assert_eq!(rt; budget(rt.alloc(), 17)?, 131_070);
+    assert_eq!(rt; budget(rt.alloc(), 19)?, 524_286);
+    let bytes = doubling(rt.alloc(), 20)?;
+    assert!(rt; prints(rt.alloc(), &bytes, "refused 12 OverBudget 1\n")?);
+    Ok(())
+}
+
+// Objects, events, and the budgets of these where the last font is 316.
+const BUDGETS: [(u16, u8, u32); 10] = [
+    (301, 11, 65_534),
+    (316, 11, 0),
+    (301, 12, 0),
+    (301, 27, 0),
+    (301, 0, 0),
+    (999, 11, 0),
+    (1, 0, 65_534),
+    (15, 0, 2),
+    (16, 0, 0),
+    (1, 11, 0),
+];
+
+fn budgets_are(rt: &impl Abort, accepted: &Accepted, budgets: &[(u16, u8, u32)]) {
+    for (id, event, budget) in budgets {
+        let found = accepted.budget(ObjectId::from_raw(*id), *event);
+        assert_eq!(rt; found, *budget, "{id} {event}");
+    }
+}
+
+#[test]
+fn budgets_of_events(rt: HostRuntime) -> Result<(), Fail> {
     let bytes = doubling(rt.alloc(), 16)?;
     let pool = read_pool(rt.alloc(), &bytes)?;
     let Ok(accepted) = verify(rt.alloc(), &pool) else {
         return Err(Fail::new("not accepted"));
     };
     assert_eq!(rt; accepted.objects().len(), 35);
-    assert_eq!(rt; accepted.budget(ObjectId::from_raw(301), 11), 65_534);
-    assert_eq!(rt; accepted.budget(ObjectId::from_raw(316), 11), 0);
-    assert_eq!(rt; accepted.budget(ObjectId::from_raw(301), 12), 0);
-    assert_eq!(rt; accepted.budget(ObjectId::from_raw(301), 27), 0);
-    assert_eq!(rt; accepted.budget(ObjectId::from_raw(999), 11), 0);
+    budgets_are(&rt, &accepted, &BUDGETS);
     Ok(())
 }
 
 #[test]
-fn over_budget(rt: HostRuntime) -> Result<(), Fail> {
-    let bytes = doubling(rt.alloc(), 17)?;
-    assert!(rt; prints(rt.alloc(), &bytes, "refused 12 OverBudget 1\n")?);
+fn object_over_budget(rt: HostRuntime) -> Result<(), Fail> {
+    let mut bytes = doubling(rt.alloc(), 19)?;
+    put(&mut bytes, &[&[144, 1, 23, 0, 0, 0, 0, 2, 11, 1, 11, 1]])?;
+    assert!(rt; prints(rt.alloc(), &bytes, "refused 12 OverBudget 400\n")?);
+    Ok(())
+}
+
+#[test]
+fn macros_by_rank(rt: HostRuntime) -> Result<(), Fail> {
+    let bytes = doubling(rt.alloc(), 4)?;
+    let pool = read_pool(rt.alloc(), &bytes)?;
+    let Ok(accepted) = verify(rt.alloc(), &pool) else {
+        return Err(Fail::new("not accepted"));
+    };
+    assert_eq!(rt; accepted.by_rank(), [4, 3, 2, 1].as_slice());
     Ok(())
 }

@@ -33,19 +33,20 @@ const LAST: &[u8] = &[
 ];
 
 #[test]
-fn sixteen_inclusions(rt: HostRuntime) -> Result<(), Fail> {
-    let containers = containers(rt.alloc(), 15, 1, 9)?;
+fn longest_chain(rt: HostRuntime) -> Result<(), Fail> {
+    let containers = containers(rt.alloc(), 31, 1, 9)?;
     let records = [WORKING_SET, MASK, LAST, containers.as_slice()];
-    assert!(rt; reports(rt.alloc(), &records, "accepted 18 objects\n")?);
+    assert!(rt; reports(rt.alloc(), &records, "accepted 34 objects\n")?);
     Ok(())
 }
 
 #[test]
-fn seventeen_inclusions(rt: HostRuntime) -> Result<(), Fail> {
-    let containers = containers(rt.alloc(), 16, 1, 9)?;
+fn chain_too_long(rt: HostRuntime) -> Result<(), Fail> {
+    let containers = containers(rt.alloc(), 32, 1, 9)?;
     let records = [WORKING_SET, MASK, LAST, containers.as_slice()];
     let wanted =
-        "refused 5 TooDeep 1000 100 101 102 103 104 105 106 107 108 109 110 111 112 113 114 115 9\n";
+        "refused 5 TooDeep 1000 100 101 102 103 104 105 106 107 108 109 110 111 112 113 114 \
+        115 116 117 118 119 120 121 122 123 124 125 126 127 128 129 130 131 9\n";
     assert!(rt; reports(rt.alloc(), &records, wanted)?);
     Ok(())
 }
@@ -55,7 +56,8 @@ fn itself(rt: HostRuntime) -> Result<(), Fail> {
     let containers = containers(rt.alloc(), 1, 1, 100)?;
     let records = [WORKING_SET, MASK, containers.as_slice()];
     let wanted =
-        "refused 5 TooDeep 100 100 100 100 100 100 100 100 100 100 100 100 100 100 100 100 100 100\n";
+        "refused 5 TooDeep 100 100 100 100 100 100 100 100 100 100 100 100 100 100 100 100 \
+        100 100 100 100 100 100 100 100 100 100 100 100 100 100 100 100 100 100\n";
     assert!(rt; reports(rt.alloc(), &records, wanted)?);
     Ok(())
 }
@@ -65,7 +67,8 @@ fn ring(rt: HostRuntime) -> Result<(), Fail> {
     let containers = containers(rt.alloc(), 2, 1, 100)?;
     let records = [WORKING_SET, MASK, containers.as_slice()];
     let wanted =
-        "refused 5 TooDeep 100 101 100 101 100 101 100 101 100 101 100 101 100 101 100 101 100 101\n";
+        "refused 5 TooDeep 100 101 100 101 100 101 100 101 100 101 100 101 100 101 100 101 \
+        100 101 100 101 100 101 100 101 100 101 100 101 100 101 100 101 100 101\n";
     assert!(rt; reports(rt.alloc(), &records, wanted)?);
     Ok(())
 }
@@ -79,13 +82,14 @@ const POINTER: &[u8] = &[201, 0, 27, 9, 0];
 
 #[test]
 fn list_and_pointer(rt: HostRuntime) -> Result<(), Fail> {
-    let shallow = containers(rt.alloc(), 13, 1, 200)?;
+    let shallow = containers(rt.alloc(), 29, 1, 200)?;
     let records = [WORKING_SET, MASK, LAST, shallow.as_slice(), LIST, POINTER];
-    assert!(rt; reports(rt.alloc(), &records, "accepted 18 objects\n")?);
-    let deep = containers(rt.alloc(), 14, 1, 200)?;
+    assert!(rt; reports(rt.alloc(), &records, "accepted 34 objects\n")?);
+    let deep = containers(rt.alloc(), 30, 1, 200)?;
     let records = [WORKING_SET, MASK, LAST, deep.as_slice(), LIST, POINTER];
     let wanted =
-        "refused 5 TooDeep 1000 100 101 102 103 104 105 106 107 108 109 110 111 112 113 200 201 9\n";
+        "refused 5 TooDeep 1000 100 101 102 103 104 105 106 107 108 109 110 111 112 113 114 \
+        115 116 117 118 119 120 121 122 123 124 125 126 127 128 129 200 201 9\n";
     assert!(rt; reports(rt.alloc(), &records, wanted)?);
     Ok(())
 }
@@ -99,13 +103,14 @@ const KEYS: &[u8] = &[
 
 #[test]
 fn keys(rt: HostRuntime) -> Result<(), Fail> {
-    let shallow = containers(rt.alloc(), 14, 1, 9)?;
+    let shallow = containers(rt.alloc(), 30, 1, 9)?;
     let records = [WORKING_SET, KEYS, LAST, shallow.as_slice()];
-    assert!(rt; reports(rt.alloc(), &records, "accepted 19 objects\n")?);
-    let deep = containers(rt.alloc(), 15, 1, 9)?;
+    assert!(rt; reports(rt.alloc(), &records, "accepted 35 objects\n")?);
+    let deep = containers(rt.alloc(), 31, 1, 9)?;
     let records = [WORKING_SET, KEYS, LAST, deep.as_slice()];
     let wanted =
-        "refused 5 TooDeep 200 201 100 101 102 103 104 105 106 107 108 109 110 111 112 113 114 9\n";
+        "refused 5 TooDeep 200 201 100 101 102 103 104 105 106 107 108 109 110 111 112 113 \
+        114 115 116 117 118 119 120 121 122 123 124 125 126 127 128 129 130 9\n";
     assert!(rt; reports(rt.alloc(), &records, wanted)?);
     Ok(())
 }
@@ -120,8 +125,8 @@ fn active_mask(rt: HostRuntime) -> Result<(), Fail> {
 
 #[test]
 fn many_inclusions(rt: HostRuntime) -> Result<(), Fail> {
-    let containers = containers(rt.alloc(), 15, 255, 9)?;
+    let containers = containers(rt.alloc(), 31, 255, 9)?;
     let records = [WORKING_SET, MASK, LAST, containers.as_slice()];
-    assert!(rt; reports(rt.alloc(), &records, "accepted 18 objects\n")?);
+    assert!(rt; reports(rt.alloc(), &records, "accepted 34 objects\n")?);
     Ok(())
 }

@@ -75,7 +75,13 @@ fn macros(rt: HostRuntime) -> Result<(), Fail> {
     let pool = |last| [WORKING_SET, MASK, CONTAINER, FONT, last];
     assert!(rt; reports(alloc, &pool(CUT), "refused 6 MacroBytes 9\n")?);
     assert!(rt; reports(alloc, &pool(DELETES), "refused 7 MacroCommand 9 8\n")?);
-    assert!(rt; reports(alloc, &pool(HIDES), "accepted 5 objects\n")?);
+    assert!(rt;
+        reports(
+            alloc,
+            &pool(HIDES),
+            "accepted 5 objects\nobject 9 event 0 budget 1\n"
+        )?
+    );
     assert!(rt; reports(alloc, &pool(HIDES_FONT), "refused 9 MacroKind 9 200\n")?);
     assert!(rt; reports(alloc, &pool(HIDES_NOTHING), "refused 8 MacroMissing 9 77\n")?);
     assert!(rt; reports(alloc, &pool(HIDES_NULL), "refused 8 MacroMissing 9 65535\n")?);
@@ -85,12 +91,15 @@ fn macros(rt: HostRuntime) -> Result<(), Fail> {
 /// The macro 300, which no entry can name, with a byte of no command.
 const UNNAMED: &[u8] = &[44, 1, 28, 1, 0, 0x92];
 
-/// Fonts 201 that list macro 9 at event 11, at event 27, which there is not, and at event 21, which nothing raises.
+/// Fonts 201 that list macro 9 at event 11, at event 27, which there is not, at event 21, which nothing raises, and at
+/// event 0, at which no entry fires.
 const AT_11: &[u8] = &[201, 0, 23, 0, 0, 0, 0, 1, 11, 9];
 
 const AT_27: &[u8] = &[201, 0, 23, 0, 0, 0, 0, 1, 27, 9];
 
 const AT_21: &[u8] = &[201, 0, 23, 0, 0, 0, 0, 1, 21, 9];
+
+const AT_0: &[u8] = &[201, 0, 23, 0, 0, 0, 0, 1, 0, 9];
 
 /// The Number Variable 9.
 const NO_MACRO: &[u8] = &[9, 0, 21, 0, 0, 0, 0];
@@ -102,7 +111,8 @@ fn entries(rt: HostRuntime) -> Result<(), Fail> {
     assert!(rt; reports(alloc, &pool(AT_11, FONT), "refused 8 MacroMissing 201 9\n")?);
     assert!(rt; reports(alloc, &pool(AT_11, NO_MACRO), "refused 9 MacroKind 201 9\n")?);
     assert!(rt; reports(alloc, &pool(AT_27, NO_MACRO), "accepted 6 objects\n")?);
-    let budget = "accepted 6 objects\nobject 201 event 21 budget 1\n";
+    assert!(rt; reports(alloc, &pool(AT_0, NO_MACRO), "accepted 6 objects\n")?);
+    let budget = "accepted 6 objects\nobject 9 event 0 budget 1\nobject 201 event 21 budget 1\n";
     assert!(rt; reports(alloc, &pool(AT_21, HIDES), budget)?);
     Ok(())
 }
@@ -121,7 +131,13 @@ const VARIABLE: &[u8] = &[201, 0, 21, 0, 0, 0, 0];
 fn attributes(rt: HostRuntime) -> Result<(), Fail> {
     let alloc = rt.alloc();
     let pool = |last| [WORKING_SET, MASK, CONTAINER, FONT, VARIABLE, last];
-    assert!(rt; reports(alloc, &pool(SIZE), "accepted 6 objects\n")?);
+    assert!(rt;
+        reports(
+            alloc,
+            &pool(SIZE),
+            "accepted 6 objects\nobject 9 event 0 budget 1\n"
+        )?
+    );
     assert!(rt; reports(alloc, &pool(FIFTH), "refused 10 MacroValue 9 0\n")?);
     assert!(rt; reports(alloc, &pool(OF_VARIABLE), "refused 9 MacroKind 9 201\n")?);
     Ok(())

@@ -1,6 +1,5 @@
 use Rattle.std.proofs.Common.{◌≡◌, refl, rules}
 use Rattle.std.proofs.lemmas.Fn.{always_returns_same}
-use Rattle.vt_objects.specs.Stores.{shown}
 use Rattle.vt_objects.proofs.Searching.{found_in, missed_in}
 use Rattle.vt_objects.proofs.sorted_store.place_of.Goals as goal
 

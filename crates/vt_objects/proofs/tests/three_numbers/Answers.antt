@@ -1,6 +1,5 @@
-use Rattle.std.proofs.Common.{ap, arith}
+use Rattle.std.proofs.Common.{arith}
 use Rattle.std.proofs.lemmas.Bool.{ne_eqb}
-use Rattle.vt_objects.specs.Stores.{AreNamed}
 use Rattle.vt_objects.proofs.Stored.{named_none, named_more}
 use Rattle.vt_objects.proofs.tests.three_numbers.Goals as goal
 

@@ -1,13 +1,12 @@
-use Rattle.std.proofs.Common.{ℕ, List, ◌++◌, ◌≤◌, length, map, sym, ap, ap₂, subst, ◌∙◌, arith}
+use Rattle.std.proofs.Common.{ℕ, List, ◌++◌, ◌≤◌, length, map, sym, ap, ap₂, refl, subst, ◌∙◌, arith}
 use Rattle.std.proofs.lemmas.List.{take_all}
 use Rattle.std.specs.List.{flat_map}
-use Rattle.vt_objects.specs.declared.entries.MacroEntry.{MacroEntry}
 use Rattle.vt_objects.specs.Stores.{shown, Objects, IsRising}
 use Rattle.vt_verify.specs.declared.listing.Listing.{Listing}
 use Rattle.vt_verify.specs.Shapes.{shape_of}
 use Rattle.vt_verify.specs.Triggers.{listing}
-use Rattle.vt_verify.specs.TriggerGraphs.{has, if_any, non_empty, macros_at, event_numbers}
-use Rattle.vt_verify.proofs.Listings.{events_of, macros_of_events, not_yet, one_more, events_seen, groups_seen, events_listed, groups_listed}
+use Rattle.vt_verify.specs.TriggerGraphs.{has}
+use Rattle.vt_verify.proofs.Listings.{events_of, groups_of_events, not_yet, one_more, events_listed, groups_listed}
 use Rattle.vt_verify.proofs.triggers.listings.Goals as goal
 
 pub put_listings-requires : goal.put_listings-requires
@@ -23,14 +22,12 @@ loop-id-preserved c =
       c.loop-id.invariant.0,
       c.in_ok-put_listings.ensures.events
           ∙ ap₂ (λ (made more : List Listing). made ++ more) c.loop-id.invariant.1
-          (ap (λ (entries : List MacroEntry). flat_map (λ event. if_any (listing item.0 event) (macros_at event entries)) event_numbers) c.macros.ensures
-          ∙ sym (events_seen item))
+          refl
           ∙ sym (one_more events_of items c.loop-id.id-index item c.loop-id-test.true c.loop-id-item.is),
       c.in_ok-put_listings.ensures.groups
           ∙ ap₂ (λ (made more : List (List ℕ)). made ++ more) c.loop-id.invariant.2
-          (ap (λ (entries : List MacroEntry). flat_map (λ event. non_empty (macros_at event entries)) event_numbers) c.macros.ensures
-          ∙ sym (groups_seen item))
-          ∙ sym (one_more macros_of_events items c.loop-id.id-index item c.loop-id-test.true c.loop-id-item.is),
+          refl
+          ∙ sym (one_more groups_of_events items c.loop-id.id-index item c.loop-id-test.true c.loop-id-item.is),
     )
 
 pub returns-clause-events : goal.returns-clause-events
@@ -46,5 +43,5 @@ returns-clause-groups c =
     let items = c.entries-id-items.result.now in
     let end : length items ≤ c.loop-id.id-index = omega (arith, c.loop-id-test.false) in
     c.loop-id.invariant.2
-    ∙ ap (λ (objects : Objects). flat_map macros_of_events (shape_of objects)) (ap (map shown) (take_all c.loop-id.id-index items end) ∙ c.entries-id-items.ensures.all)
+    ∙ ap (λ (objects : Objects). flat_map groups_of_events (shape_of objects)) (ap (map shown) (take_all c.loop-id.id-index items end) ∙ c.entries-id-items.ensures.all)
     ∙ groups_listed c.args.objects.now c.entries-id-items.ensures.stored.rising

@@ -3,11 +3,11 @@ use Rattle.std.specs.List.{flat_map}
 use Rattle.vt_objects.specs.Stores.{shown}
 use Rattle.vt_rank.specs.Graphs.{lists}
 use Rattle.vt_verify.specs.Shapes.{shape_of}
-use Rattle.vt_verify.proofs.Listings.{events_of, macros_of_events}
+use Rattle.vt_verify.proofs.Listings.{events_of, groups_of_events}
 use Rattle.vt_verify.proofs.triggers.listings.Given as goal
 
 abbrev pub invariant-loop-id : goal.invariant-loop-id
 invariant-loop-id l =
     (map shown l.id-items ≡ l.objects)
     × (l.events.keys ≡ flat_map events_of (shape_of (map shown (take l.id-index l.id-items))))
-    × (lists l.groups ≡ flat_map macros_of_events (shape_of (map shown (take l.id-index l.id-items))))
+    × (lists l.groups ≡ flat_map groups_of_events (shape_of (map shown (take l.id-index l.id-items))))

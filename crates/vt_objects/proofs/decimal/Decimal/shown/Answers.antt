@@ -1,4 +1,4 @@
-use Rattle.std.proofs.Common.{rules, List, ◌≡◌, ◌*◌, ◌/◌, ◌^◌, ◌+◌, ◌+ℤ◌, ◌<◌, ◌++◌, ◌&&◌, ℕ, ℤ, pos, nat_abs, nat_lt, int_lt, [], cond, codes, ap, subst, ◌∙◌}
+use Rattle.std.proofs.Common.{rules, ◌≡◌, ◌*◌, ◌/◌, ◌^◌, ◌+◌, ◌+ℤ◌, ◌<◌, ◌++◌, ◌&&◌, ℕ, ℤ, pos, nat_abs, nat_lt, int_lt, [], cond, codes, ap, subst, ◌∙◌}
 use Rattle.std.specs.Fmt.{decimal}
 use Rattle.vt_objects.specs.Scales.{scale_places}
 use Rattle.vt_objects.specs.Decimals.{IsShown, shown_text, fraction_text}

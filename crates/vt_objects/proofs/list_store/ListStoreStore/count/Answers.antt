@@ -1,8 +1,11 @@
 use Rattle.std.proofs.Common.{arith}
-use Rattle.vt_objects.proofs.Stored.{counted}
+use Rattle.vt_objects.proofs.Stored.{counted, named_in}
 use Rattle.vt_objects.proofs.list_store.ListStoreStore.count.Goals as goal
 
-pub returns : goal.returns
-returns c =
+pub returns-clause-count : goal.returns-clause-count
+returns-clause-count c =
     let all = counted c.self.inside.entries.items c.args.self.now c.self.view_is c.self.invariant in
     omega (arith, all)
+
+pub returns-clause-named : goal.returns-clause-named
+returns-clause-named c = named_in c.self.inside.entries.items c.args.self.now c.self.view_is c.self.invariant

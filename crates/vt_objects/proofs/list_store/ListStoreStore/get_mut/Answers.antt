@@ -1,7 +1,7 @@
-use Rattle.std.proofs.Common.{arith, ◌≡◌, refl, sym, ap}
+use Rattle.std.proofs.Common.{arith, refl, ap}
 use Rattle.vt_objects.specs.Records.{seen}
 use Rattle.vt_objects.specs.Stores.{map_of}
-use Rattle.vt_objects.proofs.Stored.{absent, placed, within_place, id_at_place, got_none, got_some, stored_set, wrote_in, kept_in}
+use Rattle.vt_objects.proofs.Stored.{absent, placed, within_place, got_none, got_some, stored_set, wrote_in, kept_in}
 use Rattle.vt_objects.proofs.FromFront.{front_absent, front_place}
 use Rattle.vt_objects.proofs.list_store.ListStoreStore.get_mut.Goals as goal
 

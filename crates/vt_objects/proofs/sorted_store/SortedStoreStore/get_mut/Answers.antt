@@ -1,7 +1,7 @@
-use Rattle.std.proofs.Common.{◌≡◌, refl, sym, ap}
+use Rattle.std.proofs.Common.{refl, ap}
 use Rattle.vt_objects.specs.Records.{seen}
 use Rattle.vt_objects.specs.Stores.{map_of}
-use Rattle.vt_objects.proofs.Stored.{absent, placed, within_place, id_at_place, got_none, got_some, stored_set, wrote_in, kept_in}
+use Rattle.vt_objects.proofs.Stored.{absent, placed, within_place, got_none, got_some, stored_set, wrote_in, kept_in}
 use Rattle.vt_objects.proofs.sorted_store.SortedStoreStore.get_mut.Goals as goal
 
 pub invariant_of-self-lent : goal.invariant_of-self-lent

@@ -5,6 +5,6 @@ use Rattle.vt_verify.specs.TriggerGraphs.{listed_events}
 use Rattle.vt_verify.specs.Reports.{count_line, event_line}
 use Rattle.vt_verify.proofs.accepted.Accepted.text.Given as goal
 
-abbrev pub invariant-loop-group : goal.invariant-loop-group
-invariant-loop-group l =
-    l.text.items ≡ count_line (length l.self) ++ flat_map (event_line (shape_of l.self)) (take l.group (listed_events (shape_of l.self)))
+abbrev pub invariant-loop-place : goal.invariant-loop-place
+invariant-loop-place l =
+    l.text.items ≡ count_line (length l.self) ++ flat_map (event_line (shape_of l.self)) (take l.place (listed_events (shape_of l.self)))

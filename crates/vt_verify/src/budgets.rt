@@ -1,0 +1,39 @@
+//! What the events of a pool can cost.
+
+ghost use Rattle.std.specs.Prelude.{◌≡◌, IfOk};
+ghost use Rattle.vt_rank.specs.Costs.{AreCosts};
+ghost use Rattle.vt_verify.specs.Shapes.{Shape};
+ghost use Rattle.vt_verify.specs.TriggerGraphs.{AreTriggers};
+ghost use Rattle.vt_verify.specs.Budgets.{AreBudgets};
+
+use crate::listing::Listing;
+use crate::triggers::Triggers;
+use indexmap::IndexSet;
+use std::alloc::{AllocError, Global};
+use vt_rank::Costs;
+
+/// The events at which macros run, and how many steps each can cost, at its place.
+#[derive(Drop)]
+pub(crate) struct Budgets {
+    pub(crate) events: IndexSet<Listing>,
+    pub(crate) steps: Vec<u32>,
+}
+
+impl Budgets {
+    /// The budgets of the events of a graph. The graph is let go: it takes several times the bytes of the macros.
+    pub(crate) fn of_triggers(
+        alloc: Global,
+        triggers: Triggers,
+        costs: &Costs,
+    ) -> Result<Budgets, AllocError>
+        requires { AreCosts triggers.graph costs.now }
+        ensures { IfOk result (λ budgets. (shape : Shape) → AreTriggers shape triggers.events.keys triggers.graph → AreBudgets shape budgets.events.keys budgets.steps.items) }
+    {
+        let Triggers { events, graph } = triggers;
+        let mut steps = Vec::with_capacity(alloc, events.len())?;
+        for group in 0..events.len() {
+            steps.push(costs.group(&graph, group))?;
+        }
+        Ok(Budgets { events, steps })
+    }
+}

@@ -1,0 +1,56 @@
+//! The order of macros by their ranks.
+
+ghost use Rattle.std.specs.Prelude.{◌≡◌, ◌++◌, IfOk, OnOk};
+ghost use Rattle.vt_objects.specs.Records.{seen};
+ghost use Rattle.vt_rank.specs.Paths.{AreRanks};
+ghost use Rattle.vt_verify.specs.Shapes.{shape_of, fixed};
+ghost use Rattle.vt_verify.specs.Triggers.{run_by_name};
+ghost use Rattle.vt_verify.specs.TriggerGraphs.{AreTriggers};
+ghost use Rattle.vt_verify.specs.Orders.{named_macros, IsByRank};
+
+use crate::commands::named_macro;
+use crate::triggers::Triggers;
+use std::alloc::{AllocError, Global};
+use vt_objects::{Object, ObjectId, SortedStore};
+use vt_rank::Ranks;
+
+/// The macros that can be named, each after those that it triggers.
+pub(crate) fn by_rank(
+    alloc: Global,
+    objects: &SortedStore,
+    triggers: &Triggers,
+    ranks: &Ranks,
+) -> Result<Vec<u8>, AllocError>
+    requires triggers { AreTriggers (shape_of objects.now) triggers.now.events.keys triggers.now.graph }
+    requires ranks { AreRanks triggers.now.graph ranks.now }
+    ensures { IfOk result (λ order. IsByRank (shape_of objects.now) order.items) }
+{
+    let mut order = macros(alloc, objects)?;
+    order.sort_unstable_by_key(|id| ranks.of(*id));
+    Ok(order)
+}
+
+/// The macros that can be named, by rising ID.
+fn macros(alloc: Global, objects: &SortedStore) -> Result<Vec<u8>, AllocError>
+    ensures { IfOk result (λ macros. macros.items ≡ named_macros (shape_of objects.now)) }
+{
+    let mut macros = Vec::new(alloc);
+    for (id, object) in objects.entries() {
+        put_macro(&mut macros, *id, object)?;
+    }
+    Ok(macros)
+}
+
+/// Appends the ID of a macro, if it is one that can be named.
+pub(crate) fn put_macro(
+    macros: &mut Vec<u8>,
+    id: ObjectId,
+    object: &Object<Vec<u8>>,
+) -> Result<(), AllocError>
+    ensures { OnOk result (macros.new.items ≡ macros.old.items ++ run_by_name id (fixed (seen object.now))) }
+{
+    if named_macro(id, object).is_some() {
+        macros.push(id.raw() as u8)?;
+    }
+    Ok(())
+}
