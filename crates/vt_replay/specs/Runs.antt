@@ -27,7 +27,7 @@ use Rattle.vt_replay.specs.declared.program.Status.TheVariants as status
 use Rattle.vt_replay.specs.Replays.{IsReplay, HasLongLine}
 use Rattle.vt_replay.specs.Words.{IsRefusalOf, WordsGive}
 use Rattle.vt_server.specs.Parts.{Preloads}
-use Rattle.vt_server.specs.Terminals.{State, take}
+use Rattle.vt_server.specs.Terminals.{State, after_act}
 
 -- the bytes of the file under each path, where they are known
 abbrev pub Files : Type 0
@@ -71,7 +71,7 @@ new_state own name = record {
 pub record IsLoaded (files : Files) (p : Preload) (before after : State) : Type 0 where
   pub objects : Contents
   pub pool : IfSome (files p.pool.now) (λ bytes. IsAcceptedPoolOf bytes objects)
-  pub state : after ≡ take before p.owner (Preloads objects)
+  pub state : after ≡ after_act before p.owner (Preloads objects)
 
 abbrev pub IsPreloaded : Files → Option Preload → State → State → Type 0
 IsPreloaded files None before after = after ≡ before

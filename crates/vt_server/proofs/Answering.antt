@@ -9,9 +9,9 @@ use Rattle.vt_server.specs.declared.bus.Notice.TheVariants.{Message}
 use Rattle.vt_server.specs.declared.hiding.HideRefusal.{HideRefusal}
 use Rattle.vt_server.specs.Hiding.{hide_effect, after_effect, error_of, error_byte, reply_bytes, DoneAs}
 use Rattle.vt_server.specs.Messages.{message_to, technical_reply}
-use Rattle.vt_server.specs.Parts.{Part, After, Hears, unchanged, local, hide_show_in, after_command, after_message, after_reply}
-use Rattle.vt_server.specs.Terminals.{State, part, put, take, with_pool_at}
-use Rattle.vt_server.proofs.Puts.{put-kept, sets-same, pools-twice, take-is}
+use Rattle.vt_server.specs.Parts.{Part, Outcome, Hears, unchanged, outcome, hide_show_in, after_command, after_message, after_reply}
+use Rattle.vt_server.specs.Terminals.{State, part, put, after_act, with_pool_at}
+use Rattle.vt_server.proofs.Puts.{put-kept, sets-same, pools-twice, act-is}
 
 pub done_error : {X : Type 0} (r : Result (Unit {0}) HideRefusal) (e : Result X HideRefusal) → DoneAs r e → error_of r ≡ error_of e
 done_error (Ok done) (Ok x) is = refl
@@ -21,8 +21,8 @@ done_error (Err refusal) (Err other) is = ap error_byte is
 
 -- ---- what is answered
 
-abbrev pub reply : State → ℕ → List ℕ → After
-reply s a bytes = local a (part a s) (Hears Message bytes)
+abbrev pub reply : State → ℕ → List ℕ → Outcome
+reply s a bytes = outcome a (part a s) (Hears Message bytes)
 
 no_set : (s : State) (a : ℕ) (bytes : List ℕ) (o : Option Set) → false ≡ is_some o → after_message a (part a s) bytes o ≡ unchanged (part a s)
 no_set s a bytes None none = refl
@@ -81,21 +81,21 @@ module _ (s : State) (a : ℕ) (bytes : List ℕ) (id state : ℕ) (some : true 
   shown-is = reply-commanded s a bytes some (Some (id, state)) none is ∙ commanded-is (part a s) a id state (s.pools a) refl
 
   pub shown-state : (pools : ℕ → Option Contents) → pools ≡ with_pool_at a (shown_pool id state (s.pools a)) s.pools
-      → record s { pools = pools } ≡ take s a (Hears Message bytes)
+      → record s { pools = pools } ≡ after_act s a (Hears Message bytes)
   shown-state pools e =
       put-pool s a (shown_pool id state (s.pools a)) (reply s a bytes).frames pools e
       ∙ (λ i. put a (record { set = (sym shown-is i).set; pool = (sym shown-is i).pool; frames = (reply s a bytes).frames }) s)
-      ∙ sym (take-is s a (Hears Message bytes))
+      ∙ sym (act-is s a (Hears Message bytes))
 
   pub shown-frames : (error : Option ℕ) → error ≡ shown_error id state (s.pools a)
       → option_to_list (option_map (λ (e : ℕ). message_to s.claims.own a (reply_bytes id state e)) error) ≡ (reply s a bytes).frames
   shown-frames error e =
       ap (λ (o : Option ℕ). option_to_list (option_map (λ (x : ℕ). message_to s.claims.own a (reply_bytes id state x)) o)) e
-      ∙ sym (ap (λ (t : After). t.frames) shown-is)
+      ∙ sym (ap (λ (t : Outcome). t.frames) shown-is)
 
 -- what a message leaves that doesn't change the part
-pub kept-state : (s : State) (a : ℕ) (bytes : List ℕ) → (reply s a bytes).set ≡ set_at a s.sets → (reply s a bytes).pool ≡ s.pools a → s ≡ take s a (Hears Message bytes)
-kept-state s a bytes e f = sym (take-is s a (Hears Message bytes) ∙ put-kept a s (reply s a bytes) e f)
+pub kept-state : (s : State) (a : ℕ) (bytes : List ℕ) → (reply s a bytes).set ≡ set_at a s.sets → (reply s a bytes).pool ≡ s.pools a → s ≡ after_act s a (Hears Message bytes)
+kept-state s a bytes e f = sym (act-is s a (Hears Message bytes) ∙ put-kept a s (reply s a bytes) e f)
 
 -- a pool that was taken out and put again
 pub pool-again : (pools taken put_again : ℕ → Option Contents) (a id state : ℕ) (old new : Contents) → Some old ≡ pools a → taken ≡ with_pool_at a None pools

@@ -4,8 +4,8 @@ use Rattle.vt_can.specs.frames.Frame.{source_of}
 use Rattle.vt_can.specs.declared.frames.frame.Frame.{Frame}
 use Rattle.vt_names.specs.Claims.{Claim, Claimed, HoldersAreLeast, IsHolder, after_claims, heard, holder_of}
 use Rattle.vt_names.specs.declared.claims.Heard.TheVariants as claims
-use Rattle.vt_server.specs.Bus.{said}
-use Rattle.vt_server.specs.Terminals.{State, before, hear_claim, acts, no_step, losing, acting, step_said, is_lost_by, answer_to}
+use Rattle.vt_server.specs.Bus.{notice_of}
+use Rattle.vt_server.specs.Terminals.{State, before, hear_claim, acts, no_step, losing, acting, step_notice, is_lost_by, answer_to}
 use Rattle.vt_server.specs.States.{step, after_all}
 use Rattle.vt_server.specs.ClaimsHeard.{claim_of, takes_address, claims_heard, HoldersOfRuns}
 use Rattle.vt_server.specs.declared.bus.Notice.{Notice}
@@ -13,13 +13,13 @@ use Rattle.vt_server.specs.declared.bus.Notice.TheVariants.{ClaimRequest, Master
 use Rattle.vt_server.specs.declared.bus.Notice.TheVariants as notices
 use Rattle.vt_server.specs.declared.input.Input.{Input}
 use Rattle.vt_server.specs.declared.input.Input.TheVariants as inputs
-use Rattle.vt_server.proofs.Steps.{claims-takes, lost-takes}
+use Rattle.vt_server.proofs.Steps.{claims-acts, lost-acts}
 
 -- ---- after the loss nothing changes
 
 lost-step : (s : State) (i : Input) → s.lost ≡ true → (step s i).after ≡ s
 lost-step s (inputs.Frame time f) lost =
-    let m = said s.claims.own s.claims.name f in
+    let m = notice_of s.claims.own s.claims.name f in
     ap (λ b. (cond b (no_step s) (cond (is_lost_by (answer_to s (source_of f) m)) (losing s) (acting s (source_of f) m f.bytes.items))).after) lost
 lost-step s (inputs.Operator action) lost = refl
 
@@ -71,8 +71,8 @@ run-frame own name earlier s f xs m true is has rest =
 run-frame own name earlier s f xs m false is has rest =
     let t = before s (source_of f) m in
     rest (acting s (source_of f) m f.bytes.items).after
-    (claims-takes t (acts s (source_of f) m f.bytes.items) ∙ heard-is own name earlier s (source_of f) m is)
-    (lost-takes t (acts s (source_of f) m f.bytes.items) ∙ has)
+    (claims-acts t (acts s (source_of f) m f.bytes.items) ∙ heard-is own name earlier s (source_of f) m is)
+    (lost-acts t (acts s (source_of f) m f.bytes.items) ∙ has)
 
 run-claims : (own name : ℕ) (earlier : List Claim) (s : State) (xs : List Input) → s.claims ≡ kept-by own name earlier → s.lost ≡ false
     → (after_all s xs).claims.addresses ≡ after_claims (claims_heard own name earlier xs)
@@ -81,12 +81,12 @@ run-claims own name earlier s [] is has = ap (λ (c : Claimed). c.addresses) is
 run-claims own name earlier s (inputs.Operator action ∷ xs) is has = run-claims own name earlier s xs is has
 run-claims own name earlier s (inputs.Frame time f ∷ xs) is has =
     let source = source_of f in
-    let m = said own name f in
+    let m = notice_of own name f in
     let rest = λ (t : State). run-claims own name (claim_of source m ++ earlier) t xs in
-    let same : said s.claims.own s.claims.name f ≡ m = ap (λ (c : Claimed). said c.own c.name f) is in
+    let same : notice_of s.claims.own s.claims.name f ≡ m = ap (λ (c : Claimed). notice_of c.own c.name f) is in
     let gone : is_lost_by (answer_to s source m) ≡ takes_address own name source m =
     loss-is s source m ∙ ap (λ (c : Claimed). takes_address c.own c.name source m) is in
-    ap (λ (n : Notice). (after_all (step_said s source n f.bytes.items).after xs).claims.addresses) same
+    ap (λ (n : Notice). (after_all (step_notice s source n f.bytes.items).after xs).claims.addresses) same
     ∙ ap (λ b. (after_all (cond b (no_step s) (cond (is_lost_by (answer_to s source m)) (losing s) (acting s source m f.bytes.items))).after xs).claims.addresses) has
     ∙ ap (λ b. (after_all (cond b (losing s) (acting s source m f.bytes.items)).after xs).claims.addresses) gone
     ∙ run-frame own name earlier s f xs m (takes_address own name source m) is has rest

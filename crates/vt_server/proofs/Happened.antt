@@ -5,19 +5,19 @@ use Rattle.std.specs.Option.{option_eq}
 use Rattle.vt_can.specs.declared.frames.frame.Frame.{Frame}
 use Rattle.vt_can.specs.frames.Frame.{source_of}
 use Rattle.vt_names.specs.Claims.{Claimed, IsRising, OtherHoldersStay, address_of}
-use Rattle.vt_server.specs.Bus.{said, said_by, unless_echo}
+use Rattle.vt_server.specs.Bus.{notice_of, frame_notice, unless_echo}
 use Rattle.vt_server.specs.Messages.{claim_from}
-use Rattle.vt_server.specs.Parts.{Part, Local, Hears, Rebinds, Preloads, local}
-use Rattle.vt_server.specs.Terminals.{State, Step, holder, part, takes, says, to_all, before, hear_claim, changed, left_by, changes, changes_by, acts, no_step, losing, acting, step_frame, is_lost_by, is_defended, answer_to, defence}
+use Rattle.vt_server.specs.Parts.{Part, Act, Hears, Rebinds, Preloads, outcome}
+use Rattle.vt_server.specs.Terminals.{State, Step, holder, part, after_acts, sent_by_acts, to_all, before, hear_claim, changed, left_by, changes, changes_by, acts, no_step, losing, acting, step_frame, is_lost_by, is_defended, answer_to, defence}
 use Rattle.vt_server.specs.States.{step, after_all, sent_by_all}
-use Rattle.vt_server.specs.Happenings.{Happening, Heard, HolderIs, Lost, Preloaded, Own, without_effect, own_after, with_holder, own, own_while, owns, owns_frames, loses, holder_change, heard_from, happenings, happenings_all, frames_to, IsOrderly, EachTakesItsOwn, OwnHappeningsDecide}
+use Rattle.vt_server.specs.Happenings.{Happening, FrameHeard, HolderIs, Lost, Preloaded, Response, without_effect, response_of, with_holder, response, response_while, part_after_all, frames_of_all, loses, holder_change, heard_from, happenings, happenings_all, frames_to, IsOrderly, EachTakesItsOwn, OwnHappeningsDecide}
 use Rattle.vt_server.specs.declared.bus.Notice.{Notice}
 use Rattle.vt_server.specs.declared.bus.Notice.TheVariants.{Claim, ClaimRequest, Master, Member, Message, Nothing}
 use Rattle.vt_server.specs.declared.input.Input.{Input}
 use Rattle.vt_server.specs.declared.input.Input.TheVariants as inputs
 use Rattle.vt_server.proofs.Puts.{by_eq, some-is, none-some}
-use Rattle.vt_server.proofs.Steps.{claims-takes}
-use Rattle.vt_server.proofs.Own.{of, turns, turns_frames, of-append, part-take, part-take_other, part-takes, frames-says, frames-append}
+use Rattle.vt_server.proofs.Steps.{claims-acts}
+use Rattle.vt_server.proofs.Own.{of, turns, turns_frames, of-append, part-act, part-take_other, part-acts, frames-sent_by, frames-append}
 
 option-same : (o : Option ℕ) → option_eq eqb o o ≡ true
 option-same None = refl
@@ -31,10 +31,10 @@ option-true (Some x) (Some y) e = ap Some (eqb-true x y e)
 
 -- ---- the changes of holders at one address
 
-abbrev change : Option ℕ → Option ℕ → List Local
+abbrev change : Option ℕ → Option ℕ → List Act
 change was now = cond (option_eq nat_eq was now) [] (Rebinds ∷ [])
 
-none-either : (b : Bool) → ◌≡◌ {A = List Local} [] (cond b [] [])
+none-either : (b : Bool) → ◌≡◌ {A = List Act} [] (cond b [] [])
 none-either true = refl
 none-either false = refl
 
@@ -94,19 +94,19 @@ module _ (law : OtherHoldersStay) (s : State) (orderly : IsOrderly s) (a source 
 
 -- ---- a happening while the terminal has its address, and after the loss
 
-own-has : (a : ℕ) (p : Part) (h : Happening) → p.lost ≡ false → own a p h ≡ own_while a p h
-own-has a p h has = ap (λ b. cond b (without_effect p) (own_while a p h)) has
+response-has : (a : ℕ) (p : Part) (h : Happening) → p.lost ≡ false → response a p h ≡ response_while a p h
+response-has a p h has = ap (λ b. cond b (without_effect p) (response_while a p h)) has
 
-own-lost : (a : ℕ) (p : Part) (h : Happening) → p.lost ≡ true → own a p h ≡ without_effect p
-own-lost a p h lost = ap (λ b. cond b (without_effect p) (own_while a p h)) lost
+response-lost : (a : ℕ) (p : Part) (h : Happening) → p.lost ≡ true → response a p h ≡ without_effect p
+response-lost a p h lost = ap (λ b. cond b (without_effect p) (response_while a p h)) lost
 
-lost-part : (a : ℕ) (p : Part) (hs : List Happening) → p.lost ≡ true → owns a p hs ≡ p
+lost-part : (a : ℕ) (p : Part) (hs : List Happening) → p.lost ≡ true → part_after_all a p hs ≡ p
 lost-part a p [] lost = refl
-lost-part a p (h ∷ hs) lost = ap (λ (o : Own). owns a o.part hs) (own-lost a p h lost) ∙ lost-part a p hs lost
+lost-part a p (h ∷ hs) lost = ap (λ (o : Response). part_after_all a o.part hs) (response-lost a p h lost) ∙ lost-part a p hs lost
 
-lost-frames : (a : ℕ) (p : Part) (hs : List Happening) → p.lost ≡ true → owns_frames a p hs ≡ []
+lost-frames : (a : ℕ) (p : Part) (hs : List Happening) → p.lost ≡ true → frames_of_all a p hs ≡ []
 lost-frames a p [] lost = refl
-lost-frames a p (h ∷ hs) lost = ap (λ (o : Own). o.frames ++ owns_frames a o.part hs) (own-lost a p h lost) ∙ lost-frames a p hs lost
+lost-frames a p (h ∷ hs) lost = ap (λ (o : Response). o.frames ++ frames_of_all a o.part hs) (response-lost a p h lost) ∙ lost-frames a p hs lost
 
 defended : (b : Bool) (a : ℕ) (frame : Frame) → frames_to a (cond b (to_all frame ∷ []) []) ≡ []
 defended true a frame = refl
@@ -116,7 +116,7 @@ defended false a frame = refl
 
 module _ (law : OtherHoldersStay) (a : ℕ) (s : State) (f : Frame) (orderly : IsOrderly s) (apart : a ≢ s.claims.own) where
   abbrev m : Notice
-  m = said s.claims.own s.claims.name f
+  m = notice_of s.claims.own s.claims.name f
 
   abbrev bytes : List ℕ
   bytes = f.bytes.items
@@ -124,21 +124,21 @@ module _ (law : OtherHoldersStay) (a : ℕ) (s : State) (f : Frame) (orderly : I
   abbrev source : ℕ
   source = source_of f
 
-  said-there : source ≡ a → m ≡ said_by s.claims.own f
-  said-there is = ap (λ b. cond b (unless_echo s.claims.name (said_by s.claims.own f)) (said_by s.claims.own f)) (ne_eqb source s.claims.own (λ h. apart (sym is ∙ h)))
+  notice-there : source ≡ a → m ≡ frame_notice s.claims.own f
+  notice-there is = ap (λ b. cond b (unless_echo s.claims.name (frame_notice s.claims.own f)) (frame_notice s.claims.own f)) (ne_eqb source s.claims.own (λ h. apart (sym is ∙ h)))
 
   -- the frame alone, from the address or from another
 
   module _ (p : Part) (has : p.lost ≡ false) (own-is : p.own ≡ s.claims.own) where
-    heard-own : source ≡ a → own a p (Heard f) ≡ own_after p (local a p (Hears m bytes))
-    heard-own is = own-has a p (Heard f) has ∙ ap (λ (n : Notice). own_after p (local a p (Hears n bytes))) (ap (λ o. said_by o f) own-is ∙ sym (said-there is))
+    heard-response : source ≡ a → response a p (FrameHeard f) ≡ response_of p (outcome a p (Hears m bytes))
+    heard-response is = response-has a p (FrameHeard f) has ∙ ap (λ (n : Notice). response_of p (outcome a p (Hears n bytes))) (ap (λ o. frame_notice o f) own-is ∙ sym (notice-there is))
 
-    heard-part : (b : Bool) → eqb source a ≡ b → turns a p (cond b (Hears m bytes ∷ []) []) ≡ owns a p (cond b (Heard f ∷ []) [])
-    heard-part true e = sym (ap (λ (o : Own). o.part) (heard-own (eqb-true source a e)))
+    heard-part : (b : Bool) → eqb source a ≡ b → turns a p (cond b (Hears m bytes ∷ []) []) ≡ part_after_all a p (cond b (FrameHeard f ∷ []) [])
+    heard-part true e = sym (ap (λ (o : Response). o.part) (heard-response (eqb-true source a e)))
     heard-part false e = refl
 
-    heard-frames : (b : Bool) → eqb source a ≡ b → turns_frames a p (cond b (Hears m bytes ∷ []) []) ≡ owns_frames a p (cond b (Heard f ∷ []) [])
-    heard-frames true e = sym (ap (λ (o : Own). o.frames ++ []) (heard-own (eqb-true source a e)))
+    heard-frames : (b : Bool) → eqb source a ≡ b → turns_frames a p (cond b (Hears m bytes ∷ []) []) ≡ frames_of_all a p (cond b (FrameHeard f ∷ []) [])
+    heard-frames true e = sym (ap (λ (o : Response). o.frames ++ []) (heard-response (eqb-true source a e)))
     heard-frames false e = refl
 
   module _ (has : s.lost ≡ false) where
@@ -146,21 +146,21 @@ module _ (law : OtherHoldersStay) (a : ℕ) (s : State) (f : Frame) (orderly : I
 
     changed-part : (same : Bool) (name : Option ℕ) → (same ≡ true → with_holder (part a s) name ≡ part a s)
         → turns a (with_holder (part a s) name) (cond same [] (Rebinds ∷ []) ++ cond (eqb source a) (Hears m bytes ∷ []) [])
-        ≡ owns a (part a s) (cond same [] (HolderIs name ∷ []) ++ heard_from a f)
+        ≡ part_after_all a (part a s) (cond same [] (HolderIs name ∷ []) ++ heard_from a f)
     changed-part true name stays =
         ap (λ q. turns a q (cond (eqb source a) (Hears m bytes ∷ []) [])) (stays refl) ∙ heard-part (part a s) has refl (eqb source a) refl
     changed-part false name stays =
-        heard-part (own_while a (part a s) (HolderIs name)).part has refl (eqb source a) refl
-        ∙ sym (ap (λ (o : Own). owns a o.part (heard_from a f)) (own-has a (part a s) (HolderIs name) has))
+        heard-part (response_while a (part a s) (HolderIs name)).part has refl (eqb source a) refl
+        ∙ sym (ap (λ (o : Response). part_after_all a o.part (heard_from a f)) (response-has a (part a s) (HolderIs name) has))
 
     changed-frames : (same : Bool) (name : Option ℕ) → (same ≡ true → with_holder (part a s) name ≡ part a s)
         → turns_frames a (with_holder (part a s) name) (cond same [] (Rebinds ∷ []) ++ cond (eqb source a) (Hears m bytes ∷ []) [])
-        ≡ owns_frames a (part a s) (cond same [] (HolderIs name ∷ []) ++ heard_from a f)
+        ≡ frames_of_all a (part a s) (cond same [] (HolderIs name ∷ []) ++ heard_from a f)
     changed-frames true name stays =
         ap (λ q. turns_frames a q (cond (eqb source a) (Hears m bytes ∷ []) [])) (stays refl) ∙ heard-frames (part a s) has refl (eqb source a) refl
     changed-frames false name stays =
-        ap (λ l. (own_while a (part a s) (HolderIs name)).frames ++ l) (heard-frames (own_while a (part a s) (HolderIs name)).part has refl (eqb source a) refl)
-        ∙ sym (ap (λ (o : Own). o.frames ++ owns_frames a o.part (heard_from a f)) (own-has a (part a s) (HolderIs name) has))
+        ap (λ l. (response_while a (part a s) (HolderIs name)).frames ++ l) (heard-frames (response_while a (part a s) (HolderIs name)).part has refl (eqb source a) refl)
+        ∙ sym (ap (λ (o : Response). o.frames ++ frames_of_all a o.part (heard_from a f)) (response-has a (part a s) (HolderIs name) has))
 
     stays-held : (t : State) → option_eq nat_eq (holder s a) (holder t a) ≡ true → with_holder (part a s) (holder t a) ≡ part a s
     stays-held t same = ap (with_holder (part a s)) (sym (option-true (holder s a) (holder t a) same))
@@ -177,40 +177,40 @@ module _ (law : OtherHoldersStay) (a : ℕ) (s : State) (f : Frame) (orderly : I
         ∙ (λ i. of-changes law s orderly a source name i ++ cond (eqb source a) (Hears (sym is i) bytes ∷ []) [])
 
     acting-claim : (name : ℕ) → m ≡ Claim name
-        → (part a (acting s source (Claim name) bytes).after ≡ owns a (part a s) (by_notice (Claim name)))
-        × (frames_to a (acting s source (Claim name) bytes).sent ≡ owns_frames a (part a s) (by_notice (Claim name)))
+        → (part a (acting s source (Claim name) bytes).after ≡ part_after_all a (part a s) (by_notice (Claim name)))
+        × (frames_to a (acting s source (Claim name) bytes).sent ≡ frames_of_all a (part a s) (by_notice (Claim name)))
     acting-claim name is =
         let t = before s source (Claim name) in
         let happened = of-claim name is in (
-          part-takes a t (acts s source (Claim name) bytes) ∙ ap (turns a (part a t)) happened
+          part-acts a t (acts s source (Claim name) bytes) ∙ ap (turns a (part a t)) happened
               ∙ changed-part (option_eq nat_eq (holder s a) (holder t a)) (holder t a) (stays-held t),
-          frames-append a (defence s source (Claim name)) (says t (acts s source (Claim name) bytes))
-              ∙ ap (λ l. l ++ frames_to a (says t (acts s source (Claim name) bytes))) (defended (is_defended (Claim name) (answer_to s source (Claim name))) a (claim_from s.claims.own s.claims.name))
-              ∙ frames-says a t (acts s source (Claim name) bytes) ∙ ap (turns_frames a (part a t)) happened
+          frames-append a (defence s source (Claim name)) (sent_by_acts t (acts s source (Claim name) bytes))
+              ∙ ap (λ l. l ++ frames_to a (sent_by_acts t (acts s source (Claim name) bytes))) (defended (is_defended (Claim name) (answer_to s source (Claim name))) a (claim_from s.claims.own s.claims.name))
+              ∙ frames-sent_by a t (acts s source (Claim name) bytes) ∙ ap (turns_frames a (part a t)) happened
               ∙ changed-frames (option_eq nat_eq (holder s a) (holder t a)) (holder t a) (stays-held t),
         )
 
     quiet : (n : Notice) → m ≡ n → before s source n ≡ s → changes s source n ≡ []
-        → (part a (acting s source n bytes).after ≡ owns a (part a s) (by_notice n))
-        × (frames_to a (acting s source n bytes).sent ≡ owns_frames a (part a s) (by_notice n))
+        → (part a (acting s source n bytes).after ≡ part_after_all a (part a s) (by_notice n))
+        × (frames_to a (acting s source n bytes).sent ≡ frames_of_all a (part a s) (by_notice n))
     quiet n is same none =
         let happened : by_notice n ≡ heard_from a f =
         ap (λ (t : State). holder_change a s.claims t.claims ++ heard_from a f) same
         ∙ ap (λ b. cond b [] (HolderIs (holder s a) ∷ []) ++ heard_from a f) (option-same (holder s a)) in
-        let happens : List (ℕ × Local) = (source, Hears n bytes) ∷ [] in
+        let happens : List (ℕ × Act) = (source, Hears n bytes) ∷ [] in
         let alike : of a happens ≡ cond (eqb source a) (Hears m bytes ∷ []) [] = (λ i. cond (eqb source a) (Hears (sym is i) bytes ∷ []) []) in (
-          (λ i. part a (takes (same i) (none i ++ happens))) ∙ part-takes a s happens ∙ ap (turns a (part a s)) alike
-              ∙ heard-part (part a s) has refl (eqb source a) refl ∙ sym (ap (owns a (part a s)) happened),
-          (λ i. frames_to a (defence s source n ++ says (same i) (none i ++ happens)))
-              ∙ frames-append a (defence s source n) (says s happens)
-              ∙ ap (λ l. l ++ frames_to a (says s happens)) (defended (is_defended n (answer_to s source n)) a (claim_from s.claims.own s.claims.name))
-              ∙ frames-says a s happens ∙ ap (turns_frames a (part a s)) alike
-              ∙ heard-frames (part a s) has refl (eqb source a) refl ∙ sym (ap (owns_frames a (part a s)) happened),
+          (λ i. part a (after_acts (same i) (none i ++ happens))) ∙ part-acts a s happens ∙ ap (turns a (part a s)) alike
+              ∙ heard-part (part a s) has refl (eqb source a) refl ∙ sym (ap (part_after_all a (part a s)) happened),
+          (λ i. frames_to a (defence s source n ++ sent_by_acts (same i) (none i ++ happens)))
+              ∙ frames-append a (defence s source n) (sent_by_acts s happens)
+              ∙ ap (λ l. l ++ frames_to a (sent_by_acts s happens)) (defended (is_defended n (answer_to s source n)) a (claim_from s.claims.own s.claims.name))
+              ∙ frames-sent_by a s happens ∙ ap (turns_frames a (part a s)) alike
+              ∙ heard-frames (part a s) has refl (eqb source a) refl ∙ sym (ap (frames_of_all a (part a s)) happened),
         )
 
     acting-notice : (n : Notice) → m ≡ n
-        → (part a (acting s source n bytes).after ≡ owns a (part a s) (by_notice n))
-        × (frames_to a (acting s source n bytes).sent ≡ owns_frames a (part a s) (by_notice n))
+        → (part a (acting s source n bytes).after ≡ part_after_all a (part a s) (by_notice n))
+        × (frames_to a (acting s source n bytes).sent ≡ frames_of_all a (part a s) (by_notice n))
     acting-notice (Claim name) is = acting-claim name is
     acting-notice ClaimRequest is = quiet ClaimRequest is refl refl
     acting-notice (Master count) is = quiet (Master count) is refl refl
@@ -229,38 +229,38 @@ module _ (law : OtherHoldersStay) (a : ℕ) (s : State) (f : Frame) (orderly : I
   abbrev happened : Bool → Bool → List Happening
   happened lost gone = cond lost [] (cond gone (Lost ∷ []) []) ++ later lost gone ++ heard_from a f
 
-  gone-part : s.lost ≡ false → owns a (part a s) (happened false true) ≡ record (part a s) { lost = true }
+  gone-part : s.lost ≡ false → part_after_all a (part a s) (happened false true) ≡ record (part a s) { lost = true }
   gone-part has =
-      ap (λ (o : Own). owns a o.part (later false true ++ heard_from a f)) (own-has a (part a s) Lost has)
+      ap (λ (o : Response). part_after_all a o.part (later false true ++ heard_from a f)) (response-has a (part a s) Lost has)
       ∙ lost-part a (record (part a s) { lost = true }) (later false true ++ heard_from a f) refl
 
-  gone-frames : s.lost ≡ false → owns_frames a (part a s) (happened false true) ≡ []
+  gone-frames : s.lost ≡ false → frames_of_all a (part a s) (happened false true) ≡ []
   gone-frames has =
-      ap (λ (o : Own). o.frames ++ owns_frames a o.part (later false true ++ heard_from a f)) (own-has a (part a s) Lost has)
+      ap (λ (o : Response). o.frames ++ frames_of_all a o.part (later false true ++ heard_from a f)) (response-has a (part a s) Lost has)
       ∙ lost-frames a (record (part a s) { lost = true }) (later false true ++ heard_from a f) refl
 
-  part-cases : (lost gone : Bool) → s.lost ≡ lost → part a (result lost gone).after ≡ owns a (part a s) (happened lost gone)
+  part-cases : (lost gone : Bool) → s.lost ≡ lost → part a (result lost gone).after ≡ part_after_all a (part a s) (happened lost gone)
   part-cases true gone is = sym (lost-part a (part a s) (happened true gone) is)
   part-cases false true is = sym (gone-part is)
   part-cases false false is = (acting-notice is m refl).0
 
-  frames-cases : (lost gone : Bool) → s.lost ≡ lost → frames_to a (result lost gone).sent ≡ owns_frames a (part a s) (happened lost gone)
+  frames-cases : (lost gone : Bool) → s.lost ≡ lost → frames_to a (result lost gone).sent ≡ frames_of_all a (part a s) (happened lost gone)
   frames-cases true gone is = sym (lost-frames a (part a s) (happened true gone) is)
   frames-cases false true is = sym (gone-frames is)
   frames-cases false false is = (acting-notice is m refl).1
 
-  pub part-frame : part a (step_frame s f).after ≡ owns a (part a s) (happened s.lost (loses s f))
+  pub part-frame : part a (step_frame s f).after ≡ part_after_all a (part a s) (happened s.lost (loses s f))
   part-frame = part-cases s.lost (loses s f) refl
 
-  pub frames-frame : frames_to a (step_frame s f).sent ≡ owns_frames a (part a s) (happened s.lost (loses s f))
+  pub frames-frame : frames_to a (step_frame s f).sent ≡ frames_of_all a (part a s) (happened s.lost (loses s f))
   frames-frame = frames-cases s.lost (loses s f) refl
 
-pub part-step : OtherHoldersStay → (a : ℕ) (s : State) (i : Input) → IsOrderly s → a ≢ s.claims.own → part a (step s i).after ≡ owns a (part a s) (happenings a s i)
+pub part-step : OtherHoldersStay → (a : ℕ) (s : State) (i : Input) → IsOrderly s → a ≢ s.claims.own → part a (step s i).after ≡ part_after_all a (part a s) (happenings a s i)
 part-step law a s (inputs.Frame time f) orderly apart = part-frame law a s f orderly apart
 part-step law a s (inputs.Operator action) orderly apart = refl
 
 pub frames-step : OtherHoldersStay → (a : ℕ) (s : State) (i : Input) → IsOrderly s → a ≢ s.claims.own
-    → frames_to a (step s i).sent ≡ owns_frames a (part a s) (happenings a s i)
+    → frames_to a (step s i).sent ≡ frames_of_all a (part a s) (happenings a s i)
 frames-step law a s (inputs.Frame time f) orderly apart = frames-frame law a s f orderly apart
 frames-step law a s (inputs.Operator action) orderly apart = refl
 
@@ -268,13 +268,13 @@ pub each : OtherHoldersStay → EachTakesItsOwn
 each law = record {
   part_after = part-step law;
   frames_after = frames-step law;
-  preloaded = λ a s contents has. part-take a s (Preloads contents) ∙ sym (ap (λ (o : Own). o.part) (own-has a (part a s) (Preloaded contents) has));
+  preloaded = λ a s contents has. part-act a s (Preloads contents) ∙ sym (ap (λ (o : Response). o.part) (response-has a (part a s) (Preloaded contents) has));
   preloaded_elsewhere = λ a b s contents ne. part-take_other b a s (Preloads contents) ne;
 }
 
 -- ---- runs
 
-orderly-before : OtherHoldersStay → (s : State) (from : ℕ) (said : Notice) → IsOrderly s → IsOrderly (before s from said)
+orderly-before : OtherHoldersStay → (s : State) (from : ℕ) (notice : Notice) → IsOrderly s → IsOrderly (before s from notice)
 orderly-before law s from (Claim name) orderly = law.rising s.claims.addresses from name orderly
 orderly-before law s from ClaimRequest orderly = orderly
 orderly-before law s from (Master count) orderly = orderly
@@ -282,16 +282,16 @@ orderly-before law s from (Member name) orderly = orderly
 orderly-before law s from Message orderly = orderly
 orderly-before law s from Nothing orderly = orderly
 
-orderly-cases : OtherHoldersStay → (s : State) (from : ℕ) (said : Notice) (carried : List ℕ) (lost gone : Bool) → IsOrderly s
-    → IsOrderly (cond lost (no_step s) (cond gone (losing s) (acting s from said carried))).after
-orderly-cases law s from said carried true gone orderly = orderly
-orderly-cases law s from said carried false true orderly = orderly
-orderly-cases law s from said carried false false orderly =
-    subst (λ c. IsRising c.addresses) (sym (claims-takes (before s from said) (acts s from said carried))) (orderly-before law s from said orderly)
+orderly-cases : OtherHoldersStay → (s : State) (from : ℕ) (notice : Notice) (carried : List ℕ) (lost gone : Bool) → IsOrderly s
+    → IsOrderly (cond lost (no_step s) (cond gone (losing s) (acting s from notice carried))).after
+orderly-cases law s from notice carried true gone orderly = orderly
+orderly-cases law s from notice carried false true orderly = orderly
+orderly-cases law s from notice carried false false orderly =
+    subst (λ c. IsRising c.addresses) (sym (claims-acts (before s from notice) (acts s from notice carried))) (orderly-before law s from notice orderly)
 
 pub orderly-step : OtherHoldersStay → (s : State) (i : Input) → IsOrderly s → IsOrderly (step s i).after
 orderly-step law s (inputs.Frame time f) orderly =
-    let m = said s.claims.own s.claims.name f in
+    let m = notice_of s.claims.own s.claims.name f in
     orderly-cases law s (source_of f) m f.bytes.items s.lost (is_lost_by (answer_to s (source_of f) m)) orderly
 orderly-step law s (inputs.Operator action) orderly = orderly
 
@@ -308,43 +308,43 @@ own-cases : (s : State) (from : ℕ) (n : Notice) (carried : List ℕ) (lost gon
     → (cond lost (no_step s) (cond gone (losing s) (acting s from n carried))).after.claims.own ≡ s.claims.own
 own-cases s from n carried true gone = refl
 own-cases s from n carried false true = refl
-own-cases s from n carried false false = ap (λ (c : Claimed). c.own) (claims-takes (before s from n) (acts s from n carried)) ∙ own-before s from n
+own-cases s from n carried false false = ap (λ (c : Claimed). c.own) (claims-acts (before s from n) (acts s from n carried)) ∙ own-before s from n
 
 pub own-step : (s : State) (i : Input) → (step s i).after.claims.own ≡ s.claims.own
 own-step s (inputs.Frame time f) =
-    let m = said s.claims.own s.claims.name f in
+    let m = notice_of s.claims.own s.claims.name f in
     own-cases s (source_of f) m f.bytes.items s.lost (is_lost_by (answer_to s (source_of f) m))
 own-step s (inputs.Operator action) = refl
 
-owns-append : (a : ℕ) (p : Part) (xs ys : List Happening) → owns a p (xs ++ ys) ≡ owns a (owns a p xs) ys
-owns-append a p [] ys = refl
-owns-append a p (x ∷ xs) ys = owns-append a (own a p x).part xs ys
+responses-append : (a : ℕ) (p : Part) (xs ys : List Happening) → part_after_all a p (xs ++ ys) ≡ part_after_all a (part_after_all a p xs) ys
+responses-append a p [] ys = refl
+responses-append a p (x ∷ xs) ys = responses-append a (response a p x).part xs ys
 
-frames-owns : (a : ℕ) (p : Part) (xs ys : List Happening) → owns_frames a p (xs ++ ys) ≡ owns_frames a p xs ++ owns_frames a (owns a p xs) ys
-frames-owns a p [] ys = refl
-frames-owns a p (x ∷ xs) ys =
-    ap (λ l. (own a p x).frames ++ l) (frames-owns a (own a p x).part xs ys)
-    ∙ sym (append_assoc (own a p x).frames (owns_frames a (own a p x).part xs) (owns_frames a (owns a (own a p x).part xs) ys))
+frames-responses : (a : ℕ) (p : Part) (xs ys : List Happening) → frames_of_all a p (xs ++ ys) ≡ frames_of_all a p xs ++ frames_of_all a (part_after_all a p xs) ys
+frames-responses a p [] ys = refl
+frames-responses a p (x ∷ xs) ys =
+    ap (λ l. (response a p x).frames ++ l) (frames-responses a (response a p x).part xs ys)
+    ∙ sym (append_assoc (response a p x).frames (frames_of_all a (response a p x).part xs) (frames_of_all a (part_after_all a (response a p x).part xs) ys))
 
-part-all : OtherHoldersStay → (a : ℕ) (s : State) (xs : List Input) → IsOrderly s → a ≢ s.claims.own → part a (after_all s xs) ≡ owns a (part a s) (happenings_all a s xs)
+part-all : OtherHoldersStay → (a : ℕ) (s : State) (xs : List Input) → IsOrderly s → a ≢ s.claims.own → part a (after_all s xs) ≡ part_after_all a (part a s) (happenings_all a s xs)
 part-all law a s [] orderly apart = refl
 part-all law a s (i ∷ xs) orderly apart =
     part-all law a (step s i).after xs (orderly-step law s i orderly) (λ h. apart (h ∙ own-step s i))
-    ∙ ap (λ p. owns a p (happenings_all a (step s i).after xs)) (part-step law a s i orderly apart)
-    ∙ sym (owns-append a (part a s) (happenings a s i) (happenings_all a (step s i).after xs))
+    ∙ ap (λ p. part_after_all a p (happenings_all a (step s i).after xs)) (part-step law a s i orderly apart)
+    ∙ sym (responses-append a (part a s) (happenings a s i) (happenings_all a (step s i).after xs))
 
 frames-all : OtherHoldersStay → (a : ℕ) (s : State) (xs : List Input) → IsOrderly s → a ≢ s.claims.own
-    → frames_to a (sent_by_all s xs) ≡ owns_frames a (part a s) (happenings_all a s xs)
+    → frames_to a (sent_by_all s xs) ≡ frames_of_all a (part a s) (happenings_all a s xs)
 frames-all law a s [] orderly apart = refl
 frames-all law a s (i ∷ xs) orderly apart =
     let later = happenings_all a (step s i).after xs in
     frames-append a (step s i).sent (sent_by_all (step s i).after xs)
     ∙ (λ j. frames-step law a s i orderly apart j ++ frames-all law a (step s i).after xs (orderly-step law s i orderly) (λ h. apart (h ∙ own-step s i)) j)
-    ∙ ap (λ p. owns_frames a (part a s) (happenings a s i) ++ owns_frames a p later) (part-step law a s i orderly apart)
-    ∙ sym (frames-owns a (part a s) (happenings a s i) later)
+    ∙ ap (λ p. frames_of_all a (part a s) (happenings a s i) ++ frames_of_all a p later) (part-step law a s i orderly apart)
+    ∙ sym (frames-responses a (part a s) (happenings a s i) later)
 
 pub decide : OtherHoldersStay → OwnHappeningsDecide
 decide law a s t xs ys here there apart other same happened = (
-  part-all law a s xs here apart ∙ (λ i. owns a (same i) (happened i)) ∙ sym (part-all law a t ys there other),
-  frames-all law a s xs here apart ∙ (λ i. owns_frames a (same i) (happened i)) ∙ sym (frames-all law a t ys there other),
+  part-all law a s xs here apart ∙ (λ i. part_after_all a (same i) (happened i)) ∙ sym (part-all law a t ys there other),
+  frames-all law a s xs here apart ∙ (λ i. frames_of_all a (same i) (happened i)) ∙ sym (frames-all law a t ys there other),
 )

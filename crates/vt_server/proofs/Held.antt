@@ -6,15 +6,15 @@ use Rattle.vt_names.specs.Registry.{Set, set_at, has_place, joined}
 use Rattle.vt_objects.specs.Stores.{Contents}
 use Rattle.vt_objects.specs.Commands.{command_at}
 use Rattle.vt_server.specs.Messages.{technical_reply}
-use Rattle.vt_server.specs.Parts.{Part, Preloads, unchanged, without_set, local_said, after_change, with_holder_name, after_claim_heard, after_master, after_member, hide_show_in, after_command, after_reply, after_message}
-use Rattle.vt_server.specs.Terminals.{State, holder, part, take}
-use Rattle.vt_server.specs.Happenings.{Happening, Heard, HolderIs, Lost, Preloaded, Own, without_effect, with_holder, own, own_while, owns, happenings, NameIsHeld, SetIsHeld, SetsHoldTheirAddress}
+use Rattle.vt_server.specs.Parts.{Part, Preloads, unchanged, without_set, outcome_of_notice, after_change, with_holder_name, after_claim_heard, after_master, after_member, hide_show_in, after_command, after_reply, after_message}
+use Rattle.vt_server.specs.Terminals.{State, holder, part, after_act}
+use Rattle.vt_server.specs.Happenings.{Happening, FrameHeard, HolderIs, Lost, Preloaded, Response, without_effect, with_holder, response, response_while, part_after_all, happenings, NameIsHeld, SetIsHeld, SetsHoldTheirAddress}
 use Rattle.vt_server.specs.declared.bus.Notice.{Notice}
 use Rattle.vt_server.specs.declared.bus.Notice.TheVariants.{Claim, ClaimRequest, Master, Member, Message, Nothing}
 use Rattle.vt_server.proofs.Happened.{option-true, part-step, orderly-step, own-step}
-use Rattle.vt_server.proofs.Own.{part-take, part-take_other}
-use Rattle.vt_server.proofs.Puts.{by_eq, take-is}
-use Rattle.vt_server.specs.Bus.{said_by}
+use Rattle.vt_server.proofs.Own.{part-act, part-take_other}
+use Rattle.vt_server.proofs.Puts.{by_eq, act-is}
+use Rattle.vt_server.specs.Bus.{frame_notice}
 
 -- ---- a frame from the address
 
@@ -54,13 +54,13 @@ message-held : (a : ℕ) (p : Part) (bytes : List ℕ) (o : Option Set) → SetI
 message-held a p bytes None has = has
 message-held a p bytes (Some set) has = technical-held a p bytes (technical_reply bytes) has
 
-said-held : (a : ℕ) (p : Part) (said : Notice) (bytes : List ℕ) → SetIsHeld p.set p.holder → SetIsHeld (local_said a p said bytes).set p.holder
-said-held a p (Claim name) bytes has = claim-held p p.set has has
-said-held a p ClaimRequest bytes has = has
-said-held a p (Master count) bytes has = master-held a p p.holder count refl has
-said-held a p (Member name) bytes has = member-held p p.set name has has
-said-held a p Message bytes has = message-held a p bytes p.set has
-said-held a p Nothing bytes has = has
+notice-held : (a : ℕ) (p : Part) (notice : Notice) (bytes : List ℕ) → SetIsHeld p.set p.holder → SetIsHeld (outcome_of_notice a p notice bytes).set p.holder
+notice-held a p (Claim name) bytes has = claim-held p p.set has has
+notice-held a p ClaimRequest bytes has = has
+notice-held a p (Master count) bytes has = master-held a p p.holder count refl has
+notice-held a p (Member name) bytes has = member-held p p.set name has has
+notice-held a p Message bytes has = message-held a p bytes p.set has
+notice-held a p Nothing bytes has = has
 
 -- ---- another holder
 
@@ -79,23 +79,23 @@ rebound-held p (Some set) is = kept-held p set (option_eq nat_eq set.name None |
 
 -- ---- every happening, and every step
 
-while-held : (a : ℕ) (p : Part) (h : Happening) → SetIsHeld p.set p.holder → SetIsHeld (own_while a p h).part.set (own_while a p h).part.holder
-while-held a p (Heard f) has = said-held a p (said_by p.own f) f.bytes.items has
+while-held : (a : ℕ) (p : Part) (h : Happening) → SetIsHeld p.set p.holder → SetIsHeld (response_while a p h).part.set (response_while a p h).part.holder
+while-held a p (FrameHeard f) has = notice-held a p (frame_notice p.own f) f.bytes.items has
 while-held a p (HolderIs name) has = rebound-held (with_holder p name) p.set refl
 while-held a p Lost has = has
 while-held a p (Preloaded contents) has = tt
 
-lost-held : (b : Bool) (p : Part) (o : Own) → SetIsHeld p.set p.holder → SetIsHeld o.part.set o.part.holder
+lost-held : (b : Bool) (p : Part) (o : Response) → SetIsHeld p.set p.holder → SetIsHeld o.part.set o.part.holder
     → SetIsHeld (cond b (without_effect p) o).part.set (cond b (without_effect p) o).part.holder
 lost-held true p o has its = has
 lost-held false p o has its = its
 
-own-held : (a : ℕ) (p : Part) (h : Happening) → SetIsHeld p.set p.holder → SetIsHeld (own a p h).part.set (own a p h).part.holder
-own-held a p h has = lost-held p.lost p (own_while a p h) has (while-held a p h has)
+response-held : (a : ℕ) (p : Part) (h : Happening) → SetIsHeld p.set p.holder → SetIsHeld (response a p h).part.set (response a p h).part.holder
+response-held a p h has = lost-held p.lost p (response_while a p h) has (while-held a p h has)
 
-owns-held : (a : ℕ) (p : Part) (hs : List Happening) → SetIsHeld p.set p.holder → SetIsHeld (owns a p hs).set (owns a p hs).holder
-owns-held a p [] has = has
-owns-held a p (h ∷ hs) has = owns-held a (own a p h).part hs (own-held a p h has)
+responses-held : (a : ℕ) (p : Part) (hs : List Happening) → SetIsHeld p.set p.holder → SetIsHeld (part_after_all a p hs).set (part_after_all a p hs).holder
+responses-held a p [] has = has
+responses-held a p (h ∷ hs) has = responses-held a (response a p h).part hs (response-held a p h has)
 
 none-held : (o : Option Set) (holder : Option ℕ) → o ≡ None → SetIsHeld o holder
 none-held o holder none = subst (λ p. SetIsHeld p holder) (sym none) tt
@@ -104,12 +104,12 @@ pub held : OtherHoldersStay → SetsHoldTheirAddress
 held law = record {
   first = λ s none a _. none-held (set_at a s.sets) (holder s a) (ap (set_at a) none);
   preloaded = λ a s contents has b apart. by_eq b a
-      (λ is. subst (λ x. SetIsHeld (part x (take s a (Preloads contents))).set (part x (take s a (Preloads contents))).holder) (sym is)
-      (subst (λ (p : Part). SetIsHeld p.set p.holder) (sym (part-take a s (Preloads contents))) tt))
+      (λ is. subst (λ x. SetIsHeld (part x (after_act s a (Preloads contents))).set (part x (after_act s a (Preloads contents))).holder) (sym is)
+      (subst (λ (p : Part). SetIsHeld p.set p.holder) (sym (part-act a s (Preloads contents))) tt))
       (λ ne. subst (λ (p : Part). SetIsHeld p.set p.holder) (sym (part-take_other b a s (Preloads contents) ne))
-      (has b (λ h. apart (h ∙ sym (ap (λ (x : State). x.claims.own) (take-is s a (Preloads contents)))))));
+      (has b (λ h. apart (h ∙ sym (ap (λ (x : State). x.claims.own) (act-is s a (Preloads contents)))))));
   kept = λ s i orderly has a apart.
       let there = λ (h : a ≡ s.claims.own). apart (h ∙ sym (own-step s i)) in
-      subst (λ (p : Part). SetIsHeld p.set p.holder) (sym (part-step law a s i orderly there)) (owns-held a (part a s) (happenings a s i) (has a there));
+      subst (λ (p : Part). SetIsHeld p.set p.holder) (sym (part-step law a s i orderly there)) (responses-held a (part a s) (happenings a s i) (has a there));
   orderly = orderly-step law;
 }

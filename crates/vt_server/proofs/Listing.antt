@@ -4,15 +4,15 @@ use Rattle.std.specs.List.{filter, AllByRecursion}
 use Rattle.std.specs.Option.{option_eq}
 use Rattle.vt_names.specs.Claims.{Claimed, OtherHoldersStay, address_of}
 use Rattle.vt_names.specs.Registry.{Set, set_at, with_set, without}
-use Rattle.vt_server.specs.Parts.{Local, Hears, Rebinds, unchanged, without_set, with_holder_name, after_change, after_claim_heard}
-use Rattle.vt_server.specs.Terminals.{State, holder, part, take, takes, before, changed, changed_left, left_holder, left_by, changes_by, acts, acting, with_set_at}
+use Rattle.vt_server.specs.Parts.{Act, Hears, Rebinds, unchanged, without_set, with_holder_name, after_change, after_claim_heard}
+use Rattle.vt_server.specs.Terminals.{State, holder, part, after_act, after_acts, before, changed, changed_left, left_holder, left_by, changes_by, acts, acting, with_set_at}
 use Rattle.vt_server.specs.Happenings.{IsOrderly, NameIsHeld, SetIsHeld}
 use Rattle.vt_server.specs.SetLists.{AreApart, stays, named_at}
 use Rattle.vt_server.specs.declared.bus.Notice.TheVariants.{Claim}
 use Rattle.vt_server.proofs.Happened.{option-true}
 use Rattle.vt_server.proofs.Own.{named-address}
-use Rattle.vt_server.proofs.Puts.{by_eq, some-is, none-some, set_at-first, set_at-later, set_at-address, with_set-first, with_set-later, without-first, without-later, sets-same, none-same, take-is, takes-append}
-use Rattle.vt_server.proofs.Steps.{claims-takes, changed-same}
+use Rattle.vt_server.proofs.Puts.{by_eq, some-is, none-some, set_at-first, set_at-later, set_at-address, with_set-first, with_set-later, without-first, without-later, sets-same, none-same, act-is, acts-append}
+use Rattle.vt_server.proofs.Steps.{claims-acts, changed-same}
 
 -- ---- lists of sets that are tested, and changed
 
@@ -178,19 +178,19 @@ module _ (u : State) (a : ℕ) (apart : AreApart u.sets) where
       ∙ ap (λ b. cond b u.sets (without a u.sets))
       (stays-name x.name (holder u x.address) (subst (NameIsHeld x.name) (same ∙ ap (holder u) (sym (set_at-address a x u.sets e))) held)))
 
-  changed-list : (was : Option ℕ) → SetIsHeld (set_at a u.sets) was → (takes u (changed was u a)).sets ≡ filter (only_at a (stays u)) u.sets
+  changed-list : (was : Option ℕ) → SetIsHeld (set_at a u.sets) was → (after_acts u (changed was u a)).sets ≡ filter (only_at a (stays u)) u.sets
   changed-list was held = cases (option_eq nat_eq was (holder u a)) refl
     where
-      cases : (b : Bool) → option_eq nat_eq was (holder u a) ≡ b → (takes u (cond b [] ((a, Rebinds) ∷ []))).sets ≡ filter (only_at a (stays u)) u.sets
+      cases : (b : Bool) → option_eq nat_eq was (holder u a) ≡ b → (after_acts u (cond b [] ((a, Rebinds) ∷ []))).sets ≡ filter (only_at a (stays u)) u.sets
       cases true e = stays-all was (set_at a u.sets) refl held (option-true was (holder u a) e)
-      cases false e = ap (λ (s : State). s.sets) (take-is u a Rebinds) ∙ rebound-is (set_at a u.sets) refl
+      cases false e = ap (λ (s : State). s.sets) (act-is u a Rebinds) ∙ rebound-is (set_at a u.sets) refl
 
   bound-is : (o : Option Set) → set_at a u.sets ≡ o → with_set_at a (after_claim_heard (part a u) o).set u.sets ≡ map (named_at u a) u.sets
   bound-is None e = sets-same a u.sets (set_at a u.sets) refl ∙ sym (map-none a (λ x. with_holder_name x x.name (holder u a)) u.sets e)
   bound-is (Some x) e = sym (map-some a (λ x. with_holder_name x x.name (holder u a)) u.sets x (λ y. named-address y y.name (holder u a)) e apart)
 
-  claim-list : (name : ℕ) (bytes : List ℕ) → (take u a (Hears (Claim name) bytes)).sets ≡ map (named_at u a) u.sets
-  claim-list name bytes = ap (λ (s : State). s.sets) (take-is u a (Hears (Claim name) bytes)) ∙ bound-is (set_at a u.sets) refl
+  claim-list : (name : ℕ) (bytes : List ℕ) → (after_act u a (Hears (Claim name) bytes)).sets ≡ map (named_at u a) u.sets
+  claim-list name bytes = ap (λ (s : State). s.sets) (act-is u a (Hears (Claim name) bytes)) ∙ bound-is (set_at a u.sets) refl
 
 -- ---- a claim
 
@@ -216,15 +216,15 @@ module _ (law : OtherHoldersStay) (s : State) (orderly : IsOrderly s) (source na
   module _ (left : Option ℕ) (elsewhere : (l : ℕ) → left ≡ Some l → l ≢ source)
       (others : (q : ℕ) → q ≢ source → left ≢ Some q → address_of s.claims.addresses name ≢ Some q) where
     abbrev u : State
-    u = takes t (changed_left (left_holder s left) t left)
+    u = after_acts t (changed_left (left_holder s left) t left)
 
     u-claims : u.claims ≡ t.claims
-    u-claims = claims-takes t (changed_left (left_holder s left) t left)
+    u-claims = claims-acts t (changed_left (left_holder s left) t left)
 
     left-list : u.sets ≡ filter (left_test left) s.sets
     left-list = cases left
       where
-        cases : (o : Option ℕ) → (takes t (changed_left (left_holder s o) t o)).sets ≡ filter (left_test o) s.sets
+        cases : (o : Option ℕ) → (after_acts t (changed_left (left_holder s o) t o)).sets ≡ filter (left_test o) s.sets
         cases None = sym (filter-all s.sets)
         cases (Some l) = changed-list t l apart (holder s l) (held l)
 
@@ -239,14 +239,14 @@ module _ (law : OtherHoldersStay) (s : State) (orderly : IsOrderly s) (source na
     u-apart = subst AreApart (sym left-list) (apart-filter (left_test left) s.sets apart)
 
     abbrev v : State
-    v = takes u (changed (holder s source) t source)
+    v = after_acts u (changed (holder s source) t source)
 
     v-claims : v.claims ≡ t.claims
-    v-claims = claims-takes u (changed (holder s source) t source) ∙ u-claims
+    v-claims = claims-acts u (changed (holder s source) t source) ∙ u-claims
 
     v-list : v.sets ≡ filter (only_at source (stays t)) (filter (left_test left) s.sets)
     v-list =
-        ap (λ (hs : List (ℕ × Local)). (takes u hs).sets) (changed-same (holder s source) t u source (sym u-claims))
+        ap (λ (hs : List (ℕ × Act)). (after_acts u hs).sets) (changed-same (holder s source) t u source (sym u-claims))
         ∙ changed-list u source u-apart (holder s source)
         (subst (λ o. SetIsHeld o (holder s source)) (sym (ap (set_at source) left-list ∙ source-stays)) (held source))
         ∙ ap (λ (c : Claimed). filter (only_at source (stays (record t { claims = c }))) u.sets) u-claims
@@ -290,27 +290,27 @@ module _ (law : OtherHoldersStay) (s : State) (orderly : IsOrderly s) (source na
     whole-list : v.sets ≡ filter (stays t) s.sets
     whole-list = v-list ∙ filter-twice (left_test left) (only_at source (stays t)) (stays t) s.sets (all s.sets apart held)
 
-    claimed-list : (bytes : List ℕ) → (takes t (changes_by s t left source ++ (source, Hears (Claim name) bytes) ∷ [])).sets
+    claimed-list : (bytes : List ℕ) → (after_acts t (changes_by s t left source ++ (source, Hears (Claim name) bytes) ∷ [])).sets
         ≡ map (named_at t source) (filter (stays t) s.sets)
     claimed-list bytes =
-        ap (λ (x : State). x.sets) (takes-append t (changes_by s t left source) ((source, Hears (Claim name) bytes) ∷ []))
-        ∙ ap (λ (x : State). (take x source (Hears (Claim name) bytes)).sets)
-        (takes-append t (changed_left (left_holder s left) t left) (changed (holder s source) t source))
+        ap (λ (x : State). x.sets) (acts-append t (changes_by s t left source) ((source, Hears (Claim name) bytes) ∷ []))
+        ∙ ap (λ (x : State). (after_act x source (Hears (Claim name) bytes)).sets)
+        (acts-append t (changed_left (left_holder s left) t left) (changed (holder s source) t source))
         ∙ claim-list v source (subst AreApart (sym whole-list) (apart-filter (stays t) s.sets apart)) name bytes
         ∙ ap (λ (c : Claimed). map (named_at (record t { claims = c }) source) v.sets) v-claims
         ∙ ap (map (named_at t source)) whole-list
 
   by-left : (o : Option ℕ) → address_of s.claims.addresses name ≡ o → (bytes : List ℕ)
-      → (takes t (changes_by s t (left_by source o) source ++ (source, Hears (Claim name) bytes) ∷ [])).sets
+      → (after_acts t (changes_by s t (left_by source o) source ++ (source, Hears (Claim name) bytes) ∷ [])).sets
       ≡ map (named_at t source) (filter (stays t) s.sets)
   by-left None e bytes = claimed-list None (λ l h. none-some h) (λ q ne _. λ h. none-some (sym e ∙ h)) bytes
   by-left (Some l) e bytes =
       by_eq l source
       (λ is.
-      ap (λ b. (takes t (changes_by s t (cond b None (Some l)) source ++ (source, Hears (Claim name) bytes) ∷ [])).sets) (eq-eqb l source is)
+      ap (λ b. (after_acts t (changes_by s t (cond b None (Some l)) source ++ (source, Hears (Claim name) bytes) ∷ [])).sets) (eq-eqb l source is)
       ∙ claimed-list None (λ k h. none-some h) (λ q ne _. λ h. ne (sym (some-is l q (sym e ∙ h)) ∙ is)) bytes)
       (λ ne.
-      ap (λ b. (takes t (changes_by s t (cond b None (Some l)) source ++ (source, Hears (Claim name) bytes) ∷ [])).sets) (ne_eqb l source ne)
+      ap (λ b. (after_acts t (changes_by s t (cond b None (Some l)) source ++ (source, Hears (Claim name) bytes) ∷ [])).sets) (ne_eqb l source ne)
       ∙ claimed-list (Some l) (λ k h. λ at. ne (some-is l k h ∙ at)) (λ q _ other. λ h. other (sym e ∙ h)) bytes)
 
   pub claim-closes : (bytes : List ℕ) → let after = (acting s source (Claim name) bytes).after in
@@ -318,7 +318,7 @@ module _ (law : OtherHoldersStay) (s : State) (orderly : IsOrderly s) (source na
   claim-closes bytes =
       by-left (address_of s.claims.addresses name) refl bytes
       ∙ ap (λ (c : Claimed). map (named_at (record t { claims = c }) source) (filter (stays (record t { claims = c })) s.sets))
-      (sym (claims-takes t (acts s source (Claim name) bytes)))
+      (sym (claims-acts t (acts s source (Claim name) bytes)))
 
 -- ---- nothing is found where nothing was, and sets stay apart
 

@@ -6,12 +6,12 @@ use Rattle.vt_names.specs.Registry.{Set, set_at, with_set, without, has_place, j
 use Rattle.vt_objects.specs.Stores.{Contents}
 use Rattle.vt_objects.specs.Commands.{command_at}
 use Rattle.vt_server.specs.Messages.{technical_reply}
-use Rattle.vt_server.specs.Parts.{Part, Local, Hears, Rebinds, Preloads, unchanged, without_set, local, local_said, after_change, with_holder_name, after_claim_heard, after_master, after_member, hide_show_in, after_command, after_reply, after_message}
-use Rattle.vt_server.specs.Terminals.{State, Sent, part, take, takes, say, says, to_one, with_set_at}
-use Rattle.vt_server.specs.Happenings.{own_after, frames_to}
+use Rattle.vt_server.specs.Parts.{Part, Act, Hears, Rebinds, Preloads, unchanged, without_set, outcome, outcome_of_notice, after_change, with_holder_name, after_claim_heard, after_master, after_member, hide_show_in, after_command, after_reply, after_message}
+use Rattle.vt_server.specs.Terminals.{State, Sent, part, after_act, after_acts, sent_by_act, sent_by_acts, to_one, with_set_at}
+use Rattle.vt_server.specs.Happenings.{response_of, frames_to}
 use Rattle.vt_server.specs.declared.bus.Notice.{Notice}
 use Rattle.vt_server.specs.declared.bus.Notice.TheVariants.{Claim, ClaimRequest, Master, Member, Message, Nothing}
-use Rattle.vt_server.proofs.Puts.{by_eq, set_at-first, set_at-later, set_at-address, with_set-first, with_set-later, without-first, without-later, take-is, say-is}
+use Rattle.vt_server.proofs.Puts.{by_eq, set_at-first, set_at-later, set_at-address, with_set-first, with_set-later, without-first, without-later, act-is, sent_by_one-is}
 
 -- ---- the address of the set stays
 
@@ -70,18 +70,18 @@ message-address : (a : ℕ) (p : Part) (bytes : List ℕ) (o : Option Set) → H
 message-address a p bytes None has = has
 message-address a p bytes (Some set) has = technical-address a p bytes (technical_reply bytes) has
 
-said-address : (a : ℕ) (p : Part) (said : Notice) (bytes : List ℕ) → HasAddress a p.set → HasAddress a (local_said a p said bytes).set
-said-address a p (Claim name) bytes has = claim-address a p p.set has has
-said-address a p ClaimRequest bytes has = has
-said-address a p (Master count) bytes has = master-address a p p.holder count has
-said-address a p (Member name) bytes has = member-address a p p.set name has has
-said-address a p Message bytes has = message-address a p bytes p.set has
-said-address a p Nothing bytes has = has
+notice-address : (a : ℕ) (p : Part) (notice : Notice) (bytes : List ℕ) → HasAddress a p.set → HasAddress a (outcome_of_notice a p notice bytes).set
+notice-address a p (Claim name) bytes has = claim-address a p p.set has has
+notice-address a p ClaimRequest bytes has = has
+notice-address a p (Master count) bytes has = master-address a p p.holder count has
+notice-address a p (Member name) bytes has = member-address a p p.set name has has
+notice-address a p Message bytes has = message-address a p bytes p.set has
+notice-address a p Nothing bytes has = has
 
-pub local-address : (a : ℕ) (p : Part) (h : Local) → HasAddress a p.set → HasAddress a (local a p h).set
-local-address a p (Hears said bytes) has = said-address a p said bytes has
-local-address a p Rebinds has = rebound-address a p p.set has
-local-address a p (Preloads contents) has = refl
+pub outcome-address : (a : ℕ) (p : Part) (h : Act) → HasAddress a p.set → HasAddress a (outcome a p h).set
+outcome-address a p (Hears notice bytes) has = notice-address a p notice bytes has
+outcome-address a p Rebinds has = rebound-address a p p.set has
+outcome-address a p (Preloads contents) has = refl
 
 -- ---- a set that was written, there and elsewhere
 
@@ -131,21 +131,21 @@ at-put_other a b (Some x) sets has ne = at-with_other a x sets (λ h. ne (sym h 
 
 -- ---- the part
 
-pub part-take : (a : ℕ) (s : State) (h : Local) → part a (take s a h) ≡ (own_after (part a s) (local a (part a s) h)).part
-part-take a s h =
-    let after = local a (part a s) h in
-    ap (part a) (take-is s a h)
+pub part-act : (a : ℕ) (s : State) (h : Act) → part a (after_act s a h) ≡ (response_of (part a s) (outcome a (part a s) h)).part
+part-act a s h =
+    let after = outcome a (part a s) h in
+    ap (part a) (act-is s a h)
     ∙ (λ i. record (part a s) {
-      set = at-put a after.set s.sets (local-address a (part a s) h (part-address a s)) i;
+      set = at-put a after.set s.sets (outcome-address a (part a s) h (part-address a s)) i;
       pool = ap (λ b. cond b after.pool (s.pools a)) (eq-eqb a a refl) i;
     })
 
-pub part-take_other : (a b : ℕ) (s : State) (h : Local) → a ≢ b → part a (take s b h) ≡ part a s
+pub part-take_other : (a b : ℕ) (s : State) (h : Act) → a ≢ b → part a (after_act s b h) ≡ part a s
 part-take_other a b s h ne =
-    let after = local b (part b s) h in
-    ap (part a) (take-is s b h)
+    let after = outcome b (part b s) h in
+    ap (part a) (act-is s b h)
     ∙ (λ i. record (part a s) {
-      set = at-put_other a b after.set s.sets (local-address b (part b s) h (part-address b s)) ne i;
+      set = at-put_other a b after.set s.sets (outcome-address b (part b s) h (part-address b s)) ne i;
       pool = ap (λ c. cond c after.pool (s.pools a)) (ne_eqb a b ne) i;
     })
 
@@ -174,19 +174,19 @@ frames-other a b (f ∷ frames) ne =
 
 -- ---- what happens there among all that happens
 
-abbrev pub of : ℕ → List (ℕ × Local) → List Local
+abbrev pub of : ℕ → List (ℕ × Act) → List Act
 of a [] = []
 of a (h ∷ hs) = cond (eqb h.0 a) (h.1 ∷ of a hs) (of a hs)
 
-abbrev pub turns : ℕ → Part → List Local → Part
+abbrev pub turns : ℕ → Part → List Act → Part
 turns a p [] = p
-turns a p (h ∷ hs) = turns a (own_after p (local a p h)).part hs
+turns a p (h ∷ hs) = turns a (response_of p (outcome a p h)).part hs
 
-abbrev pub turns_frames : ℕ → Part → List Local → List Frame
+abbrev pub turns_frames : ℕ → Part → List Act → List Frame
 turns_frames a p [] = []
-turns_frames a p (h ∷ hs) = (local a p h).frames ++ turns_frames a (own_after p (local a p h)).part hs
+turns_frames a p (h ∷ hs) = (outcome a p h).frames ++ turns_frames a (response_of p (outcome a p h)).part hs
 
-pub of-append : (a : ℕ) (xs ys : List (ℕ × Local)) → of a (xs ++ ys) ≡ of a xs ++ of a ys
+pub of-append : (a : ℕ) (xs ys : List (ℕ × Act)) → of a (xs ++ ys) ≡ of a xs ++ of a ys
 of-append a [] ys = refl
 of-append a (x ∷ xs) ys = cases (eqb x.0 a) (of-append a xs ys)
   where
@@ -194,32 +194,32 @@ of-append a (x ∷ xs) ys = cases (eqb x.0 a) (of-append a xs ys)
     cases true rest = ap (λ l. x.1 ∷ l) rest
     cases false rest = rest
 
-pub part-takes : (a : ℕ) (s : State) (hs : List (ℕ × Local)) → part a (takes s hs) ≡ turns a (part a s) (of a hs)
-part-takes a s [] = refl
-part-takes a s (h ∷ hs) =
-    let rest = part-takes a (take s h.0 h.1) hs in
+pub part-acts : (a : ℕ) (s : State) (hs : List (ℕ × Act)) → part a (after_acts s hs) ≡ turns a (part a s) (of a hs)
+part-acts a s [] = refl
+part-acts a s (h ∷ hs) =
+    let rest = part-acts a (after_act s h.0 h.1) hs in
     by_eq h.0 a
     (λ is.
-    rest ∙ ap (λ p. turns a p (of a hs)) (ap (λ b. part a (take s b h.1)) is ∙ part-take a s h.1)
+    rest ∙ ap (λ p. turns a p (of a hs)) (ap (λ b. part a (after_act s b h.1)) is ∙ part-act a s h.1)
     ∙ sym (ap (λ b. turns a (part a s) (cond b (h.1 ∷ of a hs) (of a hs))) (eq-eqb h.0 a is)))
     (λ ne.
     rest ∙ ap (λ p. turns a p (of a hs)) (part-take_other a h.0 s h.1 (λ e. ne (sym e)))
     ∙ sym (ap (λ b. turns a (part a s) (cond b (h.1 ∷ of a hs) (of a hs))) (ne_eqb h.0 a ne)))
 
-pub frames-says : (a : ℕ) (s : State) (hs : List (ℕ × Local)) → frames_to a (says s hs) ≡ turns_frames a (part a s) (of a hs)
-frames-says a s [] = refl
-frames-says a s (h ∷ hs) =
-    let rest = frames-says a (take s h.0 h.1) hs in
-    let first = local h.0 (part h.0 s) h.1 in
-    frames-append a (say s h.0 h.1) (says (take s h.0 h.1) hs)
+pub frames-sent_by : (a : ℕ) (s : State) (hs : List (ℕ × Act)) → frames_to a (sent_by_acts s hs) ≡ turns_frames a (part a s) (of a hs)
+frames-sent_by a s [] = refl
+frames-sent_by a s (h ∷ hs) =
+    let rest = frames-sent_by a (after_act s h.0 h.1) hs in
+    let first = outcome h.0 (part h.0 s) h.1 in
+    frames-append a (sent_by_act s h.0 h.1) (sent_by_acts (after_act s h.0 h.1) hs)
     ∙ by_eq h.0 a
     (λ is.
-    (λ i. frames_to a (say s (is i) h.1) ++ frames_to a (says (take s h.0 h.1) hs))
-    ∙ ap (λ l. l ++ frames_to a (says (take s h.0 h.1) hs)) (ap (frames_to a) (say-is s a h.1) ∙ frames-own a (local a (part a s) h.1).frames)
-    ∙ ap (λ l. (local a (part a s) h.1).frames ++ l)
-    (rest ∙ ap (λ p. turns_frames a p (of a hs)) (ap (λ b. part a (take s b h.1)) is ∙ part-take a s h.1))
+    (λ i. frames_to a (sent_by_act s (is i) h.1) ++ frames_to a (sent_by_acts (after_act s h.0 h.1) hs))
+    ∙ ap (λ l. l ++ frames_to a (sent_by_acts (after_act s h.0 h.1) hs)) (ap (frames_to a) (sent_by_one-is s a h.1) ∙ frames-own a (outcome a (part a s) h.1).frames)
+    ∙ ap (λ l. (outcome a (part a s) h.1).frames ++ l)
+    (rest ∙ ap (λ p. turns_frames a p (of a hs)) (ap (λ b. part a (after_act s b h.1)) is ∙ part-act a s h.1))
     ∙ sym (ap (λ b. turns_frames a (part a s) (cond b (h.1 ∷ of a hs) (of a hs))) (eq-eqb h.0 a is)))
     (λ ne.
-    ap (λ l. l ++ frames_to a (says (take s h.0 h.1) hs)) (ap (frames_to a) (say-is s h.0 h.1) ∙ frames-other a h.0 first.frames (λ e. ne (sym e)))
+    ap (λ l. l ++ frames_to a (sent_by_acts (after_act s h.0 h.1) hs)) (ap (frames_to a) (sent_by_one-is s h.0 h.1) ∙ frames-other a h.0 first.frames (λ e. ne (sym e)))
     ∙ rest ∙ ap (λ p. turns_frames a p (of a hs)) (part-take_other a h.0 s h.1 (λ e. ne (sym e)))
     ∙ sym (ap (λ b. turns_frames a (part a s) (cond b (h.1 ∷ of a hs) (of a hs))) (ne_eqb h.0 a ne)))

@@ -6,8 +6,8 @@ use Rattle.std.proofs.Math.ListN.{get_or-eq_default}
 use Rattle.vt_objects.specs.declared.sorted_store.SortedStore.{SortedStore}
 use Rattle.vt_objects.specs.Stores.{Contents, map_of}
 use Rattle.vt_names.specs.Registry.{Set, set_at, with_set, without}
-use Rattle.vt_server.specs.Parts.{After, Local, unchanged, local}
-use Rattle.vt_server.specs.Terminals.{State, to_one, part, put, take, takes, say, with_set_at, with_pool_at}
+use Rattle.vt_server.specs.Parts.{Outcome, Act, unchanged, outcome}
+use Rattle.vt_server.specs.Terminals.{State, to_one, part, put, after_act, after_acts, sent_by_act, with_set_at, with_pool_at}
 
 pub by_eq : {P : Type 0} (x y : ℕ) → (x ≡ y → P) → (x ≢ y → P) → P
 by_eq {P} x y same other = cases (eqb x y) refl
@@ -115,23 +115,23 @@ no-pools places long empty address = elim (cases_lt address (length places)) as 
 pub state_is : (s : State) (sets : List Set) (pools : ℕ → Option Contents) → sets ≡ s.sets → pools ≡ s.pools → record s { sets = sets; pools = pools } ≡ s
 state_is s sets pools e f = λ i. record s { sets = e i; pools = f i }
 
-pub put-kept : (a : ℕ) (s : State) (after : After) → after.set ≡ set_at a s.sets → after.pool ≡ s.pools a → put a after s ≡ s
+pub put-kept : (a : ℕ) (s : State) (after : Outcome) → after.set ≡ set_at a s.sets → after.pool ≡ s.pools a → put a after s ≡ s
 put-kept a s after e f =
     state_is s (with_set_at a after.set s.sets) (with_pool_at a after.pool s.pools)
     (sets-same a s.sets after.set (sym e)) (pools-same a s.pools after.pool (sym f))
 
-pub take-is : (s : State) (a : ℕ) (h : Local) → take s a h ≡ put a (local a (part a s) h) s
-unfolding take
-take-is s a h = refl
+pub act-is : (s : State) (a : ℕ) (h : Act) → after_act s a h ≡ put a (outcome a (part a s) h) s
+unfolding after_act
+act-is s a h = refl
 
-pub say-is : (s : State) (a : ℕ) (h : Local) → say s a h ≡ map (to_one a) (local a (part a s) h).frames
-unfolding say
-say-is s a h = refl
+pub sent_by_one-is : (s : State) (a : ℕ) (h : Act) → sent_by_act s a h ≡ map (to_one a) (outcome a (part a s) h).frames
+unfolding sent_by_act
+sent_by_one-is s a h = refl
 
 -- nothing comes of what leaves the part as it was
-pub idle : (s : State) (a : ℕ) (h : Local) → local a (part a s) h ≡ unchanged (part a s) → take s a h ≡ s
-idle s a h e = take-is s a h ∙ ap (λ after. put a after s) e ∙ put-kept a s (unchanged (part a s)) refl refl
+pub idle : (s : State) (a : ℕ) (h : Act) → outcome a (part a s) h ≡ unchanged (part a s) → after_act s a h ≡ s
+idle s a h e = act-is s a h ∙ ap (λ after. put a after s) e ∙ put-kept a s (unchanged (part a s)) refl refl
 
-pub takes-append : (s : State) (hs ks : List (ℕ × Local)) → takes s (hs ++ ks) ≡ takes (takes s hs) ks
-takes-append s [] ks = refl
-takes-append s (h ∷ hs) ks = takes-append (take s h.0 h.1) hs ks
+pub acts-append : (s : State) (hs ks : List (ℕ × Act)) → after_acts s (hs ++ ks) ≡ after_acts (after_acts s hs) ks
+acts-append s [] ks = refl
+acts-append s (h ∷ hs) ks = acts-append (after_act s h.0 h.1) hs ks

@@ -7,10 +7,10 @@ use Rattle.vt_names.specs.Claims.{answer}
 use Rattle.vt_names.specs.Registry.{Set, set_at}
 use Rattle.vt_objects.specs.Commands.{command_at}
 use Rattle.vt_objects.specs.Stores.{Contents}
-use Rattle.vt_server.specs.Bus.{said}
+use Rattle.vt_server.specs.Bus.{notice_of}
 use Rattle.vt_server.specs.Hiding.{hide_effect, error_of, reply_bytes}
 use Rattle.vt_server.specs.Messages.{message_to, claim_from, technical_reply}
-use Rattle.vt_server.specs.Parts.{Part, Hears, local, hide_show_in, after_command, after_message, after_reply}
+use Rattle.vt_server.specs.Parts.{Part, Hears, outcome, hide_show_in, after_command, after_message, after_reply}
 use Rattle.vt_server.specs.Terminals.{State, Sent, part, to_one, to_all, no_step, losing, acting, is_lost_by, is_defended, answer_to}
 use Rattle.vt_server.specs.States.{step}
 use Rattle.vt_server.specs.Sending.{IsAddressed, AreAddressed, SentAreAddressed}
@@ -90,7 +90,7 @@ module _ (law : PartsAreIdentifiers) where
   acting-addressed s source (Member name) bytes own-fits fits = subst (AreAddressed s.claims.own) (sent-member s source name bytes) tt
   acting-addressed s source Message bytes own-fits fits =
       subst (AreAddressed s.claims.own) (sent-message s source bytes)
-      (addressed-replies s.claims.own source (local source (part source s) (Hears Message bytes)).frames own-fits fits
+      (addressed-replies s.claims.own source (outcome source (part source s) (Hears Message bytes)).frames own-fits fits
       (replies source (part source s) bytes (set_at source s.sets)))
   acting-addressed s source Nothing bytes own-fits fits = subst (AreAddressed s.claims.own) (sent-nothing s source bytes) tt
 
@@ -102,7 +102,7 @@ module _ (law : PartsAreIdentifiers) where
 
   each-addressed : (s : State) (i : Input) → s.claims.own < 2 ^ 8 → AreAddressed s.claims.own (step s i).sent
   each-addressed s (inputs.Frame time f) own-fits =
-      let m = said s.claims.own s.claims.name f in
+      let m = notice_of s.claims.own s.claims.name f in
       step-addressed s (source_of f) m f.bytes.items s.lost (is_lost_by (answer_to s (source_of f) m)) own-fits (source-fits f)
   each-addressed s (inputs.Operator action) own-fits = tt
 
@@ -119,7 +119,7 @@ acting-few s source (Master count) bytes = subst (λ (l : List Sent). length l �
 acting-few s source (Member name) bytes = subst (λ (l : List Sent). length l ≤ 1) (sent-member s source name bytes) (omega arith)
 acting-few s source Message bytes =
     subst (λ (l : List Sent). length l ≤ 1) (sent-message s source bytes)
-    (replies-few s.claims.own source (local source (part source s) (Hears Message bytes)).frames (replies source (part source s) bytes (set_at source s.sets)))
+    (replies-few s.claims.own source (outcome source (part source s) (Hears Message bytes)).frames (replies source (part source s) bytes (set_at source s.sets)))
 acting-few s source Nothing bytes = subst (λ (l : List Sent). length l ≤ 1) (sent-nothing s source bytes) (omega arith)
 
 step-few : (s : State) (source : ℕ) (n : Notice) (bytes : List ℕ) (lost gone : Bool)
@@ -130,7 +130,7 @@ step-few s source n bytes false false = acting-few s source n bytes
 
 each-few : (s : State) (i : Input) → length (step s i).sent ≤ 1
 each-few s (inputs.Frame time f) =
-    let m = said s.claims.own s.claims.name f in
+    let m = notice_of s.claims.own s.claims.name f in
     step-few s (source_of f) m f.bytes.items s.lost (is_lost_by (answer_to s (source_of f) m))
 each-few s (inputs.Operator action) = omega arith
 

@@ -6,7 +6,7 @@ use Rattle.vt_names.specs.Claims.{Claimed, OtherHoldersStay, holder_of}
 use Rattle.vt_names.specs.Registry.{Set, set_at, with_set, registering, joining, mastered, joined, has_place, preloaded}
 use Rattle.vt_objects.specs.Commands.{command_at}
 use Rattle.vt_objects.specs.Stores.{Contents}
-use Rattle.vt_server.specs.Bus.{said, said_by, unless_echo}
+use Rattle.vt_server.specs.Bus.{notice_of, frame_notice, unless_echo}
 use Rattle.vt_server.specs.Messages.{technical_reply}
 use Rattle.vt_server.specs.Parts.{Part, Hears, Preloads, hide_show_in, after_command, after_reply, after_message}
 use Rattle.vt_server.specs.Terminals.{State, holder, part, acts, no_step, losing, acting, is_lost_by, answer_to, with_set_at}
@@ -21,9 +21,9 @@ use Rattle.vt_server.proofs.Happened.{own-step}
 use Rattle.vt_server.proofs.Held.{held}
 use Rattle.vt_server.proofs.Listing.{claim-closes, none-closed, apart-closed}
 use Rattle.vt_server.proofs.Own.{at-with_other}
-use Rattle.vt_server.proofs.Puts.{by_eq, set_at-address, with_set-first, with_set-later, sets-same, take-is, idle}
+use Rattle.vt_server.proofs.Puts.{by_eq, set_at-address, with_set-first, with_set-later, sets-same, act-is, idle}
 use Rattle.vt_server.proofs.Registering.{master-state}
-use Rattle.vt_server.proofs.Steps.{claims-takes, member-state}
+use Rattle.vt_server.proofs.Steps.{claims-acts, member-state}
 
 -- ---- a message leaves the set
 
@@ -57,18 +57,18 @@ module _ (law : OtherHoldersStay) (s : State) (orderly : IsOrderly s) (settled :
       ap (λ (x : State). x.sets)
       (sym (master-state s source count bytes (holder s source) (registering source (holder s source) count s.sets) refl refl))
       ∙ ap (λ (c : Claimed). registering source (holder_of c.addresses source) count s.sets)
-      (sym (claims-takes s (acts s source (Master count) bytes)))
+      (sym (claims-acts s (acts s source (Master count) bytes)))
   acting-list source (Member name) bytes =
       ap (λ (x : State). x.sets) (sym (member-state s source name bytes (joining (set_at source s.sets) name s.sets) refl))
   acting-list source Message bytes =
-      ap (λ (x : State). x.sets) (take-is s source (Hears Message bytes))
+      ap (λ (x : State). x.sets) (act-is s source (Hears Message bytes))
       ∙ ap (λ o. with_set_at source o s.sets) (message-set source (part source s) bytes (set_at source s.sets))
       ∙ sets-same source s.sets (set_at source s.sets) refl
   acting-list source Nothing bytes = ap (λ (x : State). x.sets) (idle s source (Hears Nothing bytes) refl)
 
   step-list : (i : Input) → (step s i).after.sets ≡ sets_by s (step s i).after i
   step-list (inputs.Frame time f) =
-      let m = said s.claims.own s.claims.name f in
+      let m = notice_of s.claims.own s.claims.name f in
       cases (source_of f) m f.bytes.items s.lost (is_lost_by (answer_to s (source_of f) m))
     where
       cases : (source : ℕ) (m : Notice) (bytes : List ℕ) (lost gone : Bool)
@@ -148,23 +148,23 @@ none-echo q t source name (Member other) sets none = none
 none-echo q t source name Message sets none = none
 none-echo q t source name Nothing sets none = none
 
-none-said : (own name : ℕ) (t : State) (f : Frame) (sets : List Set) → set_at own sets ≡ None
-    → set_at own (sets_after t (source_of f) (said own name f) sets) ≡ None
-none-said own name t f sets none =
-    let there : Bool → Notice = λ b. cond b (unless_echo name (said_by own f)) (said_by own f) in
+none-notice : (own name : ℕ) (t : State) (f : Frame) (sets : List Set) → set_at own sets ≡ None
+    → set_at own (sets_after t (source_of f) (notice_of own name f) sets) ≡ None
+none-notice own name t f sets none =
+    let there : Bool → Notice = λ b. cond b (unless_echo name (frame_notice own f)) (frame_notice own f) in
     by_eq (source_of f) own
     (λ is. ap (λ b. set_at own (sets_after t (source_of f) (there b) sets)) (eq-eqb (source_of f) own is)
-    ∙ none-echo own t (source_of f) name (said_by own f) sets none)
+    ∙ none-echo own t (source_of f) name (frame_notice own f) sets none)
     (λ ne. ap (λ b. set_at own (sets_after t (source_of f) (there b) sets)) (ne_eqb (source_of f) own ne)
-    ∙ none-after own t (source_of f) (said_by own f) sets ne none)
+    ∙ none-after own t (source_of f) (frame_notice own f) sets ne none)
 
 -- ---- after every step
 
 apart-by : (s t : State) (i : Input) → AreApart s.sets → AreApart (sets_by s t i)
 apart-by s t (inputs.Frame time f) apart =
-    let sets = sets_after t (source_of f) (said s.claims.own s.claims.name f) s.sets in
-    cases s.lost (is_lost_by (answer_to s (source_of f) (said s.claims.own s.claims.name f))) sets
-    (apart-after t (source_of f) (said s.claims.own s.claims.name f) s.sets apart)
+    let sets = sets_after t (source_of f) (notice_of s.claims.own s.claims.name f) s.sets in
+    cases s.lost (is_lost_by (answer_to s (source_of f) (notice_of s.claims.own s.claims.name f))) sets
+    (apart-after t (source_of f) (notice_of s.claims.own s.claims.name f) s.sets apart)
   where
     cases : (lost gone : Bool) (sets : List Set) → AreApart sets → AreApart (cond lost s.sets (cond gone s.sets sets))
     cases true gone sets its = apart
@@ -174,9 +174,9 @@ apart-by s t (inputs.Operator action) apart = apart
 
 none-by : (s t : State) (i : Input) → set_at s.claims.own s.sets ≡ None → set_at s.claims.own (sets_by s t i) ≡ None
 none-by s t (inputs.Frame time f) none =
-    let sets = sets_after t (source_of f) (said s.claims.own s.claims.name f) s.sets in
-    cases s.lost (is_lost_by (answer_to s (source_of f) (said s.claims.own s.claims.name f))) sets
-    (none-said s.claims.own s.claims.name t f s.sets none)
+    let sets = sets_after t (source_of f) (notice_of s.claims.own s.claims.name f) s.sets in
+    cases s.lost (is_lost_by (answer_to s (source_of f) (notice_of s.claims.own s.claims.name f))) sets
+    (none-notice s.claims.own s.claims.name t f s.sets none)
   where
     cases : (lost gone : Bool) (sets : List Set) → set_at s.claims.own sets ≡ None → set_at s.claims.own (cond lost s.sets (cond gone s.sets sets)) ≡ None
     cases true gone sets its = none
@@ -193,9 +193,9 @@ after-steps law = record {
     held = (held law).first s none;
   };
   preloaded = λ a s contents apart is. record {
-    apart = subst AreApart (sym (ap (λ (x : State). x.sets) (take-is s a (Preloads contents)))) (apart-with (preloaded a) s.sets is.apart);
+    apart = subst AreApart (sym (ap (λ (x : State). x.sets) (act-is s a (Preloads contents)))) (apart-with (preloaded a) s.sets is.apart);
     elsewhere =
-        (λ i. set_at (take-is s a (Preloads contents) i).claims.own (take-is s a (Preloads contents) i).sets)
+        (λ i. set_at (act-is s a (Preloads contents) i).claims.own (act-is s a (Preloads contents) i).sets)
         ∙ at-with_other s.claims.own (preloaded a) s.sets apart ∙ is.elsewhere;
     held = (held law).preloaded a s contents is.held;
   };

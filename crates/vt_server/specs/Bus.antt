@@ -18,8 +18,8 @@ abbrev pub asks_for_claim : List ℕ → Bool
 asks_for_claim bytes = starts_with nat_eq bytes (0x00 ∷ 0xEE ∷ 0x00 ∷ [])
 
 -- A frame of a group to a destination. Shorter frames of the groups of claims and sets say nothing.
-abbrev pub said_in : ℕ → ℕ → Option ℕ → List ℕ → Notice
-said_in own pgn destination bytes =
+abbrev pub group_notice : ℕ → ℕ → Option ℕ → List ℕ → Notice
+group_notice own pgn destination bytes =
     if pgn == ADDRESS_CLAIMED then (if is_to GLOBAL_ADDRESS destination && nat_le 8 (length bytes) then Claim (name_in bytes) else Nothing)
     else if pgn == REQUEST then
     (if (is_to own destination || is_to GLOBAL_ADDRESS destination) && asks_for_claim bytes then ClaimRequest else Nothing)
@@ -28,13 +28,13 @@ said_in own pgn destination bytes =
     else if pgn == ECU_TO_VT then (if is_to own destination then Message else Nothing)
     else Nothing
 
-abbrev pub said_by : ℕ → Frame → Notice
-said_by own frame = let p = parts_of frame.id in said_in own (pgn_of p) (destination_of p) frame.bytes.items
+abbrev pub frame_notice : ℕ → Frame → Notice
+frame_notice own frame = let p = parts_of frame.id in group_notice own (pgn_of p) (destination_of p) frame.bytes.items
 
 -- Of the frames from the terminal's own address only a claim by another NAME says anything; the others are echoes.
 abbrev pub unless_echo : ℕ → Notice → Notice
 unless_echo name (Claim other) = if other == name then Nothing else Claim other
 unless_echo name _ = Nothing
 
-abbrev pub said : ℕ → ℕ → Frame → Notice
-said own name frame = if source_of frame == own then unless_echo name (said_by own frame) else said_by own frame
+abbrev pub notice_of : ℕ → ℕ → Frame → Notice
+notice_of own name frame = if source_of frame == own then unless_echo name (frame_notice own frame) else frame_notice own frame

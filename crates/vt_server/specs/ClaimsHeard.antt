@@ -2,7 +2,7 @@
 use Rattle.std.specs.Prelude.{◌≡◌, ℕ, ◌==◌, ◌&&◌, Bool, false, nat_lt, if◌then◌else◌, List, [], ◌∷◌, ◌++◌}
 use Rattle.vt_can.specs.frames.Frame.{source_of}
 use Rattle.vt_names.specs.Claims.{Claim, IsHolder}
-use Rattle.vt_server.specs.Bus.{said}
+use Rattle.vt_server.specs.Bus.{notice_of}
 use Rattle.vt_server.specs.Terminals.{State, holder}
 use Rattle.vt_server.specs.States.{after_all}
 use Rattle.vt_server.specs.declared.bus.Notice.{Notice}
@@ -24,8 +24,8 @@ takes_address own name source _ = false
 abbrev pub claims_heard : ℕ → ℕ → List Claim → List Input → List Claim
 claims_heard own name before [] = before
 claims_heard own name before (inputs.Frame time frame ∷ inputs) =
-    if takes_address own name (source_of frame) (said own name frame) then before
-    else claims_heard own name (claim_of (source_of frame) (said own name frame) ++ before) inputs
+    if takes_address own name (source_of frame) (notice_of own name frame) then before
+    else claims_heard own name (claim_of (source_of frame) (notice_of own name frame) ++ before) inputs
 claims_heard own name before (inputs.Operator action ∷ inputs) = claims_heard own name before inputs
 
 -- The holder of each address after a run is the least NAME among those whose last claim in it was of the address.

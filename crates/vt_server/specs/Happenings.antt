@@ -6,9 +6,9 @@ use Rattle.vt_can.specs.frames.Frame.{source_of}
 use Rattle.vt_names.specs.Claims.{Claimed, IsRising, holder_of}
 use Rattle.vt_names.specs.Registry.{Set, set_at}
 use Rattle.vt_objects.specs.Stores.{Contents}
-use Rattle.vt_server.specs.Bus.{said, said_by}
-use Rattle.vt_server.specs.Parts.{Part, After, Hears, Rebinds, Preloads, local}
-use Rattle.vt_server.specs.Terminals.{State, Sent, holder, part, take, hear_claim, answer_to, is_lost_by}
+use Rattle.vt_server.specs.Bus.{notice_of, frame_notice}
+use Rattle.vt_server.specs.Parts.{Part, Outcome, Hears, Rebinds, Preloads, outcome}
+use Rattle.vt_server.specs.Terminals.{State, Sent, holder, part, after_act, hear_claim, answer_to, is_lost_by}
 use Rattle.vt_server.specs.States.{step, after_all, sent_by_all}
 use Rattle.vt_server.specs.declared.input.Input.{Input}
 use Rattle.vt_server.specs.declared.input.Input.TheVariants as inputs
@@ -16,7 +16,7 @@ use Rattle.vt_server.specs.declared.input.Input.TheVariants as inputs
 -- A frame comes from the address; the address has another holder; the terminal loses its own address; a pool is
 -- preloaded.
 pub data Happening : Type 0 where
-  Heard : Frame → Happening
+  FrameHeard : Frame → Happening
   HolderIs : Option ℕ → Happening
   Lost : Happening
   Preloaded : Contents → Happening
@@ -24,49 +24,49 @@ pub data Happening : Type 0 where
 -- ---- what the address makes of it, by its own part alone
 
 -- the part after it, and the frames to the address
-pub record Own : Type 0 where
+pub record Response : Type 0 where
   pub part : Part
   pub frames : List Frame
 
-abbrev pub without_effect : Part → Own
+abbrev pub without_effect : Part → Response
 without_effect p = record { part = p; frames = [] }
 
-abbrev pub own_after : Part → After → Own
-own_after p after = record { part = record p { set = after.set; pool = after.pool }; frames = after.frames }
+abbrev pub response_of : Part → Outcome → Response
+response_of p after = record { part = record p { set = after.set; pool = after.pool }; frames = after.frames }
 
 abbrev pub with_holder : Part → Option ℕ → Part
 with_holder p name = record p { holder = name }
 
 -- while the terminal has its own address
-abbrev pub own_while : ℕ → Part → Happening → Own
-own_while address p (Heard frame) = own_after p (local address p (Hears (said_by p.own frame) frame.bytes.items))
-own_while address p (HolderIs name) = own_after (with_holder p name) (local address (with_holder p name) Rebinds)
-own_while address p Lost = without_effect (record p { lost = true })
-own_while address p (Preloaded contents) = own_after p (local address p (Preloads contents))
+abbrev pub response_while : ℕ → Part → Happening → Response
+response_while address p (FrameHeard frame) = response_of p (outcome address p (Hears (frame_notice p.own frame) frame.bytes.items))
+response_while address p (HolderIs name) = response_of (with_holder p name) (outcome address (with_holder p name) Rebinds)
+response_while address p Lost = without_effect (record p { lost = true })
+response_while address p (Preloaded contents) = response_of p (outcome address p (Preloads contents))
 
 -- After the loss nothing has effect.
-abbrev pub own : ℕ → Part → Happening → Own
-own address p happening = if p.lost then without_effect p else own_while address p happening
+abbrev pub response : ℕ → Part → Happening → Response
+response address p happening = if p.lost then without_effect p else response_while address p happening
 
-abbrev pub owns : ℕ → Part → List Happening → Part
-owns address p [] = p
-owns address p (h ∷ happenings) = owns address (own address p h).part happenings
+abbrev pub part_after_all : ℕ → Part → List Happening → Part
+part_after_all address p [] = p
+part_after_all address p (h ∷ happenings) = part_after_all address (response address p h).part happenings
 
-abbrev pub owns_frames : ℕ → Part → List Happening → List Frame
-owns_frames address p [] = []
-owns_frames address p (h ∷ happenings) = (own address p h).frames ++ owns_frames address (own address p h).part happenings
+abbrev pub frames_of_all : ℕ → Part → List Happening → List Frame
+frames_of_all address p [] = []
+frames_of_all address p (h ∷ happenings) = (response address p h).frames ++ frames_of_all address (response address p h).part happenings
 
 -- ---- the happenings of an address, which is not the terminal's own
 
 -- the terminal loses its address by a frame
 abbrev pub loses : State → Frame → Bool
-loses s frame = is_lost_by (answer_to s (source_of frame) (said s.claims.own s.claims.name frame))
+loses s frame = is_lost_by (answer_to s (source_of frame) (notice_of s.claims.own s.claims.name frame))
 
 -- what is heard of addresses after a frame; nothing after the loss
 abbrev pub claims_after : State → Frame → Claimed
 claims_after s frame =
     if s.lost then s.claims else if loses s frame then s.claims
-    else hear_claim s (source_of frame) (said s.claims.own s.claims.name frame)
+    else hear_claim s (source_of frame) (notice_of s.claims.own s.claims.name frame)
 
 abbrev pub loss : State → Frame → List Happening
 loss s frame = if s.lost then [] else if loses s frame then Lost ∷ [] else []
@@ -77,7 +77,7 @@ holder_change address old new =
     else HolderIs (holder_of new.addresses address) ∷ []
 
 abbrev pub heard_from : ℕ → Frame → List Happening
-heard_from address frame = if source_of frame == address then Heard frame ∷ [] else []
+heard_from address frame = if source_of frame == address then FrameHeard frame ∷ [] else []
 
 -- In one input the loss stands first, then the change of the holder, and then the frame.
 abbrev pub happenings : ℕ → State → Input → List Happening
@@ -104,14 +104,14 @@ IsOrderly s = IsRising s.claims.addresses
 pub record EachTakesItsOwn : Type 0 where
   -- a step, and the sets and pools that it leaves at an address, with the frames to it
   pub part_after : (address : ℕ) (s : State) (i : Input) → IsOrderly s → address ≢ s.claims.own
-      → part address (step s i).after ≡ owns address (part address s) (happenings address s i)
+      → part address (step s i).after ≡ part_after_all address (part address s) (happenings address s i)
   pub frames_after : (address : ℕ) (s : State) (i : Input) → IsOrderly s → address ≢ s.claims.own
-      → frames_to address (step s i).sent ≡ owns_frames address (part address s) (happenings address s i)
+      → frames_to address (step s i).sent ≡ frames_of_all address (part address s) (happenings address s i)
   -- a pool that is preloaded, at its address and elsewhere
   pub preloaded : (address : ℕ) (s : State) (contents : Contents) → s.lost ≡ false
-      → part address (take s address (Preloads contents)) ≡ owns address (part address s) (Preloaded contents ∷ [])
+      → part address (after_act s address (Preloads contents)) ≡ part_after_all address (part address s) (Preloaded contents ∷ [])
   pub preloaded_elsewhere : (address other : ℕ) (s : State) (contents : Contents) → other ≢ address
-      → part other (take s address (Preloads contents)) ≡ part other s
+      → part other (after_act s address (Preloads contents)) ≡ part other s
 
 -- Two runs with the same happenings of an address, from the same part of it, leave the same part and send it
 -- the same frames, whatever else they hear.
@@ -138,6 +138,6 @@ SetsAreHeld s = (address : ℕ) → address ≢ s.claims.own → SetIsHeld (set_
 
 pub record SetsHoldTheirAddress : Type 0 where
   pub first : (s : State) → s.sets ≡ [] → SetsAreHeld s
-  pub preloaded : (address : ℕ) (s : State) (contents : Contents) → SetsAreHeld s → SetsAreHeld (take s address (Preloads contents))
+  pub preloaded : (address : ℕ) (s : State) (contents : Contents) → SetsAreHeld s → SetsAreHeld (after_act s address (Preloads contents))
   pub kept : (s : State) (i : Input) → IsOrderly s → SetsAreHeld s → SetsAreHeld (step s i).after
   pub orderly : (s : State) (i : Input) → IsOrderly s → IsOrderly (step s i).after

@@ -9,3 +9,4 @@ pub mod Sending
 pub mod SetLists
 pub mod States
 pub mod Terminals
+pub mod Holders

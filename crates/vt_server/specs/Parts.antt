@@ -22,25 +22,25 @@ pub record Part : Type 0 where
   pub pool : Option Contents
 
 -- what comes of it, and the frames to the address
-pub record After : Type 0 where
+pub record Outcome : Type 0 where
   pub set : Option Set
   pub pool : Option Contents
   pub frames : List Frame
 
 -- What happens there: a frame from the address says something, with its bytes; the address has another
 -- holder; a pool is preloaded.
-pub data Local : Type 0 where
-  Hears : Notice → List ℕ → Local
-  Rebinds : Local
-  Preloads : Contents → Local
+pub data Act : Type 0 where
+  Hears : Notice → List ℕ → Act
+  Rebinds : Act
+  Preloads : Contents → Act
 
-abbrev pub unchanged : Part → After
+abbrev pub unchanged : Part → Outcome
 unchanged p = record { set = p.set; pool = p.pool; frames = [] }
 
-abbrev pub with_other_set : Part → Option Set → After
+abbrev pub with_other_set : Part → Option Set → Outcome
 with_other_set p set = record { set = set; pool = p.pool; frames = [] }
 
-abbrev pub without_set : After
+abbrev pub without_set : Outcome
 without_set = record { set = None; pool = None; frames = [] }
 
 -- ---- claims and registration
@@ -50,7 +50,7 @@ abbrev pub stays_under : Option ℕ → Option ℕ → Bool
 stays_under name holder = (option_eq nat_eq name None) || option_eq nat_eq name holder
 
 -- A set with a NAME that isn't the holder's is closed.
-abbrev pub after_change : Part → Option Set → After
+abbrev pub after_change : Part → Option Set → Outcome
 after_change p None = unchanged p
 after_change p (Some set) = if stays_under set.name p.holder then unchanged p else without_set
 
@@ -59,15 +59,15 @@ abbrev pub with_holder_name : Set → Option ℕ → Option ℕ → Set
 with_holder_name set None (Some holder) = bound set holder
 with_holder_name set _ _ = set
 
-abbrev pub after_claim_heard : Part → Option Set → After
+abbrev pub after_claim_heard : Part → Option Set → Outcome
 after_claim_heard p None = unchanged p
 after_claim_heard p (Some set) = with_other_set p (Some (with_holder_name set set.name p.holder))
 
-abbrev pub after_master : ℕ → Part → Option ℕ → ℕ → After
+abbrev pub after_master : ℕ → Part → Option ℕ → ℕ → Outcome
 after_master address p None count = unchanged p
 after_master address p (Some holder) count = with_other_set p (Some (mastered address holder count))
 
-abbrev pub after_member : Part → Option Set → ℕ → After
+abbrev pub after_member : Part → Option Set → ℕ → Outcome
 after_member p None name = unchanged p
 after_member p (Some set) name = with_other_set p (Some (if has_place set then joined set name else set))
 
@@ -79,7 +79,7 @@ hide_show_in (Some (HideShow id state)) = Some (id, state)
 hide_show_in _ = None
 
 -- a command, where there is a pool
-abbrev pub after_command : ℕ → Part → Option (ℕ × ℕ) → Option Contents → After
+abbrev pub after_command : ℕ → Part → Option (ℕ × ℕ) → Option Contents → Outcome
 after_command address p (Some asked) (Some contents) =
     let effect = hide_effect contents asked.0 asked.1 in record {
       set = p.set;
@@ -88,25 +88,25 @@ after_command address p (Some asked) (Some contents) =
     }
 after_command address p _ _ = unchanged p
 
-abbrev pub after_reply : ℕ → Part → List ℕ → Option (List ℕ) → After
+abbrev pub after_reply : ℕ → Part → List ℕ → Option (List ℕ) → Outcome
 after_reply address p bytes (Some reply) = record { set = p.set; pool = p.pool; frames = message_to p.own address reply ∷ [] }
 after_reply address p bytes None = after_command address p (hide_show_in (command_at bytes)) p.pool
 
 -- Only the master of a set is answered.
-abbrev pub after_message : ℕ → Part → List ℕ → Option Set → After
+abbrev pub after_message : ℕ → Part → List ℕ → Option Set → Outcome
 after_message address p bytes None = unchanged p
 after_message address p bytes (Some set) = after_reply address p bytes (technical_reply bytes)
 
 -- ---- what an address makes of what happens there
 
-abbrev pub local_said : ℕ → Part → Notice → List ℕ → After
-local_said address p (Claim name) bytes = after_claim_heard p p.set
-local_said address p (Master count) bytes = after_master address p p.holder count
-local_said address p (Member name) bytes = after_member p p.set name
-local_said address p Message bytes = after_message address p bytes p.set
-local_said address p _ bytes = unchanged p
+abbrev pub outcome_of_notice : ℕ → Part → Notice → List ℕ → Outcome
+outcome_of_notice address p (Claim name) bytes = after_claim_heard p p.set
+outcome_of_notice address p (Master count) bytes = after_master address p p.holder count
+outcome_of_notice address p (Member name) bytes = after_member p p.set name
+outcome_of_notice address p Message bytes = after_message address p bytes p.set
+outcome_of_notice address p _ bytes = unchanged p
 
-abbrev pub local : ℕ → Part → Local → After
-local address p (Hears said bytes) = local_said address p said bytes
-local address p Rebinds = after_change p p.set
-local address p (Preloads contents) = record { set = Some (preloaded address); pool = Some contents; frames = [] }
+abbrev pub outcome : ℕ → Part → Act → Outcome
+outcome address p (Hears notice bytes) = outcome_of_notice address p notice bytes
+outcome address p Rebinds = after_change p p.set
+outcome address p (Preloads contents) = record { set = Some (preloaded address); pool = Some contents; frames = [] }

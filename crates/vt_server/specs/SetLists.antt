@@ -3,11 +3,11 @@ use Rattle.std.specs.Prelude.{◌≡◌, ◌≢◌, ℕ, ◌==◌, Bool, if◌th
 use Rattle.vt_can.specs.frames.Frame.{source_of}
 use Rattle.vt_names.specs.Registry.{Set, set_at, registering, joining}
 use Rattle.vt_objects.specs.Stores.{Contents}
-use Rattle.vt_server.specs.Bus.{said}
+use Rattle.vt_server.specs.Bus.{notice_of}
 use Rattle.vt_server.specs.Happenings.{loses, IsOrderly, SetsAreHeld}
 use Rattle.vt_server.specs.Parts.{Preloads, stays_under, with_holder_name}
 use Rattle.vt_server.specs.States.{step}
-use Rattle.vt_server.specs.Terminals.{State, holder, take}
+use Rattle.vt_server.specs.Terminals.{State, holder, after_act}
 use Rattle.vt_server.specs.declared.bus.Notice.{Notice}
 use Rattle.vt_server.specs.declared.bus.Notice.TheVariants.{Claim, Master, Member}
 use Rattle.vt_server.specs.declared.input.Input.{Input}
@@ -34,7 +34,7 @@ sets_after t source _ sets = sets
 abbrev pub sets_by : State → State → Input → List Set
 sets_by s t (inputs.Frame time frame) =
     if s.lost then s.sets else if loses s frame then s.sets
-    else sets_after t (source_of frame) (said s.claims.own s.claims.name frame) s.sets
+    else sets_after t (source_of frame) (notice_of s.claims.own s.claims.name frame) s.sets
 sets_by s t (inputs.Operator action) = s.sets
 
 -- ---- of what states it holds
@@ -55,5 +55,5 @@ pub record SetsAfterSteps : Type 0 where
   -- before the first input, after a preload at another address than the terminal's, and after every input
   pub first : (s : State) → s.sets ≡ [] → IsSettled s
   pub preloaded : (address : ℕ) (s : State) (contents : Contents) → address ≢ s.claims.own → IsSettled s
-      → IsSettled (take s address (Preloads contents))
+      → IsSettled (after_act s address (Preloads contents))
   pub settled : (s : State) (i : Input) → IsOrderly s → IsSettled s → IsSettled (step s i).after

@@ -23,6 +23,10 @@ outputs_of sent = map (λ s. declared.Frame s.frame) sent
 
 -- ---- the step for an input
 
+abbrev pub IsOperator : Input → Type 0
+IsOperator (inputs.Operator action) = Unit {0}
+IsOperator (inputs.Frame time frame) = ⊥
+
 -- Nothing comes of the operator's actions yet.
 abbrev pub step : State → Input → Step
 step s (inputs.Frame time frame) = step_frame s frame

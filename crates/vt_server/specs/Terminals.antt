@@ -9,9 +9,9 @@ use Rattle.vt_names.specs.declared.claims.Heard.{Heard}
 use Rattle.vt_names.specs.declared.claims.Heard.TheVariants as claims
 use Rattle.vt_names.specs.Registry.{Set, set_at, with_set, without}
 use Rattle.vt_objects.specs.Stores.{Contents}
-use Rattle.vt_server.specs.Bus.{said}
+use Rattle.vt_server.specs.Bus.{notice_of}
 use Rattle.vt_server.specs.Messages.{claim_from}
-use Rattle.vt_server.specs.Parts.{Part, After, Local, Hears, Rebinds, local}
+use Rattle.vt_server.specs.Parts.{Part, Outcome, Act, Hears, Rebinds, outcome}
 use Rattle.vt_server.specs.declared.bus.Notice.{Notice}
 use Rattle.vt_server.specs.declared.bus.Notice.TheVariants.{Claim, ClaimRequest}
 
@@ -49,7 +49,7 @@ with_set_at address (Some set) sets = with_set set sets
 abbrev pub with_pool_at : ℕ → Option Contents → (ℕ → Option Contents) → ℕ → Option Contents
 with_pool_at address pool pools other = if other == address then pool else pools other
 
-abbrev pub put : ℕ → After → State → State
+abbrev pub put : ℕ → Outcome → State → State
 put address after s = record s { sets = with_set_at address after.set s.sets; pools = with_pool_at address after.pool s.pools }
 
 abbrev pub to_one : ℕ → Frame → Sent
@@ -60,19 +60,19 @@ to_all frame = record { to = None; frame = frame }
 
 -- ---- what happens at addresses, in turn
 
-unfoldable pub take : State → ℕ → Local → State
-take s address happening = put address (local address (part address s) happening) s
+unfoldable pub after_act : State → ℕ → Act → State
+after_act s address act = put address (outcome address (part address s) act) s
 
-unfoldable pub say : State → ℕ → Local → List Sent
-say s address happening = map (to_one address) (local address (part address s) happening).frames
+unfoldable pub sent_by_act : State → ℕ → Act → List Sent
+sent_by_act s address act = map (to_one address) (outcome address (part address s) act).frames
 
-abbrev pub takes : State → List (ℕ × Local) → State
-takes s [] = s
-takes s (h ∷ happenings) = takes (take s h.0 h.1) happenings
+abbrev pub after_acts : State → List (ℕ × Act) → State
+after_acts s [] = s
+after_acts s (h ∷ acts) = after_acts (after_act s h.0 h.1) acts
 
-abbrev pub says : State → List (ℕ × Local) → List Sent
-says s [] = []
-says s (h ∷ happenings) = say s h.0 h.1 ++ says (take s h.0 h.1) happenings
+abbrev pub sent_by_acts : State → List (ℕ × Act) → List Sent
+sent_by_acts s [] = []
+sent_by_acts s (h ∷ acts) = sent_by_act s h.0 h.1 ++ sent_by_acts (after_act s h.0 h.1) acts
 
 -- ---- what a frame makes happen
 
@@ -82,10 +82,10 @@ hear_claim s source _ = s.claims
 
 -- with the claim recorded, before anything happens at an address
 abbrev pub before : State → ℕ → Notice → State
-before s source said = record s { claims = hear_claim s source said }
+before s source notice = record s { claims = hear_claim s source notice }
 
 -- the address has another holder than before
-abbrev pub changed : Option ℕ → State → ℕ → List (ℕ × Local)
+abbrev pub changed : Option ℕ → State → ℕ → List (ℕ × Act)
 changed was s address = if option_eq nat_eq was (holder s address) then [] else (address, Rebinds) ∷ []
 
 -- the address that a NAME leaves by claiming another
@@ -97,22 +97,22 @@ abbrev pub left_holder : State → Option ℕ → Option ℕ
 left_holder s None = None
 left_holder s (Some left) = holder s left
 
-abbrev pub changed_left : Option ℕ → State → Option ℕ → List (ℕ × Local)
+abbrev pub changed_left : Option ℕ → State → Option ℕ → List (ℕ × Act)
 changed_left was s None = []
 changed_left was s (Some left) = changed was s left
 
 -- A claim changes the holders of two addresses at most: of the one that its NAME leaves, and of its source.
-abbrev pub changes_by : State → State → Option ℕ → ℕ → List (ℕ × Local)
+abbrev pub changes_by : State → State → Option ℕ → ℕ → List (ℕ × Act)
 changes_by s t left source = changed_left (left_holder s left) t left ++ changed (holder s source) t source
 
-abbrev pub changes : State → ℕ → Notice → List (ℕ × Local)
+abbrev pub changes : State → ℕ → Notice → List (ℕ × Act)
 changes s source (Claim name) =
     changes_by s (before s source (Claim name)) (left_by source (address_of s.claims.addresses name)) source
 changes s source _ = []
 
 -- in order: each change of a holder, and the frame at its source
-abbrev pub acts : State → ℕ → Notice → List ℕ → List (ℕ × Local)
-acts s source said bytes = changes s source said ++ (source, Hears said bytes) ∷ []
+abbrev pub acts : State → ℕ → Notice → List ℕ → List (ℕ × Act)
+acts s source notice bytes = changes s source notice ++ (source, Hears notice bytes) ∷ []
 
 abbrev pub answer_to : State → ℕ → Notice → Heard
 answer_to s source (Claim name) = answer s.claims source name
@@ -130,8 +130,8 @@ is_defended _ claims.Defend = true
 is_defended _ _ = false
 
 abbrev pub defence : State → ℕ → Notice → List Sent
-defence s source said =
-    if is_defended said (answer_to s source said) then to_all (claim_from s.claims.own s.claims.name) ∷ [] else []
+defence s source notice =
+    if is_defended notice (answer_to s source notice) then to_all (claim_from s.claims.own s.claims.name) ∷ [] else []
 
 -- ---- the step
 
@@ -147,16 +147,16 @@ abbrev pub losing : State → Step
 losing s = record { after = record s { lost = true }; sent = to_all (claim_from NULL_ADDRESS s.claims.name) ∷ [] }
 
 abbrev pub acting : State → ℕ → Notice → List ℕ → Step
-acting s source said bytes = let happenings = acts s source said bytes in record {
-  after = takes (before s source said) happenings;
-  sent = defence s source said ++ says (before s source said) happenings;
+acting s source notice bytes = let all = acts s source notice bytes in record {
+  after = after_acts (before s source notice) all;
+  sent = defence s source notice ++ sent_by_acts (before s source notice) all;
 }
 
-abbrev pub step_said : State → ℕ → Notice → List ℕ → Step
-step_said s source said bytes =
+abbrev pub step_notice : State → ℕ → Notice → List ℕ → Step
+step_notice s source notice bytes =
     if s.lost then no_step s
-    else if is_lost_by (answer_to s source said) then losing s
-    else acting s source said bytes
+    else if is_lost_by (answer_to s source notice) then losing s
+    else acting s source notice bytes
 
 abbrev pub step_frame : State → Frame → Step
-step_frame s frame = step_said s (source_of frame) (said s.claims.own s.claims.name frame) frame.bytes.items
+step_frame s frame = step_notice s (source_of frame) (notice_of s.claims.own s.claims.name frame) frame.bytes.items

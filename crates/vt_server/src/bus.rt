@@ -3,7 +3,7 @@
 ghost use Rattle.std.specs.Prelude.{◌≡◌, ◌≤◌, length};
 ghost use Rattle.byteorder.specs.Endian.{little_number};
 ghost use Rattle.vt_server.specs.declared.bus.Notice.TheVariants as declared;
-ghost use Rattle.vt_server.specs.Bus.{said, said_by, unless_echo};
+ghost use Rattle.vt_server.specs.Bus.{frame_notice, notice_of, unless_echo};
 
 use byteorder::{ByteOrder, LittleEndian};
 use vt_can::Frame;
@@ -30,21 +30,21 @@ pub(crate) enum Notice {
 }
 
 /// What a frame says to the terminal of an address and NAME. docs/PROFILE.md, "Echoes".
-pub(crate) fn said(own: u8, name: Name, frame: &Frame) -> Notice
-    ensures { result ≡ said own name frame.now }
+pub(crate) fn notice_of(own: u8, name: Name, frame: &Frame) -> Notice
+    ensures { result ≡ notice_of own name frame.now }
 {
-    let said = said_by(own, frame);
+    let notice = frame_notice(own, frame);
     if frame.id.source() != own {
-        return said;
+        return notice;
     }
-    unless_echo(name, said)
+    unless_echo(name, notice)
 }
 
 // Of what comes from the own address, only a claim by another NAME says anything.
-fn unless_echo(name: Name, said: Notice) -> Notice
-    ensures { result ≡ unless_echo name said }
+fn unless_echo(name: Name, notice: Notice) -> Notice
+    ensures { result ≡ unless_echo name notice }
 {
-    match said {
+    match notice {
         Notice::Claim(other) => unless_own(name, other),
         _ => Notice::Nothing,
     }
@@ -59,8 +59,8 @@ fn unless_own(name: Name, other: Name) -> Notice
     Notice::Claim(other)
 }
 
-fn said_by(own: u8, frame: &Frame) -> Notice
-    ensures { result ≡ said_by own frame.now }
+fn frame_notice(own: u8, frame: &Frame) -> Notice
+    ensures { result ≡ frame_notice own frame.now }
 {
     let bytes = frame.bytes.as_slice();
     let destination = frame.id.destination();

@@ -1,21 +1,33 @@
 //! What the terminal does with an address claim.
 
-ghost use Rattle.std.specs.Prelude.{◌≡◌, ◌++◌, ◌<◌, ℕ, List, false, OnOk, OnErr, vec_len, vec_capacity};
+ghost use Rattle.std.specs.Prelude.{◌≡◌, ◌++◌, ◌<◌, ℕ, List, false, IfOk, OnOk, OnErr, vec_len, vec_capacity};
 ghost use Rattle.vt_names.specs.Claims.{address_of};
 ghost use Rattle.vt_server.specs.Messages as messages;
 ghost use Rattle.vt_server.specs.Parts.{Hears, stays_under};
 ghost use Rattle.vt_server.specs.States.{state_of, outputs_of};
+ghost use Rattle.vt_server.specs.Holders.{AreFormer};
 ghost use Rattle.vt_server.specs.Terminals as spec;
-ghost use Rattle.vt_server.specs.declared.bus.Notice.TheVariants as said;
+ghost use Rattle.vt_server.specs.Terminals.{State};
+ghost use Rattle.vt_server.specs.declared.bus.Notice.TheVariants as notices;
 
 use crate::OutOfMemory;
-use crate::hearing::send;
 use crate::messages::claim_from;
-use crate::output::Output;
+use crate::output::{Output, send};
 use crate::terminal::Terminal;
 use vt_can::Frame;
 use vt_can::assigned::NULL_ADDRESS;
 use vt_names::{Heard, Name};
+
+/// The holders, before a claim, of the addresses that it may give another one.
+#[derive(Drop)]
+pub(crate) struct FormerHolders {
+    /// The address that the NAME leaves.
+    left: Option<u8>,
+    /// The holder of that address.
+    left_holder: Option<Name>,
+    /// The holder of the source.
+    holder: Option<Name>,
+}
 
 impl Terminal {
     /// Hears that a NAME claims the source address. docs/PROFILE.md, "The terminal's claims", "Closing a set".
@@ -28,9 +40,9 @@ impl Terminal {
         requires has { (state_of self.old).lost ≡ false }
         requires room { vec_len outputs.old < vec_capacity outputs.old }
         ensures ok { OnOk result ((bytes : List ℕ) → state_of self.new
-            ≡ (spec.step_said (state_of self.old) source (said.Claim name) bytes).after) }
+            ≡ (spec.step_notice (state_of self.old) source (notices.Claim name) bytes).after) }
         ensures sent { OnOk result ((bytes : List ℕ) → outputs.new.items
-            ≡ outputs.old.items ++ outputs_of (spec.step_said (state_of self.old) source (said.Claim name) bytes).sent) }
+            ≡ outputs.old.items ++ outputs_of (spec.step_notice (state_of self.old) source (notices.Claim name) bytes).sent) }
         ensures err { OnErr result (state_of self.new ≡ state_of self.old) }
         ensures err_sent { OnErr result (outputs.new.items ≡ outputs.old.items) }
     {
@@ -42,12 +54,14 @@ impl Terminal {
                 Ok(())
             }
             Heard::Defend => {
-                self.record(source, name)?;
+                let former = self.record(source, name)?;
+                self.act_on_holders(source, &former);
                 send(outputs, own_claim);
                 Ok(())
             }
             Heard::Nothing => {
-                self.record(source, name)?;
+                let former = self.record(source, name)?;
+                self.act_on_holders(source, &former);
                 Ok(())
             }
         }
@@ -60,21 +74,32 @@ impl Terminal {
         claim_from(self.claims.own(), self.claims.name())
     }
 
-    /// Records a claim. The sets of addresses that have another holder then are closed, and a set of the source
-    /// without a NAME takes the holder's.
-    fn record(&mut self, source: u8, name: Name) -> Result<(), OutOfMemory>
-        ensures ok { OnOk result ((bytes : List ℕ) → state_of self.new
-            ≡ (spec.acting (state_of self.old) source (said.Claim name) bytes).after) }
+    /// Records a claim, which is all that may want memory. The sets stay.
+    fn record(&mut self, source: u8, name: Name) -> Result<FormerHolders, OutOfMemory>
+        ensures ok { OnOk result (state_of self.new ≡ spec.before (state_of self.old) source (notices.Claim name)) }
+        ensures former { IfOk result (AreFormer (state_of self.old) source name) }
         ensures err { OnErr result (state_of self.new ≡ state_of self.old) }
     {
         let left = self.left_by(source, name);
-        let left_holder = self.left_holder(left);
-        let holder = self.claims.holder(source);
+        let former = FormerHolders {
+            left,
+            left_holder: self.left_holder(left),
+            holder: self.claims.holder(source),
+        };
         self.claims.hear(source, name)?;
-        self.rebind_left(left, left_holder);
-        self.rebind(source, holder);
+        Ok(former)
+    }
+
+    /// Closes the sets of addresses that have another holder since a claim, and gives a set of its source without a
+    /// NAME the holder's.
+    fn act_on_holders(&mut self, source: u8, former: &FormerHolders)
+        ensures { (s : State) (name : ℕ) (bytes : List ℕ) → AreFormer s source name former.now
+            → state_of self.old ≡ spec.before s source (notices.Claim name)
+            → state_of self.new ≡ (spec.acting s source (notices.Claim name) bytes).after }
+    {
+        self.rebind_left(former.left, former.left_holder);
+        self.rebind(source, former.holder);
         self.bind(source);
-        Ok(())
     }
 
     // The address that a NAME leaves by claiming another.
@@ -94,7 +119,7 @@ impl Terminal {
     }
 
     fn rebind_left(&mut self, left: Option<u8>, was: Option<Name>)
-        ensures { state_of self.new ≡ spec.takes (state_of self.old) (spec.changed_left was (state_of self.old) left) }
+        ensures { state_of self.new ≡ spec.after_acts (state_of self.old) (spec.changed_left was (state_of self.old) left) }
     {
         if let Some(left) = left {
             self.rebind(left, was);
@@ -103,7 +128,7 @@ impl Terminal {
 
     // Closes the set of an address whose holder was another, where that is not its NAME.
     fn rebind(&mut self, address: u8, was: Option<Name>)
-        ensures { state_of self.new ≡ spec.takes (state_of self.old) (spec.changed was (state_of self.old) address) }
+        ensures { state_of self.new ≡ spec.after_acts (state_of self.old) (spec.changed was (state_of self.old) address) }
     {
         let holder = self.claims.holder(address);
         if was == holder {
@@ -122,7 +147,7 @@ impl Terminal {
     // A set without a NAME takes the holder's.
     fn bind(&mut self, address: u8)
         ensures { (name : ℕ) (bytes : List ℕ) → state_of self.new
-            ≡ spec.take (state_of self.old) address (Hears (said.Claim name) bytes) }
+            ≡ spec.after_act (state_of self.old) address (Hears (notices.Claim name) bytes) }
     {
         let Some(set) = self.registry.get(address) else {
             return;

@@ -1,19 +1,18 @@
 //! What the terminal does with a frame.
 
-ghost use Rattle.std.specs.Prelude.{◌≡◌, ◌++◌, ◌<◌, ℕ, List, [], ◌∷◌, OnOk, OnErr, vec_len, vec_capacity};
+ghost use Rattle.std.specs.Prelude.{◌≡◌, ◌++◌, ◌<◌, ℕ, List, true, IsOk, OnOk, OnErr};
 ghost use Rattle.std.specs.Option.{option_to_list};
-ghost use Rattle.vt_server.specs.Parts.{Hears, local};
-ghost use Rattle.vt_server.specs.declared.output.Output.TheVariants as declared;
+ghost use Rattle.vt_server.specs.Parts.{Hears, outcome};
 ghost use Rattle.vt_server.specs.States.{state_of, outputs_of};
 ghost use Rattle.vt_server.specs.Terminals as spec;
-ghost use Rattle.vt_server.specs.declared.bus.Notice.TheVariants as said;
+ghost use Rattle.vt_server.specs.declared.bus.Notice.TheVariants as notices;
 ghost use Rattle.vt_objects.specs.Commands.{command_at};
 ghost use Rattle.vt_server.specs.Parts.{hide_show_in};
 
 use crate::OutOfMemory;
-use crate::bus::{Notice, said};
+use crate::bus::{Notice, notice_of};
 use crate::messages::{hide_show_reply, message_to, technical_reply};
-use crate::output::Output;
+use crate::output::{Output, send};
 use crate::terminal::Terminal;
 use vt_can::Frame;
 use vt_objects::{Command, ObjectId};
@@ -33,13 +32,15 @@ impl Terminal {
             ≡ outputs.old.items ++ outputs_of (spec.step_frame (state_of self.old) frame.now).sent) }
         ensures err { OnErr result (state_of self.new ≡ state_of self.old) }
         ensures err_sent { OnErr result (outputs.new.items ≡ outputs.old.items) }
+        // A terminal without its address asks for no memory.
+        ensures lost { (state_of self.old).lost ≡ true → IsOk result }
     {
         if self.lost {
             return Ok(());
         }
         outputs.reserve(MOST_OUTPUTS)?;
         let source = frame.id.source();
-        match said(self.claims.own(), self.claims.name(), frame) {
+        match notice_of(self.claims.own(), self.claims.name(), frame) {
             Notice::Claim(name) => self.hear_claim(source, name, outputs),
             Notice::ClaimRequest => {
                 send(outputs, self.own_claim());
@@ -65,7 +66,7 @@ impl Terminal {
 
     fn hear_master(&mut self, source: u8, count: u8) -> Result<(), OutOfMemory>
         ensures ok { OnOk result ((bytes : List ℕ) → state_of self.new
-            ≡ spec.take (state_of self.old) source (Hears (said.Master count) bytes)) }
+            ≡ spec.after_act (state_of self.old) source (Hears (notices.Master count) bytes)) }
         ensures err { OnErr result (state_of self.new ≡ state_of self.old) }
     {
         self.registry.reserve(source)?;
@@ -77,7 +78,7 @@ impl Terminal {
     fn register(&mut self, source: u8, count: u8)
         requires room { 0 < self.old.registry.room }
         ensures { (bytes : List ℕ) → state_of self.new
-            ≡ spec.take (state_of self.old) source (Hears (said.Master count) bytes) }
+            ≡ spec.after_act (state_of self.old) source (Hears (notices.Master count) bytes) }
     {
         let _refused = self
             .registry
@@ -86,9 +87,9 @@ impl Terminal {
 
     /// The reply to a message from the master of a set, if it has one.
     fn answer(&mut self, source: u8, bytes: &[u8]) -> Option<Frame>
-        ensures state { state_of self.new ≡ spec.take (state_of self.old) source (Hears said.Message bytes.now) }
+        ensures state { state_of self.new ≡ spec.after_act (state_of self.old) source (Hears notices.Message bytes.now) }
         ensures reply { option_to_list result
-            ≡ (local source (spec.part source (state_of self.old)) (Hears said.Message bytes.now)).frames }
+            ≡ (outcome source (spec.part source (state_of self.old)) (Hears notices.Message bytes.now)).frames }
     {
         if !self.registered(source) {
             return None;
@@ -111,12 +112,4 @@ fn hide_show_asked(bytes: &[u8]) -> Option<(ObjectId, u8)>
         Command::HideShow { id, state } => Some((id, state)),
         _ => None,
     }
-}
-
-/// Appends a frame for which there is room.
-pub(crate) fn send(outputs: &mut Vec<Output>, frame: Frame)
-    requires room { vec_len outputs.old < vec_capacity outputs.old }
-    ensures { outputs.new.items ≡ outputs.old.items ++ declared.Frame frame ∷ [] }
-{
-    let _done = outputs.push(Output::Frame(frame));
 }

@@ -1,10 +1,10 @@
 //! The terminal.
 
-ghost use Rattle.std.specs.Prelude.{◌≡◌, ◌≢◌, ◌≤◌, ◌++◌, ◌<◌, ℕ, [], ◌∷◌, None, Some, true, false, is_some, IfOk, IfErr, OnOk, OnErr, length, take};
+ghost use Rattle.std.specs.Prelude.{◌≡◌, ◌≢◌, ◌≤◌, ◌++◌, ◌<◌, ℕ, [], ◌∷◌, None, Some, true, false, is_some, IsOk, IfOk, IfErr, OnOk, OnErr, length, take};
 ghost use Rattle.vt_names.specs.Registry.{set_at};
 ghost use Rattle.vt_pool.specs.Pools.{contents};
 ghost use Rattle.vt_server.specs.Parts.{Preloads};
-ghost use Rattle.vt_server.specs.States.{state_of, outputs_of, step, after_all, sent_by_all};
+ghost use Rattle.vt_server.specs.States.{IsOperator, state_of, outputs_of, step, after_all, sent_by_all};
 ghost use Rattle.vt_server.specs.Terminals as spec;
 
 use crate::OutOfMemory;
@@ -69,7 +69,7 @@ impl Terminal {
         requires none { set_at address (state_of self.old).sets ≡ None }
         requires claimed { address ≤ 253 }
         requires other { address ≢ (state_of self.old).claims.own }
-        ensures ok { OnOk result (state_of self.new ≡ spec.take (state_of self.old) address (Preloads (contents pool.now))) }
+        ensures ok { OnOk result (state_of self.new ≡ spec.after_act (state_of self.old) address (Preloads (contents pool.now))) }
         ensures err { OnErr result (state_of self.new ≡ state_of self.old) }
     {
         let objects = SortedStore::from_objects(self.alloc, pool.objects())?;
@@ -85,6 +85,9 @@ impl Terminal {
         ensures sent { OnOk result (outputs.new.items ≡ outputs.old.items ++ outputs_of (step (state_of self.old) input.now).sent) }
         ensures err { OnErr result (state_of self.new ≡ state_of self.old) }
         ensures err_sent { OnErr result (outputs.new.items ≡ outputs.old.items) }
+        // An operator's line, and a terminal without its address, ask for no memory.
+        ensures operator { IsOperator input.now → IsOk result }
+        ensures lost { (state_of self.old).lost ≡ true → IsOk result }
     {
         match input {
             Input::Frame { frame, .. } => {

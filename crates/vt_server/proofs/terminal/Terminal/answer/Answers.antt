@@ -1,5 +1,5 @@
 use Rattle.std.proofs.Common.{ap}
-use Rattle.vt_server.specs.Parts.{After}
+use Rattle.vt_server.specs.Parts.{Outcome}
 use Rattle.vt_server.specs.States.{state_of, pools_of}
 use Rattle.vt_server.proofs.Answering.{kept-state, reply-unregistered, reply-technical, reply-other, shown-state}
 use Rattle.vt_server.proofs.terminal.Terminal.answer.Goals as goal
@@ -8,19 +8,19 @@ pub returns-then-not-registered-clause-state : goal.returns-then-not-registered-
 returns-then-not-registered-clause-state c =
     let s = state_of c.args.self.now in
     let same = reply-unregistered s c.args.source c.args.bytes.now c.if-not-registered.ensures in
-    kept-state s c.args.source c.args.bytes.now (ap (λ (t : After). t.set) same) (ap (λ (t : After). t.pool) same)
+    kept-state s c.args.source c.args.bytes.now (ap (λ (t : Outcome). t.set) same) (ap (λ (t : Outcome). t.pool) same)
 
 pub returns-in-Some-clause-state : goal.returns-in-Some-clause-state
 returns-in-Some-clause-state c =
     let s = state_of c.args.self.now in
     let same = reply-technical s c.args.source c.args.bytes.now c.if-not-registered.ensures c.in-Some.reply c.in-Some.ensures in
-    kept-state s c.args.source c.args.bytes.now (ap (λ (t : After). t.set) same) (ap (λ (t : After). t.pool) same)
+    kept-state s c.args.source c.args.bytes.now (ap (λ (t : Outcome). t.set) same) (ap (λ (t : Outcome). t.pool) same)
 
 pub returns-in_err-id-clause-state : goal.returns-in_err-id-clause-state
 returns-in_err-id-clause-state c =
     let s = state_of c.args.self.now in
     let same = reply-other s c.args.source c.args.bytes.now c.if-not-registered.ensures c.in_default.ensures c.in_err-id.ensures in
-    kept-state s c.args.source c.args.bytes.now (ap (λ (t : After). t.set) same) (ap (λ (t : After). t.pool) same)
+    kept-state s c.args.source c.args.bytes.now (ap (λ (t : Outcome). t.set) same) (ap (λ (t : Outcome). t.pool) same)
 
 pub returns-clause-state : goal.returns-clause-state
 returns-clause-state c =

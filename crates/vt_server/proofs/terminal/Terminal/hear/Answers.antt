@@ -8,14 +8,14 @@ use Rattle.vt_server.specs.declared.output.Output.TheVariants as declared
 use Rattle.vt_server.specs.declared.bus.Notice.TheVariants.{ClaimRequest, Master, Member, Message, Nothing}
 use Rattle.vt_server.proofs.Answering.{reply}
 use Rattle.vt_server.proofs.Puts.{idle}
-use Rattle.vt_server.proofs.Steps.{hear-acts, hear-take, member-state, sent-request, sent-master, sent-member, sent-nothing, sent-message}
+use Rattle.vt_server.proofs.Steps.{hear-acts, hear-act, member-state, sent-request, sent-master, sent-member, sent-nothing, sent-message}
 use Rattle.vt_server.proofs.terminal.Terminal.hear.Goals as goal
 
 pub returns-in-ClaimRequest-clause-ok : goal.returns-in-ClaimRequest-clause-ok
 returns-in-ClaimRequest-clause-ok c =
     let s = state_of c.args.self.now in
     sym (idle s c.source-source.result (Hears ClaimRequest c.args.frame.now.bytes.items) refl)
-    ∙ hear-take s c.args.frame.now c.source-source.result c.own.result c.name.result ClaimRequest c.source-source.ensures c.own.ensures c.name.ensures c.in-ClaimRequest.ensures c.if-self.false refl refl refl
+    ∙ hear-act s c.args.frame.now c.source-source.result c.own.result c.name.result ClaimRequest c.source-source.ensures c.own.ensures c.name.ensures c.in-ClaimRequest.ensures c.if-self.false refl refl refl
 
 pub returns-in-ClaimRequest-clause-sent : goal.returns-in-ClaimRequest-clause-sent
 returns-in-ClaimRequest-clause-sent c =
@@ -38,7 +38,7 @@ pub returns-in-Member-clause-ok : goal.returns-in-Member-clause-ok
 returns-in-Member-clause-ok c =
     let s = state_of c.args.self.now in
     member-state s c.source-source.result c.in-Member.name c.args.frame.now.bytes.items c.member-refused.new.self.sets c.member-refused.ensures.sets
-    ∙ hear-take s c.args.frame.now c.source-source.result c.own.result c.name.result (Member c.in-Member.name) c.source-source.ensures c.own.ensures c.name.ensures c.in-Member.ensures c.if-self.false refl refl refl
+    ∙ hear-act s c.args.frame.now c.source-source.result c.own.result c.name.result (Member c.in-Member.name) c.source-source.ensures c.own.ensures c.name.ensures c.in-Member.ensures c.if-self.false refl refl refl
 
 pub returns-in-Member-clause-sent : goal.returns-in-Member-clause-sent
 returns-in-Member-clause-sent c =
@@ -68,7 +68,7 @@ pub returns-in-Nothing-clause-ok : goal.returns-in-Nothing-clause-ok
 returns-in-Nothing-clause-ok c =
     let s = state_of c.args.self.now in
     sym (idle s c.source-source.result (Hears Nothing c.args.frame.now.bytes.items) refl)
-    ∙ hear-take s c.args.frame.now c.source-source.result c.own.result c.name.result Nothing c.source-source.ensures c.own.ensures c.name.ensures c.in-Nothing.ensures c.if-self.false refl refl refl
+    ∙ hear-act s c.args.frame.now c.source-source.result c.own.result c.name.result Nothing c.source-source.ensures c.own.ensures c.name.ensures c.in-Nothing.ensures c.if-self.false refl refl refl
 
 pub returns-in-Nothing-clause-sent : goal.returns-in-Nothing-clause-sent
 returns-in-Nothing-clause-sent c =

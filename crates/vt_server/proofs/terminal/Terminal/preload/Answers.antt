@@ -4,7 +4,7 @@ use Rattle.vt_pool.specs.Pools.{contents}
 use Rattle.vt_server.specs.Parts.{Preloads}
 use Rattle.vt_server.specs.States.{state_of, pools_of}
 use Rattle.vt_server.specs.Terminals.{with_pool_at}
-use Rattle.vt_server.proofs.Puts.{take-is}
+use Rattle.vt_server.proofs.Puts.{act-is}
 use Rattle.vt_server.proofs.terminal.Terminal.preload.Goals as goal
 
 pub from_objects-requires : goal.from_objects-requires
@@ -18,4 +18,4 @@ returns-clause-ok c =
       sets = c.in_ok-preload.ensures.ok i;
       pools = (c.put.ensures ∙ ap (λ (o : Contents). with_pool_at c.args.address (Some o) (pools_of c.args.self.now.pools)) same) i;
     })
-    ∙ sym (take-is s c.args.address (Preloads (contents c.args.pool.now)))
+    ∙ sym (act-is s c.args.address (Preloads (contents c.args.pool.now)))
