@@ -23,29 +23,33 @@ fits_chain a id named plain local some no_help no_version = (
 abbrev place : Text → ℕ
 place id =
     if slice_index id 0 == 70 then 0 else (if slice_index id 0 == 110 then 2 else (if slice_index id 0 == 112 then 3
-    else (if slice_index id 3 == 101 then 4 else 1)))
+    else (if slice_index id 0 == 114 then 5 else (if slice_index id 3 == 101 then 4 else 1))))
 
-module _ (log own name pool owner : Arg) (is_log : log.id.now ≡ codes "FILE") (is_own : own.id.now ≡ codes "own")
-    (is_name : name.id.now ≡ codes "name") (is_pool : pool.id.now ≡ codes "pool") (is_owner : owner.id.now ≡ codes "owner") where
-  place_at : (k : ℕ) (d : Arg) → k < 5 → place (slice_index_or (log ∷ own ∷ name ∷ pool ∷ owner ∷ []) k d).id.now ≡ k
-  place_at zero d low = ap place is_log
+module _ (file own name pool owner report : Arg) (is_file : file.id.now ≡ codes "FILE") (is_own : own.id.now ≡ codes "own")
+    (is_name : name.id.now ≡ codes "name") (is_pool : pool.id.now ≡ codes "pool") (is_owner : owner.id.now ≡ codes "owner")
+    (is_report : report.id.now ≡ codes "report") where
+  place_at : (k : ℕ) (d : Arg) → k < 6 → place (slice_index_or (file ∷ own ∷ name ∷ pool ∷ owner ∷ report ∷ []) k d).id.now ≡ k
+  place_at zero d low = ap place is_file
   place_at (suc zero) d low = ap place is_own
   place_at (suc (suc zero)) d low = ap place is_name
   place_at (suc (suc (suc zero))) d low = ap place is_pool
   place_at (suc (suc (suc (suc zero)))) d low = ap place is_owner
-  place_at (suc (suc (suc (suc (suc k))))) d low = absurd (omega arith)
+  place_at (suc (suc (suc (suc (suc zero))))) d low = ap place is_report
+  place_at (suc (suc (suc (suc (suc (suc k)))))) d low = absurd (omega arith)
 
-  pub five_ids : HasDistinctIds (log ∷ own ∷ name ∷ pool ∷ owner ∷ [])
-  five_ids j k d e low high same =
-      let t = (slice_index_or (log ∷ own ∷ name ∷ pool ∷ owner ∷ []) j e).id.now in
-      let u = (slice_index_or (log ∷ own ∷ name ∷ pool ∷ owner ∷ []) k d).id.now in
+  pub six_ids : HasDistinctIds (file ∷ own ∷ name ∷ pool ∷ owner ∷ report ∷ [])
+  six_ids j k d e low high same =
+      let t = (slice_index_or (file ∷ own ∷ name ∷ pool ∷ owner ∷ report ∷ []) j e).id.now in
+      let u = (slice_index_or (file ∷ own ∷ name ∷ pool ∷ owner ∷ report ∷ []) k d).id.now in
       let equal : t ≡ u = (bytes_eq-Decides t u).0 same in
       sym (place_at j e low) ∙ ap place equal ∙ place_at k d high
 
-  pub five_fit : FitsChain log → FitsChain own → FitsChain name → FitsChain pool → FitsChain owner → All FitsChain (log ∷ own ∷ name ∷ pool ∷ owner ∷ [])
-  five_fit a b n c e zero d low = a
-  five_fit a b n c e (suc zero) d low = b
-  five_fit a b n c e (suc (suc zero)) d low = n
-  five_fit a b n c e (suc (suc (suc zero))) d low = c
-  five_fit a b n c e (suc (suc (suc (suc zero)))) d low = e
-  five_fit a b n c e (suc (suc (suc (suc (suc k))))) d low = absurd (omega arith)
+  pub six_fit : FitsChain file → FitsChain own → FitsChain name → FitsChain pool → FitsChain owner → FitsChain report
+      → All FitsChain (file ∷ own ∷ name ∷ pool ∷ owner ∷ report ∷ [])
+  six_fit a b n c e r zero d low = a
+  six_fit a b n c e r (suc zero) d low = b
+  six_fit a b n c e r (suc (suc zero)) d low = n
+  six_fit a b n c e r (suc (suc (suc zero))) d low = c
+  six_fit a b n c e r (suc (suc (suc (suc zero)))) d low = e
+  six_fit a b n c e r (suc (suc (suc (suc (suc zero))))) d low = r
+  six_fit a b n c e r (suc (suc (suc (suc (suc (suc k)))))) d low = absurd (omega arith)

@@ -8,14 +8,20 @@ use Rattle.std.proofs.lemmas.Cmp.{nat_cmp_total}
 use Rattle.vt_objects.specs.Stores.{Contents, by_rising_id}
 use Rattle.vt_verify.specs.Rules.{IsAcceptable, IsRefused, IsWantOfMemory, terminal}
 use Rattle.vt_verify.specs.declared.refusal.Refusal.{Refusal}
-use Rattle.vt_replay.specs.declared.program.Fault.{Fault}
-use Rattle.vt_replay.specs.declared.program.Fault.TheVariants as fault
+use Rattle.vt_verify.specs.Reports.{report_text}
 use Rattle.vt_replay.specs.declared.counts.Counts.{Counts}
 use Rattle.vt_replay.specs.declared.options.Options.{Options}
 use Rattle.vt_replay.specs.declared.options.Preload.{Preload}
 use Rattle.vt_replay.specs.Replays.{IsReplay}
-use Rattle.vt_replay.specs.Runs.{Files, IsLoaded, IsPoolOf, IsAcceptedPoolOf, IsNoPool, IsRefusedPool, IsFaultOfPool, IsLoadFault, IsStart, WritesReplay, new_state}
+use Rattle.vt_replay.specs.Runs.{Files, IsLoaded, IsPoolOf, IsAcceptedPoolOf, IsRefusedPool, IsReportOf, IsStart, WritesReplay, new_state}
 use Rattle.vt_server.specs.Terminals.{State}
+
+-- what is written is still there after a flush
+kept : (old mid new : Option (List ℕ)) (text : List ℕ) → Appends old mid text → Keeps mid new → Appends old new text
+kept None mid new text appends keeps = tt
+kept (Some xs) None new text appends keeps = absurd appends
+kept (Some xs) (Some ys) None text appends keeps = absurd keeps
+kept (Some xs) (Some ys) (Some zs) text appends keeps = keeps ∙ appends
 
 -- a map is that of its entries
 pub entries_again : (m : Contents) → contents (finite.entries m) ≡ m
@@ -27,6 +33,11 @@ entries_again m =
 pub same_objects : (pool accepted : List Entry) → accepted ≡ by_rising_id pool → contents accepted ≡ contents pool
 unfolding by_rising_id
 same_objects pool accepted is = ap contents is ∙ entries_again (contents pool)
+
+-- and these objects stand in it by rising ID
+pub accepted_rising : (pool accepted : List Entry) → accepted ≡ by_rising_id pool → accepted ≡ finite.entries (contents accepted)
+unfolding by_rising_id
+accepted_rising pool accepted is = is ∙ ap finite.entries (sym (same_objects pool accepted is))
 
 pub pool_of : (read : List ℕ) (pool : List Entry) → (records : List Entry) × AreRecords records × (read ≡ joined records) × IsInForce records pool
     → IsPoolOf read (contents pool)
@@ -46,22 +57,12 @@ pub refused_pool : (read : List ℕ) (pool : List Entry) (why : Refusal) → (re
 unfolding by_rising_id
 refused_pool read pool why p refused named = record { objects = contents pool; pool = pool_of read pool p; refused = refused; named = named }
 
--- from the bytes that were read to those of the file
-pub pool_read : (file : Option (List ℕ)) (read : List ℕ) (objects : Contents) → IfSome file (λ bytes. read ≡ bytes) → IsAcceptedPoolOf read objects
-    → IfSome file (λ bytes. IsAcceptedPoolOf bytes objects)
-pool_read None read objects same pool = tt
-pool_read (Some bytes) read objects same pool = subst (λ (b : List ℕ). IsAcceptedPoolOf b objects) same pool
-
-fault_read_by : (file : Option (List ℕ)) (read : List ℕ) (P : List ℕ → Type 0) → IfSome file (λ bytes. read ≡ bytes) → P read → IfSome file P
-fault_read_by None read P same is = tt
-fault_read_by (Some bytes) read P same is = subst P same is
-
-pub fault_read : (files : Files) (p : Preload) (read : List ℕ) (why : Fault) → IfSome (files p.pool.now) (λ bytes. read ≡ bytes) → IsFaultOfPool read why → IsLoadFault files p why
-fault_read files p read (fault.File path cause) same is = absurd is
-fault_read files p read (fault.Pool why) same is = fault_read_by (files p.pool.now) read (λ bytes. IsNoPool bytes why) same is
-fault_read files p read (fault.Refused why) same is = fault_read_by (files p.pool.now) read (λ bytes. IsRefusedPool bytes why) same is
-fault_read files p read fault.Memory same is = tt
-fault_read files p read (fault.Replay why) same is = absurd is
+-- the text of a report is that of the file's pool
+pub report_of_file : (file : Option (List ℕ)) (pool : List Entry) (text : List ℕ) → IfSome file (λ bytes. IsAcceptedPoolOf bytes (contents pool))
+    → pool ≡ finite.entries (contents pool) → text ≡ report_text pool → IfSome file (λ bytes. IsReportOf bytes text)
+report_of_file None pool text is rising same = tt
+report_of_file (Some bytes) pool text is rising same =
+    record { objects = contents pool; accepted = is; text_is = same ∙ ap report_text rising }
 
 pub new_is : (s : State) (own name : ℕ) → s.claims ≡ record { own = own; name = name; addresses = [] } → s.sets ≡ []
     → ((address : ℕ) → s.pools address ≡ None) → s.lost ≡ false → s ≡ new_state own name
@@ -76,12 +77,6 @@ pub start_with_set : (files : Files) (options : Options) (before s : State) (p :
     → IsLoaded files p before s → before ≡ new_state options.own options.name → IsStart files options s
 start_with_set files options before s p some loaded same =
     rw some (subst (λ (b : State). IsLoaded files p b s) same loaded)
-
-kept : (old mid new : Option (List ℕ)) (text : List ℕ) → Appends old mid text → Keeps mid new → Appends old new text
-kept None mid new text appends keeps = tt
-kept (Some xs) None new text appends keeps = absurd appends
-kept (Some xs) (Some ys) None text appends keeps = absurd keeps
-kept (Some xs) (Some ys) (Some zs) text appends keeps = keeps ∙ appends
 
 pub replay_written : (file remaining old mid new : Option (List ℕ)) (start end : State) (counts : Counts)
     → IfSome file (λ bytes. remaining ≡ Some bytes)

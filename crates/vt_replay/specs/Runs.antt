@@ -1,5 +1,5 @@
 -- A run of the program: its statuses, and what it writes (docs/PROFILE.md, "The program").
-use Rattle.std.specs.Prelude.{◌≡◌, ◌⊎◌, ℕ, List, [], reverse, false, Option, Some, None, IfSome, IsSomeAnd, codes}
+use Rattle.std.specs.Prelude.{◌≡◌, ◌⊎◌, ◌++◌, ℕ, List, [], reverse, true, false, Option, Some, None, IfSome, IsSomeAnd, codes}
 use Rattle.std.specs.Borrow.{Bor}
 use Rattle.std.specs.Io.KnownBytes.{Appends, Keeps}
 use Rattle.clap.specs.Words.{Text, kind_of}
@@ -25,6 +25,7 @@ use Rattle.vt_replay.specs.declared.program.Fault.TheVariants as fault
 use Rattle.vt_replay.specs.declared.program.Status.{Status}
 use Rattle.vt_replay.specs.declared.program.Status.TheVariants as status
 use Rattle.vt_replay.specs.Replays.{IsReplay, HasLongLine}
+use Rattle.vt_replay.specs.Texts.{newline}
 use Rattle.vt_replay.specs.Words.{IsRefusalOf, WordsGive}
 use Rattle.vt_server.specs.Parts.{Preloads}
 use Rattle.vt_server.specs.Terminals.{State, after_act}
@@ -81,7 +82,7 @@ IsPreloaded files (Some p) before after = IsLoaded files p before after
 abbrev pub IsStart : Files → Options → State → Type 0
 IsStart files options s = IsPreloaded files options.preload (new_state options.own options.name) s
 
--- ---- what a run writes
+-- ---- what is written
 
 -- The text of the replay of these bytes is written.
 pub record WritesReplay (start : State) (input : List ℕ) (old new : Option (List ℕ)) : Type 0 where
@@ -95,9 +96,21 @@ pub record WritesReplay (start : State) (input : List ℕ) (old new : Option (Li
 pub record HasReplayed (files : Files) (options : Options) (old new : Option (List ℕ)) : Type 0 where
   pub start : State
   pub given : IsStart files options start
-  pub writes : IfSome (files options.log.now) (λ input. WritesReplay start input old new)
+  pub writes : IfSome (files options.file.now) (λ input. WritesReplay start input old new)
 
--- ---- why a log is not replayed
+-- The bytes are a pool that meets all rules, and this is its report.
+pub record IsReportOf (bytes : List ℕ) (text : List ℕ) : Type 0 where
+  pub objects : Contents
+  pub accepted : IsAcceptedPoolOf bytes objects
+  pub text_is : text ≡ report.report_text (finite.entries objects)
+
+-- The report of the pool of these bytes is written.
+pub record WritesReport (bytes : List ℕ) (old new : Option (List ℕ)) : Type 0 where
+  pub text : List ℕ
+  pub report : IsReportOf bytes text
+  pub written : Appends old new text
+
+-- ---- why a pool has no report, or a log is not replayed
 
 -- the file of this path could not be read
 abbrev pub IsFileFault : Bor Text → Fault → Type 0
@@ -115,12 +128,13 @@ IsFaultOfPool bytes (fault.Refused why) = IsRefusedPool bytes why
 IsFaultOfPool bytes fault.Memory = Unit {0}
 IsFaultOfPool bytes (fault.Replay why) = ⊥
 
-abbrev pub IsLoadFault : Files → Preload → Fault → Type 0
-IsLoadFault files p (fault.File path cause) = path ≡ p.pool
-IsLoadFault files p (fault.Pool why) = IfSome (files p.pool.now) (λ bytes. IsNoPool bytes why)
-IsLoadFault files p (fault.Refused why) = IfSome (files p.pool.now) (λ bytes. IsRefusedPool bytes why)
-IsLoadFault files p fault.Memory = Unit {0}
-IsLoadFault files p (fault.Replay why) = ⊥
+-- why the file of this path gives no accepted pool
+abbrev pub IsPoolFileFault : Files → Bor Text → Fault → Type 0
+IsPoolFileFault files path (fault.File other cause) = other ≡ path
+IsPoolFileFault files path (fault.Pool why) = IfSome (files path.now) (λ bytes. IsNoPool bytes why)
+IsPoolFileFault files path (fault.Refused why) = IfSome (files path.now) (λ bytes. IsRefusedPool bytes why)
+IsPoolFileFault files path fault.Memory = Unit {0}
+IsPoolFileFault files path (fault.Replay why) = ⊥
 
 -- of the replay itself; where Read and Write are answered, std does not say
 abbrev pub IsLogFault : Files → Text → Fault → Type 0
@@ -130,8 +144,31 @@ IsLogFault files log (fault.Refused why) = ⊥
 IsLogFault files log fault.Memory = ⊥
 IsLogFault files log (fault.Replay why) = IfSome (files log) (λ input. why ≡ replay_fault.TooLong → HasLongLine input)
 
+abbrev pub IsReplayFault : Files → Options → Fault → Type 0
+IsReplayFault files options why =
+    IsSomeAnd options.preload (λ p. IsPoolFileFault files p.pool why) ⊎ IsLogFault files options.file.now why
+
+-- why what the options ask for is not done
 abbrev pub IsFaultOf : Files → Options → Fault → Type 0
-IsFaultOf files options why = IsSomeAnd options.preload (λ p. IsLoadFault files p why) ⊎ IsLogFault files options.log.now why
+IsFaultOf files options why =
+    ((options.report ≡ true) × IsPoolFileFault files options.file why)
+    ⊎ ((options.report ≡ false) × IsReplayFault files options why)
+
+-- the line of the fault is printed to the output: that of a pool, or of a pool that is refused
+abbrev pub IsPrinted : Fault → Type 0
+IsPrinted (fault.File path cause) = ⊥
+IsPrinted (fault.Pool why) = Unit {0}
+IsPrinted (fault.Refused why) = Unit {0}
+IsPrinted fault.Memory = ⊥
+IsPrinted (fault.Replay why) = ⊥
+
+-- what is printed to the output of a fault; the text of a pool's fault no contract says
+abbrev pub Prints : Fault → Option (List ℕ) → Option (List ℕ) → Type 0
+Prints (fault.File path cause) old new = Keeps old new
+Prints (fault.Pool why) old new = Unit {0}
+Prints (fault.Refused why) old new = Appends old new (report.refusal_text why ++ newline)
+Prints fault.Memory old new = Keeps old new
+Prints (fault.Replay why) old new = Keeps old new
 
 -- ---- statuses
 
@@ -160,31 +197,70 @@ pub record Refuses (words : List Text) (end : Status) : Type 0 where
 pub record Replays (words : List Text) (files : Files) (old new : Option (List ℕ)) : Type 0 where
   pub options : Options
   pub given : WordsGive words options
+  pub no_report : options.report ≡ false
   pub replayed : HasReplayed files options old new
 
--- The words give options with a pool, and its file has a fault.
-pub record HasFaultyPool (words : List Text) (files : Files) : Type 0 where
+-- The words ask for a report, and that of the pool in their file is written.
+pub record Reports (words : List Text) (files : Files) (old new : Option (List ℕ)) : Type 0 where
   pub options : Options
   pub given : WordsGive words options
-  pub why : PoolFault
-  pub faulty : IsSomeAnd options.preload (λ p. IsLoadFault files p (fault.Pool why))
+  pub asked : options.report ≡ true
+  pub written : IfSome (files options.file.now) (λ bytes. WritesReport bytes old new)
 
--- The words give options with a pool, and that is refused.
-pub record HasRefusedPool (words : List Text) (files : Files) : Type 0 where
+-- The words give options, and what they ask for has a fault. Where that is a report, nothing else is written than
+-- what is printed of the fault.
+pub record HasFault (words : List Text) (files : Files) (old new : Option (List ℕ)) : Type 0 where
   pub options : Options
   pub given : WordsGive words options
-  pub why : PoolRefusal
-  pub refused : IsSomeAnd options.preload (λ p. IsLoadFault files p (fault.Refused why))
+  pub why : Fault
+  pub faulty : IsFaultOf files options why
+  pub prints : options.report ≡ true → Prints why old new
 
--- Help is to be printed, or the fault or the refusal of a pool.
+-- The words give options, and a pool of theirs has a fault or is refused.
+pub record HasBadPool (words : List Text) (files : Files) : Type 0 where
+  pub options : Options
+  pub given : WordsGive words options
+  pub why : Fault
+  pub faulty : IsFaultOf files options why
+  pub printed : IsPrinted why
+
+-- The words ask for a report, and the pool in their file meets all rules.
+pub record HasReport (words : List Text) (files : Files) : Type 0 where
+  pub options : Options
+  pub given : WordsGive words options
+  pub asked : options.report ≡ true
+  pub text : List ℕ
+  pub report : IfSome (files options.file.now) (λ bytes. IsReportOf bytes text)
+
+-- Help is to be printed, or a report, or the fault or the refusal of a pool.
 abbrev pub HasToPrint : List Text → Files → Type 0
-HasToPrint words files = Refuses words status.Done ⊎ HasFaultyPool words files ⊎ HasRefusedPool words files
+HasToPrint words files = Refuses words status.Done ⊎ HasReport words files ⊎ HasBadPool words files
 
 -- Which status a run ends with. Memory may run out at any words, and then it is Fault.
 abbrev pub Ends : List Text → Files → Option (List ℕ) → Option (List ℕ) → Status → Type 0
-Ends words files old new status.Done = Refuses words status.Done ⊎ Replays words files old new
+Ends words files old new status.Done = Refuses words status.Done ⊎ Replays words files old new ⊎ Reports words files old new
 Ends words files old new status.Usage = Refuses words status.Usage × Keeps old new
-Ends words files old new status.Fault = Unit {0}
+Ends words files old new status.Fault = (Refuses words status.Fault × Keeps old new) ⊎ HasFault words files old new
+
+-- ---- the report alone, of the pool in the file of a path
+
+-- its fault
+pub record HasNoReport (files : Files) (path : Bor Text) (old new : Option (List ℕ)) : Type 0 where
+  pub why : Fault
+  pub faulty : IsPoolFileFault files path why
+  pub prints : Prints why old new
+
+-- which status it ends with
+abbrev pub EndsReport : Files → Bor Text → Option (List ℕ) → Option (List ℕ) → Status → Type 0
+EndsReport files path old new status.Done = IfSome (files path.now) (λ bytes. WritesReport bytes old new)
+EndsReport files path old new status.Usage = ⊥
+EndsReport files path old new status.Fault = HasNoReport files path old new
+
+-- The report is to be printed, or the fault or the refusal of the pool.
+abbrev pub HasPoolToPrint : Files → Bor Text → Type 0
+HasPoolToPrint files path =
+    ((text : List ℕ) × IfSome (files path.now) (λ bytes. IsReportOf bytes text))
+    ⊎ ((why : Fault) × IsPoolFileFault files path why × IsPrinted why)
 
 -- ---- the texts of faults
 

@@ -1,8 +1,8 @@
 -- The words of the command line and the statuses (docs/PROFILE.md, "Words", "Faults and statuses").
-use Rattle.std.specs.Prelude.{◌≡◌, ◌≢◌, ◌≤◌, ◌⊎◌, ◌∷◌, ◌++◌, [], ℕ, List, length, Option, Some, None, Ok, IfSome, IsSome, IsSomeAnd, codes, is_some, true}
+use Rattle.std.specs.Prelude.{◌≡◌, ◌≢◌, ◌≤◌, ◌⊎◌, ◌∷◌, ◌++◌, [], ℕ, Bool, List, length, Option, Some, None, Ok, IfSome, IsSome, IsSomeAnd, codes, is_some, true, false}
 use Rattle.byteorder.specs.Endian.{big_number}
-use Rattle.clap.specs.Words.{App, Kinds, IsAmong, Rule, Text, fault_of, first_of, kind_of, matches_of, new_app, new_rule}
-use Rattle.clap.specs.declared.builder.action.ArgAction.TheVariants.{Set}
+use Rattle.clap.specs.Words.{App, Kinds, IsAmong, Rule, Text, fault_of, first_of, kind_of, matches_of, new_app, new_rule, one_of}
+use Rattle.clap.specs.declared.builder.action.ArgAction.TheVariants.{Set, SetTrue}
 use Rattle.clap.specs.declared.error.Error.{Error}
 use Rattle.clap.specs.declared.error.kind.ErrorKind.TheVariants.{OutOfMemory}
 use Rattle.hex.specs.Hex.{decode_of}
@@ -23,36 +23,44 @@ file_word = record (new_rule (codes "FILE")) { required = true; action = Some Se
 abbrev pub valued_option : Text → Rule
 valued_option name = record (new_rule name) { long = Some name; action = Some Set; value_names = 1 }
 
+-- the flag that asks for a report
+abbrev pub report_flag : Rule
+report_flag = record (new_rule (codes "report")) { long = Some (codes "report"); action = Some SetTrue }
+
 abbrev pub app : App
 app = record (new_app (codes "vt_replay")) {
   top = record (new_app (codes "vt_replay")).top {
     has_version = true;
-    rules = file_word ∷ valued_option (codes "own") ∷ valued_option (codes "name") ∷ valued_option (codes "pool") ∷ valued_option (codes "owner") ∷ [];
+    rules = file_word ∷ valued_option (codes "own") ∷ valued_option (codes "name") ∷ valued_option (codes "pool") ∷ valued_option (codes "owner")
+        ∷ report_flag ∷ [];
   };
 }
 
 -- ---- what words give
 
--- the text that stands for each, where there is one
+-- the text that stands for each, where there is one; that of a flag is "true" or "false"
 pub record Given : Type 0 where
-  pub log : Option Text
+  pub file : Option Text
   pub own : Option Text
   pub name : Option Text
   pub pool : Option Text
   pub owner : Option Text
+  pub report : Option Text
 
-abbrev pub given_in : (Text → Option Text) → Given
-given_in value = record {
-  log = value (codes "FILE");
+-- from the values and the flags by their names
+abbrev pub given_in : (Text → Option Text) → (Text → Option Text) → Given
+given_in value flag = record {
+  file = value (codes "FILE");
   own = value (codes "own");
   name = value (codes "name");
   pool = value (codes "pool");
   owner = value (codes "owner");
+  report = flag (codes "report");
 }
 
 -- what clap finds in the words
 unfoldable pub given_by : List Text → Given
-given_by words = given_in (λ name. first_of name (matches_of app words))
+given_by words = given_in (λ name. first_of name (matches_of app words)) (λ name. one_of name (matches_of app words))
 
 -- what clap finds wrong with the words: no kind of fault, or one
 unfoldable pub faults_in : List Text → Kinds
@@ -105,11 +113,18 @@ GivesPreload (Some pool) (Some owner) preload = IsSomeAnd preload (λ p. (p.pool
 GivesPreload None (Some owner) preload = ⊥
 GivesPreload (Some pool) None preload = ⊥
 
+-- whether a flag is set
+pub record IsFlag (text : Option Text) (set : Bool) : Type 0 where
+  pub absent : text ≡ None → set ≡ false
+  pub there : text ≡ Some (codes "true") → set ≡ true
+  pub left_out : text ≡ Some (codes "false") → set ≡ false
+
 pub record Gives (given : Given) (options : Options) : Type 0 where
-  pub log : given.log ≡ Some options.log.now
+  pub file : given.file ≡ Some options.file.now
   pub own : IsOwn given.own options.own
   pub name : IsOwnName given.name options.name
   pub preload : GivesPreload given.pool given.owner options.preload
+  pub report : IsFlag given.report options.report
 
 -- the addresses are a node's, and the owner is not the terminal
 pub record AreApart (options : Options) : Type 0 where

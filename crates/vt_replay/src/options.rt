@@ -1,11 +1,11 @@
 //! The words of the command line.
 
 ghost use Rattle.std.specs.Prelude.{◌≡◌, ℕ, IfOk, IfErr, MatchOption, codes, false, is_some, map, true};
-ghost use Rattle.clap.specs.Words.{IsParsedFrom, IsPlainArg, app_of, first_value, found_of, rule_of};
+ghost use Rattle.clap.specs.Words.{IsParsedFrom, IsPlainArg, app_of, first_value, found_of, one_text, rule_of};
 ghost use Rattle.clap.specs.Built.{TakesValue};
 ghost use Rattle.clap.specs.declared.parser.matches.ArgMatches.{ArgMatches};
 ghost use Rattle.vt_replay.specs.declared.options.Refusal.TheVariants.{Memory};
-ghost use Rattle.vt_replay.specs.Words.{AreApart, GivesAddress, GivesNoAddress, GivesNoName, Gives, IsAddress, IsMistake, IsName, IsOwnName, IsRefusalFor, IsRefusalOf, WordsGive, app, file_word, given_in, refusal_text, valued_option};
+ghost use Rattle.vt_replay.specs.Words.{AreApart, GivesAddress, GivesNoAddress, GivesNoName, Gives, IsAddress, IsMistake, IsName, IsOwnName, IsRefusalFor, IsRefusalOf, WordsGive, app, file_word, given_in, refusal_text, report_flag, valued_option};
 
 use byteorder::{BigEndian, ByteOrder};
 use clap::error::ErrorKind;
@@ -25,14 +25,16 @@ const OWN_NAME: u64 = 0x2000_1D00_0000_0001;
 /// What the words ask for.
 #[derive(Drop)]
 pub struct Options<'a> {
-    /// The file of the log.
-    pub log: &'a str,
+    /// The file of the log, or of the pool of which a report is asked for.
+    pub file: &'a str,
     /// The terminal's own address, at most 253.
     pub own: u8,
     /// The terminal's NAME.
     pub name: Name,
     /// The working set that is there from the start.
     pub preload: Option<Preload<'a>>,
+    /// Whether a report is asked for in place of a replay.
+    pub report: bool,
 }
 
 /// A working set that is there from the start.
@@ -123,7 +125,7 @@ fn command<'a>(alloc: Global) -> Result<Command<'a>, AllocError>
     ensures file { IfOk result (λ command. (matches : ArgMatches) → IsParsedFrom command matches
         → is_some (first_value (found_of matches) (codes "FILE")) ≡ true) }
 {
-    let log = file_word(alloc);
+    let file = file_word(alloc);
     let own = valued_option(
         alloc,
         "own",
@@ -143,14 +145,16 @@ fn command<'a>(alloc: Global) -> Result<Command<'a>, AllocError>
         "The object pool of a working set that is there from the start",
     );
     let owner = valued_option(alloc, "owner", "AA", "The address of that working set");
+    let report = report_flag(alloc);
     Command::new(alloc, "vt_replay")
         .version("0.1.0")
         .about("Replays a CAN log to a virtual terminal and prints what it answers")
-        .arg(log)?
+        .arg(file)?
         .arg(own)?
         .arg(name)?
         .arg(pool)?
-        .arg(owner)
+        .arg(owner)?
+        .arg(report)
 }
 
 fn file_word<'a>(alloc: Global) -> Arg<'a>
@@ -160,7 +164,7 @@ fn file_word<'a>(alloc: Global) -> Arg<'a>
     ensures value { TakesValue result }
 {
     Arg::new(alloc, "FILE")
-        .help("The log to replay, as candump writes it")
+        .help("The log to replay, as candump writes it; with --report an object pool")
         .action(ArgAction::Set)
         .required(true)
 }
@@ -177,12 +181,23 @@ fn valued_option<'a>(alloc: Global, name: &'a str, value: &'a str, help: &'a str
         .action(ArgAction::Set)
 }
 
+fn report_flag<'a>(alloc: Global) -> Arg<'a>
+    ensures rule { rule_of result ≡ report_flag }
+    ensures plain { IsPlainArg result }
+    ensures local { result.global ≡ false }
+{
+    Arg::new(alloc, "report")
+        .long("report")
+        .help("Print the report of the object pool FILE instead of a replay")
+        .action(ArgAction::SetTrue)
+}
+
 /// The options that parsed words give. They have a FILE.
 fn options_of<'a>(matches: &ArgMatches<'a>) -> Result<Options<'a>, Refusal>
     requires { is_some (first_value (found_of matches.now) (codes "FILE")) ≡ true }
-    ensures gives { IfOk result (Gives (given_in (first_value (found_of matches.now)))) }
+    ensures gives { IfOk result (Gives (given_in (first_value (found_of matches.now)) (one_text (found_of matches.now)))) }
     ensures apart { IfOk result AreApart }
-    ensures refused { IfErr result (IsMistake (given_in (first_value (found_of matches.now)))) }
+    ensures refused { IfErr result (IsMistake (given_in (first_value (found_of matches.now)) (one_text (found_of matches.now)))) }
 {
     let own = address_given(matches, "own")?.unwrap_or(OWN_ADDRESS);
     let name = name_given(matches)?;
@@ -193,12 +208,14 @@ fn options_of<'a>(matches: &ArgMatches<'a>) -> Result<Options<'a>, Refusal>
         (None, None) => None,
         _ => return Err(Refusal::Alone),
     };
-    let log = matches.get_str("FILE").unwrap_or("");
+    let file = matches.get_str("FILE").unwrap_or("");
+    let report = matches.get_flag("report");
     Ok(Options {
-        log,
+        file,
         own,
         name,
         preload,
+        report,
     })
 }
 

@@ -1,11 +1,12 @@
 //! The program, over words, files and writers.
 
 ghost use Rattle.std.specs.Prelude.{◌≡◌, ◌≢◌, ◌≤◌, ℕ, List, Option, Some, None, IfOk, IfErr, IfSome, OnOk, OnErr, map};
+ghost use Rattle.std.specs.FinMap as finite;
 ghost use Rattle.vt_names.specs.Registry.{set_at};
 ghost use Rattle.std.specs.Io.KnownBytes.{Keeps};
 ghost use Rattle.vt_replay.specs.declared.program.Fault.TheVariants.{Memory};
 ghost use Rattle.vt_replay.specs.Words.{AreApart, status_code};
-ghost use Rattle.vt_replay.specs.Runs.{Ends, EndsBy, HasReplayed, HasToPrint, IsAcceptedPoolOf, IsFaultOf, IsFaultOfPool, IsFileFault, IsLoadFault, IsLoaded, fault_line};
+ghost use Rattle.vt_replay.specs.Runs.{Ends, EndsBy, EndsReport, HasPoolToPrint, HasReplayed, HasToPrint, IsAcceptedPoolOf, IsFaultOfPool, IsFileFault, IsLoaded, IsPoolFileFault, IsPrinted, IsReplayFault, IsReportOf, Prints, fault_line};
 ghost use Rattle.vt_pool.specs.Pools.{contents};
 ghost use Rattle.vt_server.specs.States.{state_of};
 
@@ -35,7 +36,7 @@ pub trait Open {
 /// How the program ends.
 #[derive(Clone, Copy, Debug, PartialEq, Eq)]
 pub enum Status {
-    /// The log was replayed, or help was printed.
+    /// The log was replayed, or a report or help was printed.
     Done,
     /// A file, the pool or the replay has a fault.
     Fault,
@@ -56,7 +57,7 @@ impl Status {
     }
 }
 
-/// Why a log was not replayed to its end.
+/// Why a log was not replayed to its end, or a pool has no report.
 #[derive(Drop)]
 enum Fault<'a> {
     File { path: &'a str, cause: io::Error },
@@ -98,29 +99,19 @@ pub fn run<S: AsStr, F: Open, W: Write, E: Write>(
     errors: &mut E,
 ) -> io::Result<Status>
     ensures ends { IfOk result (Ends (map S.text words.now) (F.file files.old) (W.contents out.old) (W.contents out.new)) }
-    // It fails only where it has to print help, or the fault or refusal of a pool.
+    // It fails only where it has to print help, a report, or the fault or refusal of a pool.
     ensures fails { OnErr result (HasToPrint (map S.text words.now) (F.file files.old)) }
 {
     let options = match Options::parse(alloc, words) {
         Ok(options) => options,
         Err(refusal) => return refuse(&refusal, out, errors),
     };
+    if options.report {
+        return print_report(alloc, options.file, files, out, errors);
+    }
     match replay_log(alloc, &options, files, out) {
         Ok(()) => Ok(Status::Done),
-        Err(Fault::Pool(fault)) => {
-            writeln!(out, "{fault}")?;
-            out.flush()?;
-            Ok(Status::Fault)
-        }
-        Err(Fault::Refused(refusal)) => {
-            writeln!(out, "{refusal}")?;
-            out.flush()?;
-            Ok(Status::Fault)
-        }
-        Err(fault) => {
-            let _ = writeln!(errors, "vt_replay: {fault}");
-            Ok(Status::Fault)
-        }
+        Err(fault) => print_fault(&fault, out, errors),
     }
 }
 
@@ -143,6 +134,60 @@ fn refuse<W: Write, E: Write>(refusal: &Refusal, out: &mut W, errors: &mut E) ->
     Ok(status)
 }
 
+/// Prints the fault or the refusal of a pool, and names any other fault on `errors`.
+fn print_fault<W: Write, E: Write>(
+    fault: &Fault<'_>,
+    out: &mut W,
+    errors: &mut E,
+) -> io::Result<Status>
+    ensures status { IfOk result (λ status. status ≡ Status.Fault) }
+    ensures prints { OnOk result (Prints fault.now (W.contents out.old) (W.contents out.new)) }
+    ensures fails { OnErr result (IsPrinted fault.now) }
+{
+    match fault {
+        Fault::Pool(_) | Fault::Refused(_) => {
+            writeln!(out, "{fault}")?;
+            out.flush()?;
+        }
+        _ => {
+            let _ = writeln!(errors, "vt_replay: {fault}");
+        }
+    }
+    Ok(Status::Fault)
+}
+
+/// Prints the report of the pool in a file.
+fn print_report<F: Open, W: Write, E: Write>(
+    alloc: Global,
+    path: &str,
+    files: &mut F,
+    out: &mut W,
+    errors: &mut E,
+) -> io::Result<Status>
+    ensures ends { IfOk result (EndsReport (F.file files.old) path.entry (W.contents out.old) (W.contents out.new)) }
+    ensures fails { OnErr result (HasPoolToPrint (F.file files.old) path.entry) }
+{
+    match report(alloc, path, files) {
+        Ok(text) => {
+            out.write_all(&text)?;
+            out.flush()?;
+            Ok(Status::Done)
+        }
+        Err(fault) => print_fault(&fault, out, errors),
+    }
+}
+
+/// The report of the pool in a file.
+fn report<'a, F: Open>(alloc: Global, path: &'a str, files: &mut F) -> Result<Vec<u8>, Fault<'a>>
+    ensures text { IfOk result (λ text. IfSome (F.file files.old path.now) (λ bytes. IsReportOf bytes text.items)) }
+    ensures fault { IfErr result (IsPoolFileFault (F.file files.old) path.entry) }
+{
+    let pool = read_accepted(alloc, path, files)?;
+    let mut text = Vec::new(alloc);
+    pool.report(&mut text)?;
+    Ok(text)
+}
+
 fn replay_log<'a, F: Open, W: Write>(
     alloc: Global,
     options: &Options<'a>,
@@ -151,13 +196,13 @@ fn replay_log<'a, F: Open, W: Write>(
 ) -> Result<(), Fault<'a>>
     requires { AreApart options.now }
     ensures replayed { OnOk result (HasReplayed (F.file files.old) options.now (W.contents out.old) (W.contents out.new)) }
-    ensures fault { IfErr result (IsFaultOf (F.file files.old) options.now) }
+    ensures fault { IfErr result (IsReplayFault (F.file files.old) options.now) }
 {
     let mut terminal = Terminal::new(alloc, options.own, options.name);
     if let Some(preload) = &options.preload {
         load(alloc, preload, files, &mut terminal)?;
     }
-    let path = options.log;
+    let path = options.file;
     let mut log = match files.open(path) {
         Ok(log) => log,
         Err(cause) => return Err(Fault::File { path, cause }),
@@ -183,21 +228,33 @@ fn load<'a, F: Open>(
     requires claimed { preload.now.owner ≤ 253 }
     requires other { preload.now.owner ≢ (state_of terminal.old).claims.own }
     ensures set { OnOk result (IsLoaded (F.file files.old) preload.now (state_of terminal.old) (state_of terminal.new)) }
-    ensures fault { IfErr result (IsLoadFault (F.file files.old) preload.now) }
+    ensures fault { IfErr result (IsPoolFileFault (F.file files.old) preload.now.pool) }
     ensures stay { F.file files.new ≡ F.file files.old }
 {
-    let bytes = read_file(alloc, preload.pool, files)?;
-    let pool = match accepted(alloc, &bytes) {
-        Ok(pool) => pool,
-        Err(fault) => return Err(fault),
-    };
+    let pool = read_accepted(alloc, preload.pool, files)?;
     terminal.preload(preload.owner, &pool)?;
     Ok(())
+}
+
+/// Reads the pool in a file and verifies it.
+fn read_accepted<'a, F: Open>(
+    alloc: Global,
+    path: &'a str,
+    files: &mut F,
+) -> Result<Accepted, Fault<'a>>
+    ensures pool { IfOk result (λ pool. IfSome (F.file files.old path.now) (λ bytes. IsAcceptedPoolOf bytes (contents pool))) }
+    ensures rising { IfOk result (λ pool. pool ≡ finite.entries (contents pool)) }
+    ensures fault { IfErr result (IsPoolFileFault (F.file files.old) path.entry) }
+    ensures stay { F.file files.new ≡ F.file files.old }
+{
+    let bytes = read_file(alloc, path, files)?;
+    accepted(alloc, &bytes)
 }
 
 /// The pool of these bytes, where it is accepted.
 fn accepted<'a>(alloc: Global, bytes: &[u8]) -> Result<Accepted, Fault<'a>>
     ensures pool { IfOk result (λ pool. IsAcceptedPoolOf bytes.now (contents pool)) }
+    ensures rising { IfOk result (λ pool. pool ≡ finite.entries (contents pool)) }
     ensures fault { IfErr result (IsFaultOfPool bytes.now) }
 {
     let pool = match read_pool(alloc, bytes) {

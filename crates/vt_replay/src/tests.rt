@@ -16,6 +16,16 @@ const POOL: &[u8] = b"\x00\x00\x00\x00\x01\xE8\x03\x00\x00\x00\
     \xE8\x03\x01\x00\xFF\xFF\x01\x00\x64\x00\x0A\x00\x05\x00\
     \x64\x00\x03\x32\x00\x14\x00\x00\x00\x00";
 
+/// The same, where the Container lists macro 3, which sets the volume, at event 4.
+const MACRO_POOL: &[u8] = b"\x00\x00\x00\x00\x01\xE8\x03\x00\x00\x00\
+    \xE8\x03\x01\x00\xFF\xFF\x01\x00\x64\x00\x0A\x00\x05\x00\
+    \x64\x00\x03\x32\x00\x14\x00\x00\x00\x01\x04\x03\
+    \x03\x00\x1C\x08\x00\xA4\x32\xFF\xFF\xFF\xFF\xFF\xFF";
+
+const MACRO_REPORT: &str = "accepted 4 objects\n\
+    object 3 event 0 budget 1\n\
+    object 100 event 4 budget 1\n";
+
 const HIDE: &[u8] = b"(1.000000) can0 14E72680#A0640000FFFFFFFF\n";
 
 const HIDE_TEXT: &str = "14E68026#A064000000FFFFFF\n\
@@ -195,6 +205,90 @@ fn files_with_faults(rt: HostRuntime) -> Result<(), Fail> {
     expect_run(&rt, pool_first, (HIDE, POOL), no_file)?;
     let no_pool = ["vt_replay", "log", "--pool", "none", "--owner", "80"].as_slice();
     expect_run(&rt, no_pool, (HIDE, POOL), no_file)
+}
+
+/// Runs `--report` on each pool, and checks its status and its text.
+fn expect_reports(
+    rt: &(impl Abort + AllocGlobal),
+    pools: &[(&[u8], Status, &str)],
+) -> Result<(), Fail> {
+    let words = ["vt_replay", "--report", "pool"].as_slice();
+    for &(pool, status, text) in pools {
+        expect_run(rt, words, (HIDE, pool), (status, text, false))?;
+    }
+    Ok(())
+}
+
+/// Runs each command line, which is not understood.
+fn expect_usage(rt: &(impl Abort + AllocGlobal), lines: &[&[&str]]) -> Result<(), Fail> {
+    for &words in lines {
+        expect_run(rt, words, (HIDE, POOL), (Status::Usage, "", true))?;
+    }
+    Ok(())
+}
+
+#[test]
+fn reports_of_pools(rt: HostRuntime) -> Result<(), Fail> {
+    let pools: [(&[u8], Status, &str); 6] = [
+        (POOL, Status::Done, "accepted 3 objects\n"),
+        (MACRO_POOL, Status::Done, MACRO_REPORT),
+        (&POOL[..24], Status::Fault, "refused 3 Missing 1000 100\n"),
+        (b"", Status::Fault, "refused 1 NoWorkingSet\n"),
+        (b"\x01\x00\x22", Status::Fault, "fault 2 UnknownType at 0\n"),
+        (&POOL[..23], Status::Fault, "fault 1 Truncated at 10\n"),
+    ];
+    expect_reports(&rt, &pools)
+}
+
+#[test]
+fn words_of_a_report(rt: HostRuntime) -> Result<(), Fail> {
+    let no_file = ["vt_replay", "--report", "none"].as_slice();
+    expect_run(&rt, no_file, (HIDE, POOL), (Status::Fault, "", true))?;
+    let words = [
+        "vt_replay",
+        "pool",
+        "--owner=80",
+        "--pool",
+        "none",
+        "--own=27",
+        "--report",
+    ];
+    let report = (Status::Done, "accepted 3 objects\n", false);
+    expect_run(&rt, words.as_slice(), (HIDE, POOL), report)?;
+    let lines: [&[&str]; 7] = [
+        &["vt_replay", "--report"],
+        &["vt_replay", "pool", "--report", "--own", "zz"],
+        &["vt_replay", "pool", "--report", "--name", "1"],
+        &["vt_replay", "pool", "--report", "--pool", "pool"],
+        &[
+            "vt_replay",
+            "pool",
+            "--report",
+            "--pool",
+            "pool",
+            "--owner",
+            "26",
+        ],
+        &["vt_replay", "pool", "--report", "--report"],
+        &["vt_replay", "pool", "--report=x"],
+    ];
+    expect_usage(&rt, &lines)
+}
+
+#[test]
+fn reports_that_cannot_be_written(rt: HostRuntime) -> Result<(), Fail> {
+    for pool in [POOL, b"\x01\x00\x22".as_slice()] {
+        let taken = Vec::new(rt.alloc());
+        let mut out = Narrow { taken, room: 3 };
+        let mut errors = Vec::new(rt.alloc());
+        let mut shelf = Shelf { log: b"", pool };
+        let words = ["vt_replay", "pool", "--report"];
+        let end = run(rt.alloc(), &words, &mut shelf, &mut out, &mut errors);
+        assert!(&rt; end.is_err());
+        assert_eq!(&rt; out.taken.len(), 3);
+        assert!(&rt; errors.is_empty());
+    }
+    Ok(())
 }
 
 #[test]

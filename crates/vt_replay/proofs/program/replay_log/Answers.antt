@@ -29,6 +29,6 @@ returns-in-Ok-flush-clause-replayed g c =
     record {
       start = state_of terminal;
       given = begun;
-      writes = replay_written (files options.log.now) _ (held c.args.out.now) (held c.replay.new.writer) (held c.flush.new.self) (state_of terminal)
+      writes = replay_written (files options.file.now) _ (held c.args.out.now) (held c.replay.new.writer) (held c.flush.new.self) (state_of terminal)
           (state_of c.replay.new.terminal) c.in-Ok-replay._counts (rw same at c.in-Ok.ensures.bytes) c.in-Ok-replay.ensures.text c.flush.ensures.bytes;
     }

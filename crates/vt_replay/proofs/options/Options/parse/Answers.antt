@@ -1,10 +1,10 @@
 use Rattle.std.proofs.Common.{refl, ap, subst, ◌≡◌, [], codes, true, map, List, Result, Ok, Err, IfOk, IfErr, inl, inr}
 use Rattle.std.proofs.lemmas.Result.{err_from_is_err_and}
-use Rattle.clap.specs.Words.{App, FailsBy, HasKind, HasMatchesOf, Text, app_of, fault_of, first_of, first_value, found_of, is_simple_and_free, matches_of, rows_of}
+use Rattle.clap.specs.Words.{App, FailsBy, HasKind, HasMatchesOf, Text, app_of, fault_of, first_of, first_value, found_of, is_simple_and_free, matches_of, one_of, one_text, rows_of}
 use Rattle.clap.specs.declared.builder.command.Command.{Command}
 use Rattle.clap.specs.declared.error.Error.{Error}
 use Rattle.clap.specs.declared.parser.matches.ArgMatches.{ArgMatches}
-use Rattle.clap.proofs.WalkLemmas.{first_value-rows}
+use Rattle.clap.proofs.WalkLemmas.{first_value-rows, one_text-rows}
 use Rattle.vt_replay.specs.declared.options.Options.{Options}
 use Rattle.vt_replay.specs.declared.options.Refusal.{Refusal}
 use Rattle.vt_replay.specs.declared.options.Refusal.TheVariants.{Words, Address, Name, OwnerIsOwn, Alone, Memory}
@@ -12,13 +12,16 @@ use Rattle.vt_replay.specs.Words.{AreApart, Given, Gives, IsMistake, IsRefusalFo
 use Rattle.vt_replay.proofs.options.Options.parse.Goals as goal
 
 -- what the matches give is what the words give
-given_same : (m : ArgMatches) (words : List Text) → HasMatchesOf app words m → given_in (first_value (found_of m)) ≡ given_by words
+given_same : (m : ArgMatches) (words : List Text) → HasMatchesOf app words m
+    → given_in (first_value (found_of m)) (one_text (found_of m)) ≡ given_by words
 unfolding given_by
 given_same m words matches =
     let rows : rows_of (found_of m) ≡ matches_of app words = (matches refl).0 in
     let same : (id : Text) → first_value (found_of m) id ≡ first_of id (matches_of app words) =
     λ id. rw (first_value-rows (found_of m) id, rows) refl in
-    rw (same (codes "FILE"), same (codes "own"), same (codes "name"), same (codes "pool"), same (codes "owner")) refl
+    let flag : one_text (found_of m) (codes "report") ≡ one_of (codes "report") (matches_of app words) =
+    rw (one_text-rows (found_of m) (codes "report"), rows) refl in
+    rw (same (codes "FILE"), same (codes "own"), same (codes "name"), same (codes "pool"), same (codes "owner"), flag) refl
 
 faults_of_app : (command : Command) (words : List Text) (r : Result ArgMatches Error) → app_of command ≡ app
     → (is_simple_and_free (app_of command) ≡ true → FailsBy (fault_of (app_of command) words) r) → FailsBy (faults_in words) r
