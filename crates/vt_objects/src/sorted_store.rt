@@ -110,7 +110,51 @@ fn place_of(entries: &[(ObjectId, Object<Vec<u8>>)], id: ObjectId) -> Option<usi
     ensures some { IfSome result (IsPlace (map shown entries.now) id) }
     ensures none { IfNone result (object_at (map shown entries.now) id ≡ None) }
 {
-    entries
-        .binary_search_by_key(&id.raw(), |entry| entry.0.raw())
-        .ok()
+    match place_from_end(entries, id) {
+        Some(place) => Some(place),
+        None => entries
+            .binary_search_by_key(&id.raw(), |entry| entry.0.raw())
+            .ok(),
+    }
+}
+
+/// The place of an ID, if each ID from the first one to it stands too, or each from it to the last one.
+fn place_from_end(entries: &[(ObjectId, Object<Vec<u8>>)], id: ObjectId) -> Option<usize>
+    requires { AreStored (map shown entries.now) }
+    ensures { IfSome result (IsPlace (map shown entries.now) id) }
+{
+    match place_from_first(entries, id) {
+        Some(place) => Some(place),
+        None => place_from_last(entries, id),
+    }
+}
+
+fn place_from_first(entries: &[(ObjectId, Object<Vec<u8>>)], id: ObjectId) -> Option<usize>
+    requires { AreStored (map shown entries.now) }
+    ensures { IfSome result (IsPlace (map shown entries.now) id) }
+{
+    let (first, _) = entries.first()?;
+    let above = id.raw().checked_sub(first.raw())?;
+    stands_at(entries, id, usize::from(above))
+}
+
+fn place_from_last(entries: &[(ObjectId, Object<Vec<u8>>)], id: ObjectId) -> Option<usize>
+    requires { AreStored (map shown entries.now) }
+    ensures { IfSome result (IsPlace (map shown entries.now) id) }
+{
+    let (last, _) = entries.last()?;
+    let below = last.raw().checked_sub(id.raw())?;
+    let place = (entries.len() - 1).checked_sub(usize::from(below))?;
+    stands_at(entries, id, place)
+}
+
+/// The place, if the ID stands there.
+fn stands_at(entries: &[(ObjectId, Object<Vec<u8>>)], id: ObjectId, place: usize) -> Option<usize>
+    requires { AreStored (map shown entries.now) }
+    ensures { IfSome result (IsPlace (map shown entries.now) id) }
+{
+    if entries.get(place)?.0 == id {
+        return Some(place);
+    }
+    None
 }
