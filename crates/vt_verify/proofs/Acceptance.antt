@@ -1,11 +1,15 @@
 -- The last rules of a pool, after those before them.
-use Rattle.std.proofs.Common.{arith}
+use Rattle.std.proofs.Common.{◌≡◌, None, arith}
 use Rattle.vt_rank.specs.Paths.{HasNoCircle}
 use Rattle.vt_verify.specs.declared.limits.Limits.{Limits}
 use Rattle.vt_verify.specs.Shapes.{shape_of}
 use Rattle.vt_objects.specs.Stores.{Objects}
 use Rattle.vt_verify.specs.Triggers.{triggered}
-use Rattle.vt_verify.specs.Rules.{GreaterLimitsAccept, IsAcceptable, IsWithinBudget, HoldBefore, TriggersAreNoCircle, BudgetsAreWithin}
+use Rattle.vt_verify.specs.Rules.{macro_missing, macro_wrong_kind, GreaterLimitsAccept, IsAcceptable, IsWithinBudget, HoldBefore, TargetsAreThere, AttributesAreThere, TriggersAreNoCircle, BudgetsAreWithin}
+
+pub before_attributes : (limits : Limits) (objects : Objects) → HoldBefore limits objects TargetsAreThere → macro_missing (shape_of objects) ≡ None → macro_wrong_kind (shape_of objects) ≡ None
+    → HoldBefore limits objects AttributesAreThere
+before_attributes limits objects b there fit = (b.0, (b.1.0, (b.1.1.0, (b.1.1.1.0, (b.1.1.1.1.0, (b.1.1.1.1.1.0, (b.1.1.1.1.1.1.0, (there, (fit, tt)))))))))
 
 pub before_budgets : (limits : Limits) (objects : Objects) → HoldBefore limits objects TriggersAreNoCircle → HasNoCircle (triggered (shape_of objects)) → HoldBefore limits objects BudgetsAreWithin
 before_budgets limits objects b none = (b.0, (b.1.0, (b.1.1.0, (b.1.1.1.0, (b.1.1.1.1.0, (b.1.1.1.1.1.0, (b.1.1.1.1.1.1.0, (b.1.1.1.1.1.1.1.0, (b.1.1.1.1.1.1.1.1.0, (b.1.1.1.1.1.1.1.1.1.0, (none, tt)))))))))))

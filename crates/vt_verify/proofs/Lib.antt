@@ -16,6 +16,7 @@ pub mod Pieces
 pub mod Refusals
 pub mod ReportLines
 pub mod Shapes
+pub mod Standing
 pub mod EventBudgets
 pub mod Ranking
 pub mod Updating

@@ -1,5 +1,5 @@
 -- The events at which objects list macros, and the groups of these.
-use Rattle.std.proofs.Common.{◌≡◌, ℕ, zero, suc, ◌+◌, ◌<◌, ◌≤◌, Bool, true, false, cond, ◌&&◌, ◌||◌, List, [], ◌∷◌, ◌++◌, map, filter, take, drop, length, get_or, Option, Some, None, refl, sym, ap, ap₂, subst, ◌∙◌, arith}
+use Rattle.std.proofs.Common.{◌≡◌, ◌≢◌, ℕ, zero, suc, ◌+◌, ◌-◌, ◌<◌, ◌≤◌, Bool, true, false, cond, ◌&&◌, ◌||◌, List, [], ◌∷◌, ◌++◌, map, filter, take, drop, length, get_or, Option, Some, None, refl, sym, ap, ap₂, subst, ◌∙◌, arith}
 use Rattle.std.proofs.Math.Seq.{drop-cons}
 use Rattle.std.proofs.lemmas.List.{append_assoc, append-nil, map-append, take_more}
 use Rattle.std.proofs.lemmas.List.Folds.{list_any-append}
@@ -14,6 +14,7 @@ use Rattle.std.specs.declared.cmp.Ordering.TheVariants.{Less, Equal, Greater}
 use Rattle.std.specs.Ordering.{nat_cmp, is_eq, is_lt, eq_by_cmp}
 use Rattle.std.specs.FinMap as finite
 use Rattle.std.specs.FinMap.Entries.{below_all}
+use Rattle.vt_objects.specs.declared.entries.MacroEntry.{MacroEntry}
 use Rattle.vt_objects.specs.declared.object.Object.{Object}
 use Rattle.vt_objects.specs.Pieces.{cut}
 use Rattle.vt_objects.specs.Records.{Seen, seen, kind_of}
@@ -25,7 +26,7 @@ use Rattle.vt_verify.specs.declared.listing.Listing.{Listing}
 use Rattle.vt_verify.specs.Lists.{first_failing}
 use Rattle.vt_verify.specs.Shapes.{Shape, Fixed, fixed, shape_of, fixed_at}
 use Rattle.vt_verify.specs.Macros.{bytes_in, named_macro, macros, is_whole, commands_of, commands}
-use Rattle.vt_verify.specs.Triggers.{listing, is_mask, masks, is_event, listed, listed_in}
+use Rattle.vt_verify.specs.Triggers.{listing, is_mask, masks, is_event, macros_at, listed, listed_in}
 use Rattle.vt_verify.proofs.Passes.{all_pass, each_of_each}
 use Rattle.vt_verify.proofs.Shapes.{seen_kind}
 use Rattle.vt_objects.proofs.Rising.{Three, three, below, same, above, equal, greater, both_true}
@@ -159,6 +160,31 @@ next_event n high =
     let at : get_or event_numbers n n ≡ 0 + n = ap (λ (ns : List ℕ). get_or ns n n) numbers_are ∙ from_at 27 0 n n high in
     let back : 0 + n ≡ n = omega arith in
     next_is event_numbers n n (omega arith) (sym (at ∙ back))
+
+-- ---- the events at which nothing is listed
+
+-- an entry of another event is passed by
+pub not_listed : (event : ℕ) (entries : List MacroEntry) (i : ℕ) (d : MacroEntry) → i < length entries → (get_or entries i d).event ≢ event
+    → macros_at event (drop i entries) ≡ macros_at event (drop (i + 1) entries)
+not_listed event entries i d lt other =
+    let e = get_or entries i d in
+    let one : suc i ≡ i + 1 = omega arith in
+    let rest = filter (λ (e : MacroEntry). nat_eq e.event event) (drop (i + 1) entries) in
+    ap (macros_at event) (drop-cons entries i d lt ∙ ap (λ k. e ∷ drop k entries) one)
+    ∙ ap (λ (b : Bool). map (λ (e : MacroEntry). e.macro_id) (cond b (e ∷ rest) rest)) (ne_eqb e.event event other)
+
+passed_by : {A : Type 0} (F : ℕ → List A) (count n m : ℕ) → n + count ≡ m → m ≤ 27 → ((event : ℕ) → n ≤ event → event < m → F event ≡ [])
+    → flat_map F (drop n event_numbers) ≡ flat_map F (drop m event_numbers)
+passed_by F zero n m is le none = let same : n ≡ m = omega (arith, is) in ap (λ k. flat_map F (drop k event_numbers)) same
+passed_by {A = A} F (suc count) n m is le none =
+    ap (flat_map F) (next_event n (omega (arith, is)))
+    ∙ ap (λ (more : List A). more ++ flat_map F (drop (n + 1) event_numbers)) (none n (omega arith) (omega (arith, is)))
+    ∙ passed_by F count (n + 1) m (omega (arith, is)) le (λ event low high. none event (omega arith) high)
+
+-- events that add nothing are passed by
+pub none_between : {A : Type 0} (F : ℕ → List A) (n m : ℕ) → n ≤ m → m ≤ 27 → ((event : ℕ) → n ≤ event → event < m → F event ≡ [])
+    → flat_map F (drop n event_numbers) ≡ flat_map F (drop m event_numbers)
+none_between F n m le high none = passed_by F (m - n) n m (omega arith) high none
 
 never_both : (b c : Bool) → c ≡ false → (b && c) ≡ false
 never_both true c is = is

@@ -10,7 +10,7 @@ use Rattle.vt_objects.specs.Records.{Seen}
 use Rattle.vt_objects.specs.References.{slots_of, is_member}
 use Rattle.vt_verify.specs.declared.reference.Reference.{Reference}
 use Rattle.vt_verify.specs.declared.reference.Test.{Test}
-use Rattle.vt_verify.specs.declared.reference.Test.TheVariants.{IsThere, Fits}
+use Rattle.vt_verify.specs.declared.reference.Test.TheVariants.{IsThere, Fits, Stands}
 use Rattle.vt_verify.specs.Shapes.{Shape, kind_at}
 use Rattle.vt_objects.specs.Stores.{Objects, object_at}
 
@@ -33,9 +33,13 @@ allows kinds id (Some kind) = may_stand kinds id kind
 abbrev pub fits : Shape → Reference → Bool
 fits shape r = if r.id == 0xFFFF then true else allows r.kinds r.id (kind_at shape r.id)
 
+abbrev pub stands : Shape → Reference → Bool
+stands shape r = is_there shape r && fits shape r
+
 abbrev pub passes : Test → Shape → Reference → Bool
 passes IsThere shape r = is_there shape r
 passes Fits shape r = fits shape r
+passes Stands shape r = stands shape r
 
 -- ---- the references of slots
 

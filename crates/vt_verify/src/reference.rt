@@ -2,7 +2,7 @@
 
 ghost use Rattle.std.specs.Prelude.{◌≡◌};
 ghost use Rattle.vt_verify.specs.Shapes.{shape_of};
-ghost use Rattle.vt_verify.specs.References.{of_slot, is_there, fits, passes, may_stand};
+ghost use Rattle.vt_verify.specs.References.{of_slot, is_there, fits, stands, passes, may_stand};
 ghost use Rattle.vt_verify.specs.Targets.{of_target, macro_reference};
 
 use crate::objects::kind_at;
@@ -28,6 +28,8 @@ pub(crate) enum Test {
     IsThere,
     /// It is of a kind that is allowed. NULL and an ID that is not there are not looked at.
     Fits,
+    /// Both: it is there and it fits.
+    Stands,
 }
 
 impl Reference {
@@ -74,6 +76,7 @@ impl Reference {
         match test {
             Test::IsThere => self.is_there(objects),
             Test::Fits => self.fits(objects),
+            Test::Stands => self.stands(objects),
         }
     }
 
@@ -97,11 +100,24 @@ impl Reference {
             Some(kind) => may_stand(self.kinds, self.id, kind),
         }
     }
+
+    fn stands(&self, objects: &SortedStore) -> bool
+        ensures { result ≡ stands (shape_of objects.now) self.now }
+    {
+        if self.id.is_null() {
+            self.may_be_null
+        } else {
+            match kind_at(objects, self.id) {
+                None => false,
+                Some(kind) => may_stand(self.kinds, self.id, kind),
+            }
+        }
+    }
 }
 
 /// Whether an object of a kind may stand where these kinds are allowed. Macros above 255 are no macros that can be
 /// named.
-fn may_stand(kinds: Kinds, id: ObjectId, kind: Kind) -> bool
+pub(crate) fn may_stand(kinds: Kinds, id: ObjectId, kind: Kind) -> bool
     ensures { result ≡ may_stand kinds id kind }
 {
     match kinds {

@@ -1,17 +1,77 @@
 //! The references of all slots.
 
-ghost use Rattle.std.specs.Prelude.{◌≡◌};
+ghost use Rattle.std.specs.Prelude.{◌≡◌, None, Some, IsTrue};
 ghost use Rattle.std.specs.Option.{option_to_list};
 ghost use Rattle.std.specs.List.{flat_map};
 ghost use Rattle.vt_objects.specs.Records.{seen};
 ghost use Rattle.vt_verify.specs.Lists.{first_failing};
 ghost use Rattle.vt_verify.specs.Shapes.{shape_of};
-ghost use Rattle.vt_objects.specs.Stores.{object_at};
+ghost use Rattle.vt_objects.specs.Stores.{AreStored, object_at};
 ghost use Rattle.vt_verify.specs.References.{is_there, fits, slot_references, pointed, with_value, values_of};
 ghost use Rattle.vt_verify.specs.Rules as rules;
 
-use crate::reference::{Reference, Test};
+use crate::reference::{Reference, Test, may_stand};
 use vt_objects::{Object, ObjectId, SortedStore, Store, slots};
+
+/// Whether what each slot names is there and fits, and what a pointer among that names fits too. Each is looked up
+/// once.
+pub(crate) fn all_stand(objects: &SortedStore) -> bool
+    ensures there { IsTrue result → rules.missing objects.now ≡ None }
+    ensures fit { IsTrue result → rules.wrong_kind objects.now ≡ None }
+{
+    for (id, object) in objects.entries() {
+        if !all_stand_in(objects, *id, object) {
+            return false;
+        }
+    }
+    true
+}
+
+fn all_stand_in(objects: &SortedStore, parent: ObjectId, object: &Object<Vec<u8>>) -> bool
+    requires { AreStored objects.now }
+    ensures there { IsTrue result → first_failing (is_there (shape_of objects.now)) (slot_references (parent, seen object.now)) ≡ None }
+    ensures fit { IsTrue result → first_failing (fits (shape_of objects.now)) (values_of objects.now (parent, seen object.now)) ≡ None }
+{
+    for slot in slots(object) {
+        if !stands(objects, Reference::of_slot(parent, &slot)) {
+            return false;
+        }
+    }
+    true
+}
+
+fn stands(objects: &SortedStore, reference: Reference) -> bool
+    requires { AreStored objects.now }
+    ensures there { IsTrue result → IsTrue (is_there (shape_of objects.now) reference) }
+    ensures fit { IsTrue result → first_failing (fits (shape_of objects.now)) (with_value objects.now reference) ≡ None }
+{
+    if reference.id.is_null() {
+        return reference.may_be_null;
+    }
+    match objects.get(reference.id) {
+        None => false,
+        Some(object) => {
+            may_stand(reference.kinds, reference.id, object.kind())
+                && value_fits(objects, reference, object)
+        }
+    }
+}
+
+/// Whether the value of the pointer fits, where the object that a reference names is one.
+fn value_fits(objects: &SortedStore, reference: Reference, object: &Object<Vec<u8>>) -> bool
+    ensures { IsTrue result → first_failing (fits (shape_of objects.now)) (pointed reference (Some (seen object.now))) ≡ None }
+{
+    match object {
+        Object::ObjectPointer(pointer) => {
+            let value = Reference {
+                id: pointer.value,
+                ..reference
+            };
+            value.passes(Test::Fits, objects)
+        }
+        _ => true,
+    }
+}
 
 /// The first slot, by rising ID, that names what is not there.
 pub(crate) fn missing(objects: &SortedStore) -> Option<Reference>

@@ -1,6 +1,6 @@
 //! The triggers of macros, as a graph.
 
-ghost use Rattle.std.specs.Prelude.{◌≡◌, ◌<◌, ◌++◌, ◌∷◌, ℕ, [], map, None, IfOk, OnOk, IsTrue, slice_index_or, is_some, false, if◌then◌else◌};
+ghost use Rattle.std.specs.Prelude.{◌≡◌, ◌<◌, ◌≤◌, ◌++◌, ◌∷◌, ℕ, [], map, None, IfOk, OnOk, IsTrue, slice_index_or, is_some, false, if◌then◌else◌};
 ghost use Rattle.std.specs.Option.{option_map, option_to_list};
 ghost use Rattle.std.specs.List.{flat_map};
 ghost use Rattle.vt_objects.specs.Events.{event_number};
@@ -77,10 +77,39 @@ fn put_listings(
     ensures events { OnOk result (events.new.keys ≡ events.old.keys ++ events_in id (fixed (seen object.now))) }
     ensures groups { OnOk result (lists groups.new ≡ lists groups.old ++ groups_in id (fixed (seen object.now))) }
 {
-    for event in 0..LAST_EVENT + 1 {
+    let mut event = next_listed(id, object, 0);
+    while event <= LAST_EVENT {
         put_listing(alloc, events, groups, Listing { id, event }, object)?;
+        event = next_listed(id, object, event + 1);
     }
     Ok(())
+}
+
+/// The first event from one on at which macros may run, or one past the last where they run at none of them.
+fn next_listed(id: ObjectId, object: &Object<Vec<u8>>, from: u8) -> u8
+    requires { from ≤ 27 }
+    ensures within { (from ≤ result) × (result ≤ 27) }
+    ensures none_before { (event : ℕ) → from ≤ event → event < result → listed_in event id (fixed (seen object.now)) ≡ [] }
+{
+    if from == 0 && named_macro(id, object).is_some() {
+        return 0;
+    }
+    next_entry(object.macros(), from)
+}
+
+/// The least event of entries from one on, or one past the last where there is none.
+fn next_entry(entries: &[MacroEntry], from: u8) -> u8
+    requires { from ≤ 27 }
+    ensures within { (from ≤ result) × (result ≤ 27) }
+    ensures none_before { (event : ℕ) → from ≤ event → event < result → macros_at event entries.now ≡ [] }
+{
+    let mut next = LAST_EVENT + 1;
+    for entry in entries {
+        if from <= entry.event && entry.event < next {
+            next = entry.event;
+        }
+    }
+    next
 }
 
 /// Appends an event and its macros, where any run.

@@ -8,7 +8,7 @@ ghost use Rattle.vt_verify.specs.Shapes.{shape_of};
 ghost use Rattle.vt_verify.specs.Budgets.{CostsAreTotals};
 ghost use Rattle.vt_verify.specs.TriggerGraphs.{AreTriggers};
 ghost use Rattle.vt_verify.specs.Updates.{updated};
-ghost use Rattle.vt_verify.specs.Rules.{IsAcceptable, IsRefused, IsWantOfMemory, RefusalsAreTrue, FirstRulesFail, GreaterLimitsAccept, HoldBefore, ReferencesAreThere, ChainsAreShort, MacrosAreWhole, TargetsAreThere, TriggersAreNoCircle, BudgetsAreWithin, terminal};
+ghost use Rattle.vt_verify.specs.Rules.{IsAcceptable, IsRefused, IsWantOfMemory, RefusalsAreTrue, FirstRulesFail, GreaterLimitsAccept, HoldBefore, ReferencesAreThere, ChainsAreShort, MacrosAreWhole, TargetsAreThere, AttributesAreThere, TriggersAreNoCircle, BudgetsAreWithin, terminal};
 
 use crate::accepted::Accepted;
 use crate::budgets::Budgets;
@@ -18,7 +18,7 @@ use crate::macros::{PieceTest, cut_short, failing_piece};
 use crate::objects::{sorted, updated};
 use crate::order::by_rank;
 use crate::reference::Test;
-use crate::references::{missing, wrong_kind};
+use crate::references::{all_stand, missing, wrong_kind};
 use crate::refusal::Refusal;
 use crate::targets::failing_target;
 use crate::triggers::Triggers;
@@ -101,6 +101,19 @@ fn check_references(objects: &SortedStore) -> Result<(), Refusal>
     ensures refused { IfErr result (IsRefused terminal objects.now) }
     ensures no_memory { IfErr result (λ refusal. IsWantOfMemory refusal → ⊥) }
 {
+    if all_stand(objects) {
+        return Ok(());
+    }
+    refuse_reference(objects)
+}
+
+/// The first slot that names what is not there, or else that of a kind that may not stand there.
+fn refuse_reference(objects: &SortedStore) -> Result<(), Refusal>
+    requires { HoldBefore terminal objects.now ReferencesAreThere }
+    ensures ok { OnOk result (HoldBefore terminal objects.now ChainsAreShort) }
+    ensures refused { IfErr result (IsRefused terminal objects.now) }
+    ensures no_memory { IfErr result (λ refusal. IsWantOfMemory refusal → ⊥) }
+{
     if let Some(reference) = missing(objects) {
         return Err(Refusal::Missing {
             parent: reference.parent,
@@ -151,21 +164,44 @@ fn check_targets(objects: &SortedStore) -> Result<(), Refusal>
     ensures refused { IfErr result (IsRefused terminal objects.now) }
     ensures no_memory { IfErr result (λ refusal. IsWantOfMemory refusal → ⊥) }
 {
+    check_named(objects)?;
+    match failing_piece(objects, PieceTest::HasAttribute) {
+        None => Ok(()),
+        Some((id, at)) => Err(Refusal::MacroValue { id, at }),
+    }
+}
+
+fn check_named(objects: &SortedStore) -> Result<(), Refusal>
+    requires { HoldBefore terminal objects.now TargetsAreThere }
+    ensures ok { OnOk result (HoldBefore terminal objects.now AttributesAreThere) }
+    ensures refused { IfErr result (IsRefused terminal objects.now) }
+    ensures no_memory { IfErr result (λ refusal. IsWantOfMemory refusal → ⊥) }
+{
+    match failing_target(objects, Test::Stands) {
+        None => Ok(()),
+        Some(_) => refuse_target(objects),
+    }
+}
+
+/// The first entry or command that names what is not there, or else that of a kind that may not stand there.
+fn refuse_target(objects: &SortedStore) -> Result<(), Refusal>
+    requires { HoldBefore terminal objects.now TargetsAreThere }
+    ensures ok { OnOk result (HoldBefore terminal objects.now AttributesAreThere) }
+    ensures refused { IfErr result (IsRefused terminal objects.now) }
+    ensures no_memory { IfErr result (λ refusal. IsWantOfMemory refusal → ⊥) }
+{
     if let Some(reference) = failing_target(objects, Test::IsThere) {
         return Err(Refusal::MacroMissing {
             parent: reference.parent,
             id: reference.id,
         });
     }
-    if let Some(reference) = failing_target(objects, Test::Fits) {
-        return Err(Refusal::MacroKind {
+    match failing_target(objects, Test::Fits) {
+        None => Ok(()),
+        Some(reference) => Err(Refusal::MacroKind {
             parent: reference.parent,
             id: reference.id,
-        });
-    }
-    match failing_piece(objects, PieceTest::HasAttribute) {
-        None => Ok(()),
-        Some((id, at)) => Err(Refusal::MacroValue { id, at }),
+        }),
     }
 }
 

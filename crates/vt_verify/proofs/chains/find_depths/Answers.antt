@@ -1,6 +1,6 @@
 use Rattle.std.proofs.Common.{arith}
 use Rattle.std.specs.FinMap as finite
-use Rattle.vt_verify.specs.Depths.{ids_of, inclusions_of, AreDepths}
+use Rattle.vt_verify.specs.Depths.{ids_of, inclusions_of}
 use Rattle.vt_verify.proofs.Closing.{sourced}
 use Rattle.vt_verify.proofs.Settling.{all_found, show_shallow}
 use Rattle.vt_verify.proofs.chains.find_depths.Goals as goal

@@ -1,0 +1,14 @@
+use Rattle.std.proofs.Common.{sym, ◌∙◌}
+use Rattle.vt_verify.specs.Shapes.{shape_of}
+use Rattle.vt_verify.specs.References.{is_there, fits}
+use Rattle.vt_verify.specs.Rules.{terminal}
+use Rattle.vt_verify.specs.Targets.{macro_references}
+use Rattle.vt_verify.proofs.Acceptance.{before_attributes}
+use Rattle.vt_verify.proofs.Standing.{both_pass}
+use Rattle.vt_verify.proofs.verification.check_named.Goals as goal
+
+pub returns-in-None-clause-ok : goal.returns-in-None-clause-ok
+returns-in-None-clause-ok c =
+    let shape = shape_of c.args.objects.now in
+    let stand = both_pass (is_there shape) (fits shape) (macro_references shape) (sym c.failing_target.ensures ∙ c.in-None.is) in
+    before_attributes terminal c.args.objects.now c.requires stand.0 stand.1
