@@ -85,16 +85,20 @@ impl Accepted {
     fn text(&self, alloc: Global) -> Result<Vec<u8>, AllocError>
         ensures { IfOk result (λ text. text.items ≡ report_text self.now) }
     {
-        let mut text = Vec::new(alloc);
+        let events = self.budgets.events.len();
+        let mut text = Vec::with_capacity(alloc, events.saturating_mul(MOST_IN_LINE))?;
         let count = self.objects().len();
         text.extend_from_slice(format!(in alloc; "accepted {count} objects\n")?.as_bytes())?;
-        for place in 0..self.budgets.events.len() {
+        for place in 0..events {
             let line = line(alloc, self.budgets.events[place], self.budgets.steps[place])?;
             text.extend_from_slice(line.as_bytes())?;
         }
         Ok(text)
     }
 }
+
+/// The most bytes of a line, with its end.
+const MOST_IN_LINE: usize = 37;
 
 fn line(alloc: Global, raised: Listing, budget: u32) -> Result<String, AllocError>
     ensures { IfOk result (λ line. string_bytes line ≡ budget_line raised budget) }

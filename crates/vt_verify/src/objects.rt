@@ -66,8 +66,9 @@ fn copies(alloc: Global, pool: &Pool<'_>) -> Result<Vec<(ObjectId, Object<Vec<u8
     ensures entries { IfOk result (λ entries. map shown entries.items ≡ pool.now) }
     ensures each { AreObjects pool.now }
 {
-    let mut entries = Vec::new(alloc);
-    for (id, object) in pool.objects() {
+    let objects = pool.objects();
+    let mut entries = Vec::with_capacity(alloc, objects.len())?;
+    for (id, object) in objects {
         entries.push((*id, object.copied(alloc)?))?;
     }
     Ok(entries)

@@ -3,4 +3,4 @@ use Rattle.vt_objects.specs.Stores.{shown}
 use Rattle.vt_verify.proofs.objects.copies.Given as goal
 
 abbrev pub invariant-loop-id : goal.invariant-loop-id
-invariant-loop-id l = (map shown l.id-items ≡ l.pool) × (map shown l.entries.items ≡ map shown (take l.id-index l.id-items))
+invariant-loop-id l = (map shown l.objects ≡ l.pool) × (map shown l.entries.items ≡ map shown (take l.id-index l.objects))
