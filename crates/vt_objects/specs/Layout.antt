@@ -164,16 +164,16 @@ RowFits [] (n ∷ ns) = ⊥
 RowFits (size ∷ sizes) [] = ⊥
 RowFits (size ∷ sizes) (n ∷ ns) = Fits size n × RowFits sizes ns
 
--- each value has its field's shape: numbers fit their sizes, and lists are as long as they were counted
-abbrev pub Shaped : List Field → Counts → List Value → Type 0
-Shaped [] counts [] = Unit {0}
-Shaped (Number size ∷ fs) counts (number n ∷ vs) = Fits size n × Shaped fs counts vs
-Shaped (Count size of ∷ fs) counts (number (natural n) ∷ vs) = (n < 256 ^ size) × Shaped fs (counted of n counts) vs
-Shaped (Rows of sizes ∷ fs) counts (rows rs ∷ vs) = (length rs ≡ count_of of counts) × AllByRecursion (RowFits sizes) rs × Shaped fs counts vs
-Shaped (Bytes of ∷ fs) counts (bytes bs ∷ vs) = (length bs ≡ count_of of counts) × AllByRecursion (λ b. b < 256) bs × Shaped fs counts vs
-Shaped (ScaleBytes ∷ fs) counts (number (natural n) ∷ vs) = (n < 256 ^ 4) × Shaped fs counts vs
-Shaped (DecimalPlaces ∷ fs) counts (number (natural n) ∷ vs) = (n < 256 ^ 1) × Shaped fs counts vs
-Shaped _ _ _ = ⊥
+-- each value fits its field: numbers their sizes, and lists are as long as they were counted
+abbrev pub FieldsFit : List Field → Counts → List Value → Type 0
+FieldsFit [] counts [] = Unit {0}
+FieldsFit (Number size ∷ fs) counts (number n ∷ vs) = Fits size n × FieldsFit fs counts vs
+FieldsFit (Count size of ∷ fs) counts (number (natural n) ∷ vs) = (n < 256 ^ size) × FieldsFit fs (counted of n counts) vs
+FieldsFit (Rows of sizes ∷ fs) counts (rows rs ∷ vs) = (length rs ≡ count_of of counts) × AllByRecursion (RowFits sizes) rs × FieldsFit fs counts vs
+FieldsFit (Bytes of ∷ fs) counts (bytes bs ∷ vs) = (length bs ≡ count_of of counts) × AllByRecursion (λ b. b < 256) bs × FieldsFit fs counts vs
+FieldsFit (ScaleBytes ∷ fs) counts (number (natural n) ∷ vs) = (n < 256 ^ 4) × FieldsFit fs counts vs
+FieldsFit (DecimalPlaces ∷ fs) counts (number (natural n) ∷ vs) = (n < 256 ^ 1) × FieldsFit fs counts vs
+FieldsFit _ _ _ = ⊥
 
 -- a value is one that its field may have: scales are among those that there are, and decimals at most 7
 abbrev pub IsProper : Field → Value → Type 0

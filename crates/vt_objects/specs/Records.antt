@@ -13,7 +13,7 @@ use Rattle.vt_objects.specs.declared.macros.Macro.{Macro}
 use Rattle.vt_objects.specs.declared.object.Object.{Object}
 use Rattle.vt_objects.specs.declared.object.Object.TheVariants as objects
 use Rattle.vt_objects.specs.declared.fields.Field as names
-use Rattle.vt_objects.specs.Layout.{Field, Value, fields, names_in, values, spelling, Shaped, Proper, no_counts}
+use Rattle.vt_objects.specs.Layout.{Field, Value, fields, names_in, values, spelling, FieldsFit, Proper, no_counts}
 use Rattle.vt_objects.specs.Kinds.{kind_number}
 use Rattle.vt_objects.specs.Tables.{working_set, data_mask, alarm_mask, container, soft_key_mask, key, button, input_boolean, input_string, input_number, input_list, output_string, output_number, line, rectangle, ellipse, polygon, meter, linear_bar, arched_bar, picture, number_variable, string_variable, font, line_attributes, fill_attributes, input_attributes, object_pointer, macro_object}
 
@@ -271,5 +271,5 @@ record_of id o = little_bytes 2 id ++ kind_number (kind_of o) ∷ spelling (fiel
 -- counts, and scales and decimals are those that there are.
 pub record HasRecord (id : ℕ) (o : Seen) : Type 0 where
   pub named : id < 0xFFFF
-  pub shaped : Shaped (fields_of (kind_of o)) no_counts (values_of o)
+  pub fields_fit : FieldsFit (fields_of (kind_of o)) no_counts (values_of o)
   pub proper : Proper (fields_of (kind_of o)) (values_of o)

@@ -45,12 +45,12 @@ module _ (a b c : ℕ) (rest : List ℕ) where
   read_values : (kind : Kind) (x : List Value × List ℕ) → IsBytes rest → kind_at c ≡ Some kind → values_at (fields_of kind) no_counts rest ≡ Some x → HasValues all kind x.0
   read_values kind x fits known e =
       let took = values_take (fields_of kind) no_counts rest x fits e in
-      record { known = known; shaped = took.1; tail = x.1; parts = took.0.parts }
+      record { known = known; fields_fit = took.1; tail = x.1; parts = took.0.parts }
 
   no_values : (kind : Kind) → kind_at c ≡ Some kind → values_at (fields_of kind) no_counts rest ≡ None → (k : Kind) (vs : List Value) → HasValues all k vs → ⊥
   no_values kind known none k vs has =
       let same : k ≡ kind = some_kind k kind (sym has.known ∙ known) in
-      let read : values_at (fields_of k) no_counts rest ≡ Some (vs, has.tail) = ap (values_at (fields_of k) no_counts) has.parts ∙ values_again (fields_of k) no_counts vs has.tail has.shaped in
+      let read : values_at (fields_of k) no_counts rest ≡ Some (vs, has.tail) = ap (values_at (fields_of k) no_counts) has.parts ∙ values_again (fields_of k) no_counts vs has.tail has.fields_fit in
       let no = sym (subst (λ (q : Kind). values_at (fields_of q) no_counts rest ≡ Some (vs, has.tail)) same read) ∙ none in
       absurd cc
 
@@ -76,7 +76,7 @@ module _ (a b c : ℕ) (rest : List ℕ) where
       (inr (record { head = omega arith; named = named; known = λ no. absurd (let both = sym known ∙ no in cc); cut = no_values kind known is }))
   values_stop kind (Some x) stop fits is named known none e =
       let has = read_values kind x fits known is in
-      improper_stop kind x stop named has none (misfit_is 3 (fields_of kind) no_counts x.0 stop has.shaped (fitting_err (fields_of kind) x stop e))
+      improper_stop kind x stop named has none (misfit_is 3 (fields_of kind) no_counts x.0 stop has.fields_fit (fitting_err (fields_of kind) x stop e))
 
   type_stop : (low high : Bool) → leb 29 c ≡ low → leb c 33 ≡ high → HasOtherType all → IsStop all (cond (low && high) stops.LeftOutType stops.UnknownType)
   type_stop true true l h other = (other, (leb-true _ _ l, leb-true _ _ h))
@@ -112,7 +112,7 @@ kind_there rest id o tail parts = ap (λ (r : List ℕ). kind_at (type_at r)) pa
 pub truncated_none : (rest : List ℕ) → IsTruncated rest → NoRecordBegins rest
 truncated_none rest (inl lt) id o tail has parts = let len = ap length parts in absurd (omega arith)
 truncated_none rest (inr cut) id o tail has parts =
-    absurd (cut.cut (kind_of o) (values_of o) (record { known = kind_there rest id o tail parts; shaped = has.shaped; tail = tail; parts = ap (λ (r : List ℕ). drop 3 r) parts }))
+    absurd (cut.cut (kind_of o) (values_of o) (record { known = kind_there rest id o tail parts; fields_fit = has.fields_fit; tail = tail; parts = ap (λ (r : List ℕ). drop 3 r) parts }))
 
 pub null_none : (rest : List ℕ) → HasNullId rest → NoRecordBegins rest
 null_none rest null id o tail has parts =

@@ -6,7 +6,7 @@ use Rattle.byteorder.specs.Numbers.{length-bytes_low_first}
 use Rattle.vt_objects.specs.declared.scale.Scale.{Scale}
 use Rattle.vt_objects.specs.declared.scale.Scale.TheVariants as scale
 use Rattle.vt_objects.specs.Scales.{scale_number, scale_at, scale_among, scales, IsScale}
-use Rattle.vt_objects.specs.Layout.{Unsigned, Signed, natural, integer, bytes_in, Field, Number, Count, Rows, Bytes, ScaleBytes, DecimalPlaces, Value, number, rows, bytes, Counts, counted, rows_spelling, field_spelling, IsProper, Proper, Shaped}
+use Rattle.vt_objects.specs.Layout.{Unsigned, Signed, natural, integer, bytes_in, Field, Number, Count, Rows, Bytes, ScaleBytes, DecimalPlaces, Value, number, rows, bytes, Counts, counted, rows_spelling, field_spelling, IsProper, Proper, FieldsFit}
 use Rattle.vt_pool.specs.declared.stop.Stop.{Stop}
 use Rattle.vt_pool.specs.declared.stop.Stop.TheVariants as stops
 use Rattle.vt_pool.specs.Heads.{if_none, misfit, or_misfit, fitting}
@@ -123,25 +123,25 @@ many_stop true at n fs vs stop is e later =
 many_stop false at n fs vs stop is e later =
     later_is at 1 DecimalPlaces (number (natural n)) fs vs stop (let len = length-bytes_low_first 0 1 n in omega (arith, len)) (ltb-false 7 n is) (later e)
 
-pub misfit_is : (at : ℕ) (fs : List Field) (counts : Counts) (vs : List Value) (stop : Stop) → Shaped fs counts vs → misfit at fs vs ≡ Some stop → IsMisfit at fs vs stop
-misfit_is at [] counts [] stop shaped e = absurd cc
-misfit_is at (Number (Unsigned size) ∷ fs) counts (number (natural n) ∷ vs) stop shaped e =
-    later_is at size (Number (Unsigned size)) (number (natural n)) fs vs stop (sym (length-bytes_low_first 0 size n)) tt (misfit_is (at + size) fs counts vs stop shaped.1 e)
-misfit_is at (Number (Signed w) ∷ fs) counts (number (integer z) ∷ vs) stop shaped e =
-    later_is at (bytes_in w) (Number (Signed w)) (number (integer z)) fs vs stop (sym (length-bytes_low_first 0 (bytes_in w) (cast_unsigned w z))) tt (misfit_is (at + bytes_in w) fs counts vs stop shaped.1 e)
-misfit_is at (Number (Unsigned size) ∷ fs) counts (number (integer z) ∷ vs) stop shaped e = absurd shaped.0
-misfit_is at (Number (Signed w) ∷ fs) counts (number (natural n) ∷ vs) stop shaped e = absurd shaped.0
-misfit_is at (Count size of ∷ fs) counts (number (natural n) ∷ vs) stop shaped e =
-    later_is at size (Count size of) (number (natural n)) fs vs stop (sym (length-bytes_low_first 0 size n)) tt (misfit_is (at + size) fs (counted of n counts) vs stop shaped.1 e)
-misfit_is at (Rows of sizes ∷ fs) counts (rows rs ∷ vs) stop shaped e =
-    later_is at (length (rows_spelling sizes rs)) (Rows of sizes) (rows rs) fs vs stop refl tt (misfit_is (at + length (rows_spelling sizes rs)) fs counts vs stop shaped.2 e)
-misfit_is at (Bytes of ∷ fs) counts (bytes bs ∷ vs) stop shaped e =
-    later_is at (length bs) (Bytes of) (bytes bs) fs vs stop refl tt (misfit_is (at + length bs) fs counts vs stop shaped.2 e)
-misfit_is at (ScaleBytes ∷ fs) counts (number (natural n) ∷ vs) stop shaped e =
-    scale_stop (scale_at n) at n fs vs stop refl e (misfit_is (at + 4) fs counts vs stop shaped.1)
-misfit_is at (DecimalPlaces ∷ fs) counts (number (natural n) ∷ vs) stop shaped e =
-    many_stop (ltb 7 n) at n fs vs stop refl e (misfit_is (at + 1) fs counts vs stop shaped.1)
-misfit_is at fs counts vs stop shaped e = absurd shaped
+pub misfit_is : (at : ℕ) (fs : List Field) (counts : Counts) (vs : List Value) (stop : Stop) → FieldsFit fs counts vs → misfit at fs vs ≡ Some stop → IsMisfit at fs vs stop
+misfit_is at [] counts [] stop fit e = absurd cc
+misfit_is at (Number (Unsigned size) ∷ fs) counts (number (natural n) ∷ vs) stop fit e =
+    later_is at size (Number (Unsigned size)) (number (natural n)) fs vs stop (sym (length-bytes_low_first 0 size n)) tt (misfit_is (at + size) fs counts vs stop fit.1 e)
+misfit_is at (Number (Signed w) ∷ fs) counts (number (integer z) ∷ vs) stop fit e =
+    later_is at (bytes_in w) (Number (Signed w)) (number (integer z)) fs vs stop (sym (length-bytes_low_first 0 (bytes_in w) (cast_unsigned w z))) tt (misfit_is (at + bytes_in w) fs counts vs stop fit.1 e)
+misfit_is at (Number (Unsigned size) ∷ fs) counts (number (integer z) ∷ vs) stop fit e = absurd fit.0
+misfit_is at (Number (Signed w) ∷ fs) counts (number (natural n) ∷ vs) stop fit e = absurd fit.0
+misfit_is at (Count size of ∷ fs) counts (number (natural n) ∷ vs) stop fit e =
+    later_is at size (Count size of) (number (natural n)) fs vs stop (sym (length-bytes_low_first 0 size n)) tt (misfit_is (at + size) fs (counted of n counts) vs stop fit.1 e)
+misfit_is at (Rows of sizes ∷ fs) counts (rows rs ∷ vs) stop fit e =
+    later_is at (length (rows_spelling sizes rs)) (Rows of sizes) (rows rs) fs vs stop refl tt (misfit_is (at + length (rows_spelling sizes rs)) fs counts vs stop fit.2 e)
+misfit_is at (Bytes of ∷ fs) counts (bytes bs ∷ vs) stop fit e =
+    later_is at (length bs) (Bytes of) (bytes bs) fs vs stop refl tt (misfit_is (at + length bs) fs counts vs stop fit.2 e)
+misfit_is at (ScaleBytes ∷ fs) counts (number (natural n) ∷ vs) stop fit e =
+    scale_stop (scale_at n) at n fs vs stop refl e (misfit_is (at + 4) fs counts vs stop fit.1)
+misfit_is at (DecimalPlaces ∷ fs) counts (number (natural n) ∷ vs) stop fit e =
+    many_stop (ltb 7 n) at n fs vs stop refl e (misfit_is (at + 1) fs counts vs stop fit.1)
+misfit_is at fs counts vs stop fit e = absurd fit
 
 -- ---- the fields of a table, and what is wrong with them
 

@@ -4,7 +4,7 @@ use Rattle.std.specs.List.{AllByRecursion}
 use Rattle.std.proofs.lemmas.List.Elements.{recursion_from_All, All-from_get_or}
 use Rattle.byteorder.specs.Endian.{little_bytes}
 use Rattle.std.specs.Int.{cast_unsigned}
-use Rattle.vt_objects.specs.Layout.{Size, Unsigned, Signed, Numeral, natural, integer, bytes_in, Field, Number, Count, Rows, Bytes, ScaleBytes, DecimalPlaces, Value, number, rows, bytes, Counts, counted, count_of, row_spelling, rows_spelling, spelling, RowFits, Shaped, no_counts}
+use Rattle.vt_objects.specs.Layout.{Size, Unsigned, Signed, Numeral, natural, integer, bytes_in, Field, Number, Count, Rows, Bytes, ScaleBytes, DecimalPlaces, Value, number, rows, bytes, Counts, counted, count_of, row_spelling, rows_spelling, spelling, RowFits, FieldsFit, no_counts}
 use Rattle.vt_pool.specs.declared.stop.Stop.TheVariants as stops
 use Rattle.vt_pool.specs.Heads.{fitting, fields_at}
 use Rattle.vt_pool.specs.Reading.{◌>>=◌, bytes_at, number_at, signed_at, row_at, rows_at, values_at, head_size}
@@ -72,7 +72,7 @@ bytes_fit bs fits = recursion_from_All (λ b. b < 256) bs (All-from_get_or (λ b
 
 -- what a table takes: the spelling of values that fit it
 abbrev TakesValues : List Field → Counts → List ℕ → List Value × List ℕ → Type 0
-TakesValues fs counts all x = Takes all (spelling fs x.0) x.1 × Shaped fs counts x.0
+TakesValues fs counts all x = Takes all (spelling fs x.0) x.1 × FieldsFit fs counts x.0
 
 pub values_take : (fs : List Field) (counts : Counts) (all : List ℕ) (x : List Value × List ℕ) → IsBytes all → values_at fs counts all ≡ Some x → TakesValues fs counts all x
 values_take [] counts all x fits e =
@@ -127,7 +127,7 @@ values_take (DecimalPlaces ∷ fs) counts all x fits e =
     subst (TakesValues (DecimalPlaces ∷ fs) counts all) (some_is (number (natural a.0.0) ∷ b.0.0, b.0.1) x b.2)
     (Takes-then all (little_bytes 1 a.0.0) a.0.1 (spelling fs b.0.0) b.0.1 first.0 others.0, (first.1, others.1))
 
-pub values_again : (fs : List Field) (counts : Counts) (vs : List Value) (rest : List ℕ) → Shaped fs counts vs → values_at fs counts (spelling fs vs ++ rest) ≡ Some (vs, rest)
+pub values_again : (fs : List Field) (counts : Counts) (vs : List Value) (rest : List ℕ) → FieldsFit fs counts vs → values_at fs counts (spelling fs vs ++ rest) ≡ Some (vs, rest)
 values_again [] counts [] rest fits = refl
 values_again (Number (Unsigned size) ∷ fs) counts (number (natural n) ∷ vs) rest fits =
     ap (values_at (Number (Unsigned size) ∷ fs) counts) (append_assoc (little_bytes size n) (spelling fs vs) rest)

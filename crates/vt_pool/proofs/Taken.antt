@@ -7,7 +7,7 @@ use Rattle.byteorder.specs.Numbers.{little_from-lt, little_number-reads_back}
 use Rattle.vt_objects.specs.declared.kind.Kind.{Kind}
 use Rattle.vt_objects.specs.declared.object.Object.{Object}
 use Rattle.vt_objects.specs.declared.object.Object.TheVariants as objects
-use Rattle.vt_objects.specs.Layout.{Value, spelling, Shaped, Proper, no_counts}
+use Rattle.vt_objects.specs.Layout.{Value, spelling, FieldsFit, Proper, no_counts}
 use Rattle.vt_objects.specs.Kinds.{kind_number, kind_at}
 use Rattle.vt_objects.specs.Records.{Seen, seen, fields_of, kind_of, values_of, record_of, HasRecord}
 use Rattle.vt_pool.specs.declared.stop.Stop.{Stop}
@@ -45,7 +45,7 @@ spelled id kind vs = little_bytes 2 id ++ kind_number kind ∷ spelling (fields_
 pub record IsRead (all : List ℕ) (h : Held) : Type 0 where
   pub parts : all ≡ spelled h.id h.kind h.values ++ h.rest
   pub named : h.id < 0xFFFF
-  pub shaped : Shaped (fields_of h.kind) no_counts h.values
+  pub fields_fit : FieldsFit (fields_of h.kind) no_counts h.values
   pub proper : Proper (fields_of h.kind) h.values
 
 long_is_read : (a b c : ℕ) (rest : List ℕ) (h : Held) → IsBytes (a ∷ b ∷ c ∷ rest) → behind (little_number 2 (a ∷ b ∷ [])) c rest ≡ Ok h → IsRead (a ∷ b ∷ c ∷ rest) h
@@ -66,7 +66,7 @@ long_is_read a b c rest h fits e =
     ap (λ (r : List ℕ). front ++ r) behind_it ∙ ap (λ (f : List ℕ). f ++ (kind_number k.0 ∷ (text ++ v.0.1))) (sym (number_spelled front front_fits)) in
     let below : id < 256 ^ 2 = little_from-lt 0 2 front front_fits in
     let other : id ≢ 0xFFFF = eqb-false id 0xFFFF t.0 in
-    subst (IsRead (a ∷ b ∷ c ∷ rest)) v.2 (record { parts = parts; named = omega arith; shaped = took.1; proper = proper 3 (fields_of k.0) v.0.0 read.1 })
+    subst (IsRead (a ∷ b ∷ c ∷ rest)) v.2 (record { parts = parts; named = omega arith; fields_fit = took.1; proper = proper 3 (fields_of k.0) v.0.0 read.1 })
 
 pub is_read : (all : List ℕ) (h : Held) → IsBytes all → record_at all ≡ Ok h → IsRead all h
 is_read [] h fits e = let no = sym (record_at-short [] (omega arith)) ∙ e in absurd cc
@@ -88,7 +88,7 @@ record_again id o rest has =
     let back : little_number 2 bytes ≡ id = little_number-reads_back 2 id [] (omega arith) in
     let other : eqb id 0xFFFF ≡ false = ne_eqb id 0xFFFF (omega arith) in
     record_at-long (get_or bytes 0 0) (get_or bytes 1 0) (kind_number k) (spelling (fields_of k) (values_of o) ++ rest)
-    ∙ rw (back, other, kind_at-kind_number k, values_again (fields_of k) no_counts (values_of o) rest has.shaped, no_misfit 3 (fields_of k) (values_of o) has.proper) refl
+    ∙ rw (back, other, kind_at-kind_number k, values_again (fields_of k) no_counts (values_of o) rest has.fields_fit, no_misfit 3 (fields_of k) (values_of o) has.proper) refl
 
 -- what two records say that begin the same bytes
 pub record AreSame (a b : ℕ) (o p : Seen) (rest tail : List ℕ) : Type 0 where
@@ -112,36 +112,36 @@ are_whole a b o p rest has other parts =
 
 -- ---- an object wherever its texts lie
 
-has_record : {B : Type 0} (id : ℕ) (o : Object B) → id < 0xFFFF → Shaped (fields_of (kind_of o)) no_counts (values_of o) → Proper (fields_of (kind_of o)) (values_of o) → HasRecord id (seen o)
-has_record id (objects.WorkingSet o) named shaped proper = record { named = named; shaped = shaped; proper = proper }
-has_record id (objects.DataMask o) named shaped proper = record { named = named; shaped = shaped; proper = proper }
-has_record id (objects.AlarmMask o) named shaped proper = record { named = named; shaped = shaped; proper = proper }
-has_record id (objects.Container o) named shaped proper = record { named = named; shaped = shaped; proper = proper }
-has_record id (objects.SoftKeyMask o) named shaped proper = record { named = named; shaped = shaped; proper = proper }
-has_record id (objects.Key o) named shaped proper = record { named = named; shaped = shaped; proper = proper }
-has_record id (objects.Button o) named shaped proper = record { named = named; shaped = shaped; proper = proper }
-has_record id (objects.InputBoolean o) named shaped proper = record { named = named; shaped = shaped; proper = proper }
-has_record id (objects.InputString o) named shaped proper = record { named = named; shaped = shaped; proper = proper }
-has_record id (objects.InputNumber o) named shaped proper = record { named = named; shaped = shaped; proper = proper }
-has_record id (objects.InputList o) named shaped proper = record { named = named; shaped = shaped; proper = proper }
-has_record id (objects.OutputString o) named shaped proper = record { named = named; shaped = shaped; proper = proper }
-has_record id (objects.OutputNumber o) named shaped proper = record { named = named; shaped = shaped; proper = proper }
-has_record id (objects.Line o) named shaped proper = record { named = named; shaped = shaped; proper = proper }
-has_record id (objects.Rectangle o) named shaped proper = record { named = named; shaped = shaped; proper = proper }
-has_record id (objects.Ellipse o) named shaped proper = record { named = named; shaped = shaped; proper = proper }
-has_record id (objects.Polygon o) named shaped proper = record { named = named; shaped = shaped; proper = proper }
-has_record id (objects.Meter o) named shaped proper = record { named = named; shaped = shaped; proper = proper }
-has_record id (objects.LinearBar o) named shaped proper = record { named = named; shaped = shaped; proper = proper }
-has_record id (objects.ArchedBar o) named shaped proper = record { named = named; shaped = shaped; proper = proper }
-has_record id (objects.Picture o) named shaped proper = record { named = named; shaped = shaped; proper = proper }
-has_record id (objects.NumberVariable o) named shaped proper = record { named = named; shaped = shaped; proper = proper }
-has_record id (objects.StringVariable o) named shaped proper = record { named = named; shaped = shaped; proper = proper }
-has_record id (objects.Font o) named shaped proper = record { named = named; shaped = shaped; proper = proper }
-has_record id (objects.LineAttributes o) named shaped proper = record { named = named; shaped = shaped; proper = proper }
-has_record id (objects.FillAttributes o) named shaped proper = record { named = named; shaped = shaped; proper = proper }
-has_record id (objects.InputAttributes o) named shaped proper = record { named = named; shaped = shaped; proper = proper }
-has_record id (objects.ObjectPointer o) named shaped proper = record { named = named; shaped = shaped; proper = proper }
-has_record id (objects.Macro o) named shaped proper = record { named = named; shaped = shaped; proper = proper }
+has_record : {B : Type 0} (id : ℕ) (o : Object B) → id < 0xFFFF → FieldsFit (fields_of (kind_of o)) no_counts (values_of o) → Proper (fields_of (kind_of o)) (values_of o) → HasRecord id (seen o)
+has_record id (objects.WorkingSet o) named fit proper = record { named = named; fields_fit = fit; proper = proper }
+has_record id (objects.DataMask o) named fit proper = record { named = named; fields_fit = fit; proper = proper }
+has_record id (objects.AlarmMask o) named fit proper = record { named = named; fields_fit = fit; proper = proper }
+has_record id (objects.Container o) named fit proper = record { named = named; fields_fit = fit; proper = proper }
+has_record id (objects.SoftKeyMask o) named fit proper = record { named = named; fields_fit = fit; proper = proper }
+has_record id (objects.Key o) named fit proper = record { named = named; fields_fit = fit; proper = proper }
+has_record id (objects.Button o) named fit proper = record { named = named; fields_fit = fit; proper = proper }
+has_record id (objects.InputBoolean o) named fit proper = record { named = named; fields_fit = fit; proper = proper }
+has_record id (objects.InputString o) named fit proper = record { named = named; fields_fit = fit; proper = proper }
+has_record id (objects.InputNumber o) named fit proper = record { named = named; fields_fit = fit; proper = proper }
+has_record id (objects.InputList o) named fit proper = record { named = named; fields_fit = fit; proper = proper }
+has_record id (objects.OutputString o) named fit proper = record { named = named; fields_fit = fit; proper = proper }
+has_record id (objects.OutputNumber o) named fit proper = record { named = named; fields_fit = fit; proper = proper }
+has_record id (objects.Line o) named fit proper = record { named = named; fields_fit = fit; proper = proper }
+has_record id (objects.Rectangle o) named fit proper = record { named = named; fields_fit = fit; proper = proper }
+has_record id (objects.Ellipse o) named fit proper = record { named = named; fields_fit = fit; proper = proper }
+has_record id (objects.Polygon o) named fit proper = record { named = named; fields_fit = fit; proper = proper }
+has_record id (objects.Meter o) named fit proper = record { named = named; fields_fit = fit; proper = proper }
+has_record id (objects.LinearBar o) named fit proper = record { named = named; fields_fit = fit; proper = proper }
+has_record id (objects.ArchedBar o) named fit proper = record { named = named; fields_fit = fit; proper = proper }
+has_record id (objects.Picture o) named fit proper = record { named = named; fields_fit = fit; proper = proper }
+has_record id (objects.NumberVariable o) named fit proper = record { named = named; fields_fit = fit; proper = proper }
+has_record id (objects.StringVariable o) named fit proper = record { named = named; fields_fit = fit; proper = proper }
+has_record id (objects.Font o) named fit proper = record { named = named; fields_fit = fit; proper = proper }
+has_record id (objects.LineAttributes o) named fit proper = record { named = named; fields_fit = fit; proper = proper }
+has_record id (objects.FillAttributes o) named fit proper = record { named = named; fields_fit = fit; proper = proper }
+has_record id (objects.InputAttributes o) named fit proper = record { named = named; fields_fit = fit; proper = proper }
+has_record id (objects.ObjectPointer o) named fit proper = record { named = named; fields_fit = fit; proper = proper }
+has_record id (objects.Macro o) named fit proper = record { named = named; fields_fit = fit; proper = proper }
 
 record_of-seen : {B : Type 0} (id : ℕ) (o : Object B) → record_of id o ≡ record_of id (seen o)
 record_of-seen id (objects.WorkingSet o) = refl
@@ -184,7 +184,7 @@ pub is_taken : {B : Type 0} (all : List ℕ) (id : ℕ) (o : Object B) (rest : L
 is_taken all id o rest fits e =
     let read = is_read all (held id (kind_of o) (values_of o, rest)) fits e in
     record {
-      has = has_record id o read.named read.shaped read.proper;
+      has = has_record id o read.named read.fields_fit read.proper;
       parts = read.parts ∙ ap (λ (r : List ℕ). r ++ rest) (record_of-seen id o);
       shorter = let len = ap length read.parts ∙ length-append (record_of id o) rest in omega (arith, len);
     }

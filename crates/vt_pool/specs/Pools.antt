@@ -3,7 +3,7 @@ use Rattle.std.specs.Prelude.{◌≡◌, ◌≢◌, ◌<◌, ◌≤◌, ◌==◌
 use Rattle.std.specs.List.{flat_map, AllByRecursion, IsDistinct}
 use Rattle.byteorder.specs.Endian.{little_number}
 use Rattle.vt_objects.specs.declared.kind.Kind.{Kind}
-use Rattle.vt_objects.specs.Layout.{Field, ScaleBytes, DecimalPlaces, Value, field_spelling, spelling, Shaped, IsProper, no_counts}
+use Rattle.vt_objects.specs.Layout.{Field, ScaleBytes, DecimalPlaces, Value, field_spelling, spelling, FieldsFit, IsProper, no_counts}
 use Rattle.vt_objects.specs.Records.{Seen, fields_of, record_of, HasRecord}
 use Rattle.vt_objects.specs.Kinds.{kind_at}
 use Rattle.std.specs.FinMap as finite
@@ -72,10 +72,10 @@ pub record HasOtherType (rest : List ℕ) : Type 0 where
   pub named : id_at rest ≢ 0xFFFF
   pub no_kind : kind_at (type_at rest) ≡ None
 
--- a kind has these values, in their shape, behind an ID and the kind's type
+-- values that fit the fields of a kind stand behind an ID and the kind's type
 pub record HasValues (rest : List ℕ) (kind : Kind) (values : List Value) : Type 0 where
   pub known : kind_at (type_at rest) ≡ Some kind
-  pub shaped : Shaped (fields_of kind) no_counts values
+  pub fields_fit : FieldsFit (fields_of kind) no_counts values
   pub tail : List ℕ
   pub parts : drop 3 rest ≡ spelling (fields_of kind) values ++ tail
 

@@ -1,7 +1,7 @@
 //! What the type of each kind says of the values of its record.
 
 ghost use Rattle.std.specs.Prelude.{ℕ, List};
-ghost use Rattle.vt_objects.specs.Layout.{Shaped, Proper, fields, values, no_counts};
+ghost use Rattle.vt_objects.specs.Layout.{FieldsFit, Proper, fields, values, no_counts};
 ghost use Rattle.vt_objects.specs.Tables.{working_set, data_mask, alarm_mask, container, soft_key_mask, key, button, input_boolean, input_string, input_number, input_list, output_string, output_number, line, rectangle, ellipse, polygon, meter, linear_bar, arched_bar, picture, number_variable, string_variable, font, line_attributes, fill_attributes, input_attributes, object_pointer, macro_object};
 
 use super::numbers::{byte, bytes, id, long, rows, scale, signed_long, word};
@@ -18,7 +18,7 @@ use crate::variables::{NumberVariable, ObjectPointer, StringVariable};
 use std::convert::AsSlice;
 
 pub fn working_set(o: &WorkingSet)
-    ensures shaped { Shaped (fields working_set) no_counts (values working_set o.now) }
+    ensures fields_fit { FieldsFit (fields working_set) no_counts (values working_set o.now) }
 {
     byte(o.colour);
     byte(o.selectable);
@@ -29,7 +29,7 @@ pub fn working_set(o: &WorkingSet)
 }
 
 pub fn data_mask(o: &DataMask)
-    ensures shaped { Shaped (fields data_mask) no_counts (values data_mask o.now) }
+    ensures fields_fit { FieldsFit (fields data_mask) no_counts (values data_mask o.now) }
 {
     byte(o.colour);
     id(o.soft_key_mask);
@@ -38,7 +38,7 @@ pub fn data_mask(o: &DataMask)
 }
 
 pub fn alarm_mask(o: &AlarmMask)
-    ensures shaped { Shaped (fields alarm_mask) no_counts (values alarm_mask o.now) }
+    ensures fields_fit { FieldsFit (fields alarm_mask) no_counts (values alarm_mask o.now) }
 {
     byte(o.colour);
     id(o.soft_key_mask);
@@ -49,7 +49,7 @@ pub fn alarm_mask(o: &AlarmMask)
 }
 
 pub fn container(o: &Container)
-    ensures shaped { Shaped (fields container) no_counts (values container o.now) }
+    ensures fields_fit { FieldsFit (fields container) no_counts (values container o.now) }
 {
     word(o.width);
     word(o.height);
@@ -59,7 +59,7 @@ pub fn container(o: &Container)
 }
 
 pub fn soft_key_mask(o: &SoftKeyMask)
-    ensures shaped { Shaped (fields soft_key_mask) no_counts (values soft_key_mask o.now) }
+    ensures fields_fit { FieldsFit (fields soft_key_mask) no_counts (values soft_key_mask o.now) }
 {
     byte(o.colour);
     rows(&o.keys);
@@ -67,7 +67,7 @@ pub fn soft_key_mask(o: &SoftKeyMask)
 }
 
 pub fn key(o: &Key)
-    ensures shaped { Shaped (fields key) no_counts (values key o.now) }
+    ensures fields_fit { FieldsFit (fields key) no_counts (values key o.now) }
 {
     byte(o.colour);
     byte(o.key_code);
@@ -76,7 +76,7 @@ pub fn key(o: &Key)
 }
 
 pub fn button(o: &Button)
-    ensures shaped { Shaped (fields button) no_counts (values button o.now) }
+    ensures fields_fit { FieldsFit (fields button) no_counts (values button o.now) }
 {
     word(o.width);
     word(o.height);
@@ -89,7 +89,7 @@ pub fn button(o: &Button)
 }
 
 pub fn input_boolean(o: &InputBoolean)
-    ensures shaped { Shaped (fields input_boolean) no_counts (values input_boolean o.now) }
+    ensures fields_fit { FieldsFit (fields input_boolean) no_counts (values input_boolean o.now) }
 {
     byte(o.colour);
     word(o.width);
@@ -101,7 +101,7 @@ pub fn input_boolean(o: &InputBoolean)
 }
 
 pub fn input_string<B: AsSlice<u8>>(o: &InputString<B>)
-    ensures shaped { Shaped (fields (input_string {B = List ℕ})) no_counts (values input_string o.now) }
+    ensures fields_fit { FieldsFit (fields (input_string {B = List ℕ})) no_counts (values input_string o.now) }
 {
     word(o.width);
     word(o.height);
@@ -117,7 +117,7 @@ pub fn input_string<B: AsSlice<u8>>(o: &InputString<B>)
 }
 
 pub fn input_number(o: &InputNumber)
-    ensures shaped { Shaped (fields input_number) no_counts (values input_number o.now) }
+    ensures fields_fit { FieldsFit (fields input_number) no_counts (values input_number o.now) }
     ensures proper { Proper (fields input_number) (values input_number o.now) }
 {
     word(o.width);
@@ -139,7 +139,7 @@ pub fn input_number(o: &InputNumber)
 }
 
 pub fn input_list(o: &InputList)
-    ensures shaped { Shaped (fields input_list) no_counts (values input_list o.now) }
+    ensures fields_fit { FieldsFit (fields input_list) no_counts (values input_list o.now) }
 {
     word(o.width);
     word(o.height);
@@ -151,7 +151,7 @@ pub fn input_list(o: &InputList)
 }
 
 pub fn output_string<B: AsSlice<u8>>(o: &OutputString<B>)
-    ensures shaped { Shaped (fields (output_string {B = List ℕ})) no_counts (values output_string o.now) }
+    ensures fields_fit { FieldsFit (fields (output_string {B = List ℕ})) no_counts (values output_string o.now) }
 {
     word(o.width);
     word(o.height);
@@ -165,7 +165,7 @@ pub fn output_string<B: AsSlice<u8>>(o: &OutputString<B>)
 }
 
 pub fn output_number(o: &OutputNumber)
-    ensures shaped { Shaped (fields output_number) no_counts (values output_number o.now) }
+    ensures fields_fit { FieldsFit (fields output_number) no_counts (values output_number o.now) }
     ensures proper { Proper (fields output_number) (values output_number o.now) }
 {
     word(o.width);
@@ -184,7 +184,7 @@ pub fn output_number(o: &OutputNumber)
 }
 
 pub fn line(o: &Line)
-    ensures shaped { Shaped (fields line) no_counts (values line o.now) }
+    ensures fields_fit { FieldsFit (fields line) no_counts (values line o.now) }
 {
     id(o.line_attributes);
     word(o.width);
@@ -194,7 +194,7 @@ pub fn line(o: &Line)
 }
 
 pub fn rectangle(o: &Rectangle)
-    ensures shaped { Shaped (fields rectangle) no_counts (values rectangle o.now) }
+    ensures fields_fit { FieldsFit (fields rectangle) no_counts (values rectangle o.now) }
 {
     id(o.line_attributes);
     word(o.width);
@@ -205,7 +205,7 @@ pub fn rectangle(o: &Rectangle)
 }
 
 pub fn ellipse(o: &Ellipse)
-    ensures shaped { Shaped (fields ellipse) no_counts (values ellipse o.now) }
+    ensures fields_fit { FieldsFit (fields ellipse) no_counts (values ellipse o.now) }
 {
     id(o.line_attributes);
     word(o.width);
@@ -218,7 +218,7 @@ pub fn ellipse(o: &Ellipse)
 }
 
 pub fn polygon(o: &Polygon)
-    ensures shaped { Shaped (fields polygon) no_counts (values polygon o.now) }
+    ensures fields_fit { FieldsFit (fields polygon) no_counts (values polygon o.now) }
 {
     word(o.width);
     word(o.height);
@@ -230,7 +230,7 @@ pub fn polygon(o: &Polygon)
 }
 
 pub fn meter(o: &Meter)
-    ensures shaped { Shaped (fields meter) no_counts (values meter o.now) }
+    ensures fields_fit { FieldsFit (fields meter) no_counts (values meter o.now) }
 {
     word(o.width);
     byte(o.needle_colour);
@@ -248,7 +248,7 @@ pub fn meter(o: &Meter)
 }
 
 pub fn linear_bar(o: &LinearBar)
-    ensures shaped { Shaped (fields linear_bar) no_counts (values linear_bar o.now) }
+    ensures fields_fit { FieldsFit (fields linear_bar) no_counts (values linear_bar o.now) }
 {
     word(o.width);
     word(o.height);
@@ -266,7 +266,7 @@ pub fn linear_bar(o: &LinearBar)
 }
 
 pub fn arched_bar(o: &ArchedBar)
-    ensures shaped { Shaped (fields arched_bar) no_counts (values arched_bar o.now) }
+    ensures fields_fit { FieldsFit (fields arched_bar) no_counts (values arched_bar o.now) }
 {
     word(o.width);
     word(o.height);
@@ -286,7 +286,7 @@ pub fn arched_bar(o: &ArchedBar)
 }
 
 pub fn picture<B: AsSlice<u8>>(o: &Picture<B>)
-    ensures shaped { Shaped (fields (picture {B = List ℕ})) no_counts (values picture o.now) }
+    ensures fields_fit { FieldsFit (fields (picture {B = List ℕ})) no_counts (values picture o.now) }
 {
     word(o.width);
     word(o.actual_width);
@@ -299,19 +299,19 @@ pub fn picture<B: AsSlice<u8>>(o: &Picture<B>)
 }
 
 pub fn number_variable(o: &NumberVariable)
-    ensures shaped { Shaped (fields number_variable) no_counts (values number_variable o.now) }
+    ensures fields_fit { FieldsFit (fields number_variable) no_counts (values number_variable o.now) }
 {
     long(o.value);
 }
 
 pub fn string_variable<B: AsSlice<u8>>(o: &StringVariable<B>)
-    ensures shaped { Shaped (fields (string_variable {B = List ℕ})) no_counts (values string_variable o.now) }
+    ensures fields_fit { FieldsFit (fields (string_variable {B = List ℕ})) no_counts (values string_variable o.now) }
 {
     bytes(o.text.as_slice());
 }
 
 pub fn font(o: &Font)
-    ensures shaped { Shaped (fields font) no_counts (values font o.now) }
+    ensures fields_fit { FieldsFit (fields font) no_counts (values font o.now) }
 {
     byte(o.colour);
     byte(o.size);
@@ -321,7 +321,7 @@ pub fn font(o: &Font)
 }
 
 pub fn line_attributes(o: &LineAttributes)
-    ensures shaped { Shaped (fields line_attributes) no_counts (values line_attributes o.now) }
+    ensures fields_fit { FieldsFit (fields line_attributes) no_counts (values line_attributes o.now) }
 {
     byte(o.colour);
     byte(o.width);
@@ -330,7 +330,7 @@ pub fn line_attributes(o: &LineAttributes)
 }
 
 pub fn fill_attributes(o: &FillAttributes)
-    ensures shaped { Shaped (fields fill_attributes) no_counts (values fill_attributes o.now) }
+    ensures fields_fit { FieldsFit (fields fill_attributes) no_counts (values fill_attributes o.now) }
 {
     byte(o.fill_type);
     byte(o.colour);
@@ -339,7 +339,7 @@ pub fn fill_attributes(o: &FillAttributes)
 }
 
 pub fn input_attributes<B: AsSlice<u8>>(o: &InputAttributes<B>)
-    ensures shaped { Shaped (fields (input_attributes {B = List ℕ})) no_counts (values input_attributes o.now) }
+    ensures fields_fit { FieldsFit (fields (input_attributes {B = List ℕ})) no_counts (values input_attributes o.now) }
 {
     byte(o.validation_type);
     bytes(o.text.as_slice());
@@ -347,13 +347,13 @@ pub fn input_attributes<B: AsSlice<u8>>(o: &InputAttributes<B>)
 }
 
 pub fn object_pointer(o: &ObjectPointer)
-    ensures shaped { Shaped (fields object_pointer) no_counts (values object_pointer o.now) }
+    ensures fields_fit { FieldsFit (fields object_pointer) no_counts (values object_pointer o.now) }
 {
     id(o.value);
 }
 
 pub fn macro_object<B: AsSlice<u8>>(o: &Macro<B>)
-    ensures shaped { Shaped (fields (macro_object {B = List ℕ})) no_counts (values macro_object o.now) }
+    ensures fields_fit { FieldsFit (fields (macro_object {B = List ℕ})) no_counts (values macro_object o.now) }
 {
     bytes(o.bytes.as_slice());
 }

@@ -3,8 +3,8 @@ use Rattle.vt_objects.proofs.has_record.objects_have_records.Goals as goal
 
 pub returns-in-InputString : goal.returns-in-InputString
 returns-in-InputString g c =
-    rw c.in-InputString.is (record { named = c.requires; shaped = c.input_string.ensures.shaped; proper = search rules })
+    rw c.in-InputString.is (record { named = c.requires; fields_fit = c.input_string.ensures.fields_fit; proper = search rules })
 
 pub returns-in-OutputNumber : goal.returns-in-OutputNumber
 returns-in-OutputNumber g c =
-    rw c.in-OutputNumber.is (record { named = c.requires; shaped = c.output_number.ensures.shaped; proper = c.output_number.ensures.proper })
+    rw c.in-OutputNumber.is (record { named = c.requires; fields_fit = c.output_number.ensures.fields_fit; proper = c.output_number.ensures.proper })
