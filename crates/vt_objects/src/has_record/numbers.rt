@@ -21,9 +21,7 @@ pub fn word(n: u16)
 
 pub fn id(n: ObjectId)
     ensures { n < 65536 }
-{
-    n.raw();
-}
+{}
 
 pub fn long(n: u32)
     ensures { n < 4294967296 }
@@ -40,9 +38,7 @@ pub fn signed_long(n: i32)
 pub fn scale(s: Scale)
     ensures is { IsScale (scale_number s) }
     ensures small { scale_number s < 4294967296 }
-{
-    s.places();
-}
+{}
 
 pub fn bytes(bytes: &[u8])
     ensures { AllByRecursion (λ b. b < 256) bytes.now }
