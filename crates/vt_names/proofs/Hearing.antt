@@ -14,7 +14,7 @@ partly-kept holders before name claimed are held = record {
   all = are.0;
   rising = are.1;
   others = λ q h ne. are.2 q h ∙ sym (stays-with before name claimed q ne (held q h ne));
-  own = λ q h _. are.2 q h;
+  at_claimed = λ q h _. are.2 q h;
 }
 
 pub partly-none : (holders : List (Option ℕ)) (before : Addresses) (name : ℕ) (claimed : Option ℕ) → AreHolders holders before
@@ -51,7 +51,7 @@ partly-searched holders before name left claimed are small was other = record {
       get_or-set_other holders left q (holder_of (with_address before name claimed) left) None apart ∙ are.2 q h
       ∙ sym (stays-with before name claimed q ne
       (λ e. apart (sym (some-is left q (sym was ∙ holder-address q name before are.1 e))))));
-  own = λ q h is.
+  at_claimed = λ q h is.
       get_or-set_other holders left q (holder_of (with_address before name claimed) left) None (λ same. other (is ∙ ap Some same)) ∙ are.2 q h;
 }
 
@@ -68,7 +68,7 @@ whole-some holders before name address small partly = (
       (λ is. subst (λ (x : ℕ). get_or (set holders address (Some (lesser (get_or holders address None) name))) x None ≡ holder_of (with_address before name (Some address)) x)
       (sym is)
       (get_or-set_same holders address (Some (lesser (get_or holders address None) name)) None (subst (λ n. address < n) (sym partly.all) small)
-      ∙ ap (λ o. Some (lesser o name)) (partly.own address small refl)
+      ∙ ap (λ o. Some (lesser o name)) (partly.at_claimed address small refl)
       ∙ sym (holder-inserted name address before partly.rising)))
       (λ apart.
       get_or-set_other holders address q (Some (lesser (get_or holders address None) name)) None apart

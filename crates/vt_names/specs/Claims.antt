@@ -116,4 +116,4 @@ pub record ArePartly (holders : List (Option ℕ)) (before : Addresses) (name : 
   pub all : length holders ≡ 256
   pub rising : IsRising before
   pub others : (q : ℕ) → q < 256 → claimed ≢ Some q → get_or holders q None ≡ holder_of (with_address before name claimed) q
-  pub own : (q : ℕ) → q < 256 → claimed ≡ Some q → get_or holders q None ≡ holder_of before q
+  pub at_claimed : (q : ℕ) → q < 256 → claimed ≡ Some q → get_or holders q None ≡ holder_of before q

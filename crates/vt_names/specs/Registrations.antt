@@ -72,7 +72,7 @@ pub record IsOfLast (events : List Event) (address : ℕ) (set : Set) : Type 0 w
   pub registration : Event
   pub before : List Event
   pub all : events ≡ since ++ registration ∷ before
-  pub own : registers address registration ≡ true
+  pub of_address : registers address registration ≡ true
   pub last : AllByRecursion (λ event. (registers address event || closes address event) ≡ false) since
   pub name : set.name ≡ bound_name address since (registration_name registration)
   pub count : set.count ≡ registration_count registration

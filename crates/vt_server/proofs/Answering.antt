@@ -66,7 +66,7 @@ shown_error id state o = option_map (λ (m : Contents). error_of (hide_effect m 
 
 commanded-is : (p : Part) (a id state : ℕ) (o : Option Contents) → p.pool ≡ o
     → after_command a p (Some (id, state)) o
-    ≡ record { set = p.set; pool = shown_pool id state o; frames = option_to_list (option_map (λ (e : ℕ). message_to p.own a (reply_bytes id state e)) (shown_error id state o)) }
+    ≡ record { set = p.set; pool = shown_pool id state o; frames = option_to_list (option_map (λ (e : ℕ). message_to p.terminal a (reply_bytes id state e)) (shown_error id state o)) }
 commanded-is p a id state None e = ap (λ (o : Option Contents). record { set = p.set; pool = o; frames = [] }) e
 commanded-is p a id state (Some contents) e = refl
 

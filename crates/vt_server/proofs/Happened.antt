@@ -129,7 +129,7 @@ module _ (law : OtherHoldersStay) (a : ℕ) (s : State) (f : Frame) (orderly : I
 
   -- the frame alone, from the address or from another
 
-  module _ (p : Part) (has : p.lost ≡ false) (own-is : p.own ≡ s.claims.own) where
+  module _ (p : Part) (has : p.lost ≡ false) (own-is : p.terminal ≡ s.claims.own) where
     heard-response : source ≡ a → response a p (FrameHeard f) ≡ response_of p (outcome a p (Hears m bytes))
     heard-response is = response-has a p (FrameHeard f) has ∙ ap (λ (n : Notice). response_of p (outcome a p (Hears n bytes))) (ap (λ o. frame_notice o f) own-is ∙ sym (notice-there is))
 

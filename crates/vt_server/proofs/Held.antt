@@ -80,7 +80,7 @@ rebound-held p (Some set) is = kept-held p set (option_eq nat_eq set.name None |
 -- ---- every happening, and every step
 
 while-held : (a : ℕ) (p : Part) (h : Happening) → SetIsHeld p.set p.holder → SetIsHeld (response_while a p h).part.set (response_while a p h).part.holder
-while-held a p (FrameHeard f) has = notice-held a p (frame_notice p.own f) f.bytes.items has
+while-held a p (FrameHeard f) has = notice-held a p (frame_notice p.terminal f) f.bytes.items has
 while-held a p (HolderIs name) has = rebound-held (with_holder p name) p.set refl
 while-held a p Lost has = has
 while-held a p (Preloaded contents) has = tt

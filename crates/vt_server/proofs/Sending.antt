@@ -25,19 +25,19 @@ AreReplies : ℕ → ℕ → List Frame → Type 0
 AreReplies own address [] = Unit {0}
 AreReplies own address (f ∷ frames) = (bytes : List ℕ) × (f ≡ message_to own address bytes) × (frames ≡ [])
 
-commanded-replies : (a : ℕ) (p : Part) (asked : Option (ℕ × ℕ)) (o : Option Contents) → AreReplies p.own a (after_command a p asked o).frames
+commanded-replies : (a : ℕ) (p : Part) (asked : Option (ℕ × ℕ)) (o : Option Contents) → AreReplies p.terminal a (after_command a p asked o).frames
 unfolding AreReplies
 commanded-replies a p None None = tt
 commanded-replies a p None (Some c) = tt
 commanded-replies a p (Some x) None = tt
 commanded-replies a p (Some x) (Some c) = (reply_bytes x.0 x.1 (error_of (hide_effect c x.0 x.1)), refl, refl)
 
-technical-replies : (a : ℕ) (p : Part) (bytes : List ℕ) (o : Option (List ℕ)) → AreReplies p.own a (after_reply a p bytes o).frames
+technical-replies : (a : ℕ) (p : Part) (bytes : List ℕ) (o : Option (List ℕ)) → AreReplies p.terminal a (after_reply a p bytes o).frames
 unfolding AreReplies
 technical-replies a p bytes None = commanded-replies a p (hide_show_in (command_at bytes)) p.pool
 technical-replies a p bytes (Some reply) = (reply, refl, refl)
 
-replies : (a : ℕ) (p : Part) (bytes : List ℕ) (o : Option Set) → AreReplies p.own a (after_message a p bytes o).frames
+replies : (a : ℕ) (p : Part) (bytes : List ℕ) (o : Option Set) → AreReplies p.terminal a (after_message a p bytes o).frames
 unfolding AreReplies
 replies a p bytes None = tt
 replies a p bytes (Some set) = technical-replies a p bytes (technical_reply bytes)

@@ -39,7 +39,7 @@ with_holder p name = record p { holder = name }
 
 -- while the terminal has its own address
 abbrev pub response_while : ℕ → Part → Happening → Response
-response_while address p (FrameHeard frame) = response_of p (outcome address p (Hears (frame_notice p.own frame) frame.bytes.items))
+response_while address p (FrameHeard frame) = response_of p (outcome address p (Hears (frame_notice p.terminal frame) frame.bytes.items))
 response_while address p (HolderIs name) = response_of (with_holder p name) (outcome address (with_holder p name) Rebinds)
 response_while address p Lost = without_effect (record p { lost = true })
 response_while address p (Preloaded contents) = response_of p (outcome address p (Preloads contents))

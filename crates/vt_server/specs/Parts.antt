@@ -15,7 +15,7 @@ use Rattle.vt_server.specs.declared.bus.Notice.TheVariants.{Claim, Master, Membe
 -- The part of an address: the terminal's own address and whether that was lost, the holder of this address,
 -- and the set with its pool.
 pub record Part : Type 0 where
-  pub own : ℕ
+  pub terminal : ℕ
   pub lost : Bool
   pub holder : Option ℕ
   pub set : Option Set
@@ -84,12 +84,12 @@ after_command address p (Some asked) (Some contents) =
     let effect = hide_effect contents asked.0 asked.1 in record {
       set = p.set;
       pool = Some (after_effect contents effect);
-      frames = message_to p.own address (reply_bytes asked.0 asked.1 (error_of effect)) ∷ [];
+      frames = message_to p.terminal address (reply_bytes asked.0 asked.1 (error_of effect)) ∷ [];
     }
 after_command address p _ _ = unchanged p
 
 abbrev pub after_reply : ℕ → Part → List ℕ → Option (List ℕ) → Outcome
-after_reply address p bytes (Some reply) = record { set = p.set; pool = p.pool; frames = message_to p.own address reply ∷ [] }
+after_reply address p bytes (Some reply) = record { set = p.set; pool = p.pool; frames = message_to p.terminal address reply ∷ [] }
 after_reply address p bytes None = after_command address p (hide_show_in (command_at bytes)) p.pool
 
 -- Only the master of a set is answered.

@@ -35,7 +35,7 @@ holder s address = holder_of s.claims.addresses address
 
 abbrev pub part : ℕ → State → Part
 part address s = record {
-  own = s.claims.own;
+  terminal = s.claims.own;
   lost = s.lost;
   holder = holder s address;
   set = set_at address s.sets;
