@@ -5,10 +5,10 @@
 
 mod counts;
 mod fault;
-mod line;
 mod options;
 mod output;
 mod program;
+mod progress;
 mod replay;
 
 use program::{Open, Status, run};
