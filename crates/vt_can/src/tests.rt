@@ -108,11 +108,31 @@ fn written_lines(rt: HostRuntime) {
 #[test]
 fn printed_faults(rt: HostRuntime) -> Result<(), Fail> {
     for (fault, number, wanted) in [
-        (LineFault::Time, 1, "Time"),
-        (LineFault::Shape, 2, "Shape"),
-        (LineFault::Hex, 3, "Hex"),
-        (LineFault::Length, 4, "Length"),
-        (LineFault::Operator, 5, "Operator"),
+        (
+            LineFault::Time,
+            1,
+            "the line does not begin with a time, as (1.000000)",
+        ),
+        (
+            LineFault::Shape,
+            2,
+            "after the time there is no interface with ID#DATA, and at most R or T",
+        ),
+        (
+            LineFault::Hex,
+            3,
+            "the ID or the data is not written in hex digits, two for each byte",
+        ),
+        (
+            LineFault::Length,
+            4,
+            "there are more than eight bytes of data",
+        ),
+        (
+            LineFault::Operator,
+            5,
+            "after the exclamation mark there is no action of the operator",
+        ),
     ] {
         let text = format!(in rt.alloc(); "{}", fault)?;
         assert_eq!(rt; text.as_str(), wanted);

@@ -17,16 +17,16 @@ use thiserror::Error;
 #[derive(Clone, Copy, Debug, PartialEq, Eq, Error)]
 pub enum RegistryFault {
     /// The master's address has no holder.
-    #[error("fault 1 NotClaimed")]
+    #[error("no NAME holds the address of the master")]
     NotClaimed,
     /// There is no set of that address.
-    #[error("fault 2 NotMaster")]
+    #[error("there is no working set of that address")]
     NotMaster,
     /// The set has its count less one members already.
-    #[error("fault 3 TooManyMembers")]
+    #[error("the working set has all its members already")]
     TooManyMembers,
     /// The memory for a new set was refused. A member message never is: it takes none.
-    #[error("fault 4 OutOfMemory")]
+    #[error("the memory for a working set was refused")]
     OutOfMemory,
 }
 

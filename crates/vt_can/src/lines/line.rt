@@ -57,19 +57,19 @@ pub enum Skipped {
 #[derive(Clone, Copy, Debug, PartialEq, Eq, Error)]
 pub enum LineFault {
     /// It does not begin with `(seconds.fraction)`.
-    #[error("Time")]
+    #[error("the line does not begin with a time, as (1.000000)")]
     Time = 1,
     /// It does not go on with ` interface ID#DATA`, and at most ` R` or ` T`.
-    #[error("Shape")]
+    #[error("after the time there is no interface with ID#DATA, and at most R or T")]
     Shape,
     /// The ID or the data is not written in hex digits, two for each byte.
-    #[error("Hex")]
+    #[error("the ID or the data is not written in hex digits, two for each byte")]
     Hex,
     /// There are more than eight bytes of data.
-    #[error("Length")]
+    #[error("there are more than eight bytes of data")]
     Length,
     /// It begins with `! `, and has the form of no action.
-    #[error("Operator")]
+    #[error("after the exclamation mark there is no action of the operator")]
     Operator,
 }
 

@@ -139,10 +139,22 @@ fn a_bound_set(rt: HostRuntime) -> Result<(), Fail> {
 #[test]
 fn printed_refusals(rt: HostRuntime) -> Result<(), Fail> {
     for (fault, wanted) in [
-        (RegistryFault::NotClaimed, "fault 1 NotClaimed"),
-        (RegistryFault::NotMaster, "fault 2 NotMaster"),
-        (RegistryFault::TooManyMembers, "fault 3 TooManyMembers"),
-        (RegistryFault::OutOfMemory, "fault 4 OutOfMemory"),
+        (
+            RegistryFault::NotClaimed,
+            "no NAME holds the address of the master",
+        ),
+        (
+            RegistryFault::NotMaster,
+            "there is no working set of that address",
+        ),
+        (
+            RegistryFault::TooManyMembers,
+            "the working set has all its members already",
+        ),
+        (
+            RegistryFault::OutOfMemory,
+            "the memory for a working set was refused",
+        ),
     ] {
         let text = format!(in rt.alloc(); "{fault}")?;
         assert_eq!(rt; text.as_str(), wanted);
