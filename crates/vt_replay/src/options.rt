@@ -148,7 +148,10 @@ fn command<'a>(alloc: Global) -> Result<Command<'a>, AllocError>
     let report = report_flag(alloc);
     Command::new(alloc, "vt_replay")
         .version("0.1.0")
-        .about("Replays a CAN log to a virtual terminal and prints what it answers")
+        .about(
+            "Replays a CAN log to a virtual terminal and prints what it answers, or checks an \
+             object pool and prints its report",
+        )
         .arg(file)?
         .arg(own)?
         .arg(name)?
