@@ -10,16 +10,16 @@ use thiserror::Error;
 #[derive(Clone, Copy, Debug, PartialEq, Eq, Error)]
 pub enum ReplayFault {
     /// The reader failed, or 1,000,000,000 reads have not ended it.
-    #[error("fault 1 Read")]
+    #[error("the log could not be read to its end")]
     Read,
     /// The writer failed.
-    #[error("fault 2 Write")]
+    #[error("the output could not be written")]
     Write,
     /// A growth was refused.
-    #[error("fault 3 Memory")]
+    #[error("the memory for the replay was refused")]
     Memory,
     /// A line is longer than 4,096 bytes.
-    #[error("fault 4 TooLong")]
+    #[error("a line of the log is longer than 4096 bytes")]
     TooLong,
 }
 
