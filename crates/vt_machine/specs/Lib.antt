@@ -1,0 +1,5 @@
+pub mod Fields
+pub mod Changes
+pub mod Effects
+pub mod Machines
+pub mod Soundness

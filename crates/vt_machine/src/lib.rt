@@ -1,0 +1,2 @@
+//! The event machine of a working set.
+#![tactic(auto)]
