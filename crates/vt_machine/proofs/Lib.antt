@@ -1,0 +1,5 @@
+pub mod Taking
+pub mod Moving
+pub mod Children
+pub mod AttributeChanges
+pub mod Keeping

@@ -1,6 +1,6 @@
 -- What each command makes of the object that it is for: the object as it is afterwards, or the error bit of the first
 -- test that fails (docs/PROFILE.md, "Commands and their effects").
-use Rattle.std.specs.Prelude.{ℕ, ℤ, pos, neg_ℤ, ◌+◌, ◌-◌, ◌%◌, ◌^◌, ◌+ℤ◌, ◌-ℤ◌, int_le, nat_le, nat_lt, Bool, true, false, not, ◌==◌, ◌&&◌, ◌||◌, if◌then◌else◌, List, map, set, take, length, Option, Some, None, is_some, Result, Ok, Err}
+use Rattle.std.specs.Prelude.{◌≡◌, ℕ, ℤ, pos, neg_ℤ, ◌+◌, ◌-◌, ◌%◌, ◌^◌, ◌+ℤ◌, ◌-ℤ◌, int_le, nat_le, nat_lt, Bool, true, false, not, ◌==◌, ◌&&◌, ◌||◌, if◌then◌else◌, List, map, set, take, length, Option, Some, None, is_some, Result, Ok, Err}
 use Rattle.std.specs.List.{list_any}
 use Rattle.vt_objects.specs.declared.kind.Kind.{Kind}
 use Rattle.vt_objects.specs.declared.kind.Kind.TheVariants as kinds
@@ -16,10 +16,11 @@ use Rattle.vt_objects.specs.declared.object.Object.TheVariants as objects
 use Rattle.vt_objects.specs.declared.command.Command.{Command}
 use Rattle.vt_objects.specs.declared.command.Command.TheVariants.{HideShow, EnableDisable, ControlAudio, SetVolume, ChangeChildLocation, ChangeSize, ChangeBackgroundColour, ChangeNumericValue, ChangeEndPoint, ChangeFontAttributes, ChangeLineAttributes, ChangeFillAttributes, ChangeActiveMask, ChangeSoftKeyMask, ChangeAttribute, ChangePriority, ChangeListItem, DeletePool, ChangeStringValue, ChangeChildPosition, ExecuteMacro}
 use Rattle.vt_objects.specs.Records.{Seen, kind_of}
-use Rattle.vt_objects.specs.References.{allowed, may_be_null, is_member, has_none}
+use Rattle.vt_objects.specs.References.{allowed, may_be_null, is_member}
 use Rattle.vt_objects.specs.Attributes.{attribute_at}
 use Rattle.vt_objects.specs.Scales.{scale_at}
 use Rattle.vt_objects.specs.Texts.{filled_up}
+use Rattle.vt_verify.specs.Shapes.{fixed}
 use Rattle.vt_machine.specs.Fields.{byte, word, with_field}
 
 -- the error byte with one bit
@@ -63,25 +64,6 @@ enable_disable state _ = Err (bit 1)
 
 -- ---- Change Child Location and Change Child Position: every entry of the child
 
--- the children of an object that has positions for them
-abbrev pub child_list : Seen → Option (List Child)
-child_list (objects.WorkingSet o) = Some o.children
-child_list (objects.DataMask o) = Some o.children
-child_list (objects.AlarmMask o) = Some o.children
-child_list (objects.Container o) = Some o.children
-child_list (objects.Key o) = Some o.children
-child_list (objects.Button o) = Some o.children
-child_list _ = None
-
-abbrev pub with_children : List Child → Seen → Seen
-with_children children (objects.WorkingSet o) = objects.WorkingSet (record o { children = children })
-with_children children (objects.DataMask o) = objects.DataMask (record o { children = children })
-with_children children (objects.AlarmMask o) = objects.AlarmMask (record o { children = children })
-with_children children (objects.Container o) = objects.Container (record o { children = children })
-with_children children (objects.Key o) = objects.Key (record o { children = children })
-with_children children (objects.Button o) = objects.Button (record o { children = children })
-with_children children o = o
-
 abbrev pub stands_in : ℕ → List Child → Bool
 stands_in child children = list_any (λ c. c.id == child) children
 
@@ -92,33 +74,53 @@ is_position x = int_le (neg_ℤ (pos 32768)) x && int_le x (pos 32767)
 abbrev pub fits_record : Child → Bool
 fits_record c = is_position c.x && is_position c.y
 
+-- moved by a number of pixels, less 127
+abbrev pub moved : ℤ → ℕ → ℤ
+moved x by = x +ℤ pos by -ℤ pos 127
+
 abbrev pub shifted : ℕ → ℕ → Child → Child
-shifted dx dy c = record c { x = c.x +ℤ (pos dx -ℤ pos 127); y = c.y +ℤ (pos dy -ℤ pos 127) }
+shifted dx dy c = record c { x = moved c.x dx; y = moved c.y dy }
 
 abbrev pub placed : ℤ → ℤ → Child → Child
 placed x y c = record c { x = x; y = y }
 
+-- an entry of a child at another position
+abbrev pub child_at : ℕ → (Child → Child) → Child → Child
+child_at child move c = if c.id == child then move c else c
+
 -- the entries of a child at other positions
 abbrev pub move_child : ℕ → (Child → Child) → List Child → List Child
-move_child child move children = map (λ c. if c.id == child then move c else c) children
+move_child child move children = map (child_at child move) children
 
 -- an entry of the child leaves the positions that a record can hold
 abbrev pub leaves : ℕ → ℕ → ℕ → List Child → Bool
 leaves child dx dy children = list_any (λ c. c.id == child && not (fits_record (shifted dx dy c))) children
 
--- The tests in their order: the parent, whether the child is there, and whether it stands in the parent's list.
-abbrev pub for_child : ℕ → Option Kind → Option (List Child) → (List Child → Result Seen ℕ) → Result Seen ℕ
-for_child child named None change = Err (bit 0)
-for_child child None (Some children) change = Err (bit 1)
-for_child child (Some kind) (Some children) change = if stands_in child children then change children else Err (bit 0)
+-- The tests after that of the parent, in their order: whether the child is there, and whether it stands in the parent's list.
+abbrev pub for_child : ℕ → Option Kind → List Child → Result (List Child) ℕ → Result (List Child) ℕ
+for_child child None children moved = Err (bit 1)
+for_child child (Some kind) children moved = if stands_in child children then moved else Err (bit 0)
 
-abbrev pub change_location : Option Kind → ℕ → ℕ → ℕ → Seen → Result Seen ℕ
-change_location named child dx dy o = for_child child named (child_list o)
-    (λ children. if_passed (not (leaves child dx dy children)) (bit 4) (with_children (move_child child (shifted dx dy) children) o))
+abbrev pub change_location : Option Kind → ℕ → ℕ → ℕ → List Child → Result (List Child) ℕ
+change_location named child dx dy children =
+    for_child child named children (if_passed (not (leaves child dx dy children)) (bit 4) (move_child child (shifted dx dy) children))
 
-abbrev pub change_position : Option Kind → ℕ → ℤ → ℤ → Seen → Result Seen ℕ
-change_position named child x y o = for_child child named (child_list o)
-    (λ children. Ok (with_children (move_child child (placed x y) children) o))
+abbrev pub change_position : Option Kind → ℕ → ℤ → ℤ → List Child → Result (List Child) ℕ
+change_position named child x y children = for_child child named children (Ok (move_child child (placed x y) children))
+
+abbrev pub put_children : (List Child → Seen) → Result (List Child) ℕ → Result Seen ℕ
+put_children parent (Ok children) = Ok (parent children)
+put_children parent (Err error) = Err error
+
+-- a parent with other children, where it is of a kind that has positions for them
+abbrev pub in_parent : (List Child → Result (List Child) ℕ) → Seen → Result Seen ℕ
+in_parent change (objects.WorkingSet o) = put_children (λ children. objects.WorkingSet (record o { children = children })) (change o.children)
+in_parent change (objects.DataMask o) = put_children (λ children. objects.DataMask (record o { children = children })) (change o.children)
+in_parent change (objects.AlarmMask o) = put_children (λ children. objects.AlarmMask (record o { children = children })) (change o.children)
+in_parent change (objects.Container o) = put_children (λ children. objects.Container (record o { children = children })) (change o.children)
+in_parent change (objects.Key o) = put_children (λ children. objects.Key (record o { children = children })) (change o.children)
+in_parent change (objects.Button o) = put_children (λ children. objects.Button (record o { children = children })) (change o.children)
+in_parent change _ = Err (bit 0)
 
 -- ---- Change Size: kinds without a height take the width alone
 
@@ -231,7 +233,7 @@ put_attribute (Some attribute) named n o =
 
 abbrev pub change_attribute : Option Kind → ℕ → ℕ → Seen → Result Seen ℕ
 change_attribute named number n o =
-    if has_none (kind_of o) then Err (bit 0) else put_attribute (attribute_at (kind_of o) number) named n o
+    if is_member sets.WithAttributes (kind_of o) then put_attribute (attribute_at (kind_of o) number) named n o else Err (bit 0)
 
 -- ---- Change Priority, Change List Item, Change String Value, Execute Macro
 
@@ -284,7 +286,7 @@ other_id _ = None
 abbrev pub changed : Command → Option Kind → Seen → Result Seen ℕ
 changed (HideShow id state) named o = hide_show state o
 changed (EnableDisable id state) named o = enable_disable state o
-changed (ChangeChildLocation parent child dx dy) named o = change_location named child dx dy o
+changed (ChangeChildLocation parent child dx dy) named o = in_parent (change_location named child dx dy) o
 changed (ChangeSize id width height) named o = change_size width height o
 changed (ChangeBackgroundColour id colour) named o = change_colour colour o
 changed (ChangeNumericValue id value) named o = change_value named value o
@@ -298,8 +300,26 @@ changed (ChangeAttribute id number value) named o = change_attribute named numbe
 changed (ChangePriority id priority) named o = change_priority priority o
 changed (ChangeListItem id index item) named o = change_item named index item o
 changed (ChangeStringValue id count text) named o = change_text count text o
-changed (ChangeChildPosition parent child x y) named o = change_position named child x y o
+changed (ChangeChildPosition parent child x y) named o = in_parent (change_position named child x y) o
 changed (ExecuteMacro id) named o = execute_macro id o
 changed (ControlAudio count frequency on off) named o = Ok o
 changed (SetVolume volume) named o = Ok o
 changed DeletePool named o = Ok o
+
+-- ---- what a call makes of an object
+
+-- a call's result, and what is made of the object
+abbrev pub Answers : {A : Type 0} → Result (Unit {0}) ℕ → Result A ℕ → Type 0
+Answers (Ok done) (Ok x) = Unit {0}
+Answers (Err error) (Err other) = error ≡ other
+Answers (Ok done) (Err other) = ⊥
+Answers (Err error) (Ok x) = ⊥
+
+-- an object that is refused stays as it is
+abbrev pub left : {A : Type 0} → A → Result A ℕ → A
+left old (Ok x) = x
+left old (Err error) = old
+
+-- No command changes the kind of an object, the macros of its events, or the bytes of a macro.
+abbrev pub ChangesKeep : Type 0
+ChangesKeep = (command : Command) (named : Option Kind) (o : Seen) → fixed (left o (changed command named o)) ≡ fixed o
