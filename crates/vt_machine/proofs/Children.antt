@@ -20,4 +20,4 @@ shifted_all None child dx dy children now index some stands stays are all = absu
 shifted_all (Some kind) child dx dy children now index some stands stays are all =
     are ∙ up_to_all (child_at child (shifted dx dy)) index children all
     ∙ sym (ap (λ (b : Bool). left children (cond b (if_passed (not (leaves child dx dy children)) (bit 4) (move_child child (shifted dx dy) children)) (Err (bit 0)))) stands
-        ∙ ap (λ (b : Bool). left children (if_passed (not b) (bit 4) (move_child child (shifted dx dy) children))) stays)
+    ∙ ap (λ (b : Bool). left children (if_passed (not b) (bit 4) (move_child child (shifted dx dy) children))) stays)

@@ -1,5 +1,5 @@
 -- What each command makes of the object that it is for: the object as it is afterwards, or the error bit of the first
--- test that fails (docs/PROFILE.md, "Commands and their effects").
+-- test that fails (docs/PROFILE.md, "Commands: form, tests, error byte and events" and the section of each command).
 use Rattle.std.specs.Prelude.{◌≡◌, ℕ, ℤ, pos, neg_ℤ, ◌+◌, ◌-◌, ◌%◌, ◌^◌, ◌+ℤ◌, ◌-ℤ◌, int_le, nat_le, nat_lt, Bool, true, false, not, ◌==◌, ◌&&◌, ◌||◌, if◌then◌else◌, List, map, set, take, length, Option, Some, None, is_some, Result, Ok, Err}
 use Rattle.std.specs.List.{list_any}
 use Rattle.vt_objects.specs.declared.kind.Kind.{Kind}

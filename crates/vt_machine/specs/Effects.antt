@@ -1,5 +1,6 @@
 -- What each command makes of the objects: the objects as they are afterwards, or the error bit of the first test that
--- fails (docs/PROFILE.md, "Commands and their effects"). A refused command changes nothing.
+-- fails (docs/PROFILE.md, "Commands: form, tests, error byte and events" and the section of each command). A refused command
+-- changes nothing.
 use Rattle.std.specs.Prelude.{◌≡◌, ℕ, zero, suc, ◌+◌, ◌%◌, nat_le, Bool, true, false, ◌==◌, ◌&&◌, ◌||◌, not, if◌then◌else◌, List, [], ◌∷◌, length, Option, Some, None, Result, Ok, Err}
 use Rattle.std.specs.Option.{option_map}
 use Rattle.std.specs.Result.{result_unwrap_or}

@@ -1,4 +1,4 @@
--- The event machine: what commands raise, and how the macros of events run (docs/PROFILE.md, "Events and macros").
+-- The event machine: what commands raise, and how the macros of events run (docs/PROFILE.md, "Runs", "Steps").
 use Rattle.std.specs.Prelude.{◌≡◌, ℕ, zero, suc, ◌==◌, if◌then◌else◌, Bool, sum_by, List, [], ◌∷◌, ◌++◌, map, Option, Some, None, is_ok}
 use Rattle.std.specs.List.{list_all, flat_map}
 use Rattle.std.specs.FinMap as finite

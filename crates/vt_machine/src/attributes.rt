@@ -11,10 +11,16 @@ mod masks;
 mod output_fields;
 mod shapes;
 
-use attribute_objects::{write_fill_attributes, write_font, write_input_attributes, write_line_attributes, write_object_pointer};
+use attribute_objects::{
+    write_fill_attributes, write_font, write_input_attributes, write_line_attributes,
+    write_object_pointer,
+};
 use graphs::{write_arched_bar, write_linear_bar, write_meter};
 use input_fields::{write_input_boolean, write_input_list, write_input_number, write_input_string};
-use masks::{write_alarm_mask, write_button, write_container, write_data_mask, write_key, write_soft_key_mask, write_working_set};
+use masks::{
+    write_alarm_mask, write_button, write_container, write_data_mask, write_key,
+    write_soft_key_mask, write_working_set,
+};
 use output_fields::{write_output_number, write_output_string, write_picture};
 use shapes::{write_ellipse, write_line, write_polygon, write_rectangle};
 use vt_objects::{Field, Object};
@@ -46,9 +52,21 @@ pub(crate) fn write_field(object: &mut Object<Vec<u8>>, field: Field, value: u32
         Object::LinearBar(linear_bar) => write_linear_bar(linear_bar, field, value),
         Object::ArchedBar(arched_bar) => write_arched_bar(arched_bar, field, value),
         Object::Font(font) => write_font(font, field, value),
-        Object::LineAttributes(line_attributes) => write_line_attributes(line_attributes, field, value),
-        Object::FillAttributes(fill_attributes) => write_fill_attributes(fill_attributes, field, value),
-        Object::InputAttributes(input_attributes) => write_input_attributes(input_attributes, field, value),
+        Object::LineAttributes(line_attributes) => write_line_attributes(
+            line_attributes,
+            field,
+            value,
+        ),
+        Object::FillAttributes(fill_attributes) => write_fill_attributes(
+            fill_attributes,
+            field,
+            value,
+        ),
+        Object::InputAttributes(input_attributes) => write_input_attributes(
+            input_attributes,
+            field,
+            value,
+        ),
         Object::ObjectPointer(object_pointer) => write_object_pointer(object_pointer, field, value),
         Object::NumberVariable(_) | Object::StringVariable(_) | Object::Macro(_) => {}
     }

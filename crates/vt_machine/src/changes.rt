@@ -25,7 +25,7 @@ use vt_objects::{Child, Command, Kind, Object};
 
 /// Makes of an object what a command says, where the command is for this object. `named` is the kind of the object of the
 /// other ID that the command names, if that is there. A refusal is the error byte of the command's reply, with the bit of the
-/// first test that fails, and leaves the object as it was. docs/PROFILE.md, "Commands and their effects".
+/// first test that fails, and leaves the object as it was (ISO 11783-6; docs/PROFILE.md, "Commands: all rows").
 pub fn change(
     object: &mut Object<Vec<u8>>,
     command: &Command<'_>,
@@ -70,7 +70,9 @@ pub fn change(
         } => change_fill_attributes(object, named, fill_type, colour, pattern),
         Command::ChangeActiveMask { mask, .. } => change_active_mask(object, named, mask),
         Command::ChangeSoftKeyMask {
-            mask_type, keys, ..
+            mask_type,
+            keys,
+            ..
         } => change_soft_key_mask(object, named, mask_type, keys),
         Command::ChangeAttribute { number, value, .. } => {
             change_attribute(object, named, number, value)
@@ -78,7 +80,9 @@ pub fn change(
         Command::ChangePriority { priority, .. } => change_priority(object, priority),
         Command::ChangeListItem { index, item, .. } => change_item(object, named, index, item),
         Command::ChangeStringValue {
-            length, ref text, ..
+            length,
+            ref text,
+            ..
         } => change_text(object, length, text.as_slice()),
         Command::ChangeChildPosition { child, x, y, .. } => {
             change_position(object, named, &Child { id: child, x, y })

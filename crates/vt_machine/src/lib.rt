@@ -1,4 +1,6 @@
-//! The event machine of a working set.
+//! The event machine of a working set (ISO 11783-6): what its commands make of its objects.
+//!
+//! docs/PROFILE.md, "Commands: all rows" and the section of each command, "Attributes".
 #![tactic(auto)]
 
 mod attributes;
@@ -9,3 +11,6 @@ mod references;
 
 pub use changes::change;
 pub use laws::changes_keep;
+
+#[cfg(test)]
+mod tests;

@@ -41,7 +41,11 @@ pub(crate) fn write_fill_attributes(fill_attributes: &mut FillAttributes, field:
     }
 }
 
-pub(crate) fn write_input_attributes(input_attributes: &mut InputAttributes<Vec<u8>>, field: Field, value: u32)
+pub(crate) fn write_input_attributes(
+    input_attributes: &mut InputAttributes<Vec<u8>>,
+    field: Field,
+    value: u32,
+)
     ensures { seen_input_attributes input_attributes.new ≡ input_attributes_with field value (seen_input_attributes input_attributes.old) }
 {
     match field {

@@ -7,7 +7,11 @@ ghost use Rattle.vt_machine.specs.Fields.{output_string_with, output_number_with
 use crate::numbers::{byte, decimals, id, scale, word};
 use vt_objects::{Field, OutputNumber, OutputString, Picture};
 
-pub(crate) fn write_output_string(output_string: &mut OutputString<Vec<u8>>, field: Field, value: u32)
+pub(crate) fn write_output_string(
+    output_string: &mut OutputString<Vec<u8>>,
+    field: Field,
+    value: u32,
+)
     ensures { seen_output_string output_string.new ≡ output_string_with field value (seen_output_string output_string.old) }
 {
     match field {

@@ -9,7 +9,13 @@ use crate::references::may_stand;
 use vt_objects::{Kind, Object, ObjectId, Place};
 
 /// Sets all fields of a font.
-pub(crate) fn change_font(object: &mut Object<Vec<u8>>, colour: u8, size: u8, font_type: u8, style: u8) -> Result<(), u8>
+pub(crate) fn change_font(
+    object: &mut Object<Vec<u8>>,
+    colour: u8,
+    size: u8,
+    font_type: u8,
+    style: u8,
+) -> Result<(), u8>
     ensures result { Answers result (changes.change_font colour size font_type style (seen object.old)) }
     ensures object { seen object.new ≡ left (seen object.old) (changes.change_font colour size font_type style (seen object.old)) }
 {
@@ -24,7 +30,12 @@ pub(crate) fn change_font(object: &mut Object<Vec<u8>>, colour: u8, size: u8, fo
 }
 
 /// Sets all fields of line attributes.
-pub(crate) fn change_line_attributes(object: &mut Object<Vec<u8>>, colour: u8, width: u8, line_art: u16) -> Result<(), u8>
+pub(crate) fn change_line_attributes(
+    object: &mut Object<Vec<u8>>,
+    colour: u8,
+    width: u8,
+    line_art: u16,
+) -> Result<(), u8>
     ensures result { Answers result (changes.change_line_attributes colour width line_art (seen object.old)) }
     ensures object { seen object.new ≡ left (seen object.old) (changes.change_line_attributes colour width line_art (seen object.old)) }
 {
@@ -38,7 +49,13 @@ pub(crate) fn change_line_attributes(object: &mut Object<Vec<u8>>, colour: u8, w
 }
 
 /// Sets all fields of fill attributes. `named` is the kind of the pattern, if that is there.
-pub(crate) fn change_fill_attributes(object: &mut Object<Vec<u8>>, named: Option<Kind>, fill_type: u8, colour: u8, pattern: ObjectId) -> Result<(), u8>
+pub(crate) fn change_fill_attributes(
+    object: &mut Object<Vec<u8>>,
+    named: Option<Kind>,
+    fill_type: u8,
+    colour: u8,
+    pattern: ObjectId,
+) -> Result<(), u8>
     ensures result { Answers result (changes.change_fill_attributes named fill_type colour pattern (seen object.old)) }
     ensures object { seen object.new ≡ left (seen object.old) (changes.change_fill_attributes named fill_type colour pattern (seen object.old)) }
 {

@@ -10,7 +10,12 @@ use vt_objects::{Kind, Kinds, Object, ObjectId, ValueType, attribute};
 
 /// Sets the attribute of a number. `named` is the kind of the object that the two lowest bytes of the value name, if that is
 /// there.
-pub(crate) fn change_attribute(object: &mut Object<Vec<u8>>, named: Option<Kind>, number: u8, value: u32) -> Result<(), u8>
+pub(crate) fn change_attribute(
+    object: &mut Object<Vec<u8>>,
+    named: Option<Kind>,
+    number: u8,
+    value: u32,
+) -> Result<(), u8>
     ensures result { Answers result (changes.change_attribute named number value (seen object.old)) }
     ensures object { seen object.new ≡ left (seen object.old) (changes.change_attribute named number value (seen object.old)) }
 {

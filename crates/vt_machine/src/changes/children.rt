@@ -76,11 +76,7 @@ fn shift(
 }
 
 /// Puts every entry of a child where this one is.
-fn place(
-    children: &mut Entries<Child>,
-    named: Option<Kind>,
-    entry: &Child,
-) -> Result<(), u8>
+fn place(children: &mut Entries<Child>, named: Option<Kind>, entry: &Child) -> Result<(), u8>
     ensures result { Answers result (changes.change_position named entry.now.id entry.now.x entry.now.y children.old) }
     ensures children { children.new ≡ left children.old (changes.change_position named entry.now.id entry.now.x entry.now.y children.old) }
 {
@@ -109,10 +105,7 @@ fn stands_in(child: ObjectId, children: &Entries<Child>) -> bool
 fn leaves(child: ObjectId, dx: u8, dy: u8, children: &Entries<Child>) -> bool
     ensures { result ≡ changes.leaves child dx dy children.now }
 {
-    children
-        .as_slice()
-        .iter()
-        .any(|entry| entry.id == child && shifted(*entry, dx, dy).is_none())
+    children.as_slice().iter().any(|entry| entry.id == child && shifted(*entry, dx, dy).is_none())
 }
 
 /// An entry, moved where it is of the child.

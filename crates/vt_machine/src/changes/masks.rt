@@ -9,7 +9,11 @@ use crate::references::{is_one_of, may_stand};
 use vt_objects::{Kind, Kinds, Object, ObjectId, Place};
 
 /// Makes a mask the active one. `named` is the kind of the mask, if that is there.
-pub(crate) fn change_active_mask(object: &mut Object<Vec<u8>>, named: Option<Kind>, mask: ObjectId) -> Result<(), u8>
+pub(crate) fn change_active_mask(
+    object: &mut Object<Vec<u8>>,
+    named: Option<Kind>,
+    mask: ObjectId,
+) -> Result<(), u8>
     ensures result { Answers result (changes.change_active_mask named mask (seen object.old)) }
     ensures object { seen object.new ≡ left (seen object.old) (changes.change_active_mask named mask (seen object.old)) }
 {
@@ -25,7 +29,12 @@ pub(crate) fn change_active_mask(object: &mut Object<Vec<u8>>, named: Option<Kin
 
 /// Gives a mask other soft keys. Type 1 is a Data Mask, and type 2 an Alarm Mask; `named` is the kind of the soft key mask,
 /// if that is there.
-pub(crate) fn change_soft_key_mask(object: &mut Object<Vec<u8>>, named: Option<Kind>, mask_type: u8, keys: ObjectId) -> Result<(), u8>
+pub(crate) fn change_soft_key_mask(
+    object: &mut Object<Vec<u8>>,
+    named: Option<Kind>,
+    mask_type: u8,
+    keys: ObjectId,
+) -> Result<(), u8>
     ensures result { Answers result (changes.change_soft_key_mask named mask_type keys (seen object.old)) }
     ensures object { seen object.new ≡ left (seen object.old) (changes.change_soft_key_mask named mask_type keys (seen object.old)) }
 {

@@ -70,7 +70,12 @@ pub(crate) fn change_size(object: &mut Object<Vec<u8>>, width: u16, height: u16)
 }
 
 /// Sets the end point of a line, by its size and direction 0 or 1.
-pub(crate) fn change_end_point(object: &mut Object<Vec<u8>>, width: u16, height: u16, direction: u8) -> Result<(), u8>
+pub(crate) fn change_end_point(
+    object: &mut Object<Vec<u8>>,
+    width: u16,
+    height: u16,
+    direction: u8,
+) -> Result<(), u8>
     ensures result { Answers result (changes.change_end_point width height direction (seen object.old)) }
     ensures object { seen object.new ≡ left (seen object.old) (changes.change_end_point width height direction (seen object.old)) }
 {

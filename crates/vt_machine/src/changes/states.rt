@@ -28,7 +28,10 @@ pub(crate) fn enable_disable(object: &mut Object<Vec<u8>>, state: u8) -> Result<
     ensures object { seen object.new ≡ left (seen object.old) (changes.enable_disable state (seen object.old)) }
 {
     match object {
-        Object::InputBoolean(_) | Object::InputString(_) | Object::InputNumber(_) | Object::InputList(_) => {}
+        Object::InputBoolean(_)
+        | Object::InputString(_)
+        | Object::InputNumber(_)
+        | Object::InputList(_) => {}
         _ => return Err(1 << 1),
     }
     if state > 1 {

@@ -11,7 +11,11 @@ use vt_objects::{Kind, Object, ObjectId, Place};
 
 /// Sets the value. Each kind looks at as many of the lowest bytes as its value has; `named` is the kind of the object that
 /// the two lowest name, if that is there.
-pub(crate) fn change_value(object: &mut Object<Vec<u8>>, named: Option<Kind>, value: u32) -> Result<(), u8>
+pub(crate) fn change_value(
+    object: &mut Object<Vec<u8>>,
+    named: Option<Kind>,
+    value: u32,
+) -> Result<(), u8>
     ensures result { Answers result (changes.change_value named value (seen object.old)) }
     ensures object { seen object.new ≡ left (seen object.old) (changes.change_value named value (seen object.old)) }
 {
@@ -51,7 +55,12 @@ pub(crate) fn change_value(object: &mut Object<Vec<u8>>, named: Option<Kind>, va
 }
 
 /// Puts an item in a list. `named` is the kind of the item, if that is there.
-pub(crate) fn change_item(object: &mut Object<Vec<u8>>, named: Option<Kind>, index: u8, item: ObjectId) -> Result<(), u8>
+pub(crate) fn change_item(
+    object: &mut Object<Vec<u8>>,
+    named: Option<Kind>,
+    index: u8,
+    item: ObjectId,
+) -> Result<(), u8>
     ensures result { Answers result (changes.change_item named index item (seen object.old)) }
     ensures object { seen object.new ≡ left (seen object.old) (changes.change_item named index item (seen object.old)) }
 {
