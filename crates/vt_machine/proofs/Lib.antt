@@ -3,3 +3,5 @@ pub mod Moving
 pub mod Children
 pub mod AttributeChanges
 pub mod Keeping
+pub mod Referring
+pub mod Written

@@ -1,13 +1,14 @@
 -- What each command makes of the object that it is for: the object as it is afterwards, or the error bit of the first
 -- test that fails (docs/PROFILE.md, "Commands: form, tests, error byte and events" and the section of each command).
-use Rattle.std.specs.Prelude.{◌≡◌, ℕ, ℤ, pos, neg_ℤ, ◌+◌, ◌-◌, ◌%◌, ◌^◌, ◌+ℤ◌, ◌-ℤ◌, int_le, nat_le, nat_lt, Bool, true, false, not, ◌==◌, ◌&&◌, ◌||◌, if◌then◌else◌, List, map, set, take, length, Option, Some, None, is_some, Result, Ok, Err}
-use Rattle.std.specs.List.{list_any}
+use Rattle.std.specs.Prelude.{◌≡◌, ◌⊎◌, Contains, IsTrue, ℕ, ℤ, pos, neg_ℤ, ◌+◌, ◌-◌, ◌%◌, ◌^◌, ◌+ℤ◌, ◌-ℤ◌, int_le, nat_le, nat_lt, Bool, true, false, not, ◌==◌, ◌&&◌, ◌||◌, if◌then◌else◌, List, map, set, take, length, Option, Some, None, is_some, Result, Ok, Err}
+use Rattle.std.specs.List.{list_any, AllByRecursion}
 use Rattle.vt_objects.specs.declared.kind.Kind.{Kind}
 use Rattle.vt_objects.specs.declared.kind.Kind.TheVariants as kinds
 use Rattle.vt_objects.specs.declared.kinds.Kinds.{Kinds}
 use Rattle.vt_objects.specs.declared.kinds.Kinds.TheVariants as sets
 use Rattle.vt_objects.specs.declared.place.Place.{Place}
 use Rattle.vt_objects.specs.declared.place.Place.TheVariants as places
+use Rattle.vt_objects.specs.declared.slot.Slot.{Slot}
 use Rattle.vt_objects.specs.declared.entries.Child.{Child}
 use Rattle.vt_objects.specs.declared.fields.Attribute.{Attribute}
 use Rattle.vt_objects.specs.declared.fields.ValueType.{ValueType}
@@ -16,7 +17,7 @@ use Rattle.vt_objects.specs.declared.object.Object.TheVariants as objects
 use Rattle.vt_objects.specs.declared.command.Command.{Command}
 use Rattle.vt_objects.specs.declared.command.Command.TheVariants.{HideShow, EnableDisable, ControlAudio, SetVolume, ChangeChildLocation, ChangeSize, ChangeBackgroundColour, ChangeNumericValue, ChangeEndPoint, ChangeFontAttributes, ChangeLineAttributes, ChangeFillAttributes, ChangeActiveMask, ChangeSoftKeyMask, ChangeAttribute, ChangePriority, ChangeListItem, DeletePool, ChangeStringValue, ChangeChildPosition, ExecuteMacro}
 use Rattle.vt_objects.specs.Records.{Seen, kind_of}
-use Rattle.vt_objects.specs.References.{allowed, may_be_null, is_member}
+use Rattle.vt_objects.specs.References.{allowed, may_be_null, is_member, slot, slots_of}
 use Rattle.vt_objects.specs.Attributes.{attribute_at}
 use Rattle.vt_objects.specs.Scales.{scale_at}
 use Rattle.vt_objects.specs.Texts.{filled_up}
@@ -323,3 +324,16 @@ left old (Err error) = old
 -- No command changes the kind of an object, the macros of its events, or the bytes of a macro.
 abbrev pub ChangesKeep : Type 0
 ChangesKeep = (command : Command) (named : Option Kind) (o : Seen) → fixed (left o (changed command named o)) ≡ fixed o
+
+-- what a command writes where an object of a kind names another one: the other ID that it names, in a place where that may stand
+pub record IsWritten (command : Command) (named : Option Kind) (kind : Kind) (s : Slot) : Type 0 where
+  pub place : Place
+  pub id : ℕ
+  pub other : other_id command ≡ Some id
+  pub stands : IsTrue (may_stand kind place id named)
+  pub is : s ≡ slot kind place id
+
+-- Each reference of an object after a command is one that it had, or is written by the command.
+abbrev pub ReferencesMayStand : Type 0
+ReferencesMayStand = (command : Command) (named : Option Kind) (o : Seen)
+    → AllByRecursion (λ s. Contains (slots_of o) s ⊎ IsWritten command named (kind_of o) s) (slots_of (left o (changed command named o)))

@@ -10,7 +10,7 @@ mod numbers;
 mod references;
 
 pub use changes::change;
-pub use laws::changes_keep;
+pub use laws::{changes_keep, references_may_stand};
 
 #[cfg(test)]
 mod tests;
