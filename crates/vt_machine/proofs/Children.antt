@@ -1,5 +1,5 @@
 -- The entries of a child at other positions.
-use Rattle.std.proofs.Common.{◌≡◌, ℕ, ℤ, Bool, true, false, not, cond, List, length, Option, Some, None, is_some, Result, Ok, Err, refl, sym, ap, subst, ◌∙◌}
+use Rattle.std.proofs.Common.{◌≡◌, ℕ, Bool, true, false, not, cond, List, length, Option, Some, None, is_some, Err, sym, ap, ◌∙◌}
 use Rattle.vt_objects.specs.declared.kind.Kind.{Kind}
 use Rattle.vt_objects.specs.declared.entries.Child.{Child}
 use Rattle.vt_machine.specs.Changes.{left, bit, if_passed, child_at, placed, shifted, stands_in, leaves, move_child, change_position, change_location}

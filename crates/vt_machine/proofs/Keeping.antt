@@ -1,5 +1,5 @@
 -- What no command changes of an object: its kind, the macros of its events and the bytes of a macro.
-use Rattle.std.proofs.Common.{◌≡◌, ℕ, ◌==◌, Bool, true, false, cond, nat_le, nat_lt, not, ◌&&◌, List, Option, Some, None, Result, Ok, Err, refl}
+use Rattle.std.proofs.Common.{◌≡◌, ℕ, Bool, true, false, cond, List, Option, Some, None, Result, Ok, Err, refl}
 use Rattle.vt_objects.specs.declared.kind.Kind.{Kind}
 use Rattle.vt_objects.specs.declared.fields.Field.{Field}
 use Rattle.vt_objects.specs.declared.fields.Field.TheVariants as fields
@@ -35,11 +35,10 @@ use Rattle.vt_objects.specs.declared.object.Object.TheVariants as objects
 use Rattle.vt_objects.specs.declared.command.Command.{Command}
 use Rattle.vt_objects.specs.declared.command.Command.TheVariants.{HideShow, EnableDisable, ControlAudio, SetVolume, ChangeChildLocation, ChangeSize, ChangeBackgroundColour, ChangeNumericValue, ChangeEndPoint, ChangeFontAttributes, ChangeLineAttributes, ChangeFillAttributes, ChangeActiveMask, ChangeSoftKeyMask, ChangeAttribute, ChangePriority, ChangeListItem, DeletePool, ChangeStringValue, ChangeChildPosition, ExecuteMacro}
 use Rattle.vt_objects.specs.Records.{Seen, kind_of}
-use Rattle.vt_objects.specs.References.{is_member}
 use Rattle.vt_objects.specs.Attributes.{attribute_at}
 use Rattle.vt_verify.specs.Shapes.{fixed}
 use Rattle.vt_machine.specs.Fields.{with_field, working_set_with, data_mask_with, alarm_mask_with, container_with, soft_key_mask_with, key_with, button_with, input_boolean_with, input_string_with, input_number_with, input_list_with, output_string_with, output_number_with, line_with, rectangle_with, ellipse_with, polygon_with, meter_with, linear_bar_with, arched_bar_with, picture_with, font_with, line_attributes_with, fill_attributes_with, input_attributes_with, object_pointer_with}
-use Rattle.vt_machine.specs.Changes.{left, if_passed, takes, put_children, in_parent, hide_show, enable_disable, change_size, change_colour, change_value, change_end_point, change_font, change_line_attributes, change_fill_attributes, change_active_mask, change_soft_key_mask, put_attribute, change_attribute, change_priority, change_item, change_text, execute_macro, changed}
+use Rattle.vt_machine.specs.Changes.{left, if_passed, put_children, in_parent, hide_show, enable_disable, change_size, change_colour, change_value, change_end_point, change_font, change_line_attributes, change_fill_attributes, change_active_mask, change_soft_key_mask, put_attribute, change_priority, change_item, change_text, execute_macro, changed}
 
 -- ---- fields
 

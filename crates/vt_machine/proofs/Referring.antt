@@ -1,8 +1,6 @@
 -- What a command leaves of the references of an object: those that it had, and what may stand in their places.
-use Rattle.std.proofs.Common.{◌≡◌, ◌+◌, ◌%◌, ℕ, zero, suc, ◌==◌, Bool, true, false, cond, not, nat_lt, List, [], ◌∷◌, map, set, Option, Some, None, Result, Ok, Err, refl, sym, ap, subst, ◌∙◌, arith}
-use Rattle.std.specs.Prelude.{slice_get, IsTrue}
+use Rattle.std.proofs.Common.{◌≡◌, ◌+◌, ℕ, zero, suc, ◌==◌, Bool, true, false, cond, not, List, [], ◌∷◌, map, set, Option, Some, None, Result, Ok, Err, refl, sym, ap, subst, ◌∙◌, arith}
 use Rattle.std.specs.List.{AllByRecursion}
-use Rattle.std.proofs.lemmas.Bool.{eqb-true}
 use Rattle.vt_objects.specs.declared.kind.Kind.{Kind}
 use Rattle.vt_objects.specs.declared.kind.Kind.TheVariants as kinds
 use Rattle.vt_objects.specs.declared.kinds.Kinds.TheVariants as sets
@@ -296,6 +294,7 @@ numbered_are P named n number (objects.InputList o) attribute old all is = by (n
   where
     options : IsPut P named n (objects.InputList o) (table.byte fields.Options)
     options passed = old
+
     by : (b : Bool) → cond b (Some (table.byte fields.Options)) (numbered (attributes_of kinds.InputList) number) ≡ Some attribute → IsPut P named n (objects.InputList o) attribute
     by true e = subst (IsPut P named n (objects.InputList o)) (some_is (table.byte fields.Options) attribute e) options
     by false e = each_numbered (IsPut P named n (objects.InputList o)) (attributes_of kinds.InputList) number attribute all e

@@ -1,5 +1,5 @@
 -- What a field takes, as a test.
-use Rattle.std.proofs.Common.{◌≡◌, ◌≢◌, ◌≤◌, ◌⊎◌, ◌↔◌, inl, inr, ℕ, ◌^◌, ◌%◌, Bool, true, false, cond, eqb, List, Option, Some, None, is_some, refl, sym, subst}
+use Rattle.std.proofs.Common.{◌≡◌, ◌≢◌, inl, inr, ℕ, ◌^◌, ◌%◌, Bool, true, false, cond, Option, Some, None, is_some, refl, sym, subst}
 use Rattle.std.proofs.lemmas.Bool.{eqb-true, eq-eqb, le-leb, leb-true}
 use Rattle.std.specs.Prelude.{IsTrue, ◌==◌}
 use Rattle.vt_objects.specs.declared.kind.Kind.{Kind}
@@ -13,7 +13,7 @@ use Rattle.vt_objects.specs.Scales.{scale_number, scale_at, IsScale}
 use Rattle.vt_objects.specs.References.{members, allowed, may_be_null}
 use Rattle.vt_objects.specs.Attributes.{Accepts, MayStand, IsAmong, lowest}
 use Rattle.vt_machine.specs.Fields.{word}
-use Rattle.vt_machine.specs.Changes.{takes, may_stand, is_one_of}
+use Rattle.vt_machine.specs.Changes.{takes, is_one_of}
 
 -- two tests that are passed alike
 pub alike : (a b : Bool) → (IsTrue a → IsTrue b) → (IsTrue b → IsTrue a) → a ≡ b

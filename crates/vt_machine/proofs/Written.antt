@@ -1,5 +1,5 @@
 -- Each reference of an object after a command is one that it had, or is written by the command.
-use Rattle.std.proofs.Common.{◌≡◌, ◌⊎◌, inl, inr, List, [], ◌∷◌, ◌++◌, Option, refl}
+use Rattle.std.proofs.Common.{◌⊎◌, inl, inr, List, [], ◌∷◌, Option, refl}
 use Rattle.std.specs.Prelude.{Contains}
 use Rattle.std.specs.List.{AllByRecursion}
 use Rattle.std.proofs.lemmas.List.Elements.{Contains-append_left, Contains-append_right, Contains-push}
@@ -19,4 +19,4 @@ pub references_written : (command : Command) (named : Option Kind) (o : Seen)
     → AllByRecursion (λ s. Contains (slots_of o) s ⊎ IsWritten command named (kind_of o) s) (slots_of (left o (changed command named o)))
 references_written command named o =
     slots_after _ command named o (all_in _ (slots_of o) (λ s there. inl there))
-        (λ place id other stands. inr (record { place = place; id = id; other = other; stands = stands; is = refl }))
+    (λ place id other stands. inr (record { place = place; id = id; other = other; stands = stands; is = refl }))

@@ -1,7 +1,7 @@
 -- What each command makes of the objects: the objects as they are afterwards, or the error bit of the first test that
 -- fails (docs/PROFILE.md, "Commands: form, tests, error byte and events" and the section of each command). A refused command
 -- changes nothing.
-use Rattle.std.specs.Prelude.{◌≡◌, ℕ, zero, suc, ◌+◌, ◌%◌, nat_le, Bool, true, false, ◌==◌, ◌&&◌, ◌||◌, not, if◌then◌else◌, List, [], ◌∷◌, length, Option, Some, None, Result, Ok, Err}
+use Rattle.std.specs.Prelude.{ℕ, zero, suc, nat_le, Bool, true, ◌==◌, ◌&&◌, ◌||◌, not, if◌then◌else◌, List, length, Option, Some, None, Result, Ok, Err}
 use Rattle.std.specs.Option.{option_map}
 use Rattle.std.specs.Result.{result_unwrap_or}
 use Rattle.std.specs.List.{list_all, flat_map}
@@ -11,10 +11,10 @@ use Rattle.vt_objects.specs.declared.kinds.Kinds.TheVariants as sets
 use Rattle.vt_objects.specs.declared.slot.Slot.{Slot}
 use Rattle.vt_objects.specs.declared.object.Object.TheVariants as objects
 use Rattle.vt_objects.specs.declared.command.Command.{Command}
-use Rattle.vt_objects.specs.declared.command.Command.TheVariants.{HideShow, EnableDisable, ControlAudio, SetVolume, ChangeNumericValue, ChangeAttribute, ChangeListItem, DeletePool, ChangeStringValue}
+use Rattle.vt_objects.specs.declared.command.Command.TheVariants.{HideShow, EnableDisable, SetVolume, ChangeNumericValue, ChangeListItem, ChangeStringValue}
 use Rattle.vt_objects.specs.Records.{Seen, kind_of}
-use Rattle.vt_objects.specs.References.{slots_of, is_member}
-use Rattle.vt_objects.specs.Stores.{Contents, Objects}
+use Rattle.vt_objects.specs.References.{slots_of}
+use Rattle.vt_objects.specs.Stores.{Contents}
 use Rattle.vt_objects.specs.Targets.{object_of}
 use Rattle.vt_verify.specs.Depths.{ids_of, inclusions_of}
 use Rattle.vt_machine.specs.Changes.{bit, if_passed, is_one_of, other_id, changed}

@@ -1,5 +1,5 @@
 -- The event machine: what commands raise, and how the macros of events run (docs/PROFILE.md, "Runs", "Steps").
-use Rattle.std.specs.Prelude.{◌≡◌, ℕ, zero, suc, ◌==◌, if◌then◌else◌, Bool, sum_by, List, [], ◌∷◌, ◌++◌, map, Option, Some, None, is_ok}
+use Rattle.std.specs.Prelude.{ℕ, zero, suc, ◌==◌, if◌then◌else◌, sum_by, List, [], ◌∷◌, ◌++◌, Option, Some, None, is_ok}
 use Rattle.std.specs.List.{list_all, flat_map}
 use Rattle.std.specs.FinMap as finite
 use Rattle.vt_objects.specs.declared.object.Object.TheVariants as objects

@@ -1,4 +1,4 @@
-use Rattle.std.proofs.Common.{◌≡◌, ℕ, Result, Ok, Err, refl, sym, ap, subst, ◌∙◌}
+use Rattle.std.proofs.Common.{ℕ, Result, Ok, Err, refl, sym, ap, subst, ◌∙◌}
 use Rattle.vt_objects.specs.Records.{Seen, seen}
 use Rattle.vt_machine.specs.Changes.{Answers, left}
 use Rattle.vt_machine.proofs.AttributeChanges.{seen_kind, attribute_put}

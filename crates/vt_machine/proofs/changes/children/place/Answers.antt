@@ -1,4 +1,4 @@
-use Rattle.std.proofs.Common.{◌≡◌, not, set, sym, ap, ap₂, ◌∙◌, arith}
+use Rattle.std.proofs.Common.{not, set, sym, ap, ap₂, ◌∙◌, arith}
 use Rattle.std.specs.Prelude.{slice_index_or}
 use Rattle.vt_machine.proofs.Moving.{up_to_next}
 use Rattle.vt_machine.proofs.Children.{placed_all}

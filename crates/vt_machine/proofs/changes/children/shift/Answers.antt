@@ -1,4 +1,4 @@
-use Rattle.std.proofs.Common.{◌≡◌, not, ◌&&◌, set, sym, ap, ap₂, ◌∙◌, arith}
+use Rattle.std.proofs.Common.{not, ◌&&◌, set, sym, ap, ap₂, ◌∙◌, arith}
 use Rattle.std.specs.Prelude.{slice_index_or, ◌==◌}
 use Rattle.vt_objects.specs.declared.entries.Child.{Child}
 use Rattle.vt_machine.specs.Changes.{shifted, fits_record}
