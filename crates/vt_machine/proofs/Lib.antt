@@ -5,3 +5,4 @@ pub mod AttributeChanges
 pub mod Keeping
 pub mod Referring
 pub mod Written
+pub mod Puts

@@ -5,11 +5,13 @@
 
 mod attributes;
 mod changes;
+mod effects;
 mod laws;
 mod numbers;
 mod references;
 
 pub use changes::change;
+pub use effects::change_in;
 pub use laws::{changes_keep, references_may_stand};
 
 #[cfg(test)]
