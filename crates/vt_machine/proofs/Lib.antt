@@ -2,6 +2,7 @@ pub mod Taking
 pub mod Moving
 pub mod Children
 pub mod AttributeChanges
+pub mod KeptFields
 pub mod Keeping
 pub mod Referring
 pub mod Written

@@ -1,7 +1,7 @@
 -- What each command makes of the objects: the objects as they are afterwards, or the error byte with the bit of the first
 -- test that fails (docs/PROFILE.md, "Commands: form, tests, error byte and events" and the section of each command). A
 -- refused command changes nothing.
-use Rattle.std.specs.Prelude.{◌≡◌, ℕ, zero, suc, nat_le, Bool, true, false, ◌==◌, ◌&&◌, ◌||◌, not, if◌then◌else◌, List, length, Option, Some, None, Result, Ok, Err}
+use Rattle.std.specs.Prelude.{ℕ, zero, suc, nat_le, Bool, true, ◌==◌, ◌&&◌, ◌||◌, not, if◌then◌else◌, List, length, Option, Some, None, Result, Ok, Err}
 use Rattle.std.specs.Option.{option_map}
 use Rattle.std.specs.List.{list_all, flat_map}
 use Rattle.std.specs.FinMap as finite
