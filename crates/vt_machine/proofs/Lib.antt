@@ -7,3 +7,10 @@ pub mod Keeping
 pub mod Referring
 pub mod Written
 pub mod Puts
+pub mod InOrder
+pub mod Places
+pub mod WrittenSlots
+pub mod SlotsInOrder
+pub mod ShortChains
+pub mod KeepingOrder
+pub mod Shapes

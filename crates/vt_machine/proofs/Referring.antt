@@ -1,6 +1,7 @@
 -- What a command leaves of the references of an object: those that it had, and what may stand in their places.
 use Rattle.std.proofs.Common.{◌≡◌, ◌+◌, ℕ, zero, suc, ◌==◌, Bool, true, false, cond, not, List, [], ◌∷◌, map, set, Option, Some, None, Result, Ok, Err, refl, sym, ap, subst, ◌∙◌, arith}
 use Rattle.std.specs.List.{AllByRecursion}
+use Rattle.std.proofs.lemmas.Bool.{eq-eqb}
 use Rattle.vt_objects.specs.declared.kind.Kind.{Kind}
 use Rattle.vt_objects.specs.declared.kind.Kind.TheVariants as kinds
 use Rattle.vt_objects.specs.declared.kinds.Kinds.TheVariants as sets
@@ -18,7 +19,7 @@ use Rattle.vt_objects.specs.declared.fields.Field.TheVariants as fields
 use Rattle.vt_objects.specs.Attributes.{attribute_at, attributes_of, numbered}
 use Rattle.vt_objects.specs.Attributes as table
 use Rattle.vt_machine.specs.Fields.{word, with_field}
-use Rattle.vt_machine.specs.Changes.{left, bit, if_passed, is_one_of, may_stand, takes, other_id, child_at, move_child, shifted, placed, stands_in, leaves, change_location, change_position, put_children, in_parent, hide_show, enable_disable, change_size, change_colour, change_value, change_end_point, change_font, change_line_attributes, change_fill_attributes, change_active_mask, change_soft_key_mask, put_attribute, change_attribute, change_priority, change_item, change_text, execute_macro, changed}
+use Rattle.vt_machine.specs.Changes.{left, bit, if_passed, is_one_of, may_stand, takes, other_id, child_at, move_child, shifted, placed, stands_in, leaves, change_location, change_position, put_children, in_parent, hide_show, enable_disable, change_size, change_colour, change_value, change_end_point, change_font, change_line_attributes, change_fill_attributes, change_active_mask, change_soft_key_mask, put_attribute, change_attribute, change_priority, change_item, change_text, execute_macro, changed, writes, is_attribute}
 
 -- each reference of what is made of an object
 record Are (P : Slot → Type 0) (o : Seen) (made : Result Seen ℕ) : Type 0 where
@@ -35,8 +36,8 @@ put_both P true test error other o new old of = put_if P test error o new old of
 put_both P false test error other o new old of = record { are = old }
 
 -- what may be written: the other ID of the command, where it may stand
-abbrev Fresh : (Slot → Type 0) → Kind → Option Kind → ℕ → Type 0
-Fresh P kind named id = (place : Place) (other : ℕ) → other ≡ id → may_stand kind place other named ≡ true → P (slot kind place other)
+abbrev Fresh : (Slot → Type 0) → Kind → Option Kind → ℕ → (Place → Kind → Bool) → Type 0
+Fresh P kind named id may = (place : Place) (other : ℕ) → other ≡ id → may place kind ≡ true → may_stand kind place other named ≡ true → P (slot kind place other)
 
 hide_show_are : (P : Slot → Type 0) (state : ℕ) (o : Seen) → AllByRecursion P (slots_of o) → Are P o (hide_show state o)
 hide_show_are P state (objects.Container o) old = put_if P _ _ _ _ old (λ _. old)
@@ -169,9 +170,9 @@ position_stays (Some kind) entry cs new is = by (stands_in entry.id cs) is
 -- ---- references that are written
 
 change_fill_attributes_are : (P : Slot → Type 0) (named : Option Kind) (type colour pattern : ℕ) (o : Seen) → AllByRecursion P (slots_of o)
-    → Fresh P (kind_of o) named pattern → Are P o (change_fill_attributes named type colour pattern o)
-change_fill_attributes_are P named type colour pattern (objects.FillAttributes o) old fresh = put_if P _ _ _ _ old (λ passed. (fresh places.Pattern pattern refl passed, tt))
-change_fill_attributes_are P named type colour pattern _ old fresh = record { are = old }
+    → (w : Place → Kind → Bool) → ((k : Kind) → w places.Pattern k ≡ true) → Fresh P (kind_of o) named pattern w → Are P o (change_fill_attributes named type colour pattern o)
+change_fill_attributes_are P named type colour pattern (objects.FillAttributes o) old w ok fresh = put_if P _ _ _ _ old (λ passed. (fresh places.Pattern pattern refl (ok kinds.FillAttributes) passed, tt))
+change_fill_attributes_are P named type colour pattern _ old w ok fresh = record { are = old }
 
 mask_may : (mask : ℕ) (named : Option Kind) → is_one_of sets.Masks named ≡ true → may_stand kinds.WorkingSet places.ActiveMask mask named ≡ true
 mask_may mask named is = by (mask == 0xFFFF)
@@ -180,29 +181,29 @@ mask_may mask named is = by (mask == 0xFFFF)
     by true = refl
     by false = is
 
-change_active_mask_are : (P : Slot → Type 0) (named : Option Kind) (mask : ℕ) (o : Seen) → AllByRecursion P (slots_of o) → Fresh P (kind_of o) named mask
+change_active_mask_are : (P : Slot → Type 0) (named : Option Kind) (mask : ℕ) (o : Seen) → AllByRecursion P (slots_of o) → (w : Place → Kind → Bool) → ((k : Kind) → w places.ActiveMask k ≡ true) → Fresh P (kind_of o) named mask w
     → Are P o (change_active_mask named mask o)
-change_active_mask_are P named mask (objects.WorkingSet o) old fresh = put_if P _ _ _ _ old (λ passed. (fresh places.ActiveMask mask refl (mask_may mask named passed), old.1))
-change_active_mask_are P named mask _ old fresh = record { are = old }
+change_active_mask_are P named mask (objects.WorkingSet o) old w ok fresh = put_if P _ _ _ _ old (λ passed. (fresh places.ActiveMask mask refl (ok kinds.WorkingSet) (mask_may mask named passed), old.1))
+change_active_mask_are P named mask _ old w ok fresh = record { are = old }
 
-change_soft_key_mask_are : (P : Slot → Type 0) (named : Option Kind) (type keys : ℕ) (o : Seen) → AllByRecursion P (slots_of o) → Fresh P (kind_of o) named keys
+change_soft_key_mask_are : (P : Slot → Type 0) (named : Option Kind) (type keys : ℕ) (o : Seen) → AllByRecursion P (slots_of o) → (w : Place → Kind → Bool) → ((k : Kind) → w places.SoftKeyMask k ≡ true) → Fresh P (kind_of o) named keys w
     → Are P o (change_soft_key_mask named type keys o)
-change_soft_key_mask_are P named type keys (objects.DataMask o) old fresh = put_both P _ _ _ _ _ _ old (λ passed. (fresh places.SoftKeyMask keys refl passed, old.1))
-change_soft_key_mask_are P named type keys (objects.AlarmMask o) old fresh = put_both P _ _ _ _ _ _ old (λ passed. (fresh places.SoftKeyMask keys refl passed, old.1))
-change_soft_key_mask_are P named type keys _ old fresh = record { are = old }
+change_soft_key_mask_are P named type keys (objects.DataMask o) old w ok fresh = put_both P _ _ _ _ _ _ old (λ passed. (fresh places.SoftKeyMask keys refl (ok kinds.DataMask) passed, old.1))
+change_soft_key_mask_are P named type keys (objects.AlarmMask o) old w ok fresh = put_both P _ _ _ _ _ _ old (λ passed. (fresh places.SoftKeyMask keys refl (ok kinds.AlarmMask) passed, old.1))
+change_soft_key_mask_are P named type keys _ old w ok fresh = record { are = old }
 
-change_value_are : (P : Slot → Type 0) (named : Option Kind) (n : ℕ) (o : Seen) → AllByRecursion P (slots_of o) → Fresh P (kind_of o) named (word n)
+change_value_are : (P : Slot → Type 0) (named : Option Kind) (n : ℕ) (o : Seen) → AllByRecursion P (slots_of o) → (w : Place → Kind → Bool) → w places.Value kinds.ObjectPointer ≡ true → Fresh P (kind_of o) named (word n) w
     → Are P o (change_value named n o)
-change_value_are P named n (objects.InputBoolean o) old fresh = put_if P _ _ _ _ old (λ _. old)
-change_value_are P named n (objects.InputNumber o) old fresh = put_if P _ _ _ _ old (λ _. old)
-change_value_are P named n (objects.InputList o) old fresh = put_if P _ _ _ _ old (λ _. old)
-change_value_are P named n (objects.OutputNumber o) old fresh = record { are = old }
-change_value_are P named n (objects.Meter o) old fresh = record { are = old }
-change_value_are P named n (objects.LinearBar o) old fresh = record { are = old }
-change_value_are P named n (objects.ArchedBar o) old fresh = record { are = old }
-change_value_are P named n (objects.NumberVariable o) old fresh = record { are = old }
-change_value_are P named n (objects.ObjectPointer o) old fresh = put_if P _ _ _ _ old (λ passed. (fresh places.Value (word n) refl passed, tt))
-change_value_are P named n _ old fresh = record { are = old }
+change_value_are P named n (objects.InputBoolean o) old w ok fresh = put_if P _ _ _ _ old (λ _. old)
+change_value_are P named n (objects.InputNumber o) old w ok fresh = put_if P _ _ _ _ old (λ _. old)
+change_value_are P named n (objects.InputList o) old w ok fresh = put_if P _ _ _ _ old (λ _. old)
+change_value_are P named n (objects.OutputNumber o) old w ok fresh = record { are = old }
+change_value_are P named n (objects.Meter o) old w ok fresh = record { are = old }
+change_value_are P named n (objects.LinearBar o) old w ok fresh = record { are = old }
+change_value_are P named n (objects.ArchedBar o) old w ok fresh = record { are = old }
+change_value_are P named n (objects.NumberVariable o) old w ok fresh = record { are = old }
+change_value_are P named n (objects.ObjectPointer o) old w ok fresh = put_if P _ _ _ _ old (λ passed. (fresh places.Value (word n) refl ok passed, tt))
+change_value_are P named n _ old w ok fresh = record { are = old }
 
 listed_set : (P : Slot → Type 0) (kind : Kind) (start index item : ℕ) (items : List ℕ) → AllByRecursion P (listed kind places.Item start items)
     → P (slot kind (places.Item (start + index)) item) → AllByRecursion P (listed kind places.Item start (set items index item))
@@ -220,11 +221,11 @@ listed_set P kind start (suc index) item (x ∷ items) old new =
 from_none : (n : ℕ) → n ≡ 0 + n
 from_none n = omega arith
 
-change_item_are : (P : Slot → Type 0) (named : Option Kind) (index item : ℕ) (o : Seen) → AllByRecursion P (slots_of o) → Fresh P (kind_of o) named item
+change_item_are : (P : Slot → Type 0) (named : Option Kind) (index item : ℕ) (o : Seen) → AllByRecursion P (slots_of o) → (w : Place → Kind → Bool) → ((k : Kind) → w (places.Item index) k ≡ true) → Fresh P (kind_of o) named item w
     → Are P o (change_item named index item o)
-change_item_are P named index item (objects.InputList o) old fresh =
-    put_both P _ _ _ _ _ _ old (λ passed. (old.0, listed_set P kinds.InputList 0 index item o.items old.1 (subst (λ (i : ℕ). P (slot kinds.InputList (places.Item i) item)) (from_none index) (fresh (places.Item index) item refl passed))))
-change_item_are P named index item _ old fresh = record { are = old }
+change_item_are P named index item (objects.InputList o) old w ok fresh =
+    put_both P _ _ _ _ _ _ old (λ passed. (old.0, listed_set P kinds.InputList 0 index item o.items old.1 (subst (λ (i : ℕ). P (slot kinds.InputList (places.Item i) item)) (from_none index) (fresh (places.Item index) item refl (ok kinds.InputList) passed))))
+change_item_are P named index item _ old w ok fresh = record { are = old }
 
 -- ---- attributes
 
@@ -243,37 +244,37 @@ each_numbered Q (a ∷ attributes) (suc (suc number)) attribute all is = each_nu
 abbrev IsPut : (Slot → Type 0) → Option Kind → ℕ → Seen → Attribute → Type 0
 IsPut P named n o attribute = takes (kind_of o) attribute.value_type n named ≡ true → AllByRecursion P (slots_of (with_field attribute.field n o))
 
-attributes_are : (P : Slot → Type 0) (named : Option Kind) (n : ℕ) (o : Seen) → AllByRecursion P (slots_of o) → Fresh P (kind_of o) named (word n)
+attributes_are : (P : Slot → Type 0) (named : Option Kind) (n : ℕ) (o : Seen) → AllByRecursion P (slots_of o) → (w : Place → Kind → Bool) → ((p : Place) (k : Kind) → is_attribute p k ≡ true → w p k ≡ true) → Fresh P (kind_of o) named (word n) w
     → AllByRecursion (IsPut P named n o) (attributes_of (kind_of o))
-attributes_are P named n (objects.WorkingSet o) old fresh = ((λ passed. old), ((λ passed. old), tt))
-attributes_are P named n (objects.DataMask o) old fresh = ((λ passed. old), ((λ passed. (fresh places.SoftKeyMask (word n) refl passed, old.1)), tt))
-attributes_are P named n (objects.AlarmMask o) old fresh = ((λ passed. old), ((λ passed. (fresh places.SoftKeyMask (word n) refl passed, old.1)), ((λ passed. old), ((λ passed. old), tt))))
-attributes_are P named n (objects.Container o) old fresh = ((λ passed. old), ((λ passed. old), tt))
-attributes_are P named n (objects.SoftKeyMask o) old fresh = ((λ passed. old), tt)
-attributes_are P named n (objects.Key o) old fresh = ((λ passed. old), ((λ passed. old), tt))
-attributes_are P named n (objects.Button o) old fresh = ((λ passed. old), ((λ passed. old), ((λ passed. old), ((λ passed. old), ((λ passed. old), ((λ passed. old), tt))))))
-attributes_are P named n (objects.InputBoolean o) old fresh = ((λ passed. old), ((λ passed. old), ((λ passed. (fresh places.Font (word n) refl passed, old.1)), ((λ passed. (old.0, (fresh places.Variable (word n) refl passed, old.1.1))), tt))))
-attributes_are P named n (objects.InputString o) old fresh = ((λ passed. old), ((λ passed. old), ((λ passed. old), ((λ passed. (fresh places.Font (word n) refl passed, old.1)), ((λ passed. (old.0, (fresh places.InputAttributes (word n) refl passed, old.1.1))), ((λ passed. old), ((λ passed. (old.0, (old.1.0, (fresh places.Variable (word n) refl passed, old.1.1.1)))), ((λ passed. old), tt))))))))
-attributes_are P named n (objects.InputNumber o) old fresh = ((λ passed. old), ((λ passed. old), ((λ passed. old), ((λ passed. (fresh places.Font (word n) refl passed, old.1)), ((λ passed. old), ((λ passed. (old.0, (fresh places.Variable (word n) refl passed, old.1.1))), ((λ passed. old), ((λ passed. old), ((λ passed. old), ((λ passed. old), ((λ passed. old), ((λ passed. old), ((λ passed. old), tt)))))))))))))
-attributes_are P named n (objects.InputList o) old fresh = ((λ passed. old), ((λ passed. old), ((λ passed. (fresh places.Variable (word n) refl passed, old.1)), tt)))
-attributes_are P named n (objects.OutputString o) old fresh = ((λ passed. old), ((λ passed. old), ((λ passed. old), ((λ passed. (fresh places.Font (word n) refl passed, old.1)), ((λ passed. old), ((λ passed. (old.0, (fresh places.Variable (word n) refl passed, old.1.1))), ((λ passed. old), tt)))))))
-attributes_are P named n (objects.OutputNumber o) old fresh = ((λ passed. old), ((λ passed. old), ((λ passed. old), ((λ passed. (fresh places.Font (word n) refl passed, old.1)), ((λ passed. old), ((λ passed. (old.0, (fresh places.Variable (word n) refl passed, old.1.1))), ((λ passed. old), ((λ passed. old), ((λ passed. old), ((λ passed. old), ((λ passed. old), tt)))))))))))
-attributes_are P named n (objects.Line o) old fresh = ((λ passed. (fresh places.LineAttributes (word n) refl passed, old.1)), ((λ passed. old), ((λ passed. old), ((λ passed. old), tt))))
-attributes_are P named n (objects.Rectangle o) old fresh = ((λ passed. (fresh places.LineAttributes (word n) refl passed, old.1)), ((λ passed. old), ((λ passed. old), ((λ passed. old), ((λ passed. (old.0, (fresh places.Fill (word n) refl passed, old.1.1))), tt)))))
-attributes_are P named n (objects.Ellipse o) old fresh = ((λ passed. (fresh places.LineAttributes (word n) refl passed, old.1)), ((λ passed. old), ((λ passed. old), ((λ passed. old), ((λ passed. old), ((λ passed. old), ((λ passed. (old.0, (fresh places.Fill (word n) refl passed, old.1.1))), tt)))))))
-attributes_are P named n (objects.Polygon o) old fresh = ((λ passed. old), ((λ passed. old), ((λ passed. (fresh places.LineAttributes (word n) refl passed, old.1)), ((λ passed. (old.0, (fresh places.Fill (word n) refl passed, old.1.1))), ((λ passed. old), tt)))))
-attributes_are P named n (objects.Meter o) old fresh = ((λ passed. old), ((λ passed. old), ((λ passed. old), ((λ passed. old), ((λ passed. old), ((λ passed. old), ((λ passed. old), ((λ passed. old), ((λ passed. old), ((λ passed. old), ((λ passed. (fresh places.Variable (word n) refl passed, old.1)), tt)))))))))))
-attributes_are P named n (objects.LinearBar o) old fresh = ((λ passed. old), ((λ passed. old), ((λ passed. old), ((λ passed. old), ((λ passed. old), ((λ passed. old), ((λ passed. old), ((λ passed. old), ((λ passed. (fresh places.Variable (word n) refl passed, old.1)), ((λ passed. (old.0, (fresh places.TargetVariable (word n) refl passed, old.1.1))), ((λ passed. old), tt)))))))))))
-attributes_are P named n (objects.ArchedBar o) old fresh = ((λ passed. old), ((λ passed. old), ((λ passed. old), ((λ passed. old), ((λ passed. old), ((λ passed. old), ((λ passed. old), ((λ passed. old), ((λ passed. old), ((λ passed. old), ((λ passed. (fresh places.Variable (word n) refl passed, old.1)), ((λ passed. (old.0, (fresh places.TargetVariable (word n) refl passed, old.1.1))), ((λ passed. old), tt)))))))))))))
-attributes_are P named n (objects.Picture o) old fresh = ((λ passed. old), ((λ passed. old), ((λ passed. old), tt)))
-attributes_are P named n (objects.NumberVariable o) old fresh = tt
-attributes_are P named n (objects.StringVariable o) old fresh = tt
-attributes_are P named n (objects.Font o) old fresh = ((λ passed. old), ((λ passed. old), ((λ passed. old), ((λ passed. old), tt))))
-attributes_are P named n (objects.LineAttributes o) old fresh = ((λ passed. old), ((λ passed. old), ((λ passed. old), tt)))
-attributes_are P named n (objects.FillAttributes o) old fresh = ((λ passed. old), ((λ passed. old), ((λ passed. (fresh places.Pattern (word n) refl passed, old.1)), tt)))
-attributes_are P named n (objects.InputAttributes o) old fresh = ((λ passed. old), tt)
-attributes_are P named n (objects.ObjectPointer o) old fresh = ((λ passed. (fresh places.Value (word n) refl passed, old.1)), tt)
-attributes_are P named n (objects.Macro o) old fresh = tt
+attributes_are P named n (objects.WorkingSet o) old w ok fresh = ((λ passed. old), ((λ passed. old), tt))
+attributes_are P named n (objects.DataMask o) old w ok fresh = ((λ passed. old), ((λ passed. (fresh places.SoftKeyMask (word n) refl (ok places.SoftKeyMask kinds.DataMask refl) passed, old.1)), tt))
+attributes_are P named n (objects.AlarmMask o) old w ok fresh = ((λ passed. old), ((λ passed. (fresh places.SoftKeyMask (word n) refl (ok places.SoftKeyMask kinds.AlarmMask refl) passed, old.1)), ((λ passed. old), ((λ passed. old), tt))))
+attributes_are P named n (objects.Container o) old w ok fresh = ((λ passed. old), ((λ passed. old), tt))
+attributes_are P named n (objects.SoftKeyMask o) old w ok fresh = ((λ passed. old), tt)
+attributes_are P named n (objects.Key o) old w ok fresh = ((λ passed. old), ((λ passed. old), tt))
+attributes_are P named n (objects.Button o) old w ok fresh = ((λ passed. old), ((λ passed. old), ((λ passed. old), ((λ passed. old), ((λ passed. old), ((λ passed. old), tt))))))
+attributes_are P named n (objects.InputBoolean o) old w ok fresh = ((λ passed. old), ((λ passed. old), ((λ passed. (fresh places.Font (word n) refl (ok places.Font kinds.InputBoolean refl) passed, old.1)), ((λ passed. (old.0, (fresh places.Variable (word n) refl (ok places.Variable kinds.InputBoolean refl) passed, old.1.1))), tt))))
+attributes_are P named n (objects.InputString o) old w ok fresh = ((λ passed. old), ((λ passed. old), ((λ passed. old), ((λ passed. (fresh places.Font (word n) refl (ok places.Font kinds.InputString refl) passed, old.1)), ((λ passed. (old.0, (fresh places.InputAttributes (word n) refl (ok places.InputAttributes kinds.InputString refl) passed, old.1.1))), ((λ passed. old), ((λ passed. (old.0, (old.1.0, (fresh places.Variable (word n) refl (ok places.Variable kinds.InputString refl) passed, old.1.1.1)))), ((λ passed. old), tt))))))))
+attributes_are P named n (objects.InputNumber o) old w ok fresh = ((λ passed. old), ((λ passed. old), ((λ passed. old), ((λ passed. (fresh places.Font (word n) refl (ok places.Font kinds.InputNumber refl) passed, old.1)), ((λ passed. old), ((λ passed. (old.0, (fresh places.Variable (word n) refl (ok places.Variable kinds.InputNumber refl) passed, old.1.1))), ((λ passed. old), ((λ passed. old), ((λ passed. old), ((λ passed. old), ((λ passed. old), ((λ passed. old), ((λ passed. old), tt)))))))))))))
+attributes_are P named n (objects.InputList o) old w ok fresh = ((λ passed. old), ((λ passed. old), ((λ passed. (fresh places.Variable (word n) refl (ok places.Variable kinds.InputList refl) passed, old.1)), tt)))
+attributes_are P named n (objects.OutputString o) old w ok fresh = ((λ passed. old), ((λ passed. old), ((λ passed. old), ((λ passed. (fresh places.Font (word n) refl (ok places.Font kinds.OutputString refl) passed, old.1)), ((λ passed. old), ((λ passed. (old.0, (fresh places.Variable (word n) refl (ok places.Variable kinds.OutputString refl) passed, old.1.1))), ((λ passed. old), tt)))))))
+attributes_are P named n (objects.OutputNumber o) old w ok fresh = ((λ passed. old), ((λ passed. old), ((λ passed. old), ((λ passed. (fresh places.Font (word n) refl (ok places.Font kinds.OutputNumber refl) passed, old.1)), ((λ passed. old), ((λ passed. (old.0, (fresh places.Variable (word n) refl (ok places.Variable kinds.OutputNumber refl) passed, old.1.1))), ((λ passed. old), ((λ passed. old), ((λ passed. old), ((λ passed. old), ((λ passed. old), tt)))))))))))
+attributes_are P named n (objects.Line o) old w ok fresh = ((λ passed. (fresh places.LineAttributes (word n) refl (ok places.LineAttributes kinds.Line refl) passed, old.1)), ((λ passed. old), ((λ passed. old), ((λ passed. old), tt))))
+attributes_are P named n (objects.Rectangle o) old w ok fresh = ((λ passed. (fresh places.LineAttributes (word n) refl (ok places.LineAttributes kinds.Rectangle refl) passed, old.1)), ((λ passed. old), ((λ passed. old), ((λ passed. old), ((λ passed. (old.0, (fresh places.Fill (word n) refl (ok places.Fill kinds.Rectangle refl) passed, old.1.1))), tt)))))
+attributes_are P named n (objects.Ellipse o) old w ok fresh = ((λ passed. (fresh places.LineAttributes (word n) refl (ok places.LineAttributes kinds.Ellipse refl) passed, old.1)), ((λ passed. old), ((λ passed. old), ((λ passed. old), ((λ passed. old), ((λ passed. old), ((λ passed. (old.0, (fresh places.Fill (word n) refl (ok places.Fill kinds.Ellipse refl) passed, old.1.1))), tt)))))))
+attributes_are P named n (objects.Polygon o) old w ok fresh = ((λ passed. old), ((λ passed. old), ((λ passed. (fresh places.LineAttributes (word n) refl (ok places.LineAttributes kinds.Polygon refl) passed, old.1)), ((λ passed. (old.0, (fresh places.Fill (word n) refl (ok places.Fill kinds.Polygon refl) passed, old.1.1))), ((λ passed. old), tt)))))
+attributes_are P named n (objects.Meter o) old w ok fresh = ((λ passed. old), ((λ passed. old), ((λ passed. old), ((λ passed. old), ((λ passed. old), ((λ passed. old), ((λ passed. old), ((λ passed. old), ((λ passed. old), ((λ passed. old), ((λ passed. (fresh places.Variable (word n) refl (ok places.Variable kinds.Meter refl) passed, old.1)), tt)))))))))))
+attributes_are P named n (objects.LinearBar o) old w ok fresh = ((λ passed. old), ((λ passed. old), ((λ passed. old), ((λ passed. old), ((λ passed. old), ((λ passed. old), ((λ passed. old), ((λ passed. old), ((λ passed. (fresh places.Variable (word n) refl (ok places.Variable kinds.LinearBar refl) passed, old.1)), ((λ passed. (old.0, (fresh places.TargetVariable (word n) refl (ok places.TargetVariable kinds.LinearBar refl) passed, old.1.1))), ((λ passed. old), tt)))))))))))
+attributes_are P named n (objects.ArchedBar o) old w ok fresh = ((λ passed. old), ((λ passed. old), ((λ passed. old), ((λ passed. old), ((λ passed. old), ((λ passed. old), ((λ passed. old), ((λ passed. old), ((λ passed. old), ((λ passed. old), ((λ passed. (fresh places.Variable (word n) refl (ok places.Variable kinds.ArchedBar refl) passed, old.1)), ((λ passed. (old.0, (fresh places.TargetVariable (word n) refl (ok places.TargetVariable kinds.ArchedBar refl) passed, old.1.1))), ((λ passed. old), tt)))))))))))))
+attributes_are P named n (objects.Picture o) old w ok fresh = ((λ passed. old), ((λ passed. old), ((λ passed. old), tt)))
+attributes_are P named n (objects.NumberVariable o) old w ok fresh = tt
+attributes_are P named n (objects.StringVariable o) old w ok fresh = tt
+attributes_are P named n (objects.Font o) old w ok fresh = ((λ passed. old), ((λ passed. old), ((λ passed. old), ((λ passed. old), tt))))
+attributes_are P named n (objects.LineAttributes o) old w ok fresh = ((λ passed. old), ((λ passed. old), ((λ passed. old), tt)))
+attributes_are P named n (objects.FillAttributes o) old w ok fresh = ((λ passed. old), ((λ passed. old), ((λ passed. (fresh places.Pattern (word n) refl (ok places.Pattern kinds.FillAttributes refl) passed, old.1)), tt)))
+attributes_are P named n (objects.InputAttributes o) old w ok fresh = ((λ passed. old), tt)
+attributes_are P named n (objects.ObjectPointer o) old w ok fresh = ((λ passed. (fresh places.Value (word n) refl (ok places.Value kinds.ObjectPointer refl) passed, old.1)), tt)
+attributes_are P named n (objects.Macro o) old w ok fresh = tt
 
 some_is : (a b : Attribute) → Some a ≡ Some b → a ≡ b
 some_is a b e = cc
@@ -318,28 +319,30 @@ numbered_are P named n number (objects.ObjectPointer o) attribute old all is = e
 numbered_are P named n number (objects.Macro o) attribute old all is = each_numbered (IsPut P named n (objects.Macro o)) (attributes_of kinds.Macro) number attribute all is
 
 put_attribute_are : (P : Slot → Type 0) (named : Option Kind) (number n : ℕ) (o : Seen) (found : Option Attribute) → attribute_at (kind_of o) number ≡ found
-    → AllByRecursion P (slots_of o) → Fresh P (kind_of o) named (word n) → Are P o (put_attribute found named n o)
-put_attribute_are P named number n o None is old fresh = record { are = old }
-put_attribute_are P named number n o (Some attribute) is old fresh =
-    put_if P _ _ _ _ old (numbered_are P named n number o attribute old (attributes_are P named n o old fresh) is)
+    → AllByRecursion P (slots_of o) → (w : Place → Kind → Bool) → ((p : Place) (k : Kind) → is_attribute p k ≡ true → w p k ≡ true) → Fresh P (kind_of o) named (word n) w → Are P o (put_attribute found named n o)
+put_attribute_are P named number n o None is old w ok fresh = record { are = old }
+put_attribute_are P named number n o (Some attribute) is old w ok fresh =
+    put_if P _ _ _ _ old (numbered_are P named n number o attribute old (attributes_are P named n o old w ok fresh) is)
 
-change_attribute_are : (P : Slot → Type 0) (named : Option Kind) (number n : ℕ) (o : Seen) → AllByRecursion P (slots_of o) → Fresh P (kind_of o) named (word n)
+change_attribute_are : (P : Slot → Type 0) (named : Option Kind) (number n : ℕ) (o : Seen) → AllByRecursion P (slots_of o) → (w : Place → Kind → Bool) → ((p : Place) (k : Kind) → is_attribute p k ≡ true → w p k ≡ true) → Fresh P (kind_of o) named (word n) w
     → Are P o (change_attribute named number n o)
-change_attribute_are P named number n o old fresh = by (is_member sets.WithAttributes (kind_of o))
+change_attribute_are P named number n o old w ok fresh = by (is_member sets.WithAttributes (kind_of o))
   where
     by : (b : Bool) → Are P o (cond {A = Result Seen ℕ} b (put_attribute (attribute_at (kind_of o) number) named n o) (Err (bit 0)))
-    by true = put_attribute_are P named number n o (attribute_at (kind_of o) number) refl old fresh
+    by true = put_attribute_are P named number n o (attribute_at (kind_of o) number) refl old w ok fresh
     by false = record { are = old }
 
 -- ---- all commands
 
 -- what may be written by a command
 abbrev pub MayWrite : (Slot → Type 0) → Command → Option Kind → Kind → Type 0
-MayWrite P command named kind = (place : Place) (id : ℕ) → other_id command ≡ Some id → may_stand kind place id named ≡ true → P (slot kind place id)
+MayWrite P command named kind =
+    (place : Place) (id : ℕ) → other_id command ≡ Some id → writes command place kind ≡ true → may_stand kind place id named ≡ true → P (slot kind place id)
 
-fresh_of : (P : Slot → Type 0) (kind : Kind) (named : Option Kind) (id : ℕ) → ((place : Place) (other : ℕ) → Some id ≡ Some other → may_stand kind place other named ≡ true → P (slot kind place other))
-    → Fresh P kind named id
-fresh_of P kind named id may place other same stands = may place other (ap Some (sym same)) stands
+fresh_of : (P : Slot → Type 0) (kind : Kind) (named : Option Kind) (id : ℕ) (w : Place → Kind → Bool)
+    → ((place : Place) (other : ℕ) → Some id ≡ Some other → w place kind ≡ true → may_stand kind place other named ≡ true → P (slot kind place other))
+    → Fresh P kind named id w
+fresh_of P kind named id w may place other same written stands = may place other (ap Some (sym same)) written stands
 
 commands_are : (P : Slot → Type 0) (command : Command) (named : Option Kind) (o : Seen) → AllByRecursion P (slots_of o) → MayWrite P command named (kind_of o)
     → Are P o (changed command named o)
@@ -348,16 +351,16 @@ commands_are P (EnableDisable id state) named o old may = enable_disable_are P s
 commands_are P (ChangeChildLocation parent child dx dy) named o old may = in_parent_are P _ o (location_stays named child dx dy) old
 commands_are P (ChangeSize id width height) named o old may = change_size_are P width height o old
 commands_are P (ChangeBackgroundColour id colour) named o old may = change_colour_are P colour o old
-commands_are P (ChangeNumericValue id value) named o old may = change_value_are P named value o old (fresh_of P (kind_of o) named (word value) may)
+commands_are P (ChangeNumericValue id value) named o old may = change_value_are P named value o old (writes (ChangeNumericValue id value)) refl (fresh_of P (kind_of o) named (word value) (writes (ChangeNumericValue id value)) may)
 commands_are P (ChangeEndPoint id width height direction) named o old may = change_end_point_are P width height direction o old
 commands_are P (ChangeFontAttributes id colour size type style) named o old may = change_font_are P colour size type style o old
 commands_are P (ChangeLineAttributes id colour width art) named o old may = change_line_attributes_are P colour width art o old
-commands_are P (ChangeFillAttributes id type colour pattern) named o old may = change_fill_attributes_are P named type colour pattern o old (fresh_of P (kind_of o) named pattern may)
-commands_are P (ChangeActiveMask set mask) named o old may = change_active_mask_are P named mask o old (fresh_of P (kind_of o) named mask may)
-commands_are P (ChangeSoftKeyMask type mask keys) named o old may = change_soft_key_mask_are P named type keys o old (fresh_of P (kind_of o) named keys may)
-commands_are P (ChangeAttribute id number value) named o old may = change_attribute_are P named number value o old (fresh_of P (kind_of o) named (word value) may)
+commands_are P (ChangeFillAttributes id type colour pattern) named o old may = change_fill_attributes_are P named type colour pattern o old (writes (ChangeFillAttributes id type colour pattern)) (λ k. refl) (fresh_of P (kind_of o) named pattern (writes (ChangeFillAttributes id type colour pattern)) may)
+commands_are P (ChangeActiveMask set mask) named o old may = change_active_mask_are P named mask o old (writes (ChangeActiveMask set mask)) (λ k. refl) (fresh_of P (kind_of o) named mask (writes (ChangeActiveMask set mask)) may)
+commands_are P (ChangeSoftKeyMask type mask keys) named o old may = change_soft_key_mask_are P named type keys o old (writes (ChangeSoftKeyMask type mask keys)) (λ k. refl) (fresh_of P (kind_of o) named keys (writes (ChangeSoftKeyMask type mask keys)) may)
+commands_are P (ChangeAttribute id number value) named o old may = change_attribute_are P named number value o old (writes (ChangeAttribute id number value)) (λ p k is. is) (fresh_of P (kind_of o) named (word value) (writes (ChangeAttribute id number value)) may)
 commands_are P (ChangePriority id priority) named o old may = change_priority_are P priority o old
-commands_are P (ChangeListItem id index item) named o old may = change_item_are P named index item o old (fresh_of P (kind_of o) named item may)
+commands_are P (ChangeListItem id index item) named o old may = change_item_are P named index item o old (writes (ChangeListItem id index item)) (λ k. eq-eqb index index refl) (fresh_of P (kind_of o) named item (writes (ChangeListItem id index item)) may)
 commands_are P (ChangeStringValue id count text) named o old may = change_text_are P count text o old
 commands_are P (ChangeChildPosition parent child x y) named o old may = in_parent_are P _ o (position_stays named (record { id = child; x = x; y = y })) old
 commands_are P (ExecuteMacro id) named o old may = execute_macro_are P id o old

@@ -19,4 +19,4 @@ pub references_written : (command : Command) (named : Option Kind) (o : Seen)
     → AllByRecursion (λ s. Contains (slots_of o) s ⊎ IsWritten command named (kind_of o) s) (slots_of (left o (changed command named o)))
 references_written command named o =
     slots_after _ command named o (all_in _ (slots_of o) (λ s there. inl there))
-    (λ place id other stands. inr (record { place = place; id = id; other = other; stands = stands; is = refl }))
+    (λ place id other written stands. inr (record { place = place; id = id; is = refl; other = other; written = written; stands = stands }))

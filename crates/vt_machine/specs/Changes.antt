@@ -325,13 +325,34 @@ left old (Err error) = old
 abbrev pub ChangesKeep : Type 0
 ChangesKeep = (command : Command) (named : Option Kind) (o : Seen) → fixed (left o (changed command named o)) ≡ fixed o
 
--- what a command writes where an object of a kind names another one: the other ID that it names, in a place where that may stand
+-- the places of an object of a kind that are attributes; the value is one of pointers alone
+abbrev pub is_attribute : Place → Kind → Bool
+is_attribute places.ActiveMask kind = false
+is_attribute (places.Child index) kind = false
+is_attribute (places.Key index) kind = false
+is_attribute (places.Item index) kind = false
+is_attribute places.Value kinds.ObjectPointer = true
+is_attribute places.Value kind = false
+is_attribute place kind = true
+
+-- the places of an object of a kind where a command may write the other ID that it names
+abbrev pub writes : Command → Place → Kind → Bool
+writes (ChangeNumericValue id value) places.Value kinds.ObjectPointer = true
+writes (ChangeFillAttributes id type colour pattern) places.Pattern kind = true
+writes (ChangeActiveMask set mask) places.ActiveMask kind = true
+writes (ChangeSoftKeyMask type mask keys) places.SoftKeyMask kind = true
+writes (ChangeListItem id index item) (places.Item place) kind = index == place
+writes (ChangeAttribute id number value) place kind = is_attribute place kind
+writes _ _ _ = false
+
+-- what a command writes where an object of a kind names another one: the other ID that it names, where that may stand
 pub record IsWritten (command : Command) (named : Option Kind) (kind : Kind) (s : Slot) : Type 0 where
   pub place : Place
   pub id : ℕ
-  pub other : other_id command ≡ Some id
-  pub stands : IsTrue (may_stand kind place id named)
   pub is : s ≡ slot kind place id
+  pub other : other_id command ≡ Some id
+  pub written : IsTrue (writes command place kind)
+  pub stands : IsTrue (may_stand kind place id named)
 
 -- Each reference of an object after a command is one that it had, or is written by the command.
 abbrev pub ReferencesMayStand : Type 0

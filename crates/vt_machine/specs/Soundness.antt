@@ -3,13 +3,15 @@ use Rattle.std.specs.Prelude.{◌≡◌, ℕ, Bool, true, ◌==◌, ◌&&◌, if
 use Rattle.std.specs.List.{AllByRecursion}
 use Rattle.std.specs.FinMap as finite
 use Rattle.vt_objects.specs.declared.slot.Slot.{Slot}
+use Rattle.vt_objects.specs.declared.command.Command.{Command}
 use Rattle.vt_objects.specs.Records.{Seen}
 use Rattle.vt_objects.specs.References.{slots_of}
 use Rattle.vt_objects.specs.Stores.{Contents}
 use Rattle.vt_verify.specs.Depths.{inclusions_of}
 use Rattle.vt_verify.specs.Inclusions.{IsShallow}
 use Rattle.vt_machine.specs.Changes.{is_one_of}
-use Rattle.vt_machine.specs.Effects.{kind_in, pointer_value, allows}
+use Rattle.vt_machine.specs.Effects.{kind_in, pointer_value, allows, after}
+use Rattle.vt_machine.specs.Machines.{shape_in}
 
 -- the value of a pointer fits where the pointer stands
 abbrev pub value_fits : Contents → Slot → Option ℕ → Bool
@@ -27,3 +29,11 @@ is_in_order store slot =
 pub record IsSound (store : Contents) : Type 0 where
   pub slots : (id : ℕ) (o : Seen) → finite.get store id ≡ Some o → AllByRecursion (λ slot. IsTrue (is_in_order store slot)) (slots_of o)
   pub shallow : IsShallow 32 (inclusions_of store)
+
+-- No command breaks that order.
+abbrev pub CommandsKeepOrder : Type 0
+CommandsKeepOrder = (store : Contents) (command : Command) → IsSound store → IsSound (after store command)
+
+-- Under each ID stays an object of the same kind, with the same macros for its events and the same bytes of a macro.
+abbrev pub CommandsKeepShapes : Type 0
+CommandsKeepShapes = (store : Contents) (command : Command) → shape_in (after store command) ≡ shape_in store

@@ -1,6 +1,7 @@
 //! What commands leave of every object.
 
 ghost use Rattle.vt_machine.specs.Changes.{ChangesKeep, ReferencesMayStand};
+ghost use Rattle.vt_machine.specs.Soundness.{CommandsKeepOrder, CommandsKeepShapes};
 
 /// The law that no command changes the kind of an object, the macros of its events, or the bytes of a macro.
 pub fn changes_keep()
@@ -11,4 +12,16 @@ pub fn changes_keep()
 /// place where that may stand.
 pub fn references_may_stand()
     ensures { ReferencesMayStand }
+{}
+
+/// The law that no command breaks the order of a store: where each reference is in order and no chain of inclusions is too
+/// long, both hold after every command. docs/PROFILE.md, "What every store keeps".
+pub fn commands_keep_order()
+    ensures { CommandsKeepOrder }
+{}
+
+/// The law that under each ID stays an object of the same kind, with the same macros for its events and the same bytes of a
+/// macro, whatever the command.
+pub fn commands_keep_shapes()
+    ensures { CommandsKeepShapes }
 {}

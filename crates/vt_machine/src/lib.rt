@@ -12,7 +12,7 @@ mod references;
 
 pub use changes::change;
 pub use effects::change_in;
-pub use laws::{changes_keep, references_may_stand};
+pub use laws::{changes_keep, commands_keep_order, commands_keep_shapes, references_may_stand};
 
 #[cfg(test)]
 mod tests;
