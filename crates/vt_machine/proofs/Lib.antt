@@ -14,3 +14,5 @@ pub mod SlotsInOrder
 pub mod ShortChains
 pub mod KeepingOrder
 pub mod Shapes
+pub mod Faultless
+pub mod Running

@@ -3,3 +3,4 @@ pub mod Changes
 pub mod Effects
 pub mod Machines
 pub mod Soundness
+pub mod Runs

@@ -1,6 +1,7 @@
 //! What commands leave of every object.
 
 ghost use Rattle.vt_machine.specs.Changes.{ChangesKeep, ReferencesMayStand};
+ghost use Rattle.vt_machine.specs.Runs.{RunsEnd};
 ghost use Rattle.vt_machine.specs.Soundness.{CommandsKeepOrder, CommandsKeepShapes};
 
 /// The law that no command changes the kind of an object, the macros of its events, or the bytes of a macro.
@@ -24,4 +25,11 @@ pub fn commands_keep_order()
 /// macro, whatever the command.
 pub fn commands_keep_shapes()
     ensures { CommandsKeepShapes }
+{}
+
+/// The law that runs end. Whatever events are raised on a store of an acceptable pool, each command of their macros finds the
+/// objects that it names, of kinds that they may have, and the run ends within the budgets of the events; the store keeps what
+/// every store keeps. docs/PROFILE.md, "Runs", "Steps".
+pub fn runs_end()
+    ensures { RunsEnd }
 {}

@@ -12,7 +12,9 @@ mod references;
 
 pub use changes::change;
 pub use effects::change_in;
-pub use laws::{changes_keep, commands_keep_order, commands_keep_shapes, references_may_stand};
+pub use laws::{
+    changes_keep, commands_keep_order, commands_keep_shapes, references_may_stand, runs_end,
+};
 
 #[cfg(test)]
 mod tests;

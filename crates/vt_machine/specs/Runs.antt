@@ -1,0 +1,24 @@
+-- Runs end (docs/PROFILE.md, "Steps", "Costs and budgets").
+use Rattle.std.specs.Prelude.{◌≡◌, ◌≤◌, ℕ, List}
+use Rattle.vt_objects.specs.declared.raising.Raised.{Raised}
+use Rattle.vt_objects.specs.Stores.{Contents, Objects}
+use Rattle.vt_verify.specs.Shapes.{shape_of}
+use Rattle.vt_verify.specs.Budgets.{CostsAreTotals}
+use Rattle.vt_verify.specs.Rules.{IsAcceptable, terminal}
+use Rattle.vt_machine.specs.Machines.{End, Ended, shape_in, total_budget, run_of}
+use Rattle.vt_machine.specs.Soundness.{IsSound}
+
+-- A run that began with so many steps ends, and does not stick; what the store keeps is kept.
+pub record Ends (store : Contents) (steps : ℕ) (end : End) : Type 0 where
+  pub new : Contents
+  pub left : ℕ
+  pub ended : end ≡ Ended new left
+  pub within : left ≤ steps
+  pub sound : IsSound new
+  pub shape : shape_in new ≡ shape_in store
+
+-- Whatever events are raised on a store of an acceptable pool, each command of their macros finds the objects that it names,
+-- of kinds that they may have, and the run ends within the budgets of the events.
+abbrev pub RunsEnd : Type 0
+RunsEnd = (pool : Objects) (store : Contents) (raised : List Raised) → IsAcceptable terminal pool → CostsAreTotals (shape_of pool)
+    → shape_in store ≡ shape_of pool → IsSound store → Ends store (total_budget (shape_in store) raised) (run_of store raised)
