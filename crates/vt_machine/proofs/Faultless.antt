@@ -1,5 +1,5 @@
 -- The commands of an acceptable pool's macros name what is there, of kinds that may stand there.
-use Rattle.std.proofs.Common.{◌≡◌, ◌++◌, ◌&&◌, ℕ, Bool, true, false, cond, eqb, List, [], ◌∷◌, map, Option, Some, None, refl, sym, ap, subst, ◌∙◌}
+use Rattle.std.proofs.Common.{◌≡◌, ◌++◌, ◌&&◌, ℕ, Bool, true, false, cond, List, [], ◌∷◌, Option, Some, None, refl, sym, subst, ◌∙◌}
 use Rattle.std.proofs.lemmas.Bool.{eqb-true}
 use Rattle.std.proofs.lemmas.List.Folds.{list_all-map}
 use Rattle.std.specs.Cmp.{unsigned_tied}
@@ -35,7 +35,7 @@ passes_both : {A : Type 0} (b : Bool) (x : A) (more all : Option A) → cond b a
 passes_both true x more all none of = of none
 passes_both false x more all none of = absurd cc
 
-front_passes : {A : Type 0} (test : A → Bool) (xs ys : List A) → first_failing test (xs ++ ys) ≡ None → first_failing test xs ≡ None
+pub front_passes : {A : Type 0} (test : A → Bool) (xs ys : List A) → first_failing test (xs ++ ys) ≡ None → first_failing test xs ≡ None
 front_passes test [] ys none = refl
 front_passes test (x ∷ xs) ys none = passes_both (test x) x (first_failing test xs) (first_failing test (xs ++ ys)) none (front_passes test xs ys)
 
@@ -43,11 +43,11 @@ rest_passes_by : {A : Type 0} (b : Bool) (x : A) (all more : Option A) → cond 
 rest_passes_by true x all more none of = of none
 rest_passes_by false x all more none of = absurd cc
 
-rest_passes : {A : Type 0} (test : A → Bool) (xs ys : List A) → first_failing test (xs ++ ys) ≡ None → first_failing test ys ≡ None
+pub rest_passes : {A : Type 0} (test : A → Bool) (xs ys : List A) → first_failing test (xs ++ ys) ≡ None → first_failing test ys ≡ None
 rest_passes test [] ys none = none
 rest_passes test (x ∷ xs) ys none = rest_passes_by (test x) x (first_failing test (xs ++ ys)) (first_failing test ys) none (rest_passes test xs ys)
 
-each_passes : {A B : Type 0} (test : B → Bool) (h : A → List B) (xs : List A) → first_failing test (flat_map h xs) ≡ None
+pub each_passes : {A B : Type 0} (test : B → Bool) (h : A → List B) (xs : List A) → first_failing test (flat_map h xs) ≡ None
     → AllByRecursion (λ x. first_failing test (h x) ≡ None) xs
 each_passes test h [] none = tt
 each_passes test h (x ∷ xs) none =
@@ -88,27 +88,28 @@ commands_pass : (shape : Shape) (id : ℕ) (cs : List Command)
     → AllByRecursion (λ c. first_failing (is_there shape) (target_references shape id c) ≡ None) cs
     → AllByRecursion (λ c. first_failing (fits shape) (target_references shape id c) ≡ None) cs → AllByRecursion (λ c. fault shape c ≡ None) cs
 commands_pass shape id [] there fit = tt
-commands_pass shape id (c ∷ cs) there fit =
-    (fault_none shape c
-        (list_all-map (is_there shape) (of_target 0) (targets (kind_for shape (object_of c)) c)
-            ∙ sym (list_all-map (is_there shape) (of_target id) (targets (kind_for shape (object_of c)) c)) ∙ all_pass (is_there shape) (target_references shape id c) there.0)
-        (list_all-map (fits shape) (of_target 0) (targets (kind_for shape (object_of c)) c)
-            ∙ sym (list_all-map (fits shape) (of_target id) (targets (kind_for shape (object_of c)) c)) ∙ all_pass (fits shape) (target_references shape id c) fit.0),
-    commands_pass shape id cs there.1 fit.1)
+commands_pass shape id (c ∷ cs) there fit = (
+  fault_none shape c
+      (list_all-map (is_there shape) (of_target 0) (targets (kind_for shape (object_of c)) c)
+      ∙ sym (list_all-map (is_there shape) (of_target id) (targets (kind_for shape (object_of c)) c)) ∙ all_pass (is_there shape) (target_references shape id c) there.0)
+      (list_all-map (fits shape) (of_target 0) (targets (kind_for shape (object_of c)) c)
+      ∙ sym (list_all-map (fits shape) (of_target id) (targets (kind_for shape (object_of c)) c)) ∙ all_pass (fits shape) (target_references shape id c) fit.0),
+  commands_pass shape id cs there.1 fit.1,
+)
 
 faultless_by : (shape : Shape) (id : ℕ) (found : Option Fixed) → fixed_at shape id ≡ found → first_failing (is_there shape) (macro_references shape) ≡ None
     → first_failing (fits shape) (macro_references shape) ≡ None → AllByRecursion (λ c. fault shape c ≡ None) (flat_map (commands_in id) (option_to_list found))
 faultless_by shape id None is there fit = tt
 faultless_by shape id (Some f) is there fit =
     all_append (λ c. fault shape c ≡ None) (commands_in id f) []
-        (commands_pass shape id (commands_in id f)
-            (each_passes (is_there shape) (target_references shape id) (commands_in id f)
-                (rest_passes (is_there shape) (entry_references id f.macros) (command_references shape id f)
-                    (found_entry (λ e. first_failing (is_there shape) (own_references shape e) ≡ None) shape id f is (each_passes (is_there shape) (own_references shape) shape there))))
-            (each_passes (fits shape) (target_references shape id) (commands_in id f)
-                (rest_passes (fits shape) (entry_references id f.macros) (command_references shape id f)
-                    (found_entry (λ e. first_failing (fits shape) (own_references shape e) ≡ None) shape id f is (each_passes (fits shape) (own_references shape) shape fit)))))
-        tt
+    (commands_pass shape id (commands_in id f)
+    (each_passes (is_there shape) (target_references shape id) (commands_in id f)
+    (rest_passes (is_there shape) (entry_references id f.macros) (command_references shape id f)
+    (found_entry (λ e. first_failing (is_there shape) (own_references shape e) ≡ None) shape id f is (each_passes (is_there shape) (own_references shape) shape there))))
+    (each_passes (fits shape) (target_references shape id) (commands_in id f)
+    (rest_passes (fits shape) (entry_references id f.macros) (command_references shape id f)
+    (found_entry (λ e. first_failing (fits shape) (own_references shape e) ≡ None) shape id f is (each_passes (fits shape) (own_references shape) shape fit)))))
+    tt
 
 -- each command of each macro
 pub faultless : (pool : Objects) (id : ℕ) → IsAcceptable terminal pool → AllByRecursion (λ c. fault (shape_of pool) c ≡ None) (commands (shape_of pool) id)

@@ -1,10 +1,9 @@
 -- The kinds and the values of pointers in a store of which one object was changed.
-use Rattle.std.proofs.Common.{◌≡◌, ℕ, Bool, true, false, cond, ◌==◌, ◌&&◌, ◌||◌, not, eqb, List, [], ◌∷◌, Option, Some, None, refl, sym, ap, subst, ◌∙◌}
+use Rattle.std.proofs.Common.{◌≡◌, ℕ, Bool, true, false, cond, ◌==◌, ◌&&◌, eqb, Option, Some, None, refl, sym, ap, subst, ◌∙◌}
 use Rattle.std.proofs.lemmas.Bool.{eqb-true}
 use Rattle.std.specs.Prelude.{IsTrue}
 use Rattle.std.specs.Cmp.{unsigned_tied, nat_cmp_total}
 use Rattle.std.specs.Option.{option_map}
-use Rattle.std.specs.List.{AllByRecursion, list_all}
 use Rattle.std.specs.FinMap as finite
 use Rattle.vt_objects.specs.declared.kind.Kind.{Kind}
 use Rattle.vt_objects.specs.declared.slot.Slot.{Slot}
@@ -70,20 +69,22 @@ in_order_stays m id old new s at kinds fits is = by (s.id == 0xFFFF) is
   where
     same : (w : ℕ) → allows (finite.insert m id new) s w ≡ allows m s w
     same w = allows_stays m id old new s w at kinds
+
     value : (b : Bool) → eqb s.id id ≡ b → IsTrue (value_fits m s (pointer_value (finite.get m s.id)))
         → IsTrue (value_fits (finite.insert m id new) s (pointer_value (finite.get (finite.insert m id new) s.id)))
     value true e before =
         subst (λ (o : Option Seen). IsTrue (value_fits (finite.insert m id new) s (pointer_value o))) (sym (get_there m id new s.id e))
-            (value_new m (finite.insert m id new) s (pointer_value (Some new)) same (fits e))
+        (value_new m (finite.insert m id new) s (pointer_value (Some new)) same (fits e))
     value false e before =
         subst (λ (o : Option Seen). IsTrue (value_fits (finite.insert m id new) s (pointer_value o))) (sym (get_other m id new s.id e))
-            (value_same m (finite.insert m id new) s (pointer_value (finite.get m s.id)) same before)
+        (value_same m (finite.insert m id new) s (pointer_value (finite.get m s.id)) same before)
+
     by : (b : Bool) → IsTrue (cond b s.null (is_one_of s.kinds (kind_in m s.id) && value_fits m s (pointer_value (finite.get m s.id))))
         → IsTrue (cond b s.null (is_one_of s.kinds (kind_in (finite.insert m id new) s.id)
-            && value_fits (finite.insert m id new) s (pointer_value (finite.get (finite.insert m id new) s.id))))
+        && value_fits (finite.insert m id new) s (pointer_value (finite.get (finite.insert m id new) s.id))))
     by true null = null
     by false there =
         both _ _
-            (subst (λ (k : Option Kind). IsTrue (is_one_of s.kinds k)) (sym (kinds_stay m id old new s.id at kinds))
-                (first_of (is_one_of s.kinds (kind_in m s.id)) (value_fits m s (pointer_value (finite.get m s.id))) there))
-            (value (eqb s.id id) refl (second_of (is_one_of s.kinds (kind_in m s.id)) (value_fits m s (pointer_value (finite.get m s.id))) there))
+        (subst (λ (k : Option Kind). IsTrue (is_one_of s.kinds k)) (sym (kinds_stay m id old new s.id at kinds))
+        (first_of (is_one_of s.kinds (kind_in m s.id)) (value_fits m s (pointer_value (finite.get m s.id))) there))
+        (value (eqb s.id id) refl (second_of (is_one_of s.kinds (kind_in m s.id)) (value_fits m s (pointer_value (finite.get m s.id))) there))

@@ -1,5 +1,5 @@
 -- No command breaks the order of references and chains.
-use Rattle.std.proofs.Common.{◌≡◌, ℕ, Bool, true, false, cond, nat_le, Option, Some, None, Result, Ok, Err, refl, sym, ap, subst, ◌∙◌}
+use Rattle.std.proofs.Common.{◌≡◌, ℕ, Bool, true, false, nat_le, Option, Some, None, Result, Ok, Err, refl, sym, ap, subst}
 use Rattle.std.specs.FinMap as finite
 use Rattle.vt_objects.specs.declared.command.Command.{Command}
 use Rattle.vt_objects.specs.declared.command.Command.TheVariants.{SetVolume}
@@ -63,7 +63,7 @@ by_effect Q m command before of = by_object Q m command before of (object_of com
 pub commands_keep_order : (m : Contents) (command : Command) → IsSound m → IsSound (after m command)
 commands_keep_order m command sound =
     by_effect IsSound m command sound
-        (λ id old new made. record {
-          slots = slots_in_order m id old new command made (IsSound.slots sound);
-          shallow = shallow_after m id old new command made (IsSound.shallow sound);
-        })
+    (λ id old new made. record {
+      slots = slots_in_order m id old new command made (IsSound.slots sound);
+      shallow = shallow_after m id old new command made (IsSound.shallow sound);
+    })

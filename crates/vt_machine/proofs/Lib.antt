@@ -16,3 +16,4 @@ pub mod KeepingOrder
 pub mod Shapes
 pub mod Faultless
 pub mod Running
+pub mod Ready

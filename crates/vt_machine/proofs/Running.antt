@@ -1,5 +1,5 @@
 -- Runs end: each step of the machine takes from the cost of the commands that are pending.
-use Rattle.std.proofs.Common.{◌≡◌, ◌≤◌, ◌<◌, ◌+◌, ◌++◌, ℕ, zero, suc, max, Bool, true, false, cond, ◌==◌, ◌&&◌, eqb, List, [], ◌∷◌, map, filter, Option, Some, None, is_ok, refl, sym, ap, subst, ◌∙◌, arith}
+use Rattle.std.proofs.Common.{◌≡◌, ◌≤◌, ◌+◌, ◌++◌, ℕ, zero, suc, max, Bool, true, false, cond, ◌==◌, ◌&&◌, List, [], ◌∷◌, map, filter, Option, Some, None, is_ok, refl, sym, ap, subst, ◌∙◌, arith}
 use Rattle.std.proofs.lemmas.Bool.{eqb-true}
 use Rattle.std.proofs.lemmas.List.Sums.{sum_by-cons, sum_by-append}
 use Rattle.std.specs.Prelude.{sum_by, IsTrue}
@@ -25,13 +25,13 @@ use Rattle.vt_rank.specs.Costs.{greatest}
 use Rattle.vt_verify.specs.declared.listing.Listing.{Listing}
 use Rattle.vt_verify.specs.Shapes.{Shape, fixed, shape_of}
 use Rattle.vt_verify.specs.Macros.{commands}
-use Rattle.vt_verify.specs.Triggers.{listing, listing_of, listed, row_listings, is_mask, masks, changes_mask}
-use Rattle.vt_verify.specs.Budgets.{total, hidden_cost, command_cost, macro_cost, cost, budget, CostsAreTotals}
+use Rattle.vt_verify.specs.Triggers.{listing, listing_of, listed, is_mask, masks}
+use Rattle.vt_verify.specs.Budgets.{total, command_cost, macro_cost, cost, budget, CostsAreTotals}
 use Rattle.vt_verify.specs.Rules.{IsAcceptable, terminal}
 use Rattle.vt_machine.specs.Changes.{is_one_of}
 use Rattle.vt_machine.specs.Effects.{kind_in, pointer_value, effect, after}
 use Rattle.vt_machine.specs.Soundness.{IsSound, value_fits}
-use Rattle.vt_machine.specs.Machines.{shape_in, mask_of, hide, mask_events, events_of, raised, joined, joined_all, fault, End, Ended, Sticks, or_sticks, follow_ups, run, total_budget, run_of}
+use Rattle.vt_machine.specs.Machines.{shape_in, mask_of, hide, events_of, raised, joined, joined_all, fault, End, Ended, or_sticks, follow_ups, run, total_budget, run_of}
 use Rattle.vt_machine.specs.Runs.{Ends}
 use Rattle.vt_machine.proofs.InOrder.{first_of}
 use Rattle.vt_machine.proofs.KeepingOrder.{commands_keep_order}
@@ -111,8 +111,8 @@ mask_among : (f : ℕ → ℕ) (es : Objects) (q : ℕ) (x : Seen) → object_at
 mask_among f [] q x found is = absurd cc
 mask_among f (e ∷ es) q x found is =
     subst (λ (ms : List ℕ). f q ≤ greatest f ms) (sym (masks_of e es))
-        (mask_or f q e.0 e.1 x (object_at es q) (masks (shape_of es)) (eq_by_cmp nat_cmp q e.0) (is_mask (kind_of e.1)) refl refl found is
-            (λ later. mask_among f es q x later is))
+    (mask_or f q e.0 e.1 x (object_at es q) (masks (shape_of es)) (eq_by_cmp nat_cmp q e.0) (is_mask (kind_of e.1)) refl refl found is
+    (λ later. mask_among f es q x later is))
 
 found_mask : (f : ℕ → ℕ) (m : Contents) (q : ℕ) (found : Option Seen) → finite.get m q ≡ found → is_one_of sets.Masks (option_map kind_of found) ≡ true
     → f q ≤ greatest f (masks (shape_of (finite.entries m)))
@@ -123,16 +123,16 @@ found_mask f m q (Some x) is one = mask_among f (finite.entries m) q x (sym (fin
 hide_cost : (m : Contents) (shape : Shape) (mask : ℕ) (b : Bool) → shape_of (finite.entries m) ≡ shape
     → (b ≡ false → is_one_of sets.Masks (kind_in m mask) ≡ true)
     → sum_by (raised_cost shape) (cond b [] (raise mask events.Hide ∷ []))
-        ≤ greatest (λ id. total (cost shape) shape (listing id (event_number events.Hide))) (masks shape)
+    ≤ greatest (λ id. total (cost shape) shape (listing id (event_number events.Hide))) (masks shape)
 hide_cost m shape mask true is there = omega arith
 hide_cost m shape mask false is there =
     let most : total (cost shape) shape (listing mask (event_number events.Hide))
-            ≤ greatest (λ id. total (cost shape) shape (listing id (event_number events.Hide))) (masks shape) =
-        subst (λ (s : Shape). total (cost shape) shape (listing mask (event_number events.Hide))
-                ≤ greatest (λ id. total (cost shape) shape (listing id (event_number events.Hide))) (masks s)) is
-            (found_mask (λ id. total (cost shape) shape (listing id (event_number events.Hide))) m mask (finite.get m mask) refl (there refl)) in
+    ≤ greatest (λ id. total (cost shape) shape (listing id (event_number events.Hide))) (masks shape) =
+    subst (λ (s : Shape). total (cost shape) shape (listing mask (event_number events.Hide))
+    ≤ greatest (λ id. total (cost shape) shape (listing id (event_number events.Hide))) (masks s)) is
+    (found_mask (λ id. total (cost shape) shape (listing id (event_number events.Hide))) m mask (finite.get m mask) refl (there refl)) in
     let one : sum_by (raised_cost shape) (raise mask events.Hide ∷ []) ≡ total (cost shape) shape (listing mask (event_number events.Hide)) + 0 =
-        sum_by-cons (raised_cost shape) (raise mask events.Hide) [] in
+    sum_by-cons (raised_cost shape) (raise mask events.Hide) [] in
     omega (arith, most, one)
 
 active_mask_is : (m : Contents) (set : ℕ) (found : Option Seen) → IsSound m → finite.get m set ≡ found → (mask_of found == 0xFFFF) ≡ false
@@ -165,9 +165,9 @@ events_bound : (m : Contents) (shape : Shape) (command : Command) → IsSound m 
     → sum_by (raised_cost shape) (events_of m command) + 1 ≤ command_cost (cost shape) shape command
 events_bound m shape (ChangeActiveMask set mask) sound is =
     mask_bound shape (greatest (λ id. total (cost shape) shape (listing id (event_number events.Hide))) (masks shape)) (raise set events.ActiveMask) (raise mask events.Show)
-        (hide (mask_of (finite.get m set))) (mask_of (finite.get m set) == mask)
-        (hide_cost m shape (mask_of (finite.get m set)) (mask_of (finite.get m set) == 0xFFFF) is
-            (λ other. active_mask_is m set (finite.get m set) sound refl other))
+    (hide (mask_of (finite.get m set))) (mask_of (finite.get m set) == mask)
+    (hide_cost m shape (mask_of (finite.get m set)) (mask_of (finite.get m set) == 0xFFFF) is
+    (λ other. active_mask_is m set (finite.get m set) sound refl other))
 events_bound m shape command sound is = plain_bound shape (row_events command)
 
 refused_bound : (shape : Shape) (command : Command) → 0 + 1 ≤ command_cost (cost shape) shape command
@@ -192,9 +192,9 @@ follow_bound : (m : Contents) (shape : Shape) (command : Command) → IsSound m 
 unfolding follow_ups
 follow_bound m shape command sound is totals =
     subst (λ (s : Shape). sum_by (command_cost (cost shape) shape) (joined_all s (raised m command)) + 1 ≤ command_cost (cost shape) shape command)
-        (sym (shapes_stay m command ∙ is))
-        (subst (λ (n : ℕ). n + 1 ≤ command_cost (cost shape) shape command) (sym (joined_costs shape (raised m command) totals))
-            (raised_bound m shape command sound (entries_shape m shape is)))
+    (sym (shapes_stay m command ∙ is))
+    (subst (λ (n : ℕ). n + 1 ≤ command_cost (cost shape) shape command) (sym (joined_costs shape (raised m command) totals))
+    (raised_bound m shape command sound (entries_shape m shape is)))
 
 -- ---- no command that is pending has a fault
 
@@ -209,7 +209,7 @@ joined_faultless shape event none =
 all_faultless : (shape : Shape) (rs : List Raised) → ((id : ℕ) → NoFault shape (commands shape id)) → NoFault shape (joined_all shape rs)
 all_faultless shape rs none =
     all_flat (λ c. fault shape c ≡ None) (λ r. joined shape (listing_of r)) rs
-        (all_of (λ r. NoFault shape (joined shape (listing_of r))) rs (λ r. joined_faultless shape (listing_of r) none))
+    (all_of (λ r. NoFault shape (joined shape (listing_of r))) rs (λ r. joined_faultless shape (listing_of r) none))
 
 follow_faultless : (m : Contents) (shape : Shape) (command : Command) → shape_in m ≡ shape → ((id : ℕ) → NoFault shape (commands shape id))
     → NoFault shape (follow_ups m command)
@@ -244,9 +244,9 @@ commands_end shape totals none zero m (c ∷ cs) is sound faultless le =
 commands_end shape totals none (suc n) m (c ∷ cs) is sound faultless le =
     let follows : sum_by (command_cost (cost shape) shape) (follow_ups m c) + 1 ≤ command_cost (cost shape) shape c = follow_bound m shape c sound is totals in
     let rest : Ends (after m c) n (run n (after m c) (follow_ups m c ++ cs)) =
-        commands_end shape totals none n (after m c) (follow_ups m c ++ cs) (shapes_stay m c ∙ is) (commands_keep_order m c sound)
-            (all_append (λ d. fault shape d ≡ None) (follow_ups m c) cs (follow_faultless m shape c is none) faultless.1)
-            (omega (arith, le, follows, sum_by-cons (command_cost (cost shape) shape) c cs, sum_by-append (command_cost (cost shape) shape) (follow_ups m c) cs)) in
+    commands_end shape totals none n (after m c) (follow_ups m c ++ cs) (shapes_stay m c ∙ is) (commands_keep_order m c sound)
+    (all_append (λ d. fault shape d ≡ None) (follow_ups m c) cs (follow_faultless m shape c is none) faultless.1)
+    (omega (arith, le, follows, sum_by-cons (command_cost (cost shape) shape) c cs, sum_by-append (command_cost (cost shape) shape) (follow_ups m c) cs)) in
     record {
       new = rest.new;
       left = rest.left;
@@ -266,7 +266,10 @@ pub runs_end : (pool : Objects) (m : Contents) (rs : List Raised) → IsAcceptab
     → Ends m (total_budget (shape_in m) rs) (run_of m rs)
 runs_end pool m rs acceptable totals is sound =
     subst (λ (s : Shape). Ends m (total_budget s rs) (run (total_budget s rs) m (joined_all s rs))) (sym is)
-        (commands_end (shape_of pool) totals (λ id. faultless pool id acceptable) (total_budget (shape_of pool) rs) m (joined_all (shape_of pool) rs) is sound
-            (all_faultless (shape_of pool) rs (λ id. faultless pool id acceptable))
-            (omega (arith, joined_costs (shape_of pool) rs totals,
-                same_sums (λ r. budget (shape_of pool) (listing_of r).id (listing_of r).event) (raised_cost (shape_of pool)) rs (budget_is (shape_of pool)))))
+    (commands_end (shape_of pool) totals (λ id. faultless pool id acceptable) (total_budget (shape_of pool) rs) m (joined_all (shape_of pool) rs) is sound
+    (all_faultless (shape_of pool) rs (λ id. faultless pool id acceptable))
+    (omega (
+      arith,
+      joined_costs (shape_of pool) rs totals,
+      same_sums (λ r. budget (shape_of pool) (listing_of r).id (listing_of r).event) (raised_cost (shape_of pool)) rs (budget_is (shape_of pool)),
+    )))

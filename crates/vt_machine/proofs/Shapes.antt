@@ -1,5 +1,5 @@
 -- No command changes what stands under which IDs of what no command changes.
-use Rattle.std.proofs.Common.{◌≡◌, ◌+◌, ℕ, suc, Bool, true, false, cond, List, [], ◌∷◌, length, Option, Some, None, is_some, refl, sym, ap, subst, ◌∙◌, arith}
+use Rattle.std.proofs.Common.{◌≡◌, ◌+◌, ℕ, suc, cond, [], ◌∷◌, length, Option, Some, is_some, refl, sym, ap, ◌∙◌, arith}
 use Rattle.std.specs.Ordering.{nat_cmp, is_eq}
 use Rattle.std.specs.Cmp.{nat_cmp_total}
 use Rattle.std.specs.declared.cmp.Ordering.{Ordering}
@@ -50,4 +50,4 @@ shape_same m id old new at same =
 pub shapes_stay : (m : Contents) (command : Command) → shape_in (after m command) ≡ shape_in m
 shapes_stay m command =
     by_effect (λ (n : Contents). shape_in n ≡ shape_in m) m command refl
-        (λ id old new made. shape_same m id old new (Made.at made) (fixed_same m id old new command made))
+    (λ id old new made. shape_same m id old new (Made.at made) (fixed_same m id old new command made))

@@ -1,8 +1,8 @@
 -- No chain of a store is too long after a command.
-use Rattle.std.proofs.Common.{◌≡◌, ◌≢◌, ◌≤◌, ◌<◌, ◌+◌, ◌⊎◌, inl, inr, ℕ, zero, suc, Bool, true, false, cond, ◌==◌, ◌&&◌, not, eqb, List, [], ◌∷◌, map, filter, length, Option, Some, None, Result, Ok, Err, refl, sym, ap, subst, ◌∙◌, arith}
+use Rattle.std.proofs.Common.{◌≡◌, ◌≤◌, ◌+◌, ◌⊎◌, inl, inr, ℕ, zero, suc, Bool, true, false, cond, ◌==◌, not, eqb, List, [], ◌∷◌, map, filter, length, Option, Some, None, refl, sym, ap, subst, ◌∙◌, arith}
 use Rattle.std.proofs.lemmas.Bool.{eqb-true}
 use Rattle.std.proofs.lemmas.List.Elements.{Contains-append_left, Contains-append_right, Contains-append_cases, Contains-push, Contains-push_cases}
-use Rattle.std.specs.Prelude.{IsTrue, Contains}
+use Rattle.std.specs.Prelude.{Contains}
 use Rattle.std.specs.Cmp.{unsigned_tied}
 use Rattle.std.specs.Ordering.{nat_cmp, eq_by_cmp}
 use Rattle.std.specs.List.{AllByRecursion, list_all}
@@ -18,10 +18,10 @@ use Rattle.vt_objects.specs.declared.command.Command.TheVariants.{ChangeNumericV
 use Rattle.vt_objects.specs.Records.{Seen, kind_of}
 use Rattle.vt_objects.specs.References.{slot, slots_of}
 use Rattle.vt_objects.specs.Stores.{Contents, Objects, object_at, ids}
-use Rattle.vt_verify.specs.Inclusions.{is_inclusion, includes, included_by, included, IsChain, IsShallow}
-use Rattle.vt_verify.specs.Depths.{ids_of, inclusions_of}
+use Rattle.vt_verify.specs.Inclusions.{is_inclusion, includes, included_by, IsChain, IsShallow}
+use Rattle.vt_verify.specs.Depths.{inclusions_of}
 use Rattle.vt_machine.specs.Fields.{word}
-use Rattle.vt_machine.specs.Changes.{left, may_stand, other_id, changed, writes, is_attribute}
+use Rattle.vt_machine.specs.Changes.{left, other_id, writes, is_attribute}
 use Rattle.vt_machine.specs.Effects.{pointer_value, places_allow, value_drawn, is_short, chains_are_short, pointer_may, other_kind}
 use Rattle.vt_machine.proofs.InOrder.{first_of, second_of, get_there, get_other}
 use Rattle.vt_machine.proofs.Referring.{slots_after}
@@ -74,7 +74,7 @@ found_passes : (p : ℕ → Bool) (es : Objects) (q : ℕ) (x : Seen) → object
 found_passes p [] q x found all = absurd cc
 found_passes p (e ∷ es) q x found all =
     passes_or p q e.0 (eq_by_cmp nat_cmp q e.0) (object_at es q) e.1 x refl found (first_of (p e.0) (list_all p (ids es)) all)
-        (λ later. found_passes p es q x later (second_of (p e.0) (list_all p (ids es)) all))
+    (λ later. found_passes p es q x later (second_of (p e.0) (list_all p (ids es)) all))
 
 includer_found : (o : Option Seen) (x : ℕ) → Contains (included_by o) x → (P : Type 0) → ((y : Seen) → o ≡ Some y → P) → P
 includer_found None x h P of = absurd (none_in x h)
@@ -85,10 +85,10 @@ shallow_by_test m short [] chain = omega arith
 shallow_by_test m short (id ∷ []) chain = omega arith
 shallow_by_test m short (id ∷ b ∷ rest) chain =
     includer_found (object_at (finite.entries m) id) b chain.0 (length (id ∷ b ∷ rest) ≤ 32 + 1)
-        (λ y found.
-            let fewer : length (b ∷ rest) ≤ 32 =
-                short_chain (inclusions_of m) 32 id (b ∷ rest) (found_passes (is_short 32 (inclusions_of m)) (finite.entries m) id y found short) chain in
-            omega (arith, fewer))
+    (λ y found.
+    let fewer : length (b ∷ rest) ≤ 32 =
+    short_chain (inclusions_of m) 32 id (b ∷ rest) (found_passes (is_short 32 (inclusions_of m)) (finite.entries m) id y found short) chain in
+    omega (arith, fewer))
 
 -- ---- fewer inclusions
 
@@ -101,10 +101,11 @@ fewer_chains next less of (a ∷ b ∷ rest) is = (of a b is.0, fewer_chains nex
 all_include : (slots : List Slot) (goal : ℕ → Type 0) → ((x : ℕ) → Contains (map (λ (s : Slot). s.id) (filter includes slots)) x → goal x)
     → AllByRecursion (λ s. includes s ≡ true → goal s.id) slots
 all_include [] goal of = tt
-all_include (s ∷ slots) goal of =
-    ((λ is. of s.id (subst (λ (b : Bool). Contains (map (λ (q : Slot). q.id) (cond b (s ∷ filter includes slots) (filter includes slots))) s.id) (sym is)
-        (head_in s.id (map (λ (q : Slot). q.id) (filter includes slots))))),
-    all_include slots goal (λ x h. of x (more (includes s) x h)))
+all_include (s ∷ slots) goal of = (
+  (λ is. of s.id (subst (λ (b : Bool). Contains (map (λ (q : Slot). q.id) (cond b (s ∷ filter includes slots) (filter includes slots))) s.id) (sym is)
+      (head_in s.id (map (λ (q : Slot). q.id) (filter includes slots))))),
+  all_include slots goal (λ x h. of x (more (includes s) x h)),
+)
   where
     more : (b : Bool) (x : ℕ) → Contains (map (λ (q : Slot). q.id) (filter includes slots)) x
         → Contains (map (λ (q : Slot). q.id) (cond b (s ∷ filter includes slots) (filter includes slots))) x
@@ -169,8 +170,8 @@ pointer_tested : (m after : Contents) (it id value : ℕ) (v : ℕ) (old : Seen)
     → pointer_may m it (word value) (pointer_value (finite.get m it)) after ≡ true → chains_are_short after ≡ true
 pointer_tested m after it id value v old is at for may =
     second_of (places_allow m id (word value)) (chains_are_short after)
-        (subst (λ (o : Option ℕ). pointer_may m id (word value) o after ≡ true) (ap pointer_value at ∙ is)
-            (subst (λ (i : ℕ). pointer_may m i (word value) (pointer_value (finite.get m i)) after ≡ true) (nat_is it id for) may))
+    (subst (λ (o : Option ℕ). pointer_may m id (word value) o after ≡ true) (ap pointer_value at ∙ is)
+    (subst (λ (i : ℕ). pointer_may m i (word value) (pointer_value (finite.get m i)) after ≡ true) (nat_is it id for) may))
 
 tested : (m : Contents) (id : ℕ) (old new : Seen) (command : Command) → Made m id old new command → Tested m id old new command
 tested m id old new (ChangeListItem list index item) c =
@@ -195,18 +196,18 @@ included_before : (m : Contents) (id : ℕ) (old new : Seen) (command : Command)
     → ((place : Place) → writes command place (kind_of old) ≡ true → is_inclusion place ≡ false) → (x : ℕ) → Contains (included_by (Some new)) x → Contains (included_by (Some old)) x
 included_before m id old new command c none x h =
     each_included (slots_of new) (Contains (included_by (Some old)))
-        (subst (λ (o : Seen). AllByRecursion (λ s. includes s ≡ true → Contains (included_by (Some old)) s.id) (slots_of o)) (ap (left old) c.made)
-            (slots_after (λ s. includes s ≡ true → Contains (included_by (Some old)) s.id) command (other_kind m (other_id command)) old
-                (all_include (slots_of old) (Contains (included_by (Some old))) (λ y there. there))
-                (λ place other names written may is. absurd (not_included (kind_of old) place other (none place written) is))))
-        x h
+    (subst (λ (o : Seen). AllByRecursion (λ s. includes s ≡ true → Contains (included_by (Some old)) s.id) (slots_of o)) (ap (left old) c.made)
+    (slots_after (λ s. includes s ≡ true → Contains (included_by (Some old)) s.id) command (other_kind m (other_id command)) old
+    (all_include (slots_of old) (Contains (included_by (Some old))) (λ y there. there))
+    (λ place other names written may is. absurd (not_included (kind_of old) place other (none place written) is))))
+    x h
 
 inclusions_by : (m : Contents) (id : ℕ) (old new : Seen) (command : Command) → Made m id old new command
     → ((place : Place) → writes command place (kind_of old) ≡ true → is_inclusion place ≡ false) → (q x : ℕ) (b : Bool) → eqb q id ≡ b
     → Contains (included_by (finite.get (finite.insert m id new) q)) x → Contains (included_by (finite.get m q)) x
 inclusions_by m id old new command c none q x true e h =
     subst (λ (o : Option Seen). Contains (included_by o) x) (sym (ap (finite.get m) (eqb-true q id e) ∙ c.at))
-        (included_before m id old new command c none x (subst (λ (o : Option Seen). Contains (included_by o) x) (get_there m id new q e) h))
+    (included_before m id old new command c none x (subst (λ (o : Option Seen). Contains (included_by o) x) (get_there m id new q e) h))
 inclusions_by m id old new command c none q x false e h = subst (λ (o : Option Seen). Contains (included_by o) x) (get_other m id new q e) h
 
 inclusions_before : (m : Contents) (id : ℕ) (old new : Seen) (command : Command) → Made m id old new command
@@ -214,8 +215,8 @@ inclusions_before : (m : Contents) (id : ℕ) (old new : Seen) (command : Comman
     → Contains (inclusions_of m q) x
 inclusions_before m id old new command c none q x h =
     subst (λ (o : Option Seen). Contains (included_by o) x) (finite.get-entries m q)
-        (inclusions_by m id old new command c none q x (eqb q id) refl
-            (subst (λ (o : Option Seen). Contains (included_by o) x) (sym (finite.get-entries (finite.insert m id new) q)) h))
+    (inclusions_by m id old new command c none q x (eqb q id) refl
+    (subst (λ (o : Option Seen). Contains (included_by o) x) (sym (finite.get-entries (finite.insert m id new) q)) h))
 
 pub shallow_after : (m : Contents) (id : ℕ) (old new : Seen) (command : Command) → Made m id old new command → IsShallow 32 (inclusions_of m)
     → IsShallow 32 (inclusions_of (finite.insert m id new))

@@ -1,13 +1,12 @@
 -- The references of a store are in order after a command.
-use Rattle.std.proofs.Common.{◌≡◌, ◌⊎◌, inl, inr, ℕ, zero, suc, Bool, true, false, cond, ◌==◌, ◌&&◌, ◌||◌, not, eqb, List, Option, Some, None, Result, Ok, Err, refl, sym, ap, subst, ◌∙◌}
+use Rattle.std.proofs.Common.{◌≡◌, ◌⊎◌, inl, inr, ℕ, zero, suc, Bool, true, false, ◌==◌, ◌||◌, not, eqb, Option, Some, Result, Ok, refl, sym, ap, subst, ◌∙◌}
 use Rattle.std.specs.Prelude.{IsTrue}
-use Rattle.std.specs.List.{AllByRecursion, list_all}
+use Rattle.std.specs.List.{AllByRecursion}
 use Rattle.std.specs.FinMap as finite
 use Rattle.vt_objects.specs.declared.kind.Kind.{Kind}
 use Rattle.vt_objects.specs.declared.kind.Kind.TheVariants as kinds
 use Rattle.vt_objects.specs.declared.place.Place.{Place}
 use Rattle.vt_objects.specs.declared.place.Place.TheVariants as places
-use Rattle.vt_objects.specs.declared.slot.Slot.{Slot}
 use Rattle.vt_objects.specs.declared.variables.ObjectPointer.{ObjectPointer}
 use Rattle.vt_objects.specs.declared.object.Object.TheVariants as objects
 use Rattle.vt_objects.specs.declared.command.Command.{Command}
@@ -18,7 +17,7 @@ use Rattle.vt_objects.specs.Stores.{Contents}
 use Rattle.vt_objects.specs.Targets.{object_of}
 use Rattle.vt_verify.specs.Shapes.{Fixed, fixed}
 use Rattle.vt_machine.specs.Fields.{word}
-use Rattle.vt_machine.specs.Changes.{left, if_passed, may_stand, change_value, change_attribute, other_id, changed, writes}
+use Rattle.vt_machine.specs.Changes.{left, if_passed, may_stand, change_attribute, other_id, changed, writes}
 use Rattle.vt_machine.specs.Effects.{kind_in, pointer_value, allows, all_slots, places_allow, value_drawn, chains_are_short, pointer_may, keeps_order, other_kind}
 use Rattle.vt_machine.specs.Soundness.{is_in_order}
 use Rattle.vt_machine.proofs.Keeping.{changes_keep}
@@ -63,7 +62,7 @@ may_is : (m after : Contents) (id value : ℕ) (p : ObjectPointer) → finite.ge
     → pointer_may m id (word value) (pointer_value (finite.get m id)) after ≡ true → places_allow m id (word value) ≡ true
 may_is m after id value p at may =
     first_of (places_allow m id (word value)) (chains_are_short after)
-        (subst (λ (o : Option Seen). pointer_may m id (word value) (pointer_value o) after ≡ true) at may)
+    (subst (λ (o : Option Seen). pointer_may m id (word value) (pointer_value o) after ≡ true) at may)
 
 new_value : (m after : Contents) (id : ℕ) (p : ObjectPointer) (new : Seen) (command : Command) (named : Option Kind) → finite.get m id ≡ Some (objects.ObjectPointer p)
     → object_of command ≡ Some id → ◌≡◌ {A = Result Seen ℕ} (changed command named (objects.ObjectPointer p)) (Ok new) → keeps_order m command after ≡ true
@@ -71,11 +70,11 @@ new_value : (m after : Contents) (id : ℕ) (p : ObjectPointer) (new : Seen) (co
 new_value m after id p new (ChangeNumericValue it value) named at for made kept w is =
     let same : it ≡ id = nat_same it id for in
     subst (λ (v : ℕ). places_allow m id v ≡ true) (value_is p new value w (passed_is _ _ (objects.ObjectPointer (record p { value = word value })) new made) is)
-        (may_is m after id value p at (subst (λ (i : ℕ). pointer_may m i (word value) (pointer_value (finite.get m i)) after ≡ true) same kept))
+    (may_is m after id value p at (subst (λ (i : ℕ). pointer_may m i (word value) (pointer_value (finite.get m i)) after ≡ true) same kept))
 new_value m after id p new (ChangeAttribute it number value) named at for made kept w is =
     let same : it ≡ id = nat_same it id for in
     subst (λ (v : ℕ). places_allow m id v ≡ true) (value_is p new value w (attribute_of_pointer named number value p new made) is)
-        (may_is m after id value p at (subst (λ (i : ℕ). pointer_may m i (word value) (pointer_value (finite.get m i)) after ≡ true) same kept))
+    (may_is m after id value p at (subst (λ (i : ℕ). pointer_may m i (word value) (pointer_value (finite.get m i)) after ≡ true) same kept))
 new_value m after id p new _ named at for made kept w is = absurd cc
 
 -- the places that name the pointer allow its new value
@@ -119,10 +118,10 @@ item_made : (m : Contents) (id : ℕ) (old new : Seen) (kind : Kind) (list index
     → IsTrue (is_in_order (finite.insert m id new) (slot kind (places.Item at) other))
 item_made m id old new kind list index item at other c same may =
     item_in_order m id old new kind at other c.at (kinds_same m id old new (ChangeListItem list index item) c)
-        (list_changed (other_kind m (Some item)) index item old new c.made)
-        (subst (λ (i : ℕ). value_drawn m (pointer_value (finite.get m i)) ≡ true) (nat_same item other same)
-            (first_of (value_drawn m (pointer_value (finite.get m item))) (chains_are_short (finite.insert m id new)) c.kept))
-        may
+    (list_changed (other_kind m (Some item)) index item old new c.made)
+    (subst (λ (i : ℕ). value_drawn m (pointer_value (finite.get m i)) ≡ true) (nat_same item other same)
+    (first_of (value_drawn m (pointer_value (finite.get m item))) (chains_are_short (finite.insert m id new)) c.kept))
+    may
 
 written : (m : Contents) (id : ℕ) (old new : Seen) (command : Command) → Made m id old new command → (place : Place) (other : ℕ) → other_id command ≡ Some other
     → writes command place (kind_of old) ≡ true → may_stand (kind_of old) place other (other_kind m (other_id command)) ≡ true
@@ -132,13 +131,15 @@ written m id old new command c place other names writes may = by (write_case com
     stands : may_stand (kind_of old) place other (kind_in (finite.insert m id new) other) ≡ true
     stands =
         subst (λ (k : Option Kind). may_stand (kind_of old) place other k ≡ true)
-            (ap (other_kind m) names ∙ sym (kinds_stay m id old new other c.at (kinds_same m id old new command c))) may
+        (ap (other_kind m) names ∙ sym (kinds_stay m id old new other c.at (kinds_same m id old new command c))) may
+
     item : (i : IsItem command place) → IsTrue (is_in_order (finite.insert m id new) (slot (kind_of old) place other))
     item i =
         subst (λ (p : Place). IsTrue (is_in_order (finite.insert m id new) (slot (kind_of old) p other))) (sym i.stands)
-            (item_made m id old new (kind_of old) i.list i.index i.item i.at other (subst (Made m id old new) i.is c)
-                (ap other_id (sym i.is) ∙ names)
-                (subst (λ (p : Place). may_stand (kind_of old) p other (kind_in (finite.insert m id new) other) ≡ true) i.stands stands))
+        (item_made m id old new (kind_of old) i.list i.index i.item i.at other (subst (Made m id old new) i.is c)
+        (ap other_id (sym i.is) ∙ names)
+        (subst (λ (p : Place). may_stand (kind_of old) p other (kind_in (finite.insert m id new) other) ≡ true) i.stands stands))
+
     by : (takes_pointers place ≡ false) ⊎ IsItem command place → IsTrue (is_in_order (finite.insert m id new) (slot (kind_of old) place other))
     by (inl plain) = plain_in_order (finite.insert m id new) (kind_of old) place other plain stands
     by (inr i) = item i
@@ -151,19 +152,20 @@ slots_by : (m : Contents) (id : ℕ) (old new : Seen) (command : Command) → Ma
     → AllByRecursion (λ s. IsTrue (is_in_order (finite.insert m id new) s)) (slots_of x)
 slots_by m id old new command c sound q x true e there =
     subst (λ (y : Seen). AllByRecursion (λ s. IsTrue (is_in_order (finite.insert m id new) s)) (slots_of y)) same
-        (slots_after (λ s. IsTrue (is_in_order (finite.insert m id new) s)) command (other_kind m (other_id command)) old
-            (slots_stay m id old new (slots_of old) c.at (kinds_same m id old new command c)
-                (λ w is. slots_among (λ s. not (s.id == id) || allows m s w) m id old c.at (allowing m id old new command c w is)) (sound id old c.at))
-            (written m id old new command c))
+    (slots_after (λ s. IsTrue (is_in_order (finite.insert m id new) s)) command (other_kind m (other_id command)) old
+    (slots_stay m id old new (slots_of old) c.at (kinds_same m id old new command c)
+    (λ w is. slots_among (λ s. not (s.id == id) || allows m s w) m id old c.at (allowing m id old new command c w is)) (sound id old c.at))
+    (written m id old new command c))
   where
     seen_same : (a b : Seen) → Some a ≡ Some b → a ≡ b
     seen_same a b e = cc
+
     same : left old (changed command (other_kind m (other_id command)) old) ≡ x
     same = ap (left old) c.made ∙ seen_same new x (sym (get_there m id new q e) ∙ there)
 slots_by m id old new command c sound q x false e there =
     let at : finite.get m q ≡ Some x = sym (get_other m id new q e) ∙ there in
     slots_stay m id old new (slots_of x) c.at (kinds_same m id old new command c)
-        (λ w is. slots_among (λ s. not (s.id == id) || allows m s w) m q x at (allowing m id old new command c w is)) (sound q x at)
+    (λ w is. slots_among (λ s. not (s.id == id) || allows m s w) m q x at (allowing m id old new command c w is)) (sound q x at)
 
 pub slots_in_order : (m : Contents) (id : ℕ) (old new : Seen) (command : Command) → Made m id old new command
     → ((q : ℕ) (x : Seen) → finite.get m q ≡ Some x → AllByRecursion (λ s. IsTrue (is_in_order m s)) (slots_of x))

@@ -1,11 +1,10 @@
 -- What a command writes is in order.
-use Rattle.std.proofs.Common.{◌≡◌, ℕ, Bool, true, false, cond, ◌==◌, ◌&&◌, eqb, List, Option, Some, None, Result, Ok, Err, refl, sym, ap, subst, ◌∙◌}
+use Rattle.std.proofs.Common.{◌≡◌, ℕ, Bool, true, false, cond, ◌==◌, ◌&&◌, eqb, Option, Some, None, Result, Ok, refl, sym, ap, subst, ◌∙◌}
 use Rattle.std.specs.Prelude.{IsTrue}
 use Rattle.std.specs.Option.{option_map}
 use Rattle.std.specs.FinMap as finite
 use Rattle.vt_objects.specs.declared.kind.Kind.{Kind}
 use Rattle.vt_objects.specs.declared.kind.Kind.TheVariants as kinds
-use Rattle.vt_objects.specs.declared.kinds.Kinds.{Kinds}
 use Rattle.vt_objects.specs.declared.kinds.Kinds.TheVariants as sets
 use Rattle.vt_objects.specs.declared.place.Place.{Place}
 use Rattle.vt_objects.specs.declared.place.Place.TheVariants as places
@@ -17,7 +16,7 @@ use Rattle.vt_objects.specs.Stores.{Contents}
 use Rattle.vt_machine.specs.Changes.{is_one_of, may_stand, change_item}
 use Rattle.vt_machine.specs.Effects.{kind_in, pointer_value, allows, value_drawn}
 use Rattle.vt_machine.specs.Soundness.{value_fits, is_in_order}
-use Rattle.vt_machine.proofs.InOrder.{both, get_there, get_other, kinds_stay, allows_stays}
+use Rattle.vt_machine.proofs.InOrder.{both, get_there, get_other, allows_stays}
 
 -- ---- pointers and their kind
 
@@ -76,7 +75,7 @@ pub not_a_pointer : (m : Contents) (kind : Kind) (place : Place) (id : ℕ) → 
     → (w : ℕ) → pointer_value (finite.get m id) ≡ Some w → ⊥
 not_a_pointer m kind place id other one w is =
     let never : false ≡ true =
-        sym (no_pointer kind place other) ∙ subst (λ (k : Option Kind). is_one_of (allowed kind place) k ≡ true) (found_kind (finite.get m id) w is) one in
+    sym (no_pointer kind place other) ∙ subst (λ (k : Option Kind). is_one_of (allowed kind place) k ≡ true) (found_kind (finite.get m id) w is) one in
     absurd cc
 
 -- a slot whose ID may stand in its place, and where it names a pointer its value may stand there too
@@ -120,9 +119,9 @@ item_in_order m id old new kind place item at kinds_are none all may =
         → IsTrue (value_fits (finite.insert m id new) (slot kind (places.Item place) item) (pointer_value (finite.get (finite.insert m id new) item)))
     value true e =
         subst (λ (o : Option Seen). IsTrue (value_fits (finite.insert m id new) (slot kind (places.Item place) item) (pointer_value o))) (sym (get_there m id new item e))
-            (value_none (finite.insert m id new) (slot kind (places.Item place) item) (pointer_value (Some new))
-                (λ w is. kind_pointer old (sym kinds_are ∙ pointer_kind new w is) none))
+        (value_none (finite.insert m id new) (slot kind (places.Item place) item) (pointer_value (Some new))
+        (λ w is. kind_pointer old (sym kinds_are ∙ pointer_kind new w is) none))
     value false e =
         subst (λ (o : Option Seen). IsTrue (value_fits (finite.insert m id new) (slot kind (places.Item place) item) (pointer_value o))) (sym (get_other m id new item e))
-            (value_of (finite.insert m id new) (slot kind (places.Item place) item) (pointer_value (finite.get m item))
-                (λ w is. allows_stays m id old new (slot kind (places.Item place) item) w at kinds_are ∙ drawn m w (pointer_value (finite.get m item)) is all))
+        (value_of (finite.insert m id new) (slot kind (places.Item place) item) (pointer_value (finite.get m item))
+        (λ w is. allows_stays m id old new (slot kind (places.Item place) item) w at kinds_are ∙ drawn m w (pointer_value (finite.get m item)) is all))

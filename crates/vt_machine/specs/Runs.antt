@@ -1,7 +1,7 @@
 -- Runs end (docs/PROFILE.md, "Steps", "Costs and budgets").
 use Rattle.std.specs.Prelude.{◌≡◌, ◌≤◌, ℕ, List}
 use Rattle.vt_objects.specs.declared.raising.Raised.{Raised}
-use Rattle.vt_objects.specs.Stores.{Contents, Objects}
+use Rattle.vt_objects.specs.Stores.{Contents, Objects, AreStored, map_of}
 use Rattle.vt_verify.specs.Shapes.{shape_of}
 use Rattle.vt_verify.specs.Budgets.{CostsAreTotals}
 use Rattle.vt_verify.specs.Rules.{IsAcceptable, terminal}
@@ -22,3 +22,11 @@ pub record Ends (store : Contents) (steps : ℕ) (end : End) : Type 0 where
 abbrev pub RunsEnd : Type 0
 RunsEnd = (pool : Objects) (store : Contents) (raised : List Raised) → IsAcceptable terminal pool → CostsAreTotals (shape_of pool)
     → shape_in store ≡ shape_of pool → IsSound store → Ends store (total_budget (shape_in store) raised) (run_of store raised)
+
+-- The store of an acceptable pool keeps what every store keeps.
+pub record IsReady (pool : Objects) (store : Contents) : Type 0 where
+  pub sound : IsSound store
+  pub shape : shape_in store ≡ shape_of pool
+
+abbrev pub PoolsAreReady : Type 0
+PoolsAreReady = (pool : Objects) → AreStored pool → IsAcceptable terminal pool → IsReady pool (map_of pool)

@@ -1,7 +1,7 @@
 //! What commands leave of every object.
 
 ghost use Rattle.vt_machine.specs.Changes.{ChangesKeep, ReferencesMayStand};
-ghost use Rattle.vt_machine.specs.Runs.{RunsEnd};
+ghost use Rattle.vt_machine.specs.Runs.{PoolsAreReady, RunsEnd};
 ghost use Rattle.vt_machine.specs.Soundness.{CommandsKeepOrder, CommandsKeepShapes};
 
 /// The law that no command changes the kind of an object, the macros of its events, or the bytes of a macro.
@@ -32,4 +32,9 @@ pub fn commands_keep_shapes()
 /// every store keeps. docs/PROFILE.md, "Runs", "Steps".
 pub fn runs_end()
     ensures { RunsEnd }
+{}
+
+/// The law that the store of an acceptable pool keeps what every store keeps, so that runs on it end.
+pub fn pools_are_ready()
+    ensures { PoolsAreReady }
 {}

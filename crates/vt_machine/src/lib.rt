@@ -13,7 +13,8 @@ mod references;
 pub use changes::change;
 pub use effects::change_in;
 pub use laws::{
-    changes_keep, commands_keep_order, commands_keep_shapes, references_may_stand, runs_end,
+    changes_keep, commands_keep_order, commands_keep_shapes, pools_are_ready, references_may_stand,
+    runs_end,
 };
 
 #[cfg(test)]
