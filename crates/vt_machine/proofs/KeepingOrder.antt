@@ -22,11 +22,6 @@ for_none : (m : Contents) (command : Command) → left m (effect_on m command No
 for_none m (SetVolume volume) = kept_by m (nat_le volume 100) (bit 4)
 for_none m _ = refl
 
-for_some : (m : Contents) (command : Command) (id : ℕ)
-    → effect_on m command (Some id) ≡ in_order m command (changed_in m id command (other_kind m (other_id command)))
-for_some m (SetVolume volume) id = refl
-for_some m _ id = refl
-
 -- ---- what holds of the store, and of the store with the object that is made
 
 -- by what a command comes to
@@ -53,7 +48,7 @@ by_object : (Q : Contents → Type 0) (m : Contents) (command : Command) → Q m
     → (object : Option ℕ) → object_of command ≡ object → Q (left m (effect_on m command object))
 by_object Q m command before of None is = subst Q (sym (for_none m command)) before
 by_object Q m command before of (Some id) is =
-    subst Q (ap (left m) (sym (for_some m command id))) (by_found Q m id command is before (of id) (finite.get m id) refl)
+    by_found Q m id command is before (of id) (finite.get m id) refl
 
 pub by_effect : (Q : Contents → Type 0) (m : Contents) (command : Command) → Q m → ((id : ℕ) (old new : Seen) → Made m id old new command → Q (finite.insert m id new))
     → Q (after m command)

@@ -23,12 +23,13 @@ use Rattle.vt_verify.specs.Shapes.{Shape, Fixed, fixed, shape_of, fixed_at, kind
 use Rattle.vt_verify.specs.References.{is_there, may_stand, fits, of_slot, slot_references, references, pointed, with_value, values_of}
 use Rattle.vt_verify.specs.References as references
 use Rattle.vt_verify.specs.Inclusions.{included, IsShallow}
-use Rattle.vt_verify.specs.Rules.{IsAcceptable, terminal}
+use Rattle.vt_verify.specs.Rules.{IsAcceptable, terminal, working_sets}
 use Rattle.vt_machine.specs.Changes.{is_one_of}
 use Rattle.vt_machine.specs.Effects.{kind_in, pointer_value}
 use Rattle.vt_machine.specs.Soundness.{IsSound, value_fits, is_in_order}
 use Rattle.vt_machine.specs.Machines.{shape_in}
 use Rattle.vt_machine.specs.Runs.{IsReady}
+use Rattle.vt_machine.proofs.Running.{one_working_set}
 use Rattle.vt_machine.proofs.InOrder.{both}
 use Rattle.vt_machine.proofs.Faultless.{front_passes, rest_passes, each_passes}
 
@@ -166,7 +167,7 @@ sound_of pool stored acceptable =
           slots_by pool id (slots_of o) stored there
           (found_entry (λ e. first_failing (is_there (shape_of pool)) (slot_references e) ≡ None) pool id o found there)
           (found_entry (λ e. first_failing (fits (shape_of pool)) (values_of pool e) ≡ None) pool id o found fit);
-      shallow = subst (λ (es : Objects). IsShallow 32 (included es)) (sym (entries_are pool stored)) (IsAcceptable.chains_short acceptable);
+      shallow = subst (λ (es : Objects). IsShallow terminal.inclusions (included es)) (sym (entries_are pool stored)) (IsAcceptable.chains_short acceptable);
     }
 
 shape_is : (pool : Objects) → AreStored pool → shape_in (map_of pool) ≡ shape_of pool
@@ -174,4 +175,8 @@ unfolding shape_in
 shape_is pool stored = ap shape_of (entries_are pool stored)
 
 pub pools_are_ready : (pool : Objects) → AreStored pool → IsAcceptable terminal pool → IsReady pool (map_of pool)
-pools_are_ready pool stored acceptable = record { sound = sound_of pool stored acceptable; shape = shape_is pool stored }
+pools_are_ready pool stored acceptable = record {
+  working_set = ap working_sets (shape_is pool stored) ∙ one_working_set pool acceptable;
+  sound = sound_of pool stored acceptable;
+  shape = shape_is pool stored;
+}

@@ -27,7 +27,7 @@ use Rattle.vt_verify.specs.Shapes.{Shape, fixed, shape_of}
 use Rattle.vt_verify.specs.Macros.{commands}
 use Rattle.vt_verify.specs.Triggers.{listing, listing_of, listed, is_mask, masks}
 use Rattle.vt_verify.specs.Budgets.{total, command_cost, macro_cost, cost, budget, CostsAreTotals}
-use Rattle.vt_verify.specs.Rules.{IsAcceptable, terminal}
+use Rattle.vt_verify.specs.Rules.{IsAcceptable, terminal, working_sets}
 use Rattle.vt_machine.specs.Changes.{is_one_of}
 use Rattle.vt_machine.specs.Effects.{kind_in, pointer_value, effect, after}
 use Rattle.vt_machine.specs.Soundness.{IsSound, value_fits}
@@ -235,16 +235,16 @@ unfolding run
 run_step n m command pending = refl
 
 -- a run of commands whose cost is at most the steps
-pub commands_end : (shape : Shape) → CostsAreTotals shape → ((id : ℕ) → NoFault shape (commands shape id)) → (n : ℕ) (m : Contents) (cs : List Command)
+pub commands_end : (shape : Shape) → CostsAreTotals shape → working_sets shape ≡ 1 → ((id : ℕ) → NoFault shape (commands shape id)) → (n : ℕ) (m : Contents) (cs : List Command)
     → shape_in m ≡ shape → IsSound m → NoFault shape cs → sum_by (command_cost (cost shape) shape) cs ≤ n → Ends m n (run n m cs)
-commands_end shape totals none n m [] is sound faultless le =
-    record { new = m; left = n; ended = run_none n m; within = omega arith; sound = sound; shape = refl }
-commands_end shape totals none zero m (c ∷ cs) is sound faultless le =
+commands_end shape totals one none n m [] is sound faultless le =
+    record { new = m; left = n; ended = run_none n m; within = omega arith; working_set = ap working_sets is ∙ one; sound = sound; shape = refl }
+commands_end shape totals one none zero m (c ∷ cs) is sound faultless le =
     absurd (omega (arith, le, sum_by-cons (command_cost (cost shape) shape) c cs))
-commands_end shape totals none (suc n) m (c ∷ cs) is sound faultless le =
+commands_end shape totals one none (suc n) m (c ∷ cs) is sound faultless le =
     let follows : sum_by (command_cost (cost shape) shape) (follow_ups m c) + 1 ≤ command_cost (cost shape) shape c = follow_bound m shape c sound is totals in
     let rest : Ends (after m c) n (run n (after m c) (follow_ups m c ++ cs)) =
-    commands_end shape totals none n (after m c) (follow_ups m c ++ cs) (shapes_stay m c ∙ is) (commands_keep_order m c sound)
+    commands_end shape totals one none n (after m c) (follow_ups m c ++ cs) (shapes_stay m c ∙ is) (commands_keep_order m c sound)
     (all_append (λ d. fault shape d ≡ None) (follow_ups m c) cs (follow_faultless m shape c is none) faultless.1)
     (omega (arith, le, follows, sum_by-cons (command_cost (cost shape) shape) c cs, sum_by-append (command_cost (cost shape) shape) (follow_ups m c) cs)) in
     record {
@@ -252,11 +252,15 @@ commands_end shape totals none (suc n) m (c ∷ cs) is sound faultless le =
       left = rest.left;
       ended = run_step n m c cs ∙ no_fault_runs shape m c (run n (after m c) (follow_ups m c ++ cs)) is faultless.0 ∙ rest.ended;
       within = omega (arith, rest.within);
+      working_set = rest.working_set;
       sound = rest.sound;
       shape = rest.shape ∙ shapes_stay m c;
     }
 
 -- ---- the run of events
+
+pub one_working_set : (pool : Objects) → IsAcceptable terminal pool → working_sets (shape_of pool) ≡ 1
+one_working_set pool acceptable = omega (arith, IsAcceptable.working_set acceptable, IsAcceptable.one_working_set acceptable)
 
 budget_is : (shape : Shape) (r : Raised) → budget shape (listing_of r).id (listing_of r).event ≡ raised_cost shape r
 unfolding budget
@@ -266,7 +270,7 @@ pub runs_end : (pool : Objects) (m : Contents) (rs : List Raised) → IsAcceptab
     → Ends m (total_budget (shape_in m) rs) (run_of m rs)
 runs_end pool m rs acceptable totals is sound =
     subst (λ (s : Shape). Ends m (total_budget s rs) (run (total_budget s rs) m (joined_all s rs))) (sym is)
-    (commands_end (shape_of pool) totals (λ id. faultless pool id acceptable) (total_budget (shape_of pool) rs) m (joined_all (shape_of pool) rs) is sound
+    (commands_end (shape_of pool) totals (one_working_set pool acceptable) (λ id. faultless pool id acceptable) (total_budget (shape_of pool) rs) m (joined_all (shape_of pool) rs) is sound
     (all_faultless (shape_of pool) rs (λ id. faultless pool id acceptable))
     (omega (
       arith,

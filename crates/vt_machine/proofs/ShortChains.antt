@@ -19,6 +19,7 @@ use Rattle.vt_objects.specs.Records.{Seen, kind_of}
 use Rattle.vt_objects.specs.References.{slot, slots_of}
 use Rattle.vt_objects.specs.Stores.{Contents, Objects, object_at, ids}
 use Rattle.vt_verify.specs.Inclusions.{is_inclusion, includes, included_by, IsChain, IsShallow}
+use Rattle.vt_verify.specs.Rules.{terminal}
 use Rattle.vt_verify.specs.Depths.{inclusions_of}
 use Rattle.vt_machine.specs.Fields.{word}
 use Rattle.vt_machine.specs.Changes.{left, other_id, writes, is_attribute}
@@ -80,14 +81,14 @@ includer_found : (o : Option Seen) (x : ℕ) → Contains (included_by o) x → 
 includer_found None x h P of = absurd (none_in x h)
 includer_found (Some y) x h P of = of y refl
 
-pub shallow_by_test : (m : Contents) → chains_are_short m ≡ true → IsShallow 32 (inclusions_of m)
+pub shallow_by_test : (m : Contents) → chains_are_short m ≡ true → IsShallow terminal.inclusions (inclusions_of m)
 shallow_by_test m short [] chain = omega arith
 shallow_by_test m short (id ∷ []) chain = omega arith
 shallow_by_test m short (id ∷ b ∷ rest) chain =
     includer_found (object_at (finite.entries m) id) b chain.0 (length (id ∷ b ∷ rest) ≤ 32 + 1)
     (λ y found.
     let fewer : length (b ∷ rest) ≤ 32 =
-    short_chain (inclusions_of m) 32 id (b ∷ rest) (found_passes (is_short 32 (inclusions_of m)) (finite.entries m) id y found short) chain in
+    short_chain (inclusions_of m) 32 id (b ∷ rest) (found_passes (is_short terminal.inclusions (inclusions_of m)) (finite.entries m) id y found short) chain in
     omega (arith, fewer))
 
 -- ---- fewer inclusions
@@ -218,10 +219,10 @@ inclusions_before m id old new command c none q x h =
     (inclusions_by m id old new command c none q x (eqb q id) refl
     (subst (λ (o : Option Seen). Contains (included_by o) x) (sym (finite.get-entries (finite.insert m id new) q)) h))
 
-pub shallow_after : (m : Contents) (id : ℕ) (old new : Seen) (command : Command) → Made m id old new command → IsShallow 32 (inclusions_of m)
-    → IsShallow 32 (inclusions_of (finite.insert m id new))
+pub shallow_after : (m : Contents) (id : ℕ) (old new : Seen) (command : Command) → Made m id old new command → IsShallow terminal.inclusions (inclusions_of m)
+    → IsShallow terminal.inclusions (inclusions_of (finite.insert m id new))
 shallow_after m id old new command c shallow = by (tested m id old new command c)
   where
-    by : Tested m id old new command → IsShallow 32 (inclusions_of (finite.insert m id new))
+    by : Tested m id old new command → IsShallow terminal.inclusions (inclusions_of (finite.insert m id new))
     by (inl short) = shallow_by_test (finite.insert m id new) short
     by (inr none) = λ chain is. shallow chain (fewer_chains (inclusions_of m) (inclusions_of (finite.insert m id new)) (inclusions_before m id old new command c none) chain is)

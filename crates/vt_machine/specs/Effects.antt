@@ -16,6 +16,7 @@ use Rattle.vt_objects.specs.References.{slots_of}
 use Rattle.vt_objects.specs.Stores.{Contents}
 use Rattle.vt_objects.specs.Targets.{object_of}
 use Rattle.vt_verify.specs.Depths.{ids_of, inclusions_of}
+use Rattle.vt_verify.specs.Rules.{terminal}
 use Rattle.vt_machine.specs.Fields.{word}
 use Rattle.vt_machine.specs.Changes.{bit, if_passed, is_one_of, other_id, changed, left}
 
@@ -39,6 +40,19 @@ changed_at store id command named (Some o) = put store id (changed command named
 -- the objects after a command has changed that of an ID, where `named` is the kind of the object of the other ID
 abbrev pub changed_in : Contents → ℕ → Command → Option Kind → Result Contents ℕ
 changed_in store id command named = changed_at store id command named (finite.get store id)
+
+-- the sounds of a terminal are no part of its objects
+abbrev pub without_object : Contents → Command → Result Contents ℕ
+without_object store (SetVolume volume) = if_passed (nat_le volume 100) (bit 4) store
+without_object store command = Ok store
+
+abbrev pub changed_for : Contents → Command → Option Kind → Option ℕ → Result Contents ℕ
+changed_for store command named None = without_object store command
+changed_for store command named (Some id) = changed_in store id command named
+
+-- The objects after a command, but for what a pointer's new value and a list's new item have to meet besides.
+abbrev pub changed_by : Contents → Command → Option Kind → Result Contents ℕ
+changed_by store command named = changed_for store command named (object_of command)
 
 -- ---- what a pointer stands for, and chains
 
@@ -73,9 +87,9 @@ unfoldable pub is_short : ℕ → (ℕ → List ℕ) → ℕ → Bool
 is_short zero included id = length (included id) == 0
 is_short (suc most) included id = list_all (is_short most included) (included id)
 
--- no chain has more than 32 inclusions
+-- no chain has more inclusions than the terminal allows
 abbrev pub chains_are_short : Contents → Bool
-chains_are_short store = list_all (is_short 32 (inclusions_of store)) (ids_of store)
+chains_are_short store = list_all (is_short terminal.inclusions (inclusions_of store)) (ids_of store)
 
 -- a pointer may have a value
 abbrev pub pointer_may : Contents → ℕ → ℕ → Option ℕ → Contents → Bool
@@ -106,10 +120,8 @@ abbrev pub other_kind : Contents → Option ℕ → Option Kind
 other_kind store None = None
 other_kind store (Some id) = kind_in store id
 
--- the sounds of a terminal are no part of its objects
 abbrev pub effect_on : Contents → Command → Option ℕ → Result Contents ℕ
-effect_on store (SetVolume volume) None = if_passed (nat_le volume 100) (bit 4) store
-effect_on store command None = Ok store
+effect_on store command None = without_object store command
 effect_on store command (Some id) = in_order store command (changed_in store id command (other_kind store (other_id command)))
 
 unfoldable pub effect : Contents → Command → Result Contents ℕ

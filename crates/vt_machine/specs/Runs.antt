@@ -4,16 +4,18 @@ use Rattle.vt_objects.specs.declared.raising.Raised.{Raised}
 use Rattle.vt_objects.specs.Stores.{Contents, Objects, AreStored, map_of}
 use Rattle.vt_verify.specs.Shapes.{shape_of}
 use Rattle.vt_verify.specs.Budgets.{CostsAreTotals}
-use Rattle.vt_verify.specs.Rules.{IsAcceptable, terminal}
+use Rattle.vt_verify.specs.Rules.{IsAcceptable, terminal, working_sets}
 use Rattle.vt_machine.specs.Machines.{End, Ended, shape_in, total_budget, run_of}
 use Rattle.vt_machine.specs.Soundness.{IsSound}
 
--- A run that began with so many steps ends, and does not stick; what the store keeps is kept.
+-- A run that began with so many steps ends, and does not stick. The store has one working set still, its references and chains
+-- are in order, and no kind, no macro entry and no macro byte is another one.
 pub record Ends (store : Contents) (steps : ℕ) (end : End) : Type 0 where
   pub new : Contents
   pub left : ℕ
   pub ended : end ≡ Ended new left
   pub within : left ≤ steps
+  pub working_set : working_sets (shape_in new) ≡ 1
   pub sound : IsSound new
   pub shape : shape_in new ≡ shape_in store
 
@@ -23,8 +25,9 @@ abbrev pub RunsEnd : Type 0
 RunsEnd = (pool : Objects) (store : Contents) (raised : List Raised) → IsAcceptable terminal pool → CostsAreTotals (shape_of pool)
     → shape_in store ≡ shape_of pool → IsSound store → Ends store (total_budget (shape_in store) raised) (run_of store raised)
 
--- The store of an acceptable pool keeps what every store keeps.
+-- The store of an acceptable pool has one working set, and its references and chains are in order.
 pub record IsReady (pool : Objects) (store : Contents) : Type 0 where
+  pub working_set : working_sets (shape_in store) ≡ 1
   pub sound : IsSound store
   pub shape : shape_in store ≡ shape_of pool
 

@@ -9,6 +9,7 @@ use Rattle.vt_objects.specs.References.{slots_of}
 use Rattle.vt_objects.specs.Stores.{Contents}
 use Rattle.vt_verify.specs.Depths.{inclusions_of}
 use Rattle.vt_verify.specs.Inclusions.{IsShallow}
+use Rattle.vt_verify.specs.Rules.{terminal}
 use Rattle.vt_machine.specs.Changes.{is_one_of}
 use Rattle.vt_machine.specs.Effects.{kind_in, pointer_value, allows, after}
 use Rattle.vt_machine.specs.Machines.{shape_in}
@@ -25,10 +26,10 @@ is_in_order store slot =
     then slot.null
     else is_one_of slot.kinds (kind_in store slot.id) && value_fits store slot (pointer_value (finite.get store slot.id))
 
--- Each reference of each object is in order, and no chain has more than 32 inclusions.
+-- Each reference of each object is in order, and no chain has more inclusions than the terminal allows.
 pub record IsSound (store : Contents) : Type 0 where
   pub slots : (id : ℕ) (o : Seen) → finite.get store id ≡ Some o → AllByRecursion (λ slot. IsTrue (is_in_order store slot)) (slots_of o)
-  pub shallow : IsShallow 32 (inclusions_of store)
+  pub shallow : IsShallow terminal.inclusions (inclusions_of store)
 
 -- No command breaks that order.
 abbrev pub CommandsKeepOrder : Type 0

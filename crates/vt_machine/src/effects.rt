@@ -1,18 +1,43 @@
 //! What commands make of the objects of a store.
 
 ghost use Rattle.std.specs.Prelude.{◌≡◌};
-ghost use Rattle.vt_objects.specs.Records.{seen};
+ghost use Rattle.vt_objects.specs.Stores.{Contents};
 ghost use Rattle.vt_machine.specs.Changes.{Answers, left};
 ghost use Rattle.vt_machine.specs.Effects as effects;
-ghost use Rattle.vt_machine.specs.Effects.{changed_in};
+ghost use Rattle.vt_machine.specs.Effects.{changed_by, changed_in};
 
 use crate::changes::change;
 use vt_objects::{Command, Kind, ObjectId, Store};
 
-/// Changes the object of an ID in a store as a command says, where the command is for this ID. `named` is the kind of the
-/// object of the other ID that the command names, if that is there. A refusal is the error byte of the command's reply, and
-/// changes nothing.
+/// Does a command on the objects of a store, but for what a pointer's new value and a list's new item have to meet besides.
+/// `named` is the kind of the object of the other ID that the command names, if that is there. A refusal is the error byte of
+/// the command's reply, and changes nothing.
 pub fn change_in<S: Store>(
+    store: &mut S,
+    command: &Command<'_>,
+    named: Option<Kind>,
+) -> Result<(), u8>
+    ensures result { Answers result (changed_by (S.contents store.old) command.now named) }
+    ensures objects { S.contents store.new ≡ left (S.contents store.old) (changed_by (S.contents store.old) command.now named) }
+{
+    match command.object() {
+        None => without_object(command),
+        Some(id) => change_object(store, id, command, named),
+    }
+}
+
+/// Tests a command that is for no object.
+fn without_object(command: &Command<'_>) -> Result<(), u8>
+    ensures { (store : Contents) → Answers result (effects.without_object store command.now) }
+{
+    match *command {
+        Command::SetVolume { volume } if volume > 100 => Err(1 << 4),
+        _ => Ok(()),
+    }
+}
+
+/// Changes the object of an ID as a command says that is for it.
+fn change_object<S: Store>(
     store: &mut S,
     id: ObjectId,
     command: &Command<'_>,

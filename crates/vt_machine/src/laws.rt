@@ -27,14 +27,15 @@ pub fn commands_keep_shapes()
     ensures { CommandsKeepShapes }
 {}
 
-/// The law that runs end. Whatever events are raised on a store of an acceptable pool, each command of their macros finds the
-/// objects that it names, of kinds that they may have, and the run ends within the budgets of the events; the store keeps what
-/// every store keeps. docs/PROFILE.md, "Runs", "Steps".
+/// The law that runs end. Whatever events are raised on a store of an acceptable pool whose macros cost what their commands cost,
+/// each command of their macros finds the objects that it names, of kinds that they may have, and the run ends within the
+/// budgets of the events. The store has one working set still, and is in order. docs/PROFILE.md, "Runs", "Steps".
 pub fn runs_end()
     ensures { RunsEnd }
 {}
 
-/// The law that the store of an acceptable pool keeps what every store keeps, so that runs on it end.
+/// The law that the store of an acceptable pool has one working set and is in order, so that runs on it end.
+/// docs/PROFILE.md, "What every store keeps".
 pub fn pools_are_ready()
     ensures { PoolsAreReady }
 {}

@@ -6,6 +6,7 @@ mod records;
 mod references;
 mod sizes;
 mod states;
+mod stores;
 mod texts;
 mod values;
 

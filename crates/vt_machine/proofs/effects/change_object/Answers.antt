@@ -1,6 +1,6 @@
 use Rattle.vt_objects.specs.Records.{seen}
 use Rattle.vt_machine.proofs.Puts.{put_answers, put_left}
-use Rattle.vt_machine.proofs.effects.change_in.Goals as goal
+use Rattle.vt_machine.proofs.effects.change_object.Goals as goal
 
 pub returns-in-Some-clause-result : goal.returns-in-Some-clause-result
 returns-in-Some-clause-result g c =
