@@ -1,5 +1,5 @@
 -- No command breaks the order of references and chains.
-use Rattle.std.proofs.Common.{◌≡◌, ℕ, Bool, true, false, nat_le, Option, Some, None, Result, Ok, Err, refl, sym, ap, subst}
+use Rattle.std.proofs.Common.{◌≡◌, ℕ, Bool, true, false, nat_le, Option, Some, None, Result, Ok, Err, refl, sym, subst}
 use Rattle.std.specs.FinMap as finite
 use Rattle.vt_objects.specs.declared.command.Command.{Command}
 use Rattle.vt_objects.specs.declared.command.Command.TheVariants.{SetVolume}
@@ -7,7 +7,7 @@ use Rattle.vt_objects.specs.Records.{Seen}
 use Rattle.vt_objects.specs.Stores.{Contents}
 use Rattle.vt_objects.specs.Targets.{object_of}
 use Rattle.vt_machine.specs.Changes.{bit, if_passed, left, other_id, changed}
-use Rattle.vt_machine.specs.Effects.{put, changed_at, changed_in, keeps_order, value_error, in_order, other_kind, effect_on, effect, after}
+use Rattle.vt_machine.specs.Effects.{put, changed_at, keeps_order, value_error, in_order, other_kind, effect_on, effect, after}
 use Rattle.vt_machine.specs.Soundness.{IsSound}
 use Rattle.vt_machine.proofs.SlotsInOrder.{Made, slots_in_order}
 use Rattle.vt_machine.proofs.ShortChains.{shallow_after}
