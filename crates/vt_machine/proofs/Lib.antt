@@ -17,3 +17,7 @@ pub mod Shapes
 pub mod Faultless
 pub mod Running
 pub mod Ready
+pub mod Falling
+pub mod Walking
+pub mod Adding
+pub mod Executing

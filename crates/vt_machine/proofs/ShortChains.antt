@@ -30,23 +30,23 @@ use Rattle.vt_machine.proofs.SlotsInOrder.{Made}
 
 -- ---- elements of lists
 
-none_in : (x : ℕ) → Contains [] x → ⊥
+pub none_in : (x : ℕ) → Contains [] x → ⊥
 none_in x h = omega (arith, h.1)
 
-head_in : (x : ℕ) (xs : List ℕ) → Contains (x ∷ xs) x
+pub head_in : (x : ℕ) (xs : List ℕ) → Contains (x ∷ xs) x
 head_in x xs = Contains-append_left (x ∷ []) xs x (Contains-push [] x)
 
-tail_in : (y x : ℕ) (xs : List ℕ) → Contains xs x → Contains (y ∷ xs) x
+pub tail_in : (y x : ℕ) (xs : List ℕ) → Contains xs x → Contains (y ∷ xs) x
 tail_in y x xs h = Contains-append_right (y ∷ []) xs x h
 
-in_case : (P : Type 0) (y x : ℕ) (xs : List ℕ) → Contains (y ∷ xs) x → (y ≡ x → P) → (Contains xs x → P) → P
+pub in_case : (P : Type 0) (y x : ℕ) (xs : List ℕ) → Contains (y ∷ xs) x → (y ≡ x → P) → (Contains xs x → P) → P
 in_case P y x xs h here later =
     elim (Contains-append_cases (y ∷ []) xs x h) as (λ _. P) [
       | inl only ↦ elim (Contains-push_cases [] y x only) as (λ _. P) [ inl none ↦ absurd (none_in x none) | inr e ↦ here e ]
       | inr rest ↦ later rest
     ]
 
-all_passes : (p : ℕ → Bool) (xs : List ℕ) (x : ℕ) → list_all p xs ≡ true → Contains xs x → p x ≡ true
+pub all_passes : (p : ℕ → Bool) (xs : List ℕ) (x : ℕ) → list_all p xs ≡ true → Contains xs x → p x ≡ true
 all_passes p [] x all h = absurd (none_in x h)
 all_passes p (y ∷ xs) x all h =
     in_case (p x ≡ true) y x xs h (λ e. subst (λ (z : ℕ). p z ≡ true) e (first_of (p y) (list_all p xs) all)) (λ later. all_passes p xs x (second_of (p y) (list_all p xs) all) later)
@@ -99,7 +99,7 @@ fewer_chains next less of (a ∷ []) is = tt
 fewer_chains next less of (a ∷ b ∷ rest) is = (of a b is.0, fewer_chains next less of (b ∷ rest) is.1)
 
 -- what each slot that includes is of
-all_include : (slots : List Slot) (goal : ℕ → Type 0) → ((x : ℕ) → Contains (map (λ (s : Slot). s.id) (filter includes slots)) x → goal x)
+pub all_include : (slots : List Slot) (goal : ℕ → Type 0) → ((x : ℕ) → Contains (map (λ (s : Slot). s.id) (filter includes slots)) x → goal x)
     → AllByRecursion (λ s. includes s ≡ true → goal s.id) slots
 all_include [] goal of = tt
 all_include (s ∷ slots) goal of = (
@@ -113,7 +113,7 @@ all_include (s ∷ slots) goal of = (
     more true x h = tail_in s.id x (map (λ (q : Slot). q.id) (filter includes slots)) h
     more false x h = h
 
-each_included : (slots : List Slot) (goal : ℕ → Type 0) → AllByRecursion (λ s. includes s ≡ true → goal s.id) slots
+pub each_included : (slots : List Slot) (goal : ℕ → Type 0) → AllByRecursion (λ s. includes s ≡ true → goal s.id) slots
     → (x : ℕ) → Contains (map (λ (s : Slot). s.id) (filter includes slots)) x → goal x
 each_included [] goal all x h = absurd (none_in x h)
 each_included (s ∷ slots) goal all x h = by (includes s) refl h (each_included slots goal all.1 x)
@@ -126,12 +126,12 @@ each_included (s ∷ slots) goal all x h = by (includes s) refl h (each_included
 
 -- ---- what a command changes of the inclusions
 
-value_place : (kind : Kind) (place : Place) (id value : ℕ) → (kind ≡ kinds.ObjectPointer → ⊥) → writes (ChangeNumericValue id value) place kind ≡ true → is_inclusion place ≡ false
+pub value_place : (kind : Kind) (place : Place) (id value : ℕ) → (kind ≡ kinds.ObjectPointer → ⊥) → writes (ChangeNumericValue id value) place kind ≡ true → is_inclusion place ≡ false
 value_place kinds.ObjectPointer places.Value id value never is = absurd (never refl)
 value_place _ places.Value id value never is = absurd cc
 value_place kind _ id value never is = absurd cc
 
-attribute_place : (kind : Kind) (place : Place) → (kind ≡ kinds.ObjectPointer → ⊥) → is_attribute place kind ≡ true → is_inclusion place ≡ false
+pub attribute_place : (kind : Kind) (place : Place) → (kind ≡ kinds.ObjectPointer → ⊥) → is_attribute place kind ≡ true → is_inclusion place ≡ false
 attribute_place kind places.ActiveMask never is = absurd cc
 attribute_place kind places.SoftKeyMask never is = refl
 attribute_place kind (places.Child index) never is = absurd cc
@@ -147,15 +147,15 @@ attribute_place kind places.Pattern never is = refl
 attribute_place kinds.ObjectPointer places.Value never is = absurd (never refl)
 attribute_place _ places.Value never is = absurd cc
 
-pattern_place : (id type colour pattern : ℕ) (place : Place) (kind : Kind) → writes (ChangeFillAttributes id type colour pattern) place kind ≡ true → is_inclusion place ≡ false
+pub pattern_place : (id type colour pattern : ℕ) (place : Place) (kind : Kind) → writes (ChangeFillAttributes id type colour pattern) place kind ≡ true → is_inclusion place ≡ false
 pattern_place id type colour pattern places.Pattern kind is = refl
 pattern_place id type colour pattern _ kind is = absurd cc
 
-mask_place : (set mask : ℕ) (place : Place) (kind : Kind) → writes (ChangeActiveMask set mask) place kind ≡ true → is_inclusion place ≡ false
+pub mask_place : (set mask : ℕ) (place : Place) (kind : Kind) → writes (ChangeActiveMask set mask) place kind ≡ true → is_inclusion place ≡ false
 mask_place set mask places.ActiveMask kind is = refl
 mask_place set mask _ kind is = absurd cc
 
-keys_place : (type mask keys : ℕ) (place : Place) (kind : Kind) → writes (ChangeSoftKeyMask type mask keys) place kind ≡ true → is_inclusion place ≡ false
+pub keys_place : (type mask keys : ℕ) (place : Place) (kind : Kind) → writes (ChangeSoftKeyMask type mask keys) place kind ≡ true → is_inclusion place ≡ false
 keys_place type mask keys places.SoftKeyMask kind is = refl
 keys_place type mask keys _ kind is = absurd cc
 

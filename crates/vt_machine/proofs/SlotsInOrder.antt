@@ -42,14 +42,14 @@ kinds_same m id old new command c = ap (λ (f : Fixed). f.kind) (fixed_same m id
 
 -- ---- a pointer with another value
 
-nat_same : (a b : ℕ) → Some a ≡ Some b → a ≡ b
+pub nat_same : (a b : ℕ) → Some a ≡ Some b → a ≡ b
 nat_same a b e = cc
 
-passed_is : (test : Bool) (error : ℕ) (x new : Seen) → ◌≡◌ {A = Result Seen ℕ} (if_passed test error x) (Ok new) → x ≡ new
+pub passed_is : (test : Bool) (error : ℕ) (x new : Seen) → ◌≡◌ {A = Result Seen ℕ} (if_passed test error x) (Ok new) → x ≡ new
 passed_is true error x new is = cc
 passed_is false error x new is = absurd cc
 
-attribute_of_pointer : (named : Option Kind) (number value : ℕ) (p : ObjectPointer) (new : Seen)
+pub attribute_of_pointer : (named : Option Kind) (number value : ℕ) (p : ObjectPointer) (new : Seen)
     → ◌≡◌ {A = Result Seen ℕ} (change_attribute named number value (objects.ObjectPointer p)) (Ok new) → objects.ObjectPointer (record p { value = word value }) ≡ new
 attribute_of_pointer named zero value p new made = absurd cc
 attribute_of_pointer named (suc zero) value p new made = passed_is _ _ (objects.ObjectPointer (record p { value = word value })) new made

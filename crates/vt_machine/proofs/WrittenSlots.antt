@@ -27,7 +27,7 @@ pub pointer_kind : (o : Seen) (v : ℕ) → pointer_value (Some o) ≡ Some v �
 pointer_kind (objects.ObjectPointer o) v is = refl
 pointer_kind _ v is = absurd cc
 
-kind_pointer : (o : Seen) → kind_of o ≡ kinds.ObjectPointer → pointer_value (Some o) ≡ None → ⊥
+pub kind_pointer : (o : Seen) → kind_of o ≡ kinds.ObjectPointer → pointer_value (Some o) ≡ None → ⊥
 kind_pointer (objects.ObjectPointer o) kind none = absurd cc
 kind_pointer _ kind none = absurd cc
 

@@ -4,3 +4,5 @@ pub mod Effects
 pub mod Machines
 pub mod Soundness
 pub mod Runs
+pub mod Certificates
+pub mod Replacements

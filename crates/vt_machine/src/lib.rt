@@ -6,9 +6,13 @@
 mod attributes;
 mod changes;
 mod effects;
+mod execution;
 mod laws;
+mod levels;
 mod numbers;
+mod pointers;
 mod references;
+mod replacements;
 
 pub use changes::change;
 pub use effects::change_in;

@@ -4,7 +4,7 @@ pub mod Copies
 pub mod Costs
 pub mod Cuts
 pub mod Elements
-mod Places
+pub mod Places
 mod Slots
 mod Greatest
 mod Settling

@@ -1,0 +1,72 @@
+//! What the places that name a pointer allow.
+
+ghost use Rattle.std.specs.Prelude.{◌≡◌, slice_get};
+ghost use Rattle.std.specs.Option.{option_to_list};
+ghost use Rattle.std.specs.List.{list_all, flat_map};
+ghost use Rattle.std.specs.FinMap as finite;
+ghost use Rattle.vt_objects.specs.Records.{seen};
+ghost use Rattle.vt_objects.specs.References.{slots_of};
+ghost use Rattle.vt_machine.specs.Effects as effects;
+ghost use Rattle.vt_machine.specs.Replacements as replacements;
+
+use crate::execution::kind_in;
+use crate::references::is_one_of;
+use vt_objects::{Kind, Object, ObjectId, Slot, Store, slots};
+
+/// A value of a pointer, and the kind of its object, if that is there.
+#[derive(Clone, Copy, Debug, PartialEq, Eq)]
+pub(crate) struct Pointed {
+    /// The pointer.
+    pub(crate) pointer: ObjectId,
+    /// The value.
+    pub(crate) value: ObjectId,
+    /// The kind of the value's object.
+    pub(crate) kind: Option<Kind>,
+}
+
+/// Whether each place that names a pointer allows a value.
+pub(crate) fn places_allow<S: Store>(store: &S, pointer: ObjectId, value: ObjectId) -> bool
+    ensures { result ≡ effects.places_allow (S.contents store.now) pointer value }
+{
+    let kind = kind_in(store, value);
+    let pointed = Pointed {
+        pointer,
+        value,
+        kind,
+    };
+    for place in 0..store.count() {
+        if !entry_allows(store, place, &pointed) {
+            return false;
+        }
+    }
+    true
+}
+
+fn entry_allows<S: Store>(store: &S, place: usize, pointed: &Pointed) -> bool
+    ensures { result ≡ list_all (replacements.slot_allows pointed.now) (flat_map (λ e. slots_of e.1) (option_to_list (slice_get (finite.entries (S.contents store.now)) place))) }
+{
+    match store.entry_at(place) {
+        Some((_, object)) => slots_allow(object, pointed),
+        None => true,
+    }
+}
+
+fn slots_allow(object: &Object<Vec<u8>>, pointed: &Pointed) -> bool
+    ensures { result ≡ list_all (replacements.slot_allows pointed.now) (slots_of (seen object.now)) }
+{
+    for slot in slots(object) {
+        if !slot_allows(&slot, pointed) {
+            return false;
+        }
+    }
+    true
+}
+
+fn slot_allows(slot: &Slot, pointed: &Pointed) -> bool
+    ensures { result ≡ replacements.slot_allows pointed.now slot.now }
+{
+    if slot.id != pointed.pointer || pointed.value.is_null() {
+        return true;
+    }
+    is_one_of(slot.kinds, pointed.kind)
+}
