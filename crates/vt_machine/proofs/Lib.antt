@@ -17,3 +17,5 @@ pub mod Shapes
 pub mod Faultless
 pub mod Running
 pub mod Ready
+pub mod Indexing
+pub mod IndexOrder

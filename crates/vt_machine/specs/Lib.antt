@@ -4,3 +4,4 @@ pub mod Effects
 pub mod Machines
 pub mod Soundness
 pub mod Runs
+pub mod Indexes

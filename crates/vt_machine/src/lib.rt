@@ -6,6 +6,7 @@
 mod attributes;
 mod changes;
 mod effects;
+mod index;
 mod laws;
 mod numbers;
 mod references;
