@@ -21,3 +21,5 @@ pub mod Falling
 pub mod Walking
 pub mod Adding
 pub mod Executing
+pub mod Indexing
+pub mod IndexOrder

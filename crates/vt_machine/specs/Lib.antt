@@ -6,3 +6,4 @@ pub mod Soundness
 pub mod Runs
 pub mod Certificates
 pub mod Replacements
+pub mod Indexes

@@ -7,6 +7,7 @@ mod attributes;
 mod changes;
 mod effects;
 mod execution;
+mod index;
 mod laws;
 mod levels;
 mod numbers;

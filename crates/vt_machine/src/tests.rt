@@ -2,6 +2,7 @@
 
 mod attributes;
 mod children;
+mod indexes;
 mod records;
 mod references;
 mod sizes;

@@ -19,7 +19,7 @@ use Rattle.vt_verify.specs.Rules.{IsFirstOver}
 use Rattle.vt_verify.specs.Rules.IsFirstOver.{Macro, Object}
 use Rattle.vt_verify.specs.TriggerGraphs.{AreTriggers, is_event_of, if_any, if_listed, event_numbers, listed_events, group_of_event}
 use Rattle.vt_objects.proofs.Rising.{three, both_true}
-use Rattle.vt_verify.proofs.Listings.{is_below, rising_shape}
+use Rattle.vt_verify.proofs.ListedEvents.{is_below, rising_shape}
 use Rattle.vt_verify.proofs.Graphs.{groups_at}
 use Rattle.vt_verify.proofs.Costs.{cost_is, group_cost_is, budget_within, costs_within}
 

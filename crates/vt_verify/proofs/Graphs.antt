@@ -19,10 +19,10 @@ use Rattle.vt_verify.specs.Shapes.{Shape, Fixed, fixed_at}
 use Rattle.vt_verify.specs.Macros.{is_macro, commands_of, commands_in, commands}
 use Rattle.vt_verify.specs.Triggers.{listing, row_listings, changes_mask, hidden, masks, is_event, listed, listed_in, triggered_by, triggered}
 use Rattle.vt_verify.specs.Rules.{IsLeastCircle}
-use Rattle.vt_verify.specs.TriggerGraphs.{AreTriggers, is_event_of, has, if_any, if_listed, event_numbers, listed_events, group_of_event, groups_of, command_items}
+use Rattle.vt_verify.specs.TriggerGraphs.{AreTriggers, is_event_of, has, if_any, if_listed, event_numbers, listed_events, group_of_event, groups_of, command_items, AreListings}
 use Rattle.vt_verify.proofs.Passes.{each_of_each}
 use Rattle.vt_objects.proofs.Rising.{both_true}
-use Rattle.vt_verify.proofs.Listings.{tied_same, from, numbers_are}
+use Rattle.vt_verify.proofs.ListedEvents.{tied_same, from, numbers_are}
 
 -- functions that are equal at each place
 pub everywhere : {A B : Type 0} {f h : A → B} → ((x : A) → f x ≡ h x) → f ≡ h
@@ -182,6 +182,17 @@ unfolding items_of
 no_items g n high =
     let short = length-take 256 (lists g.nodes) in
     get_or_past (take 256 (lists g.nodes)) n [] (omega arith)
+
+-- the macros of an event, where the events are those of the pool
+pub listings_are : (shape : Shape) (events : List Listing) (groups : List (List ℕ)) → events ≡ listed_events shape
+    → groups ≡ map (listed shape) (listed_events shape) → AreListings shape (events, groups)
+listings_are shape events groups events_are groups_are q =
+    found_group shape (λ k. slice_index_or groups k []) q 0 events
+    (λ j. let same : 0 + j ≡ j = omega arith in
+    ap (λ (k : ℕ). slice_index_or groups k []) same
+    ∙ ap (λ (gs : List (List ℕ)). slice_index_or gs j []) (groups_are ∙ ap (λ (es : List Listing). map (listed shape) es) (sym events_are)))
+    ∙ ap (λ (events : List Listing). cond (has events q) (listed shape q) []) events_are
+    ∙ unlisted shape q
 
 module _ (shape : Shape) (events : List Listing) (g : Graph) (are : AreTriggers shape events g) where
   pub groups_at : (k : ℕ) → group_of g k ≡ slice_index_or (map (listed shape) events) k []

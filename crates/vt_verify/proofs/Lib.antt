@@ -10,7 +10,7 @@ mod Greatest
 mod Settling
 pub mod FirstOver
 pub mod Graphs
-pub mod Listings
+pub mod ListedEvents
 pub mod Passes
 pub mod Pieces
 pub mod Refusals

@@ -1,5 +1,5 @@
 -- The triggers of macros as a graph, whose groups are the macros that run at events.
-use Rattle.std.specs.Prelude.{◌≡◌, ◌<◌, ℕ, List, [], ◌∷◌, ◌++◌, map, if◌then◌else◌, Option, nat_eq, ◌&&◌, Bool}
+use Rattle.std.specs.Prelude.{◌≡◌, ◌<◌, ℕ, List, [], ◌∷◌, ◌++◌, map, if◌then◌else◌, Option, slice_index_or, nat_eq, ◌&&◌, Bool}
 use Rattle.std.specs.Option.{option_to_list}
 use Rattle.std.specs.List.{flat_map, list_any, position_from}
 use Rattle.vt_objects.specs.declared.command.Command.{Command}
@@ -70,3 +70,17 @@ pub record AreTriggers (shape : Shape) (events : List Listing) (graph : Graph) :
   pub groups : lists graph.groups ≡ map (listed shape) events
   pub nodes : (id : ℕ) → id < 256 → items_of graph id ≡ flat_map (command_items events) (commands shape id)
   pub most : graph.most.items ≡ groups_of events (map (λ mask. listing mask (event_number Hide)) (masks shape))
+
+-- ---- the macros of events
+
+-- events, and the macros of each at its place
+abbrev pub Groups : Type 0
+Groups = List Listing × List (List ℕ)
+
+-- none of an event that is not among them
+abbrev pub macros_of : Groups → Listing → List ℕ
+macros_of groups raised = flat_map (λ group. slice_index_or groups.1 group []) (option_to_list (group_of_event groups.0 raised))
+
+-- at every event the macros that are listed
+abbrev pub AreListings : Shape → Groups → Type 0
+AreListings shape groups = (raised : Listing) → macros_of groups raised ≡ listed shape raised

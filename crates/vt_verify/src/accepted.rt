@@ -1,16 +1,21 @@
 //! Pools that are accepted.
 
-ghost use Rattle.std.specs.Prelude.{◌≡◌, ◌++◌, map, string_bytes, IfOk, OnOk, OnErr};
+ghost use Rattle.std.specs.Prelude.{◌≡◌, ◌++◌, map, Some, is_some, string_bytes, IfOk, OnOk, OnErr, IsTrue};
 ghost use Rattle.std.specs.List.{flat_map};
+ghost use Rattle.vt_objects.specs.Commands.{command_at};
+ghost use Rattle.vt_objects.specs.Pieces.{cut};
 ghost use Rattle.vt_objects.specs.Stores.{shown, AreStored};
 ghost use Rattle.vt_verify.specs.Shapes.{shape_of};
+ghost use Rattle.vt_verify.specs.Macros.{cut_or_none, commands};
+ghost use Rattle.vt_verify.specs.TriggerGraphs.{AreListings};
 ghost use Rattle.vt_verify.specs.Budgets.{CostsAreTotals, budget};
 ghost use Rattle.vt_verify.specs.Orders.{IsByRank};
 ghost use Rattle.vt_verify.specs.Rules.{IsAcceptable, terminal};
 ghost use Rattle.vt_verify.specs.Reports.{report_text, budget_line};
 
 use crate::budgets::Budgets;
-use crate::listing::Listing;
+use crate::listing::{Listing, Listings};
+use crate::triggers::macro_bytes;
 use std::alloc::{AllocError, Global};
 use std::marker::Model;
 use vt_objects::{Object, ObjectId, SortedStore};
@@ -57,6 +62,25 @@ impl Accepted {
         ensures { IsByRank (shape_of self.now) result.now }
     {
         &self.order
+    }
+
+    /// The bytes of a macro: its commands, one after the other. None where no macro of the number is there.
+    pub fn macro_bytes(&self, id: u8) -> &[u8]
+        ensures whole { IsTrue (is_some (cut result.now)) }
+        // Each piece reads as the command that it is.
+        ensures commands { map command_at (cut_or_none result.now) ≡ map Some (commands (shape_of self.now) id) }
+    {
+        match macro_bytes(&self.objects, ObjectId::from_raw(u16::from(id))) {
+            Some(bytes) => bytes,
+            None => &[],
+        }
+    }
+
+    /// Which macros run at the events of the objects, in memory of its own.
+    pub fn listings(&self, alloc: Global) -> Result<Listings, AllocError>
+        ensures { IfOk result (AreListings (shape_of self.now)) }
+    {
+        Listings::of_objects(alloc, &self.objects)
     }
 
     /// How many steps an event of an object can cost at most: 0 where no macro runs at it, and for a number that is no

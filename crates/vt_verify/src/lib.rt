@@ -24,6 +24,7 @@ mod verification;
 pub use accepted::Accepted;
 pub use chains::{Chain, find_depths};
 pub use limits::{Limits, TERMINAL_LIMITS};
+pub use listing::Listings;
 pub use objects::updates_replace;
 pub use refusal::Refusal;
 pub use verification::{

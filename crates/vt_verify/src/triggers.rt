@@ -1,26 +1,23 @@
 //! The triggers of macros, as a graph.
 
-ghost use Rattle.std.specs.Prelude.{◌≡◌, ◌<◌, ◌≤◌, ◌++◌, ◌∷◌, ℕ, [], map, None, IfOk, OnOk, IsTrue, slice_index_or, is_some, false, if◌then◌else◌};
+ghost use Rattle.std.specs.Prelude.{◌≡◌, ◌<◌, ◌++◌, ◌∷◌, ℕ, [], map, None, IfOk, OnOk, IsTrue, slice_index_or, is_some, if◌then◌else◌};
 ghost use Rattle.std.specs.Option.{option_map, option_to_list};
 ghost use Rattle.std.specs.List.{flat_map};
 ghost use Rattle.vt_objects.specs.Events.{event_number};
 ghost use Rattle.vt_objects.specs.Pieces.{cut};
-ghost use Rattle.vt_objects.specs.Records.{seen};
 ghost use Rattle.vt_rank.specs.Graphs.{lists};
-ghost use Rattle.vt_verify.specs.Shapes.{shape_of, fixed, fixed_at};
+ghost use Rattle.vt_verify.specs.Shapes.{shape_of, fixed_at};
 ghost use Rattle.vt_verify.specs.Macros.{bytes_in, macro_command, commands_of, commands};
-ghost use Rattle.vt_verify.specs.Triggers.{listing, listed, listed_in, run_by_name, macros_at, is_mask, masks, changes_mask};
-ghost use Rattle.vt_verify.specs.TriggerGraphs.{AreTriggers, events_in, groups_in, has, if_any, non_empty, listed_events, command_items, group_of_event, groups_of};
+ghost use Rattle.vt_verify.specs.Triggers.{listing, is_mask, masks, changes_mask};
+ghost use Rattle.vt_verify.specs.TriggerGraphs.{AreTriggers, command_items, group_of_event, groups_of};
 ghost use Rattle.vt_verify.specs.Rules as rules;
 
 use crate::commands::{macro_command, named_macro};
-use crate::listing::{LAST_EVENT, Listing};
-use crate::order::put_macro;
+use crate::listing::{Listing, listed_events};
 use indexmap::IndexSet;
 use std::alloc::{AllocError, Global};
 use vt_objects::{
-    Command, Event, Kind, MacroEntry, Object, ObjectId, SortedStore, Store, cut_is_one, row_events,
-    split_command,
+    Command, Event, Kind, ObjectId, SortedStore, Store, cut_is_one, row_events, split_command,
 };
 use vt_rank::{Graph, Item};
 
@@ -37,7 +34,7 @@ impl Triggers {
         requires { rules.cut_short (shape_of objects.now) ≡ None }
         ensures { IfOk result (λ t. AreTriggers (shape_of objects.now) t.events.keys t.graph) }
     {
-        let (events, groups) = listings(alloc, objects)?;
+        let (events, groups) = listed_events(alloc, objects)?;
         let nodes = nodes(alloc, objects, &events)?;
         let most = hidden(alloc, objects, &events)?;
         let graph = Graph {
@@ -47,127 +44,6 @@ impl Triggers {
         };
         Ok(Triggers { events, graph })
     }
-}
-
-/// The events at which macros run, by rising ID and number, and the macros of each.
-fn listings(
-    alloc: Global,
-    objects: &SortedStore,
-) -> Result<(IndexSet<Listing>, Vec<Vec<u8>>), AllocError>
-    ensures events { IfOk result (λ r. r.0.keys ≡ listed_events (shape_of objects.now)) }
-    ensures groups { IfOk result (λ r. lists r.1 ≡ map (listed (shape_of objects.now)) (listed_events (shape_of objects.now))) }
-{
-    let mut events = IndexSet::new(alloc);
-    let mut groups = Vec::new(alloc);
-    for (id, object) in objects.entries() {
-        put_listings(alloc, &mut events, &mut groups, *id, object)?;
-    }
-    Ok((events, groups))
-}
-
-/// Appends the events of an object at which macros run, and the macros of each.
-fn put_listings(
-    alloc: Global,
-    events: &mut IndexSet<Listing>,
-    groups: &mut Vec<Vec<u8>>,
-    id: ObjectId,
-    object: &Object<Vec<u8>>,
-) -> Result<(), AllocError>
-    requires { (event : ℕ) → has events.old.keys (listing id event) ≡ false }
-    ensures events { OnOk result (events.new.keys ≡ events.old.keys ++ events_in id (fixed (seen object.now))) }
-    ensures groups { OnOk result (lists groups.new ≡ lists groups.old ++ groups_in id (fixed (seen object.now))) }
-{
-    let mut event = next_listed(id, object, 0);
-    while event <= LAST_EVENT {
-        put_listing(alloc, events, groups, Listing { id, event }, object)?;
-        event = next_listed(id, object, event + 1);
-    }
-    Ok(())
-}
-
-/// The first event from one on at which macros may run, or one past the last where they run at none of them.
-fn next_listed(id: ObjectId, object: &Object<Vec<u8>>, from: u8) -> u8
-    requires { from ≤ 27 }
-    ensures within { (from ≤ result) × (result ≤ 27) }
-    ensures none_before { (event : ℕ) → from ≤ event → event < result → listed_in event id (fixed (seen object.now)) ≡ [] }
-{
-    if from == 0 && named_macro(id, object).is_some() {
-        return 0;
-    }
-    next_entry(object.macros(), from)
-}
-
-/// The least event of entries from one on, or one past the last where there is none.
-fn next_entry(entries: &[MacroEntry], from: u8) -> u8
-    requires { from ≤ 27 }
-    ensures within { (from ≤ result) × (result ≤ 27) }
-    ensures none_before { (event : ℕ) → from ≤ event → event < result → macros_at event entries.now ≡ [] }
-{
-    let mut next = LAST_EVENT + 1;
-    for entry in entries {
-        if from <= entry.event && entry.event < next {
-            next = entry.event;
-        }
-    }
-    next
-}
-
-/// Appends an event and its macros, where any run.
-fn put_listing(
-    alloc: Global,
-    events: &mut IndexSet<Listing>,
-    groups: &mut Vec<Vec<u8>>,
-    raised: Listing,
-    object: &Object<Vec<u8>>,
-) -> Result<(), AllocError>
-    requires { has events.old.keys raised ≡ false }
-    ensures events { OnOk result (events.new.keys ≡ events.old.keys ++ if_any raised (listed_in raised.event raised.id (fixed (seen object.now)))) }
-    ensures groups { OnOk result (lists groups.new ≡ lists groups.old ++ non_empty (listed_in raised.event raised.id (fixed (seen object.now)))) }
-{
-    let listed = listed_in(alloc, raised.id, raised.event, object)?;
-    if listed.is_empty() {
-        return Ok(());
-    }
-    events.insert(raised)?;
-    groups.push(listed)?;
-    Ok(())
-}
-
-/// The macros that run at an event of an object, in their order.
-fn listed_in(
-    alloc: Global,
-    id: ObjectId,
-    event: u8,
-    object: &Object<Vec<u8>>,
-) -> Result<Vec<u8>, AllocError>
-    ensures { IfOk result (λ macros. macros.items ≡ listed_in event id (fixed (seen object.now))) }
-{
-    match event {
-        0 => run_by_name(alloc, id, object),
-        event => macros_at(alloc, object.macros(), event),
-    }
-}
-
-/// The macro itself, if it is one that can be named.
-fn run_by_name(alloc: Global, id: ObjectId, object: &Object<Vec<u8>>) -> Result<Vec<u8>, AllocError>
-    ensures { IfOk result (λ macros. macros.items ≡ run_by_name id (fixed (seen object.now))) }
-{
-    let mut macros = Vec::new(alloc);
-    put_macro(&mut macros, id, object)?;
-    Ok(macros)
-}
-
-/// The macros that entries list at an event, in their order.
-fn macros_at(alloc: Global, entries: &[MacroEntry], event: u8) -> Result<Vec<u8>, AllocError>
-    ensures { IfOk result (λ macros. macros.items ≡ macros_at event entries.now) }
-{
-    let mut macros = Vec::new(alloc);
-    for entry in entries {
-        if entry.event == event {
-            macros.push(entry.macro_id)?;
-        }
-    }
-    Ok(macros)
 }
 
 /// The items of each macro that may be named.
@@ -220,7 +96,8 @@ fn items_of(
     Ok(items)
 }
 
-fn macro_bytes(objects: &SortedStore, id: ObjectId) -> Option<&[u8]>
+/// The bytes of the macro under an ID, if it is one that may be named.
+pub(crate) fn macro_bytes(objects: &SortedStore, id: ObjectId) -> Option<&[u8]>
     ensures { option_to_list (option_map (λ bytes. bytes.now) result) ≡ flat_map (λ f. option_to_list (bytes_in id f)) (option_to_list (fixed_at (shape_of objects.now) id)) }
 {
     match objects.get(id) {

@@ -102,3 +102,19 @@ fn macros_by_rank(rt: HostRuntime) -> Result<(), Fail> {
     assert_eq!(rt; accepted.by_rank(), [4, 3, 2, 1].as_slice());
     Ok(())
 }
+
+#[test]
+fn macros_of_events(rt: HostRuntime) -> Result<(), Fail> {
+    let bytes = doubling(rt.alloc(), 2)?;
+    let pool = read_pool(rt.alloc(), &bytes)?;
+    let Ok(accepted) = verify(rt.alloc(), &pool) else {
+        return Err(Fail::new("not accepted"));
+    };
+    let listings = accepted.listings(rt.alloc())?;
+    assert_eq!(rt; listings.at(ObjectId::from_raw(302), 11), [2].as_slice());
+    assert!(rt; listings.at(ObjectId::from_raw(302), 12).is_empty());
+    assert!(rt; listings.at(ObjectId::from_raw(999), 11).is_empty());
+    assert_eq!(rt; accepted.macro_bytes(1).len(), 16);
+    assert!(rt; accepted.macro_bytes(3).is_empty());
+    Ok(())
+}

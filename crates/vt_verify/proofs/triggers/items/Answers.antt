@@ -6,7 +6,7 @@ use Rattle.vt_objects.specs.declared.command.Command.{Command}
 use Rattle.vt_verify.specs.Shapes.{shape_of}
 use Rattle.vt_verify.specs.Macros.{commands_of}
 use Rattle.vt_verify.specs.TriggerGraphs.{command_items}
-use Rattle.vt_verify.proofs.Listings.{whole_bytes, commands_found}
+use Rattle.vt_verify.proofs.ListedEvents.{whole_bytes, commands_found}
 use Rattle.vt_verify.proofs.triggers.items.Goals as goal
 
 pub items_of-requires : goal.items_of-requires

@@ -25,7 +25,10 @@ use Rattle.vt_rank.specs.declared.graph.Item.TheVariants as items
 use Rattle.vt_verify.specs.declared.listing.Listing.{Listing}
 use Rattle.vt_verify.specs.Lists.{first_failing}
 use Rattle.vt_verify.specs.Shapes.{Shape, Fixed, fixed, shape_of, fixed_at}
-use Rattle.vt_verify.specs.Macros.{bytes_in, named_macro, macros, is_whole, commands_of, commands}
+use Rattle.vt_objects.specs.declared.command.Command.{Command}
+use Rattle.vt_objects.specs.declared.command.Command.TheVariants.{DeletePool}
+use Rattle.vt_objects.specs.Commands.{command_at}
+use Rattle.vt_verify.specs.Macros.{Piece, bytes_in, named_macro, macros, is_whole, pieces, pieces_of, placed, cut_or_none, is_allowed, but_delete_pool, macro_command, commands_of, commands}
 use Rattle.vt_verify.specs.Triggers.{listing, is_mask, masks, is_event, macros_at, listed, listed_in}
 use Rattle.vt_verify.proofs.Passes.{all_pass, each_of_each}
 use Rattle.vt_verify.proofs.Shapes.{seen_kind}
@@ -95,19 +98,21 @@ module _ {B : Type 0} (events : List Listing) where
 
 -- ---- the macro under an ID is whole, where all are
 
-whole_case : (id : ℕ) (e : ℕ × Fixed) (b : Bool) (rest : Option Fixed) → (b ≡ true → id ≡ e.0) → first_failing is_whole (named_macro e) ≡ None
-    → first_failing is_whole (flat_map (λ f. named_macro (id, f)) (option_to_list rest)) ≡ None
-    → first_failing is_whole (flat_map (λ f. named_macro (id, f)) (option_to_list (cond b (Some e.1) rest))) ≡ None
-whole_case id e true rest alike whole later =
-    ap (first_failing is_whole) (append-nil (named_macro (id, e.1))) ∙ ap (λ (id : ℕ). first_failing is_whole (named_macro (id, e.1))) (alike refl) ∙ whole
-whole_case id e false rest alike whole later = later
+module _ {R : Type 0} (test : R → Bool) (made : ℕ × Fixed → List R) where
+  passing_case : (id : ℕ) (e : ℕ × Fixed) (b : Bool) (rest : Option Fixed) → (b ≡ true → id ≡ e.0) → first_failing test (made e) ≡ None
+      → first_failing test (flat_map (λ f. made (id, f)) (option_to_list rest)) ≡ None
+      → first_failing test (flat_map (λ f. made (id, f)) (option_to_list (cond b (Some e.1) rest))) ≡ None
+  passing_case id e true rest alike pass later =
+      ap (first_failing test) (append-nil (made (id, e.1))) ∙ ap (λ (id : ℕ). first_failing test (made (id, e.1))) (alike refl) ∙ pass
+  passing_case id e false rest alike pass later = later
 
-whole_under : (shape : Shape) (id : ℕ) → first_failing is_whole (macros shape) ≡ None
-    → first_failing is_whole (flat_map (λ f. named_macro (id, f)) (option_to_list (fixed_at shape id))) ≡ None
-whole_under [] id all = refl
-whole_under (e ∷ shape) id all =
-    let parts = all_pass is_whole (named_macro e) (macros shape) all in
-    whole_case id e (eq_by_cmp nat_cmp id e.0) (fixed_at shape id) (tied_same id e.0) parts.0 (whole_under shape id parts.1)
+  -- what is made of the object under an ID passes, where all does
+  passing_under : (shape : Shape) (id : ℕ) → first_failing test (flat_map made shape) ≡ None
+      → first_failing test (flat_map (λ f. made (id, f)) (option_to_list (fixed_at shape id))) ≡ None
+  passing_under [] id all = refl
+  passing_under (e ∷ shape) id all =
+      let parts = all_pass test (made e) (flat_map made shape) all in
+      passing_case id e (eq_by_cmp nat_cmp id e.0) (fixed_at shape id) (tied_same id e.0) parts.0 (passing_under shape id parts.1)
 
 named_bytes : (id : ℕ) (found : Option Fixed)
     → flat_map (λ f. named_macro (id, f)) (option_to_list found)
@@ -127,7 +132,44 @@ whole_bytes shape id found bytes all is some =
     (ap (λ (found : Option (List ℕ)). first_failing is_whole (map (λ bytes. (id, bytes)) (option_to_list found))) (sym some)
     ∙ ap (λ (bs : List (List ℕ)). first_failing is_whole (map (λ bytes. (id, bytes)) bs)) is
     ∙ ap (first_failing is_whole) (sym (named_bytes id (fixed_at shape id)))
-    ∙ whole_under shape id all)
+    ∙ passing_under is_whole named_macro shape id all)
+
+-- ---- and each of its pieces is a command
+
+pieces_under : (shape : Shape) (id : ℕ) (found : Option (List ℕ))
+    → option_to_list found ≡ flat_map (λ f. option_to_list (bytes_in id f)) (option_to_list (fixed_at shape id))
+    → flat_map (λ f. flat_map pieces_of (named_macro (id, f))) (option_to_list (fixed_at shape id)) ≡ flat_map pieces_of (map (λ bytes. (id, bytes)) (option_to_list found))
+pieces_under shape id found is =
+    sym (each_of_each pieces_of (λ (f : Fixed). named_macro (id, f)) (option_to_list (fixed_at shape id)))
+    ∙ ap (flat_map pieces_of) (named_bytes id (fixed_at shape id) ∙ ap (map (λ bytes. (id, bytes))) (sym is))
+
+pub allowed_pieces : (shape : Shape) (id : ℕ) (found : Option (List ℕ)) (bytes : List ℕ) → first_failing is_allowed (pieces shape) ≡ None
+    → option_to_list found ≡ flat_map (λ f. option_to_list (bytes_in id f)) (option_to_list (fixed_at shape id)) → found ≡ Some bytes
+    → first_failing is_allowed (placed id 0 (cut_or_none bytes)) ≡ None
+allowed_pieces shape id found bytes all is some =
+    ap (first_failing is_allowed) (sym (append-nil (placed id 0 (cut_or_none bytes))))
+    ∙ ap (λ (found : Option (List ℕ)). first_failing is_allowed (flat_map pieces_of (map (λ bytes. (id, bytes)) (option_to_list found)))) (sym some)
+    ∙ ap (first_failing is_allowed) (sym (pieces_under shape id found is))
+    ∙ passing_under is_allowed (λ e. flat_map pieces_of (named_macro e)) shape id
+    (ap (first_failing is_allowed) (sym (each_of_each pieces_of named_macro shape)) ∙ all)
+
+allowed_case : (b : Bool) (rest : Option Piece) (p : Piece) → cond b rest (Some p) ≡ None → (b ≡ true) × (rest ≡ None)
+allowed_case true rest p is = (refl, is)
+allowed_case false rest p is = absurd cc
+
+command_case : (c : Option Command) (later : List (Option Command)) (cs : List Command) → is_some (but_delete_pool c) ≡ true → later ≡ map Some cs
+    → c ∷ later ≡ map Some (option_to_list (but_delete_pool c) ++ cs)
+command_case None later cs is rest = absurd cc
+command_case (Some DeletePool) later cs is rest = absurd cc
+command_case (Some c) later cs is rest = ap (λ (l : List (Option Command)). Some c ∷ l) rest
+
+-- where all pieces are allowed, they read as the commands
+pub pieces_read : (id at : ℕ) (ps : List (List ℕ)) → first_failing is_allowed (placed id at ps) ≡ None
+    → map command_at ps ≡ map Some (flat_map (λ piece. option_to_list (macro_command piece)) ps)
+pieces_read id at [] all = refl
+pieces_read id at (p ∷ ps) all =
+    let parts = allowed_case (is_some (macro_command p)) (first_failing is_allowed (placed id (at + length p) ps)) (record { id = id; at = at; bytes = p }) all in
+    command_case (command_at p) (map command_at ps) (flat_map (λ piece. option_to_list (macro_command piece)) ps) parts.0 (pieces_read id (at + length p) ps parts.1)
 
 -- the commands of the macro whose bytes are found
 pub commands_found : (shape : Shape) (id : ℕ) (found : Option (List ℕ))

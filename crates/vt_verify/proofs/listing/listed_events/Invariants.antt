@@ -3,8 +3,8 @@ use Rattle.std.specs.List.{flat_map}
 use Rattle.vt_objects.specs.Stores.{shown}
 use Rattle.vt_rank.specs.Graphs.{lists}
 use Rattle.vt_verify.specs.Shapes.{shape_of}
-use Rattle.vt_verify.proofs.Listings.{events_of, groups_of_events}
-use Rattle.vt_verify.proofs.triggers.listings.Given as goal
+use Rattle.vt_verify.proofs.ListedEvents.{events_of, groups_of_events}
+use Rattle.vt_verify.proofs.listing.listed_events.Given as goal
 
 abbrev pub invariant-loop-id : goal.invariant-loop-id
 invariant-loop-id l =

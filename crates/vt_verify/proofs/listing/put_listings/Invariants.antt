@@ -5,7 +5,7 @@ use Rattle.vt_rank.specs.Graphs.{lists}
 use Rattle.vt_verify.specs.Shapes.{fixed}
 use Rattle.vt_verify.specs.Triggers.{listing, listed_in}
 use Rattle.vt_verify.specs.TriggerGraphs.{has, if_any, non_empty, event_numbers, events_in, groups_in}
-use Rattle.vt_verify.proofs.triggers.put_listings.Given as goal
+use Rattle.vt_verify.proofs.listing.put_listings.Given as goal
 
 abbrev pub invariant-loop-event : goal.invariant-loop-event
 invariant-loop-event l =

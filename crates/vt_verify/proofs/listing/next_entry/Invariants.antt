@@ -1,6 +1,6 @@
 use Rattle.std.proofs.Common.{◌≡◌, ◌≤◌, ◌<◌, ℕ, drop}
 use Rattle.vt_verify.specs.Triggers.{macros_at}
-use Rattle.vt_verify.proofs.triggers.next_entry.Given as goal
+use Rattle.vt_verify.proofs.listing.next_entry.Given as goal
 
 abbrev pub invariant-loop-entry : goal.invariant-loop-entry
 invariant-loop-entry l =
