@@ -21,5 +21,6 @@ pub mod Falling
 pub mod Walking
 pub mod Adding
 pub mod Executing
+pub mod Nesting
 pub mod Indexing
 pub mod IndexOrder

@@ -40,12 +40,12 @@ use Rattle.vt_machine.proofs.Faultless.{all_append, all_flat, all_of, faultless}
 
 -- ---- sums
 
-sums_of_sums : {A B : Type 0} (f : B → ℕ) (h : A → List B) (xs : List A) → sum_by f (flat_map h xs) ≡ sum_by (λ x. sum_by f (h x)) xs
+pub sums_of_sums : {A B : Type 0} (f : B → ℕ) (h : A → List B) (xs : List A) → sum_by f (flat_map h xs) ≡ sum_by (λ x. sum_by f (h x)) xs
 sums_of_sums f h [] = refl
 sums_of_sums f h (x ∷ xs) =
     sum_by-append f (h x) (flat_map h xs) ∙ ap (λ n. sum_by f (h x) + n) (sums_of_sums f h xs) ∙ sym (sum_by-cons (λ x. sum_by f (h x)) x xs)
 
-same_sums : {A : Type 0} (f h : A → ℕ) (xs : List A) → ((x : A) → f x ≡ h x) → sum_by f xs ≡ sum_by h xs
+pub same_sums : {A : Type 0} (f h : A → ℕ) (xs : List A) → ((x : A) → f x ≡ h x) → sum_by f xs ≡ sum_by h xs
 same_sums f h [] equal = refl
 same_sums f h (x ∷ xs) equal =
     sum_by-cons f x xs ∙ ap (λ n. n + sum_by f xs) (equal x) ∙ ap (λ n. h x + n) (same_sums f h xs equal) ∙ sym (sum_by-cons h x xs)
@@ -57,7 +57,7 @@ sum_mapped f g (x ∷ xs) = sum_by-cons f (g x) (map g xs) ∙ ap (λ n. f (g x)
 -- ---- what events cost
 
 -- what the macros of an event cost that is raised
-abbrev raised_cost : Shape → Raised → ℕ
+abbrev pub raised_cost : Shape → Raised → ℕ
 raised_cost shape r = total (cost shape) shape (listing_of r)
 
 joined_cost : (shape : Shape) (event : Listing) → CostsAreTotals shape → sum_by (command_cost (cost shape) shape) (joined shape event) ≡ total (cost shape) shape event
@@ -173,7 +173,7 @@ events_bound m shape command sound is = plain_bound shape (row_events command)
 refused_bound : (shape : Shape) (command : Command) → 0 + 1 ≤ command_cost (cost shape) shape command
 refused_bound shape command = omega arith
 
-raised_bound : (m : Contents) (shape : Shape) (command : Command) → IsSound m → shape_of (finite.entries m) ≡ shape
+pub raised_bound : (m : Contents) (shape : Shape) (command : Command) → IsSound m → shape_of (finite.entries m) ≡ shape
     → sum_by (raised_cost shape) (raised m command) + 1 ≤ command_cost (cost shape) shape command
 unfolding raised
 raised_bound m shape command sound is = by (is_ok (effect m command))
@@ -219,17 +219,17 @@ follow_faultless m shape command is none =
 
 -- ---- the run
 
-no_fault_runs : (shape : Shape) (m : Contents) (command : Command) (next : End) → shape_in m ≡ shape → fault shape command ≡ None
+pub no_fault_runs : (shape : Shape) (m : Contents) (command : Command) (next : End) → shape_in m ≡ shape → fault shape command ≡ None
     → or_sticks (fault (shape_in m) command) m next ≡ next
 no_fault_runs shape m command next is none =
     ap (λ (s : Shape). or_sticks (fault s command) m next) is ∙ ap (λ f. or_sticks f m next) none
 
-run_none : (n : ℕ) (m : Contents) → run n m [] ≡ Ended m n
+pub run_none : (n : ℕ) (m : Contents) → run n m [] ≡ Ended m n
 unfolding run
 run_none zero m = refl
 run_none (suc n) m = refl
 
-run_step : (n : ℕ) (m : Contents) (command : Command) (pending : List Command)
+pub run_step : (n : ℕ) (m : Contents) (command : Command) (pending : List Command)
     → run (suc n) m (command ∷ pending) ≡ or_sticks (fault (shape_in m) command) m (run n (after m command) (follow_ups m command ++ pending))
 unfolding run
 run_step n m command pending = refl
@@ -262,7 +262,7 @@ commands_end shape totals one none (suc n) m (c ∷ cs) is sound faultless le =
 pub one_working_set : (pool : Objects) → IsAcceptable terminal pool → working_sets (shape_of pool) ≡ 1
 one_working_set pool acceptable = omega (arith, IsAcceptable.working_set acceptable, IsAcceptable.one_working_set acceptable)
 
-budget_is : (shape : Shape) (r : Raised) → budget shape (listing_of r).id (listing_of r).event ≡ raised_cost shape r
+pub budget_is : (shape : Shape) (r : Raised) → budget shape (listing_of r).id (listing_of r).event ≡ raised_cost shape r
 unfolding budget
 budget_is shape r = refl
 

@@ -7,3 +7,4 @@ pub mod Runs
 pub mod Certificates
 pub mod Replacements
 pub mod Indexes
+pub mod Nested

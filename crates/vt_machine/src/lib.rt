@@ -12,8 +12,10 @@ mod laws;
 mod levels;
 mod numbers;
 mod pointers;
+mod raising;
 mod references;
 mod replacements;
+mod runs;
 
 pub use changes::change;
 pub use effects::change_in;
