@@ -8,3 +8,4 @@ pub mod Certificates
 pub mod Replacements
 pub mod Indexes
 pub mod Nested
+pub mod Showing
