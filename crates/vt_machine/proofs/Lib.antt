@@ -22,5 +22,6 @@ pub mod Walking
 pub mod Adding
 pub mod Executing
 pub mod Nesting
+pub mod Living
 pub mod Indexing
 pub mod IndexOrder

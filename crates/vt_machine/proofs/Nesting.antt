@@ -241,7 +241,7 @@ piece_ran index old pieces i j k next d now new levels then running lt ran is =
 
 -- ---- a command
 
-after_can : (index : Index) (m : Contents) (levels then : Levels) (command : Command) (new : Contents) → CanRun index m levels → new ≡ after m command → AreLevels new then → CanRun index new then
+pub after_can : (index : Index) (m : Contents) (levels then : Levels) (command : Command) (new : Contents) → CanRun index m levels → new ≡ after m command → AreLevels new then → CanRun index new then
 after_can index m levels then command new can is are =
     let same : shape_in new ≡ shape_in m = ap shape_in is ∙ shapes_stay m command in
     record {

@@ -10,6 +10,7 @@ mod execution;
 mod index;
 mod laws;
 mod levels;
+mod live;
 mod numbers;
 mod pointers;
 mod raising;

@@ -1,0 +1,108 @@
+-- What calls on a working set begin with, and what they leave.
+use Rattle.std.proofs.Common.{◌≡◌, ◌≤◌, ◌<◌, ◌+◌, ◌-◌, ◌*◌, ◌++◌, ℕ, zero, suc, List, [], ◌∷◌, map, length, sum_by, Option, Some, None, Result, Ok, Err, refl, sym, ap, subst, ◌∙◌, arith}
+use Rattle.std.proofs.lemmas.List.Sums.{sum_by-cons}
+use Rattle.std.proofs.lemmas.Cmp.{nat_cmp_total}
+use Rattle.std.specs.List.{AllByRecursion}
+use Rattle.std.specs.FinMap as finite
+use Rattle.vt_objects.specs.declared.command.Command.{Command}
+use Rattle.vt_objects.specs.declared.object.Object.{Object}
+use Rattle.vt_objects.specs.declared.raising.Raised.{Raised}
+use Rattle.vt_objects.specs.Stores.{Contents, Objects, AreStored, shown, map_of, contents_of}
+use Rattle.vt_objects.proofs.Stored.{get_from}
+use Rattle.vt_verify.specs.Macros.{commands}
+use Rattle.vt_verify.specs.Shapes.{Shape, shape_of}
+use Rattle.vt_verify.specs.Budgets.{CostsAreTotals, budget}
+use Rattle.vt_verify.specs.Depths.{IsClosed, ids_of, inclusions_of}
+use Rattle.vt_verify.specs.Inclusions.{IsShallow}
+use Rattle.vt_verify.specs.Rules.{IsAcceptable, IsWithinBudget, terminal}
+use Rattle.vt_verify.specs.Triggers.{listing_of}
+use Rattle.vt_verify.proofs.Closing.{closed_store}
+use Rattle.vt_machine.specs.declared.index.Index.{Index}
+use Rattle.vt_machine.specs.declared.levels.Levels.{Levels}
+use Rattle.vt_machine.specs.Certificates.{AreLevels}
+use Rattle.vt_machine.specs.Changes.{Answers, left}
+use Rattle.vt_machine.specs.Effects.{effect, after}
+use Rattle.vt_machine.specs.Indexes.{IsIndexOf}
+use Rattle.vt_machine.specs.Lives.{HasRun, IsDone}
+use Rattle.vt_machine.specs.Machines.{fault, shape_in, events_of, joined_all, total_budget, run, Ended}
+use Rattle.vt_machine.specs.Nested.{CanRun, HaveRun}
+use Rattle.vt_machine.specs.Runs.{IsReady}
+use Rattle.vt_machine.proofs.Executing.{answered}
+use Rattle.vt_machine.proofs.Faultless.{faultless}
+use Rattle.vt_machine.proofs.Nesting.{after_can}
+use Rattle.vt_machine.proofs.Ready.{pools_are_ready}
+use Rattle.vt_machine.proofs.Running.{run_none}
+
+-- ---- the store of an accepted pool
+
+pub stored_is : {B : Type 0} (es : List (ℕ × Object B)) (pool : Objects) → map shown es ≡ pool → AreStored pool → contents_of es ≡ map_of pool
+stored_is es pool is stored =
+    ap (λ (s : Objects). finite.from_entries s) is
+    ∙ finite.same_map nat_cmp_total finite.nat_cmp-IsAntisymmetric (finite.from_entries pool) (map_of pool)
+    (λ q. finite.get-from_entries nat_cmp_total pool q ∙ sym (get_from pool q stored.rising))
+
+pub stored_closed : (m : Contents) (pool : Objects) → m ≡ map_of pool → AreStored pool → IsAcceptable terminal pool → IsClosed (ids_of m) (inclusions_of m)
+stored_closed m pool is stored acceptable =
+    subst (λ (n : Contents). IsClosed (ids_of n) (inclusions_of n)) (sym is) (closed_store pool stored.rising acceptable.references_there)
+
+pub stored_shallow : (m : Contents) (pool : Objects) → m ≡ map_of pool → AreStored pool → IsAcceptable terminal pool → IsShallow terminal.inclusions (inclusions_of m)
+stored_shallow m pool is stored acceptable =
+    subst (λ (n : Contents). IsShallow terminal.inclusions (inclusions_of n)) (sym is) (pools_are_ready pool stored acceptable).sound.shallow
+
+pub stored_runs : (m : Contents) (pool : Objects) (index : Index) (levels : Levels) → m ≡ map_of pool → AreStored pool → IsAcceptable terminal pool → CostsAreTotals (shape_of pool)
+    → IsIndexOf (shape_of pool) index → AreLevels m levels → CanRun index m levels
+stored_runs m pool index levels is stored acceptable totals indexed levelled =
+    let ready : IsReady pool m = subst (IsReady pool) (sym is) (pools_are_ready pool stored acceptable) in
+    let same : shape_of pool ≡ shape_in m = sym ready.shape in
+    record {
+      indexed = subst (λ (s : Shape). IsIndexOf s index) same indexed;
+      levelled = levelled;
+      sound = ready.sound;
+      working_set = ready.working_set;
+      totals = subst CostsAreTotals same totals;
+      within = subst (IsWithinBudget terminal.steps) same acceptable.within_budget;
+      faultless = λ id. subst (λ (s : Shape). AllByRecursion (λ command. fault s command ≡ None) (commands s id)) same (faultless pool id acceptable);
+    }
+
+-- ---- runs
+
+nothing_behind : {A : Type 0} (xs : List A) → xs ++ [] ≡ xs
+nothing_behind [] = refl
+nothing_behind (x ∷ xs) = ap (λ ys. x ∷ ys) (nothing_behind xs)
+
+pub has_run : (index : Index) (old : Contents) (front : List Command) (most steps : ℕ) (new : Contents) (levels : Levels) → HaveRun index old front most steps new levels
+    → HasRun old front most steps new
+has_run index old front most steps new levels ran =
+    let le = ran.within in
+    record {
+      ended = ap (λ (n : ℕ). run n old front) (omega (arith, le)) ∙ ap (run (steps + (most - steps)) old) (sym (nothing_behind front))
+          ∙ ran.leads [] (most - steps) ∙ run_none (most - steps) new;
+      within = ran.within;
+      sound = ran.can.sound;
+      shape = ran.shape;
+    }
+
+-- ---- commands
+
+events_within : (shape : Shape) (raised : List Raised) → IsWithinBudget terminal.steps shape → total_budget shape raised ≤ 1000000 * length raised
+events_within shape [] within = omega arith
+events_within shape (r ∷ raised) within =
+    let one = within.budgets (listing_of r).id (listing_of r).event in
+    let rest = events_within shape raised within in
+    let all = sum_by-cons (λ (e : Raised). budget shape (listing_of e).id (listing_of e).event) r raised in
+    omega (arith, one, rest, all)
+
+pub events_small : (index : Index) (m : Contents) (levels : Levels) (raised : List Raised) → CanRun index m levels → length raised ≤ 3 → total_budget (shape_in m) raised < 4294967296
+events_small index m levels raised can few = let le = events_within (shape_in m) raised can.within in omega (arith, le, few)
+
+pub is_done : (index : Index) (m new last : Contents) (levels then : Levels) (command : Command) (raised : List Raised) (k : ℕ) → raised ≡ events_of m command
+    → Answers (Ok tt) (effect m command) → new ≡ after m command
+    → HaveRun index new (joined_all (shape_in new) raised) (total_budget (shape_in new) raised) k last then → IsDone m command (k + 1) last
+is_done index m new last levels then command raised k of ok is ran = record {
+  middle = new;
+  done = answered (effect m command) m ok ∙ ap Ok (sym is);
+  run_steps = k;
+  steps_are = refl;
+  has_run = has_run index new (joined_all (shape_in new) (events_of m command)) (total_budget (shape_in new) (events_of m command)) k last then
+      (subst (λ (r : List Raised). HaveRun index new (joined_all (shape_in new) r) (total_budget (shape_in new) r) k last then) of ran);
+}

@@ -1,0 +1,22 @@
+use Rattle.std.proofs.Common.{◌∙◌, ◌+◌, ap, subst}
+use Rattle.vt_objects.specs.Stores.{Contents}
+use Rattle.vt_machine.specs.Lives.{IsDone}
+use Rattle.vt_machine.proofs.Living.{events_small, is_done}
+use Rattle.vt_machine.proofs.Nesting.{after_can}
+use Rattle.vt_machine.proofs.live.Live.apply.Goals as goal
+
+pub raise_all-steps-requires-clause-can : goal.raise_all-steps-requires-clause-can
+raise_all-steps-requires-clause-can g c =
+    after_can c.self.inside.index (g.S.Store.contents c.self.inside.store) c.self.inside.levels c.execute.new.levels c.args.command.now (g.S.Store.contents c.execute.new.store)
+    c.self.invariant c.execute.ensures.objects c.execute.ensures.levels
+
+pub raise_all-steps-requires-clause-small : goal.raise_all-steps-requires-clause-small
+raise_all-steps-requires-clause-small g c =
+    events_small c.self.inside.index (g.S.Store.contents c.execute.new.store) c.execute.new.levels c.deref.result.now (raise_all-steps-requires-clause-can g c) c.deref.ensures.1
+
+pub returns-in-Ok-clause-applied : goal.returns-in-Ok-clause-applied
+returns-in-Ok-clause-applied g c =
+    subst (λ (o : Contents). IsDone o c.args.command.now (c.raise_all-steps.result + 1) (g.S.Store.contents c.raise_all-steps.new.store)) (ap (λ s. s.objects) c.self.view_is)
+    (is_done c.self.inside.index (g.S.Store.contents c.self.inside.store) (g.S.Store.contents c.execute.new.store) (g.S.Store.contents c.raise_all-steps.new.store)
+    c.execute.new.levels c.raise_all-steps.new.levels c.args.command.now c.deref.result.now c.raise_all-steps.result (c.deref.ensures.0 ∙ c.events_of-raised.ensures)
+    c.in-Ok.ensures.result c.execute.ensures.objects c.raise_all-steps.ensures)

@@ -1,0 +1,95 @@
+-- A working set with its object pool: its objects, the key that is held, and the input that is selected, and what calls on it do
+-- (docs/PROFILE.md, "Runs", "Steps").
+use denote.RattleType.{RattleType}
+use Rattle.std.specs.Prelude.{◌≡◌, ◌≤◌, ◌+◌, ◌-◌, ℕ, Bool, false, ◌==◌, if◌then◌else◌, List, Option, Some, None, Result, Ok, Err, refl}
+use Rattle.std.specs.Coded.{Coded, code_by, coded×, coded_option, coded_ℕ}
+use Rattle.std.specs.FinMap as map
+use Rattle.vt_objects.specs.contracts.macro_bytes.MacroBytes as macro_bytes
+use Rattle.vt_objects.specs.contracts.object.Object as object
+use Rattle.vt_objects.specs.declared.object.Object.TheVariants as objects
+use Rattle.vt_objects.specs.declared.command.Command.{Command}
+use Rattle.vt_objects.specs.declared.kind.Kind.{Kind}
+use Rattle.vt_objects.specs.Kinds.{kind_number}
+use Rattle.vt_objects.specs.Records.{Seen}
+use Rattle.vt_objects.specs.Rows.{bytes_row}
+use Rattle.vt_objects.specs.Stores.{Contents}
+use Rattle.vt_machine.specs.contracts.live.HeldKey as held_key
+use Rattle.vt_machine.specs.declared.live.HeldKey.{HeldKey}
+use Rattle.vt_machine.specs.declared.live.Outcome.{Outcome}
+use Rattle.vt_machine.specs.declared.live.Outcome.TheVariants.{Done, Refused}
+use Rattle.vt_machine.specs.Effects.{effect, kind_in}
+use Rattle.vt_machine.specs.Machines.{Ended, shape_in, run, joined_all, total_budget, events_of}
+use Rattle.vt_machine.specs.Soundness.{IsSound}
+
+-- a working set's objects, the key held with the mask of its press, and the input selected
+pub record SetState : Type 0 where
+  pub objects : Contents
+  pub key : Option HeldKey
+  pub input : Option ℕ
+
+abbrev pub seen_row : RattleType
+seen_row = object.the_row (macro_bytes.the_row bytes_row (record { items = λ v. v.items })) (record { items = λ v. v })
+
+abbrev pub state_code : Coded SetState
+state_code =
+    code_by (Contents × (Option HeldKey × Option ℕ))
+    (coded× (map.code coded_ℕ seen_row.coded) (coded× (coded_option held_key.the_row.coded) (coded_option coded_ℕ)))
+    (λ s. (s.objects, (s.key, s.input)))
+    (λ p. record { objects = p.0; key = p.1.0; input = p.1.1 })
+    (λ _. refl)
+
+-- with other objects
+abbrev pub with_objects : SetState → Contents → SetState
+with_objects state new = record state { objects = new }
+
+-- ---- what runs leave
+
+-- Commands have run on objects, in so many steps and at most in so many as were left to them. The run ended without sticking, the
+-- references and chains are in order, and no kind, no macro entry and no macro byte is another one.
+pub record HasRun (old : Contents) (commands : List Command) (most steps : ℕ) (new : Contents) : Type 0 where
+  pub ended : run most old commands ≡ Ended new (most - steps)
+  pub within : steps ≤ most
+  pub sound : IsSound new
+  pub shape : shape_in new ≡ shape_in old
+
+-- ---- commands
+
+-- A command that is done has the effect that it has, and then the macros of the events that it raises run: its own step, and theirs.
+pub record IsDone (old : Contents) (command : Command) (steps : ℕ) (new : Contents) : Type 0 where
+  pub middle : Contents
+  pub done : effect old command ≡ Ok middle
+  pub run_steps : ℕ
+  pub steps_are : steps ≡ run_steps + 1
+  pub has_run : HasRun middle (joined_all (shape_in middle) (events_of old command)) (total_budget (shape_in middle) (events_of old command)) run_steps new
+
+-- A command that is refused has an error byte, and changes nothing.
+pub record IsRefused (old : Contents) (command : Command) (bits : ℕ) (new : Contents) : Type 0 where
+  pub refused : ◌≡◌ {A = Result Contents ℕ} (effect old command) (Err bits)
+  pub same : new ≡ old
+
+abbrev pub Applied : Contents → Command → Outcome → Contents → Type 0
+Applied old command (Done steps) new = IsDone old command steps new
+Applied old command (Refused bits) new = IsRefused old command bits new
+
+-- ---- updates
+
+-- both are there, of one kind
+abbrev pub same_kind : Option Kind → Option Kind → Bool
+same_kind (Some kind) (Some other) = kind_number kind == kind_number other
+same_kind _ _ = false
+
+-- what was held or selected stays so where the object of its ID is of the kind that it was of
+abbrev pub is_kept : Contents → Contents → ℕ → Bool
+is_kept old new id = same_kind (kind_in old id) (kind_in new id)
+
+abbrev pub kept_key : Contents → Contents → Option HeldKey → Option HeldKey
+kept_key old new None = None
+kept_key old new (Some key) = if is_kept old new key.id then Some key else None
+
+abbrev pub kept_input : Contents → Contents → Option ℕ → Option ℕ
+kept_input old new None = None
+kept_input old new (Some input) = if is_kept old new input then Some input else None
+
+-- the working set with other objects
+abbrev pub renewed : SetState → Contents → SetState
+renewed state new = record { objects = new; key = kept_key state.objects new state.key; input = kept_input state.objects new state.input }

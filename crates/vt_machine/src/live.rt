@@ -1,0 +1,127 @@
+//! A working set with its object pool, and the event machine that runs on it.
+
+ghost use Rattle.std.specs.Prelude.{◌≡◌, None, IfOk};
+ghost use Rattle.std.specs.Option.{option_map};
+ghost use Rattle.std.specs.FinMap as finite;
+ghost use Rattle.vt_objects.specs.Records.{seen};
+ghost use Rattle.vt_objects.specs.Stores.{map_of};
+ghost use Rattle.vt_verify.specs.Budgets.{budget};
+ghost use Rattle.vt_verify.specs.Triggers.{listing};
+ghost use Rattle.vt_machine.specs.Machines.{shape_in, joined};
+ghost use Rattle.vt_machine.specs.Soundness.{IsSound};
+ghost use Rattle.vt_machine.specs.Lives.{SetState, HasRun, Applied, with_objects, renewed};
+
+use crate::execution::{execute, kind_in};
+use crate::index::Index;
+use crate::levels::Levels;
+use crate::raising::events_of;
+use crate::runs::{raise, raise_all};
+use std::alloc::{AllocError, Global};
+use std::marker::Model;
+use vt_objects::{Command, Object, ObjectId, Store};
+use vt_verify::Accepted;
+
+/// The key that an operator holds.
+#[derive(Clone, Copy, Debug, PartialEq, Eq)]
+pub(crate) struct HeldKey {
+    /// The Key or Button.
+    pub(crate) id: ObjectId,
+    /// The mask that was active at its press.
+    pub(crate) mask: ObjectId,
+}
+
+/// What a command came to.
+#[derive(Clone, Copy, Debug, PartialEq, Eq)]
+pub enum Outcome {
+    /// It was done, in so many steps: its own, and one for each command of the macros that it set off.
+    Done {
+        steps: u32,
+    },
+    /// It was refused, with this error byte, and nothing was changed.
+    Refused {
+        bits: u8,
+    },
+}
+
+/// The object pool of a working set as it is now, with the key that is held and the input that is selected. Its macros run to
+/// their ends: every call ends within the steps that the pool's report prints. Only `new` and `renew` take memory
+/// (ISO 11783-6; docs/PROFILE.md, "Runs", "Steps").
+#[derive(Drop)]
+pub struct Live<S: Store> {
+    store: S,
+    levels: Levels,
+    index: Index,
+    key: Option<HeldKey>,
+    input: Option<ObjectId>,
+}
+
+impl<S: Store> Model for Live<S> {
+    ghost use Rattle.vt_machine.specs.Lives.{SetState, state_code};
+    ghost use Rattle.vt_machine.specs.Nested.{CanRun};
+
+    ghost Value = { SetState };
+
+    ghost coded = { state_code };
+
+    ghost view = { λ a. record { objects = S.contents a.store; key = a.key; input = a.input } };
+
+    ghost invariant = { λ a. CanRun a.index (S.contents a.store) a.levels };
+}
+
+impl<S: Store> Live<S> {
+    /// A working set with the objects of an accepted pool. No key is held, and no input is selected.
+    pub fn new(alloc: Global, accepted: &Accepted) -> Result<Live<S>, AllocError>
+        ensures { IfOk result (λ live. live ≡ record { objects = map_of accepted.now; key = None; input = None }) }
+    {
+        let store = S::from_objects(alloc, accepted.objects())?;
+        let levels = Levels::of_store(alloc, &store)?;
+        let index = Index::new(alloc, accepted)?;
+        Ok(Live {
+            store,
+            levels,
+            index,
+            key: None,
+            input: None,
+        })
+    }
+
+    /// The objects.
+    pub fn store(&self) -> &S
+        ensures objects { S.contents result.now ≡ self.now.objects }
+        // Their references and chains are in order.
+        ensures sound { IsSound self.now.objects }
+    {
+        &self.store
+    }
+
+    /// The object of an ID, if it is there.
+    pub fn get(&self, id: ObjectId) -> Option<&Object<Vec<u8>>>
+        ensures { option_map (λ o. seen o.now) result ≡ finite.get self.now.objects id }
+    {
+        self.store.get(id)
+    }
+
+    /// Raises an event of an object, by its number: runs the macros that are listed for it, and those of the events that their
+    /// commands raise, and answers how many steps that took. None are listed for what is not there.
+    pub fn raise(&mut self, id: ObjectId, event: u8) -> u32
+        ensures run { HasRun self.old.objects (joined (shape_in self.old.objects) (listing id event)) (budget (shape_in self.old.objects) id event) result self.new.objects }
+        ensures kept { self.new ≡ with_objects self.old self.new.objects }
+    {
+        raise(&self.index, &mut self.store, &mut self.levels, id, event)
+    }
+
+    /// Does a command, and runs the macros of the events that it raises.
+    pub fn apply(&mut self, command: &Command<'_>) -> Outcome
+        ensures applied { Applied self.old.objects command.now result self.new.objects }
+        ensures kept { self.new ≡ with_objects self.old self.new.objects }
+    {
+        let raised = events_of(&self.store, command);
+        match execute(&mut self.store, &mut self.levels, command) {
+            Ok(()) => {
+                let steps = raise_all(&self.index, &mut self.store, &mut self.levels, &raised);
+                Outcome::Done { steps: steps + 1 }
+            }
+            Err(bits) => Outcome::Refused { bits },
+        }
+    }
+}
