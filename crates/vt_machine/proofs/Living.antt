@@ -1,27 +1,33 @@
 -- What calls on a working set begin with, and what they leave.
-use Rattle.std.proofs.Common.{◌≡◌, ◌≤◌, ◌<◌, ◌+◌, ◌-◌, ◌*◌, ◌++◌, ℕ, zero, suc, List, [], ◌∷◌, map, length, sum_by, Option, Some, None, Result, Ok, Err, refl, sym, ap, subst, ◌∙◌, arith}
+use Rattle.std.proofs.Common.{◌≡◌, ◌≤◌, ◌<◌, ◌+◌, ◌-◌, ◌*◌, ◌++◌, ℕ, zero, suc, List, [], ◌∷◌, map, length, slice_get, slice_index_or, sum_by, true, Option, Some, None, Result, Ok, Err, refl, sym, ap, subst, ◌∙◌, arith}
 use Rattle.std.proofs.lemmas.List.Sums.{sum_by-cons}
 use Rattle.std.proofs.lemmas.Cmp.{nat_cmp_total}
 use Rattle.std.specs.List.{AllByRecursion}
+use Rattle.std.specs.Option.{option_map}
 use Rattle.std.specs.FinMap as finite
+use Rattle.vt_objects.specs.declared.kind.Kind.{Kind}
+use Rattle.vt_objects.specs.declared.kind.Kind.TheVariants as kinds
 use Rattle.vt_objects.specs.declared.command.Command.{Command}
 use Rattle.vt_objects.specs.declared.object.Object.{Object}
 use Rattle.vt_objects.specs.declared.raising.Raised.{Raised}
-use Rattle.vt_objects.specs.Stores.{Contents, Objects, AreStored, shown, map_of, contents_of}
+use Rattle.vt_objects.specs.Records.{seen, kind_of}
+use Rattle.vt_objects.specs.Stores.{Contents, Objects, AreStored, shown, object_at, map_of, contents_of}
 use Rattle.vt_objects.proofs.Stored.{get_from}
 use Rattle.vt_verify.specs.Macros.{commands}
-use Rattle.vt_verify.specs.Shapes.{Shape, shape_of}
+use Rattle.vt_verify.specs.Shapes.{Shape, shape_of, kind_at}
 use Rattle.vt_verify.specs.Budgets.{CostsAreTotals, budget}
 use Rattle.vt_verify.specs.Depths.{IsClosed, ids_of, inclusions_of}
 use Rattle.vt_verify.specs.Inclusions.{IsShallow}
-use Rattle.vt_verify.specs.Rules.{IsAcceptable, IsWithinBudget, terminal}
+use Rattle.vt_verify.specs.Rules.{IsAcceptable, IsWithinBudget, is_working_set, terminal}
 use Rattle.vt_verify.specs.Triggers.{listing_of}
 use Rattle.vt_verify.proofs.Closing.{closed_store}
+use Rattle.vt_verify.proofs.Places.{found_at}
+use Rattle.vt_verify.proofs.Shapes.{kind_found, seen_kind}
 use Rattle.vt_machine.specs.declared.index.Index.{Index}
 use Rattle.vt_machine.specs.declared.levels.Levels.{Levels}
 use Rattle.vt_machine.specs.Certificates.{AreLevels}
 use Rattle.vt_machine.specs.Changes.{Answers, left}
-use Rattle.vt_machine.specs.Effects.{effect, after}
+use Rattle.vt_machine.specs.Effects.{kind_in, effect, after}
 use Rattle.vt_machine.specs.Indexes.{IsIndexOf}
 use Rattle.vt_machine.specs.Lives.{HasRun, IsDone}
 use Rattle.vt_machine.specs.Machines.{fault, shape_in, events_of, joined_all, total_budget, run, Ended}
@@ -32,6 +38,7 @@ use Rattle.vt_machine.proofs.Faultless.{faultless}
 use Rattle.vt_machine.proofs.Nesting.{after_can}
 use Rattle.vt_machine.proofs.Ready.{pools_are_ready}
 use Rattle.vt_machine.proofs.Running.{run_none}
+use Rattle.vt_machine.proofs.Shapes.{shapes_stay}
 
 -- ---- the store of an accepted pool
 
@@ -106,3 +113,35 @@ is_done index m new last levels then command raised k of ok is ran = record {
   has_run = has_run index new (joined_all (shape_in new) (events_of m command)) (total_budget (shape_in new) (events_of m command)) k last then
       (subst (λ (r : List Raised). HaveRun index new (joined_all (shape_in new) r) (total_budget (shape_in new) r) k last then) of ran);
 }
+
+-- ---- the working set
+
+pub kind_stays : (a b : Contents) (id : ℕ) → shape_in a ≡ shape_in b → kind_in a id ≡ kind_in b id
+unfolding shape_in
+kind_stays a b id same =
+    ap (option_map kind_of) (finite.get-entries a id) ∙ sym (kind_found (finite.entries a) id) ∙ ap (λ (s : Shape). kind_at s id) same
+    ∙ kind_found (finite.entries b) id ∙ sym (ap (option_map kind_of) (finite.get-entries b id))
+
+placed_at : {B : Type 0} (es : List (ℕ × Object B)) (place : ℕ) (e d : ℕ × Object B) → e ≡ slice_index_or es place d → place < length es
+    → slice_get (map shown es) place ≡ Some (shown e)
+placed_at [] place e d is lt = absurd (omega (arith, lt))
+placed_at (x ∷ es) zero e d is lt = ap (λ y. Some (shown y)) (sym is)
+placed_at (x ∷ es) (suc place) e d is lt = placed_at es place e d is (omega (arith, lt))
+
+pub set_found : {B : Type 0} (es : List (ℕ × Object B)) (place : ℕ) (e d : ℕ × Object B) → e ≡ slice_index_or es place d → place < length es → AreStored (map shown es)
+    → is_working_set (kind_of e.1) ≡ true → option_map kind_of (object_at (map shown es) e.0) ≡ Some kinds.WorkingSet
+set_found es place e d is lt stored set =
+    ap (option_map kind_of) (found_at (map shown es) place e.0 (seen e.1) stored.rising (placed_at es place e d is lt)) ∙ ap Some (seen_kind e.1 ∙ set_kind (kind_of e.1) set)
+  where
+    set_kind : (k : Kind) → is_working_set k ≡ true → k ≡ kinds.WorkingSet
+    set_kind kinds.WorkingSet is = refl
+    set_kind _ is = absurd cc
+
+pub stored_set : {B : Type 0} (m : Contents) (es : List (ℕ × Object B)) (pool : Objects) (id : ℕ) → m ≡ map_of pool → map shown es ≡ pool → AreStored pool
+    → option_map kind_of (object_at (map shown es) id) ≡ Some kinds.WorkingSet → kind_in m id ≡ Some kinds.WorkingSet
+stored_set m es pool id is all stored set =
+    ap (λ (n : Contents). kind_in n id) is ∙ ap (option_map kind_of) (get_from pool id stored.rising)
+    ∙ ap (λ (s : Objects). option_map kind_of (object_at s id)) (sym all) ∙ set
+
+pub after_shape : (m new : Contents) (command : Command) → new ≡ after m command → shape_in new ≡ shape_in m
+after_shape m new command is = ap shape_in is ∙ shapes_stay m command

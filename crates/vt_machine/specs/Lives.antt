@@ -9,6 +9,7 @@ use Rattle.vt_objects.specs.contracts.object.Object as object
 use Rattle.vt_objects.specs.declared.object.Object.TheVariants as objects
 use Rattle.vt_objects.specs.declared.command.Command.{Command}
 use Rattle.vt_objects.specs.declared.kind.Kind.{Kind}
+use Rattle.vt_objects.specs.declared.kind.Kind.TheVariants as kinds
 use Rattle.vt_objects.specs.Kinds.{kind_number}
 use Rattle.vt_objects.specs.Records.{Seen}
 use Rattle.vt_objects.specs.Rows.{bytes_row}
@@ -18,7 +19,7 @@ use Rattle.vt_machine.specs.declared.live.HeldKey.{HeldKey}
 use Rattle.vt_machine.specs.declared.live.Outcome.{Outcome}
 use Rattle.vt_machine.specs.declared.live.Outcome.TheVariants.{Done, Refused}
 use Rattle.vt_machine.specs.Effects.{effect, kind_in}
-use Rattle.vt_machine.specs.Machines.{Ended, shape_in, run, joined_all, total_budget, events_of}
+use Rattle.vt_machine.specs.Machines.{Ended, shape_in, mask_of, run, joined_all, total_budget, events_of}
 use Rattle.vt_machine.specs.Soundness.{IsSound}
 
 -- a working set's objects, the key held with the mask of its press, and the input selected
@@ -41,6 +42,10 @@ state_code =
 -- with other objects
 abbrev pub with_objects : SetState → Contents → SetState
 with_objects state new = record state { objects = new }
+
+-- the active mask of the working set
+abbrev pub IsActive : Contents → ℕ → Type 0
+IsActive store mask = (set : ℕ) × (kind_in store set ≡ Some kinds.WorkingSet) × (mask_of (map.get store set) ≡ mask)
 
 -- ---- what runs leave
 

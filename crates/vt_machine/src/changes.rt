@@ -26,7 +26,7 @@ use vt_objects::{Child, Command, Kind, Object};
 /// Makes of an object what a command says, where the command is for this object. `named` is the kind of the object of the
 /// other ID that the command names, if that is there. A refusal is the error byte of the command's reply, with the bit of the
 /// first test that fails, and leaves the object as it was (ISO 11783-6; docs/PROFILE.md, "Commands: all rows").
-pub fn change(
+pub(crate) fn change(
     object: &mut Object<Vec<u8>>,
     command: &Command<'_>,
     named: Option<Kind>,

@@ -12,7 +12,7 @@ use vt_objects::{Command, Kind, ObjectId, Store};
 /// Does a command on the objects of a store, but for what a pointer's new value and a list's new item have to meet besides.
 /// `named` is the kind of the object of the other ID that the command names, if that is there. A refusal is the error byte of
 /// the command's reply, and changes nothing.
-pub fn change_in<S: Store>(
+pub(crate) fn change_in<S: Store>(
     store: &mut S,
     command: &Command<'_>,
     named: Option<Kind>,

@@ -17,13 +17,16 @@ mod raising;
 mod references;
 mod replacements;
 mod runs;
+mod working_set;
 
-pub use changes::change;
-pub use effects::change_in;
 pub use laws::{
     changes_keep, commands_keep_order, commands_keep_shapes, pools_are_ready, references_may_stand,
     runs_end,
 };
+pub use live::{Live, Outcome};
+
+/// A growth that was refused.
+pub use std::alloc::AllocError as OutOfMemory;
 
 #[cfg(test)]
 mod tests;

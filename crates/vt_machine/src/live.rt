@@ -1,21 +1,24 @@
 //! A working set with its object pool, and the event machine that runs on it.
 
-ghost use Rattle.std.specs.Prelude.{◌≡◌, None, IfOk};
+ghost use Rattle.std.specs.Prelude.{◌≡◌, ℕ, None, IfOk};
 ghost use Rattle.std.specs.Option.{option_map};
 ghost use Rattle.std.specs.FinMap as finite;
 ghost use Rattle.vt_objects.specs.Records.{seen};
 ghost use Rattle.vt_objects.specs.Stores.{map_of};
 ghost use Rattle.vt_verify.specs.Budgets.{budget};
+ghost use Rattle.vt_verify.specs.Rules.{working_sets};
 ghost use Rattle.vt_verify.specs.Triggers.{listing};
 ghost use Rattle.vt_machine.specs.Machines.{shape_in, joined};
+ghost use Rattle.vt_machine.specs.Showing.{soft_key_mask_of};
 ghost use Rattle.vt_machine.specs.Soundness.{IsSound};
-ghost use Rattle.vt_machine.specs.Lives.{SetState, HasRun, Applied, with_objects, renewed};
+ghost use Rattle.vt_machine.specs.Lives.{HasRun, Applied, IsActive, is_kept, kept_key, kept_input, with_objects, renewed};
 
 use crate::execution::{execute, kind_in};
 use crate::index::Index;
 use crate::levels::Levels;
-use crate::raising::events_of;
+use crate::raising::{active_mask, events_of};
 use crate::runs::{raise, raise_all};
+use crate::working_set::{soft_key_mask, working_set};
 use std::alloc::{AllocError, Global};
 use std::marker::Model;
 use vt_objects::{Command, Object, ObjectId, Store};
@@ -51,11 +54,15 @@ pub struct Live<S: Store> {
     store: S,
     levels: Levels,
     index: Index,
+    working_set: ObjectId,
     key: Option<HeldKey>,
     input: Option<ObjectId>,
 }
 
 impl<S: Store> Model for Live<S> {
+    ghost use Rattle.std.specs.Prelude.{◌≡◌, Some};
+    ghost use Rattle.vt_objects.specs.declared.kind.Kind.TheVariants as kinds;
+    ghost use Rattle.vt_machine.specs.Effects.{kind_in};
     ghost use Rattle.vt_machine.specs.Lives.{SetState, state_code};
     ghost use Rattle.vt_machine.specs.Nested.{CanRun};
 
@@ -65,7 +72,7 @@ impl<S: Store> Model for Live<S> {
 
     ghost view = { λ a. record { objects = S.contents a.store; key = a.key; input = a.input } };
 
-    ghost invariant = { λ a. CanRun a.index (S.contents a.store) a.levels };
+    ghost invariant = { λ a. CanRun a.index (S.contents a.store) a.levels × (kind_in (S.contents a.store) a.working_set ≡ Some kinds.WorkingSet) };
 }
 
 impl<S: Store> Live<S> {
@@ -73,16 +80,33 @@ impl<S: Store> Live<S> {
     pub fn new(alloc: Global, accepted: &Accepted) -> Result<Live<S>, AllocError>
         ensures { IfOk result (λ live. live ≡ record { objects = map_of accepted.now; key = None; input = None }) }
     {
-        let store = S::from_objects(alloc, accepted.objects())?;
+        let objects = accepted.objects();
+        let store = S::from_objects(alloc, objects)?;
         let levels = Levels::of_store(alloc, &store)?;
         let index = Index::new(alloc, accepted)?;
+        let working_set = match working_set(objects) {
+            Some(id) => id,
+            None => unreachable!(),
+        };
         Ok(Live {
             store,
             levels,
             index,
+            working_set,
             key: None,
             input: None,
         })
+    }
+
+    /// The working set with the objects of an accepted update of its store. The key held and the input selected stay where the
+    /// object of their ID is of the kind that it was of.
+    pub fn renew(&self, accepted: &Accepted) -> Result<Live<S>, AllocError>
+        ensures { IfOk result (λ live. live ≡ renewed self.now (map_of accepted.now)) }
+    {
+        let mut live = Live::new(*self.levels.levels.allocator(), accepted)?;
+        live.key = kept_key(&self.store, &live.store, self.key);
+        live.input = kept_input(&self.store, &live.store, self.input);
+        Ok(live)
     }
 
     /// The objects.
@@ -99,6 +123,22 @@ impl<S: Store> Live<S> {
         ensures { option_map (λ o. seen o.now) result ≡ finite.get self.now.objects id }
     {
         self.store.get(id)
+    }
+
+    /// The active mask of the working set, or NULL.
+    pub fn active_mask(&self) -> ObjectId
+        ensures mask { IsActive self.now.objects result }
+        // There is no other working set.
+        ensures one { working_sets (shape_in self.now.objects) ≡ 1 }
+    {
+        active_mask(&self.store, self.working_set)
+    }
+
+    /// The soft key mask of the active mask, or NULL.
+    pub fn soft_key_mask(&self) -> ObjectId
+        ensures { (mask : ℕ) × IsActive self.now.objects mask × (result ≡ soft_key_mask_of (finite.get self.now.objects mask)) }
+    {
+        soft_key_mask(&self.store, self.active_mask())
     }
 
     /// Raises an event of an object, by its number: runs the macros that are listed for it, and those of the events that their
@@ -123,5 +163,33 @@ impl<S: Store> Live<S> {
             }
             Err(bits) => Outcome::Refused { bits },
         }
+    }
+}
+
+fn kept_key<S: Store>(old: &S, new: &S, key: Option<HeldKey>) -> Option<HeldKey>
+    ensures { result ≡ kept_key (S.contents old.now) (S.contents new.now) key }
+{
+    match key {
+        Some(key) if is_kept(old, new, key.id) => Some(key),
+        _ => None,
+    }
+}
+
+fn kept_input<S: Store>(old: &S, new: &S, input: Option<ObjectId>) -> Option<ObjectId>
+    ensures { result ≡ kept_input (S.contents old.now) (S.contents new.now) input }
+{
+    match input {
+        Some(id) if is_kept(old, new, id) => Some(id),
+        _ => None,
+    }
+}
+
+/// Whether an object is there before and after, of one kind.
+fn is_kept<S: Store>(old: &S, new: &S, id: ObjectId) -> bool
+    ensures { result ≡ is_kept (S.contents old.now) (S.contents new.now) id }
+{
+    match (kind_in(old, id), kind_in(new, id)) {
+        (Some(before), Some(after)) => before == after,
+        _ => false,
     }
 }

@@ -22,7 +22,7 @@ pub(crate) fn events_of<S: Store>(store: &S, command: &Command<'_>) -> ArrayVec<
 }
 
 /// The active mask of the working set of an ID, and NULL of what is none.
-fn active_mask<S: Store>(store: &S, working_set: ObjectId) -> ObjectId
+pub(crate) fn active_mask<S: Store>(store: &S, working_set: ObjectId) -> ObjectId
     ensures { result ≡ machines.mask_of (finite.get (S.contents store.now) working_set) }
 {
     match store.get(working_set) {

@@ -1,6 +1,6 @@
 //! Commands on the objects of a store.
 
-use crate::change_in;
+use crate::effects::change_in;
 use std::alloc::Global;
 use std::test::Fail;
 use vt_objects::{Command, Object, ObjectId, SortedStore, Store};

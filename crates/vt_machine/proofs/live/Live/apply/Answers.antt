@@ -1,14 +1,14 @@
 use Rattle.std.proofs.Common.{◌∙◌, ◌+◌, ap, subst}
 use Rattle.vt_objects.specs.Stores.{Contents}
 use Rattle.vt_machine.specs.Lives.{IsDone}
-use Rattle.vt_machine.proofs.Living.{events_small, is_done}
+use Rattle.vt_machine.proofs.Living.{after_shape, events_small, is_done, kind_stays}
 use Rattle.vt_machine.proofs.Nesting.{after_can}
 use Rattle.vt_machine.proofs.live.Live.apply.Goals as goal
 
 pub raise_all-steps-requires-clause-can : goal.raise_all-steps-requires-clause-can
 raise_all-steps-requires-clause-can g c =
     after_can c.self.inside.index (g.S.Store.contents c.self.inside.store) c.self.inside.levels c.execute.new.levels c.args.command.now (g.S.Store.contents c.execute.new.store)
-    c.self.invariant c.execute.ensures.objects c.execute.ensures.levels
+    c.self.invariant.0 c.execute.ensures.objects c.execute.ensures.levels
 
 pub raise_all-steps-requires-clause-small : goal.raise_all-steps-requires-clause-small
 raise_all-steps-requires-clause-small g c =
@@ -20,3 +20,11 @@ returns-in-Ok-clause-applied g c =
     (is_done c.self.inside.index (g.S.Store.contents c.self.inside.store) (g.S.Store.contents c.execute.new.store) (g.S.Store.contents c.raise_all-steps.new.store)
     c.execute.new.levels c.raise_all-steps.new.levels c.args.command.now c.deref.result.now c.raise_all-steps.result (c.deref.ensures.0 ∙ c.events_of-raised.ensures)
     c.in-Ok.ensures.result c.execute.ensures.objects c.raise_all-steps.ensures)
+
+pub invariant_of-self : goal.invariant_of-self
+invariant_of-self g c = (
+  c.raise_all-steps.ensures.can,
+  kind_stays (g.S.Store.contents c.raise_all-steps.new.store) (g.S.Store.contents c.self.inside.store) c.self.inside.working_set
+      (c.raise_all-steps.ensures.shape ∙ after_shape (g.S.Store.contents c.self.inside.store) (g.S.Store.contents c.execute.new.store) c.args.command.now c.execute.ensures.objects)
+      ∙ c.self.invariant.1,
+)

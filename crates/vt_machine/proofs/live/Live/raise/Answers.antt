@@ -1,10 +1,10 @@
-use Rattle.std.proofs.Common.{ap, subst}
+use Rattle.std.proofs.Common.{ap, subst, ◌∙◌}
 use Rattle.vt_objects.specs.Stores.{Contents}
 use Rattle.vt_verify.specs.Budgets.{budget}
 use Rattle.vt_verify.specs.Triggers.{listing}
 use Rattle.vt_machine.specs.Machines.{shape_in, joined}
 use Rattle.vt_machine.specs.Lives.{HasRun}
-use Rattle.vt_machine.proofs.Living.{has_run}
+use Rattle.vt_machine.proofs.Living.{has_run, kind_stays}
 use Rattle.vt_machine.proofs.live.Live.raise.Goals as goal
 
 pub returns-clause-run : goal.returns-clause-run
@@ -14,3 +14,9 @@ returns-clause-run g c =
     (ap (λ s. s.objects) c.self.view_is)
     (has_run c.self.inside.index m (joined (shape_in m) (listing c.args.id c.args.event)) (budget (shape_in m) c.args.id c.args.event) c.raise.result
     (g.S.Store.contents c.raise.new.store) c.raise.new.levels c.raise.ensures)
+
+pub invariant_of-self : goal.invariant_of-self
+invariant_of-self g c = (
+  c.raise.ensures.can,
+  kind_stays (g.S.Store.contents c.raise.new.store) (g.S.Store.contents c.self.inside.store) c.self.inside.working_set c.raise.ensures.shape ∙ c.self.invariant.1,
+)
