@@ -1,6 +1,6 @@
 -- The index of macros, command by command and macro by macro.
-use Rattle.std.proofs.Common.{◌≡◌, ◌≢◌, ◌<◌, ◌≤◌, ◌⊎◌, inl, inr, ℕ, zero, suc, ◌+◌, Bool, true, false, cond, List, [], ◌∷◌, ◌++◌, map, take, drop, length, get_or, Option, refl, sym, ap, ap₂, subst, ◌∙◌, arith}
-use Rattle.std.proofs.lemmas.List.{append_assoc, append-nil, map-append, length-append, length-take, take-append-le, drop-append-le, take-append-drop, take_all, drop_all, get_or-set_same, get_or-set_other, get_or-replicate, get_or_past}
+use Rattle.std.proofs.Common.{◌≡◌, ◌≢◌, ◌<◌, ◌≤◌, ◌⊎◌, inl, inr, ℕ, zero, suc, ◌+◌, Bool, true, false, cond, List, [], ◌∷◌, ◌++◌, map, take, drop, length, get_or, Option, Some, refl, sym, ap, ap₂, subst, ◌∙◌, arith}
+use Rattle.std.proofs.lemmas.List.{append_assoc, append-nil, map-append, length-append, length-map, length-take, take-append-le, drop-append-le, take-append-drop, take_all, drop_all, get_or-set_same, get_or-set_other, get_or-replicate, get_or_past}
 use Rattle.std.proofs.lemmas.Bool.{eqb-true, eq-eqb, cases_lt}
 use Rattle.std.proofs.Math.ListN.{set, length-set, replicate, length-replicate}
 use Rattle.std.proofs.Math.Seq.{drop-append_seam}
@@ -10,7 +10,7 @@ use Rattle.vt_objects.specs.declared.command.Command.{Command}
 use Rattle.vt_objects.specs.Commands.{command_at}
 use Rattle.vt_machine.specs.declared.index.Index.{Index}
 use Rattle.vt_machine.specs.declared.index.Span.{Span}
-use Rattle.vt_machine.specs.Indexes.{part, no_span, IsWithin}
+use Rattle.vt_machine.specs.Indexes.{part, no_span, command_in, IsWithin}
 
 -- ---- parts of lists that grow
 
@@ -234,3 +234,23 @@ none_within index macros pieces = record {
       omega (arith, same, none);
   of_bytes = subst (λ (ss : List Span). EndBy (length index.bytes.items) ss) (sym pieces) tt;
 }
+
+-- ---- a loop over the places of a macro's commands
+
+-- one command stands at each place
+pub as_many : (index : Index) (spans : List Span) (commands : List Command) → map (command_in index) spans ≡ map Some commands → length spans ≡ length commands
+as_many index spans commands is =
+    let same = ap length is in
+    omega (arith, same, length-map spans (command_in index), length-map commands (λ (c : Command). Some c))
+
+-- what is read at the next place is the next command
+pub reads_next : (index : Index) (spans : List Span) (commands : List Command) (i : ℕ) (d : Span) → map (command_in index) spans ≡ map Some commands → i < length spans
+    → (c : Command) × (command_in index (get_or spans i d) ≡ Some c) × (drop i commands ≡ c ∷ drop (i + 1) commands)
+reads_next index [] commands i d is lt = absurd (omega arith)
+reads_next index (s ∷ spans) [] i d is lt = absurd cc
+reads_next index (s ∷ spans) (c ∷ commands) zero d is lt = (c, cc, refl)
+reads_next index (s ∷ spans) (c ∷ commands) (suc i) d is lt =
+    let later : map (command_in index) spans ≡ map Some commands = cc in
+    let next = reads_next index spans commands i d later (omega arith) in
+    let one : suc i + 1 ≡ suc (i + 1) = omega arith in
+    (next.0, next.1, next.2 ∙ ap (λ (k : ℕ). next.0 ∷ drop k (c ∷ commands)) (sym one))

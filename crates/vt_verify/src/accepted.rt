@@ -64,7 +64,7 @@ impl Accepted {
         &self.order
     }
 
-    /// The bytes of a macro: its commands, one after the other. None where no macro of the number is there.
+    /// The bytes of a macro: its commands, one after the other. Empty where no macro of the number is there.
     pub fn macro_bytes(&self, id: u8) -> &[u8]
         ensures whole { IsTrue (is_some (cut result.now)) }
         // Each piece reads as the command that it is.

@@ -39,11 +39,11 @@ impl Listing {
 pub(crate) const LAST_EVENT: u8 = 26;
 
 /// Which macros run at the events of objects.
-///
-/// The macros of an event are the group at its place.
 #[derive(Drop)]
 pub struct Listings {
+    /// The events at which any run.
     events: IndexSet<Listing>,
+    /// The macros of each event, at its place.
     groups: Vec<Vec<u8>>,
 }
 
