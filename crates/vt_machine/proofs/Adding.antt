@@ -81,7 +81,7 @@ by_key : (m : Contents) (id : ℕ) (old new : Seen) (command : Command) → Chan
     → Contains (included_by (finite.get (finite.insert m id new) q)) x → Contains (included_by (finite.get m q)) x ⊎ ((q ≡ id) × Adds m command old x)
 by_key m id old new command c q x true e h =
     elim (included_after m id old new command c x (subst (λ (o : Option Seen). Contains (included_by o) x) (get_there m id new q e) h))
-        as (λ _. Contains (included_by (finite.get m q)) x ⊎ ((q ≡ id) × Adds m command old x)) [
+    as (λ _. Contains (included_by (finite.get m q)) x ⊎ ((q ≡ id) × Adds m command old x)) [
       | inl before ↦ inl (subst (λ (o : Option Seen). Contains (included_by o) x) (sym (ap (finite.get m) (eqb-true q id e) ∙ c.at)) before)
       | inr more ↦ inr (eqb-true q id e, more)
     ]
@@ -91,7 +91,7 @@ inclusions_after : (m : Contents) (id : ℕ) (old new : Seen) (command : Command
     → Contains (inclusions_of (finite.insert m id new) q) x → Contains (inclusions_of m q) x ⊎ ((q ≡ id) × Adds m command old x)
 inclusions_after m id old new command c q x h =
     elim (by_key m id old new command c q x (eqb q id) refl (subst (λ (o : Option Seen). Contains (included_by o) x) (sym (finite.get-entries (finite.insert m id new) q)) h))
-        as (λ _. Contains (inclusions_of m q) x ⊎ ((q ≡ id) × Adds m command old x)) [
+    as (λ _. Contains (inclusions_of m q) x ⊎ ((q ≡ id) × Adds m command old x)) [
       | inl before ↦ inl (subst (λ (o : Option Seen). Contains (included_by o) x) (finite.get-entries m q) before)
       | inr more ↦ inr more
     ]
@@ -150,7 +150,7 @@ levels_but m id after old new command levels c names are =
         → IsBelow (ids_of m) levels.levels.items x (slice_index levels.levels.items place) ⊎ ((q ≡ id) × (x ≡ after))
     falls place q there x h =
         elim (inclusions_after m id old new command c q x h)
-            as (λ _. IsBelow (ids_of m) levels.levels.items x (slice_index levels.levels.items place) ⊎ ((q ≡ id) × (x ≡ after))) [
+        as (λ _. IsBelow (ids_of m) levels.levels.items x (slice_index levels.levels.items place) ⊎ ((q ≡ id) × (x ≡ after))) [
           | inl before ↦ inl (are.certificate.falls place q there x before)
           | inr more ↦ inr (more.0, nat_is x after (sym more.1.other ∙ names))
         ]

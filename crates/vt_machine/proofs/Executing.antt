@@ -327,9 +327,9 @@ put_back_is m n last command r is by back =
 -- the levels of before are those of the store of before
 pub levels_back : (m : Contents) (before after : Levels) → AreLevels m before → HasSameLevels before after → AreLevels m after
 levels_back m before after are same = record {
-      certificate = subst (IsCertificate (ids_of m) (inclusions_of m)) (sym same.levels) are.certificate;
-      room = same.room ∙ are.room;
-    }
+  certificate = subst (IsCertificate (ids_of m) (inclusions_of m)) (sym same.levels) are.certificate;
+  room = same.room ∙ are.room;
+}
 
 -- ---- what the call comes to
 

@@ -166,7 +166,7 @@ pub event_within : (index : Index) (old : Contents) (raised : List Raised) (i j 
 event_within index old raised i j number d now levels running lt is =
     let le = part_within index old (event_front (shape_in old)) (event_most (shape_in old)) raised i j d now levels running lt in
     let same = ap (λ (s : Shape). budget s (slice_index_or raised i d).id number) running.shape
-        ∙ ap (λ (n : ℕ). budget (shape_in old) (slice_index_or raised i d).id n) is in
+    ∙ ap (λ (n : ℕ). budget (shape_in old) (slice_index_or raised i d).id n) is in
     omega (arith, le, same)
 
 -- ---- the commands of a macro
@@ -282,7 +282,7 @@ module _ (index : Index) (m : Contents) (levels : Levels) (command : Command) (c
   events_within =
       let bound = raised_bound m (shape_in m) command can.sound (shape_entries m) in
       let same = ap (λ (s : Shape). total_budget s events) new_shape ∙ events_cost (shape_in m) events
-          ∙ ap (sum_by (raised_cost (shape_in m))) (of ∙ sym (raised_is m command (accepted (effect m command) done))) in
+      ∙ ap (sum_by (raised_cost (shape_in m))) (of ∙ sym (raised_is m command (accepted (effect m command) done))) in
       omega (arith, bound, same)
 
   pub can_raise : (then : Levels) → AreLevels new then → CanRun index new then

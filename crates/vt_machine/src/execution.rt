@@ -92,7 +92,9 @@ fn fits<S: Store>(store: &S, command: &Command<'_>) -> bool
             places_allow(store, pointer, id(value))
         }
         Command::ChangeAttribute {
-            id: pointer, value, ..
+            id: pointer,
+            value,
+            ..
         } => places_allow(store, pointer, id(value)),
         Command::ChangeListItem { item, .. } => value_drawn(store, pointer_value(store, item)),
         _ => true,

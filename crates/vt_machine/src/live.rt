@@ -37,13 +37,9 @@ pub(crate) struct HeldKey {
 #[derive(Clone, Copy, Debug, PartialEq, Eq)]
 pub enum Outcome {
     /// It was done, in so many steps: its own, and one for each command of the macros that it set off.
-    Done {
-        steps: u32,
-    },
+    Done { steps: u32 },
     /// It was refused, with this error byte, and nothing was changed.
-    Refused {
-        bits: u8,
-    },
+    Refused { bits: u8 },
 }
 
 /// The object pool of a working set as it is now, with the key that is held and the input that is selected. Its macros run to

@@ -30,7 +30,9 @@ pub(crate) fn replaced<S: Store>(store: &S, command: &Command<'_>) -> Option<Rep
     match *command {
         Command::ChangeNumericValue { id: holder, value }
         | Command::ChangeAttribute {
-            id: holder, value, ..
+            id: holder,
+            value,
+            ..
         } => replaced_value(store, holder, id(value)),
         Command::ChangeListItem {
             id: holder,
@@ -41,11 +43,7 @@ pub(crate) fn replaced<S: Store>(store: &S, command: &Command<'_>) -> Option<Rep
     }
 }
 
-fn replaced_value<S: Store>(
-    store: &S,
-    holder: ObjectId,
-    after: ObjectId,
-) -> Option<Replacement>
+fn replaced_value<S: Store>(store: &S, holder: ObjectId, after: ObjectId) -> Option<Replacement>
     ensures { result ≡ option_map (replacement holder after) (effects.pointer_value (finite.get (S.contents store.now) holder)) }
 {
     let before = pointer_value(store, holder)?;
@@ -93,11 +91,7 @@ fn item<S: Store>(store: &S, id: ObjectId, index: u8) -> Option<ObjectId>
 }
 
 /// Puts back the ID that a command has replaced.
-pub(crate) fn put_back<S: Store>(
-    store: &mut S,
-    command: &Command<'_>,
-    replacement: &Replacement,
-)
+pub(crate) fn put_back<S: Store>(store: &mut S, command: &Command<'_>, replacement: &Replacement)
     ensures { (o : Seen) → finite.get (S.contents store.old) replacement.now.holder ≡ Some o → S.contents store.new ≡ finite.insert (S.contents store.old) replacement.now.holder (restored command.now replacement.now.before o) }
 {
     match store.get_mut(replacement.holder) {

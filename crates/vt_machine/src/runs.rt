@@ -67,12 +67,7 @@ fn run_macro<S: Store>(index: &Index, store: &mut S, levels: &mut Levels, id: u8
 
 /// Does the command that stands at a place.
 #[cycle(run)]
-fn run_piece<S: Store>(
-    index: &Index,
-    store: &mut S,
-    levels: &mut Levels,
-    piece: &Span,
-) -> u32
+fn run_piece<S: Store>(index: &Index, store: &mut S, levels: &mut Levels, piece: &Span) -> u32
     requires can { CanRun index.now (S.contents store.old) levels.old }
     requires fault { AllByRecursion (λ command. fault (shape_in (S.contents store.old)) command ≡ None) (commands_at index.now piece.now) }
     requires small { sum_by (cost_of (S.contents store.old)) (commands_at index.now piece.now) < 2 ^ 32 }

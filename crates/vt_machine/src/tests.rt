@@ -3,6 +3,7 @@
 mod attributes;
 mod children;
 mod indexes;
+mod lives;
 mod records;
 mod references;
 mod sizes;
@@ -11,7 +12,7 @@ mod stores;
 mod texts;
 mod values;
 
-use super::change;
+use crate::changes::change;
 use std::alloc::Global;
 use std::test::Fail;
 use vt_objects::{Command, Kind};

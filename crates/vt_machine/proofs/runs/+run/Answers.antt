@@ -45,13 +45,22 @@ run_macro-run_piece-steps-requires g t c κs within =
     let now = g.S.Store.contents c.loop-piece.store in
     let are = c.pieces-piece-items.ensures.commands (shape_in old) c.requires.indexed in
     let le = piece_within c.args.index.now old c.args.levels.now c.requires c.args.id c.pieces-piece-items.result.now are
-        c.loop-piece.piece-index c.loop-piece.steps no_span now c.loop-piece.levels c.loop-piece.invariant c.loop-piece-test.true in
+    c.loop-piece.piece-index c.loop-piece.steps no_span now c.loop-piece.levels c.loop-piece.invariant c.loop-piece-test.true in
     let most = c.requires.within.costs c.args.id in
-    let measure = c.decreases in
-    (omega (arith, measure, le), (within, (c.loop-piece.invariant.can, (
-        piece_faultless c.args.index.now old c.args.levels.now c.requires c.args.id c.pieces-piece-items.result.now are
-        c.loop-piece.piece-index c.loop-piece.steps no_span now c.loop-piece.levels c.loop-piece.invariant c.loop-piece-test.true,
-        omega (arith, le, most)))))
+    let measure = c.decreases in (
+      omega (arith, measure, le),
+      (
+        within,
+        (
+          c.loop-piece.invariant.can,
+          (
+            piece_faultless c.args.index.now old c.args.levels.now c.requires c.args.id c.pieces-piece-items.result.now are
+                c.loop-piece.piece-index c.loop-piece.steps no_span now c.loop-piece.levels c.loop-piece.invariant c.loop-piece-test.true,
+            omega (arith, le, most),
+          ),
+        ),
+      ),
+    )
 
 pub run_macro-overflow_add-steps : goal.run_macro-overflow_add-steps
 run_macro-overflow_add-steps g t c =
@@ -59,7 +68,7 @@ run_macro-overflow_add-steps g t c =
     let now = g.S.Store.contents c.loop-piece.store in
     let are = c.pieces-piece-items.ensures.commands (shape_in old) c.requires.indexed in
     let le = piece_within c.args.index.now old c.args.levels.now c.requires c.args.id c.pieces-piece-items.result.now are
-        c.loop-piece.piece-index c.loop-piece.steps no_span now c.loop-piece.levels c.loop-piece.invariant c.loop-piece-test.true in
+    c.loop-piece.piece-index c.loop-piece.steps no_span now c.loop-piece.levels c.loop-piece.invariant c.loop-piece-test.true in
     let most = c.requires.within.costs c.args.id in
     let ran = c.run_piece-steps.ensures.within in
     omega (arith, le, most, ran)
@@ -83,11 +92,17 @@ take-raise_all-requires g t c κs within =
     let events = c.deref.ensures.0 ∙ c.events_of-raised.ensures in
     let le = events_within c.args.index.now m c.args.levels.now c.args.command.now c.requires.can c.deref.result.now events c.in-Ok.ensures.result new c.execute.ensures.objects in
     let small = c.requires.small in
-    let measure = c.decreases in
-    (omega (arith, measure, le), (within, (
-        can_raise c.args.index.now m c.args.levels.now c.args.command.now c.requires.can c.deref.result.now events c.in-Ok.ensures.result new c.execute.ensures.objects
-        c.execute.new.levels c.execute.ensures.levels,
-        omega (arith, le, small))))
+    let measure = c.decreases in (
+      omega (arith, measure, le),
+      (
+        within,
+        (
+          can_raise c.args.index.now m c.args.levels.now c.args.command.now c.requires.can c.deref.result.now events c.in-Ok.ensures.result new c.execute.ensures.objects
+              c.execute.new.levels c.execute.ensures.levels,
+          omega (arith, le, small),
+        ),
+      ),
+    )
 
 pub take-returns-in-Ok : goal.take-returns-in-Ok
 take-returns-in-Ok g t c =

@@ -17,7 +17,7 @@ returns g c =
     let was : c.in_ok-levels.levels.len ≡ c.count.result = search rules in
     let spare : length c.in_ok-spare.spare.items ≡ c.count-2.result = search rules in
     let long : length c.find_depths.new.depths ≡ c.in_ok-levels.levels.len =
-        c.in-Ok.ensures.ok.each ∙ sym (was ∙ c.count.ensures.count ∙ count_is m) in
+    c.in-Ok.ensures.ok.each ∙ sym (was ∙ c.count.ensures.count ∙ count_is m) in
     record {
       certificate =
           subst (IsCertificate (ids_of m) (inclusions_of m)) (sym (with_items_is c.in_ok-levels.levels c.find_depths.new.depths long))

@@ -18,8 +18,8 @@ of_store-requires-clause-shallow g c =
 pub invariant_of-result : goal.invariant_of-result
 invariant_of-result g c = (
   stored_runs (g.S.Store.contents c.in_ok-store.store) c.args.accepted.now c.in_ok-index.index c.in_ok-levels.levels
-    (c.in_ok-store.ensures ∙ stored_is c.objects-objects.result.now c.args.accepted.now c.objects-objects.ensures.all c.objects-objects.ensures.stored)
-    c.objects-objects.ensures.stored c.objects-objects.ensures.acceptable c.objects-objects.ensures.totals c.in_ok-index.ensures c.in_ok-levels.ensures,
+      (c.in_ok-store.ensures ∙ stored_is c.objects-objects.result.now c.args.accepted.now c.objects-objects.ensures.all c.objects-objects.ensures.stored)
+      c.objects-objects.ensures.stored c.objects-objects.ensures.acceptable c.objects-objects.ensures.totals c.in_ok-index.ensures c.in_ok-levels.ensures,
   stored_set (g.S.Store.contents c.in_ok-store.store) c.objects-objects.result.now c.args.accepted.now c.in-Some.id
       (c.in_ok-store.ensures ∙ stored_is c.objects-objects.result.now c.args.accepted.now c.objects-objects.ensures.all c.objects-objects.ensures.stored)
       c.objects-objects.ensures.all c.objects-objects.ensures.stored c.in-Some.ensures.some,
