@@ -16,18 +16,17 @@ use Rattle.vt_objects.specs.Records.{Seen, kind_of}
 use Rattle.vt_objects.specs.References.{slot, slots_of, allowed, may_be_null}
 use Rattle.vt_objects.specs.Stores.{Contents, Objects, ids}
 use Rattle.vt_objects.specs.Targets.{object_of}
-use Rattle.vt_verify.specs.Shapes.{Shape, Fixed, fixed, shape_of}
+use Rattle.vt_verify.specs.Shapes.{Fixed, fixed, shape_of}
 use Rattle.vt_verify.specs.Inclusions.{is_inclusion, includes, included_by}
 use Rattle.vt_verify.specs.Depths.{Stands, IsBelow, IsClosed, ids_of, inclusions_of}
 use Rattle.vt_verify.proofs.Closing.{sourced, stands}
-use Rattle.vt_machine.specs.Fields.{word}
 use Rattle.vt_machine.specs.Changes.{left, is_one_of, may_stand, other_id, changed, change_item, writes}
 use Rattle.vt_machine.specs.Effects.{kind_in, pointer_value, other_kind}
 use Rattle.vt_machine.specs.Machines.{shape_in}
 use Rattle.vt_machine.specs.declared.levels.Levels.{Levels}
 use Rattle.vt_machine.specs.declared.replacements.Replacement.{Replacement}
 use Rattle.vt_machine.specs.Certificates.{IsCertificate, IsCertificateBut, AreLevels, AreLevelsBut}
-use Rattle.vt_machine.specs.Replacements.{item_at, replacement, replaced}
+use Rattle.vt_machine.specs.Replacements.{item_at, replaced}
 use Rattle.vt_machine.proofs.InOrder.{first_of, second_of, get_there, get_other}
 use Rattle.vt_machine.proofs.Keeping.{changes_keep}
 use Rattle.vt_machine.proofs.Referring.{slots_after}

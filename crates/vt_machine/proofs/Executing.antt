@@ -1,5 +1,5 @@
 -- What a command comes to on a store, and what is put back where it is refused.
-use Rattle.std.proofs.Common.{◌≡◌, ◌≤◌, ◌+◌, ◌&&◌, ◌==◌, ◌⊎◌, inl, inr, ℕ, zero, suc, Bool, true, false, cond, eqb, nat_le, nat_lt, List, [], ◌∷◌, set, length, Option, Some, None, Result, Ok, Err, refl, sym, ap, subst, ◌∙◌, arith}
+use Rattle.std.proofs.Common.{◌≡◌, ◌≤◌, ◌&&◌, ◌==◌, ◌⊎◌, inl, inr, ℕ, zero, suc, Bool, true, false, cond, eqb, nat_le, nat_lt, List, [], ◌∷◌, set, length, Option, Some, None, Result, Ok, Err, refl, sym, ap, subst, ◌∙◌, arith}
 use Rattle.std.proofs.lemmas.Bool.{eqb-true, eq-eqb}
 use Rattle.std.specs.Prelude.{Contains, slice_get}
 use Rattle.std.specs.Option.{option_map}
@@ -15,21 +15,19 @@ use Rattle.vt_objects.specs.declared.object.Object.TheVariants as objects
 use Rattle.vt_objects.specs.declared.command.Command.{Command}
 use Rattle.vt_objects.specs.declared.command.Command.TheVariants.{SetVolume, ChangeNumericValue, ChangeAttribute, ChangeListItem}
 use Rattle.vt_objects.specs.Records.{Seen}
-use Rattle.vt_objects.specs.Stores.{Contents, Objects, ids, object_at}
+use Rattle.vt_objects.specs.Stores.{Contents}
 use Rattle.vt_objects.specs.Targets.{object_of}
 use Rattle.vt_verify.specs.Inclusions.{IsChain, IsShallow}
-use Rattle.vt_verify.specs.Rules.{terminal}
 use Rattle.vt_verify.specs.Depths.{ids_of, inclusions_of}
 use Rattle.vt_machine.specs.Fields.{word}
-use Rattle.vt_machine.specs.Changes.{Answers, bit, if_passed, left, may_stand, other_id, changed, change_item}
+use Rattle.vt_machine.specs.Changes.{Answers, bit, if_passed, left, may_stand, other_id, changed}
 use Rattle.vt_machine.specs.Effects.{pointer_value, places_allow, pointer_may, is_short, chains_are_short, keeps_order, value_error, in_order, other_kind, put, changed_at, changed_in, changed_for, changed_by, effect_on, effect, after}
 use Rattle.vt_machine.specs.declared.levels.Levels.{Levels}
 use Rattle.vt_machine.specs.declared.replacements.Replacement.{Replacement}
 use Rattle.vt_machine.specs.Certificates.{IsCertificate, AreLevels, AreLevelsBut, HasLongChain, HasSameLevels}
 use Rattle.vt_machine.specs.Replacements.{item_at, replacement, replaced, fits, restored}
 use Rattle.vt_machine.proofs.InOrder.{get_there, get_other}
-use Rattle.vt_machine.proofs.Puts.{insert-same}
-use Rattle.vt_machine.proofs.ShortChains.{none_in, head_in, tail_in, shallow_by_test}
+use Rattle.vt_machine.proofs.ShortChains.{head_in, tail_in, shallow_by_test}
 use Rattle.vt_machine.proofs.SlotsInOrder.{passed_is, attribute_of_pointer, nat_same}
 use Rattle.vt_machine.proofs.Falling.{levels_shallow}
 use Rattle.vt_machine.proofs.Adding.{Changed, item_there, unmapped, levels_kept, levels_but, none_added}

@@ -1,5 +1,5 @@
 -- What calls on a working set begin with, and what they leave.
-use Rattle.std.proofs.Common.{◌≡◌, ◌≤◌, ◌<◌, ◌+◌, ◌-◌, ◌*◌, ◌++◌, ℕ, zero, suc, List, [], ◌∷◌, map, length, slice_get, slice_index_or, sum_by, true, Option, Some, None, Result, Ok, Err, refl, sym, ap, subst, ◌∙◌, arith}
+use Rattle.std.proofs.Common.{◌≡◌, ◌≤◌, ◌<◌, ◌+◌, ◌-◌, ◌*◌, ◌++◌, ℕ, zero, suc, List, [], ◌∷◌, map, length, slice_get, slice_index_or, true, Some, None, Ok, refl, sym, ap, subst, ◌∙◌, arith}
 use Rattle.std.proofs.lemmas.List.Sums.{sum_by-cons}
 use Rattle.std.proofs.lemmas.Cmp.{nat_cmp_total}
 use Rattle.std.specs.List.{AllByRecursion}
@@ -26,16 +26,15 @@ use Rattle.vt_verify.proofs.Shapes.{kind_found, seen_kind}
 use Rattle.vt_machine.specs.declared.index.Index.{Index}
 use Rattle.vt_machine.specs.declared.levels.Levels.{Levels}
 use Rattle.vt_machine.specs.Certificates.{AreLevels}
-use Rattle.vt_machine.specs.Changes.{Answers, left}
+use Rattle.vt_machine.specs.Changes.{Answers}
 use Rattle.vt_machine.specs.Effects.{kind_in, effect, after}
 use Rattle.vt_machine.specs.Indexes.{IsIndexOf}
 use Rattle.vt_machine.specs.Lives.{HasRun, IsDone}
-use Rattle.vt_machine.specs.Machines.{fault, shape_in, events_of, joined_all, total_budget, run, Ended}
+use Rattle.vt_machine.specs.Machines.{fault, shape_in, events_of, joined_all, total_budget, run}
 use Rattle.vt_machine.specs.Nested.{CanRun, HaveRun}
 use Rattle.vt_machine.specs.Runs.{IsReady}
 use Rattle.vt_machine.proofs.Executing.{answered}
 use Rattle.vt_machine.proofs.Faultless.{faultless}
-use Rattle.vt_machine.proofs.Nesting.{after_can}
 use Rattle.vt_machine.proofs.Ready.{pools_are_ready}
 use Rattle.vt_machine.proofs.Running.{run_none}
 use Rattle.vt_machine.proofs.Shapes.{shapes_stay}

@@ -1,9 +1,8 @@
 -- All slots of a store, entry by entry.
-use Rattle.std.proofs.Common.{◌≡◌, ◌≤◌, ◌+◌, ◌++◌, ◌&&◌, ℕ, zero, suc, Bool, true, false, List, [], ◌∷◌, drop, length, Option, Some, None, refl, sym, ap, subst, ◌∙◌, arith}
+use Rattle.std.proofs.Common.{◌≡◌, ◌≤◌, ◌+◌, ◌++◌, ◌&&◌, ℕ, zero, suc, Bool, true, false, List, [], ◌∷◌, drop, length, Option, refl, sym, ap, ◌∙◌, arith}
 use Rattle.std.specs.Prelude.{slice_get}
 use Rattle.std.specs.Option.{option_to_list}
 use Rattle.std.specs.List.{list_all, flat_map}
-use Rattle.std.specs.FinMap as finite
 use Rattle.vt_objects.specs.declared.kind.Kind.{Kind}
 use Rattle.vt_objects.specs.declared.slot.Slot.{Slot}
 use Rattle.vt_objects.specs.References.{slots_of}

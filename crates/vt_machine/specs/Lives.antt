@@ -6,12 +6,10 @@ use Rattle.std.specs.Coded.{Coded, code_by, coded×, coded_option, coded_ℕ}
 use Rattle.std.specs.FinMap as map
 use Rattle.vt_objects.specs.contracts.macro_bytes.MacroBytes as macro_bytes
 use Rattle.vt_objects.specs.contracts.object.Object as object
-use Rattle.vt_objects.specs.declared.object.Object.TheVariants as objects
 use Rattle.vt_objects.specs.declared.command.Command.{Command}
 use Rattle.vt_objects.specs.declared.kind.Kind.{Kind}
 use Rattle.vt_objects.specs.declared.kind.Kind.TheVariants as kinds
 use Rattle.vt_objects.specs.Kinds.{kind_number}
-use Rattle.vt_objects.specs.Records.{Seen}
 use Rattle.vt_objects.specs.Rows.{bytes_row}
 use Rattle.vt_objects.specs.Stores.{Contents}
 use Rattle.vt_machine.specs.contracts.live.HeldKey as held_key

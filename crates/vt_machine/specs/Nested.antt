@@ -1,5 +1,5 @@
 -- Runs within runs: what the macros of an event leave of the commands that are pending (docs/PROFILE.md, "Runs").
-use Rattle.std.specs.Prelude.{◌≡◌, ◌≤◌, ◌+◌, ℕ, List, [], ◌∷◌, ◌++◌, drop, sum_by, None}
+use Rattle.std.specs.Prelude.{◌≡◌, ◌≤◌, ◌+◌, ℕ, List, [], ◌++◌, drop, sum_by, None}
 use Rattle.std.specs.Option.{option_to_list}
 use Rattle.std.specs.List.{AllByRecursion, flat_map}
 use Rattle.vt_objects.specs.declared.command.Command.{Command}

@@ -1,6 +1,6 @@
 -- Commands that put another ID in the place of one that an object includes: the value of a pointer, or an item of a list
 -- (docs/PROFILE.md, "Inclusions and chains").
-use Rattle.std.specs.Prelude.{ℕ, Bool, true, not, ◌==◌, ◌||◌, if◌then◌else◌, List, set, slice_get, Option, Some, None}
+use Rattle.std.specs.Prelude.{ℕ, Bool, true, not, ◌==◌, ◌||◌, if◌then◌else◌, set, slice_get, Option, Some, None}
 use Rattle.std.specs.Option.{option_map}
 use Rattle.std.specs.FinMap as finite
 use Rattle.vt_objects.specs.declared.slot.Slot.{Slot}

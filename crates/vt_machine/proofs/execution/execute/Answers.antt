@@ -1,4 +1,4 @@
-use Rattle.std.proofs.Common.{ℕ, None, Option, Result, ◌≡◌, ◌∙◌, sym, ap, subst}
+use Rattle.std.proofs.Common.{ℕ, Option, Result, ◌≡◌, ◌∙◌, sym, ap, subst}
 use Rattle.vt_objects.specs.declared.kind.Kind.{Kind}
 use Rattle.vt_objects.specs.Stores.{Contents}
 use Rattle.vt_machine.specs.Changes.{Answers, left, other_id}

@@ -1,6 +1,5 @@
-use Rattle.std.proofs.Common.{ℕ, Option, Result, Ok, Err, ◌≡◌, ◌∙◌, refl, sym, ap, subst}
+use Rattle.std.proofs.Common.{◌∙◌, refl, sym, subst}
 use Rattle.vt_objects.specs.Stores.{Contents}
-use Rattle.vt_machine.specs.Changes.{Answers, left}
 use Rattle.vt_machine.specs.Certificates.{AreLevels}
 use Rattle.vt_machine.proofs.Executing.{effect_replacing, effect_refused, replaces, levels_replacing, levels_back, put_back_is, done, refused, made_is, failed_is, answers_done, answers_failed, after_done, after_failed, unchanged, unfit, answers_error}
 use Rattle.vt_machine.proofs.execution.replace.Goals as goal

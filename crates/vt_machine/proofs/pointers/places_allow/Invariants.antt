@@ -1,4 +1,4 @@
-use Rattle.std.proofs.Common.{◌≡◌, ◌≤◌, drop, length}
+use Rattle.std.proofs.Common.{◌≡◌, drop}
 use Rattle.std.specs.List.{list_all, flat_map}
 use Rattle.std.specs.FinMap as finite
 use Rattle.vt_objects.specs.References.{slots_of}

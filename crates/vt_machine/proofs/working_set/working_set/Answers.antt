@@ -1,4 +1,4 @@
-use Rattle.std.proofs.Common.{sym, ◌∙◌}
+use Rattle.std.proofs.Common.{sym}
 use Rattle.vt_machine.proofs.Living.{set_found}
 use Rattle.vt_machine.proofs.working_set.working_set.Goals as goal
 

@@ -1,5 +1,4 @@
-use Rattle.std.proofs.Common.{arith, ltb-true, sym, ◌∙◌, ap}
-use Rattle.std.specs.Prelude.{slice_index}
+use Rattle.std.proofs.Common.{arith, ltb-true}
 use Rattle.vt_machine.proofs.Falling.{falling_there, falling_nowhere, falling_from_nowhere, place_within, level_is}
 use Rattle.vt_machine.proofs.levels.Levels.falls.Goals as goal
 

@@ -1,5 +1,5 @@
-use Rattle.std.proofs.Common.{◌≡◌, ℕ, List, length, rules, ◌∙◌, subst, sym}
-use Rattle.std.proofs.lemmas.List.{with_items_is, places}
+use Rattle.std.proofs.Common.{◌≡◌, length, rules, ◌∙◌, subst, sym}
+use Rattle.std.proofs.lemmas.List.{with_items_is}
 use Rattle.vt_verify.specs.Depths.{ids_of, inclusions_of}
 use Rattle.vt_verify.proofs.Places.{count_is}
 use Rattle.vt_machine.specs.Certificates.{IsCertificate}
