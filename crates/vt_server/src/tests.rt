@@ -3,6 +3,7 @@ mod messages_of_sets;
 mod sets;
 
 use super::*;
+use std::alloc::Global;
 use std::process::Abort;
 use std::test::Fail;
 use vt_can::{Action, Line, parse_line, write_frame};
@@ -41,14 +42,22 @@ fn started(rt: &(impl Abort + AllocGlobal), preloaded: bool) -> Result<Terminal,
     Ok(terminal)
 }
 
-fn inputs_of<'a>(rt: &(impl Abort + AllocGlobal), frames: &[&str]) -> Result<Vec<Input<'a>>, Fail> {
+// The frame of a text, at one second.
+fn input_of<'a>(alloc: Global, text: &str) -> Result<Input<'a>, Fail> {
+    let mut line = Vec::new(alloc);
+    line.extend_from_slice(b"(1.000000) can0 ")?;
+    line.extend_from_slice(text.as_bytes())?;
+    match parse_line(&line) {
+        Ok(Line::Frame { time, frame }) => Ok(Input::Frame { time, frame }),
+        _ => Err(Fail::new("no frame")),
+    }
+}
+
+fn inputs_of<'a>(rt: &impl AllocGlobal, frames: &[&str]) -> Result<Vec<Input<'a>>, Fail> {
     let mut inputs = Vec::new(rt.alloc());
     for text in frames {
-        let line = format!(in rt.alloc(); "(1.000000) can0 {text}")?;
-        let Ok(Line::Frame { time, frame }) = parse_line(line.as_bytes()) else {
-            panic!(rt; "no frame: {text}");
-        };
-        inputs.push(Input::Frame { time, frame })?;
+        let input = input_of(rt.alloc(), text)?;
+        inputs.push(input)?;
     }
     Ok(inputs)
 }
@@ -88,6 +97,11 @@ fn expect_case(rt: &(impl Abort + AllocGlobal), case: &Case) -> Result<(), Fail>
     let mut outputs = Vec::new(rt.alloc());
     run_all(rt, &mut terminal, &inputs, &mut outputs);
     expect_sent(rt, case, &outputs);
+    expect_sets(rt, case, &terminal);
+    Ok(())
+}
+
+fn expect_sets(rt: &impl Abort, case: &Case, terminal: &Terminal) {
     for address in [0x80, 0x81, OWN, 254, 255] {
         let wanted = case.sets.contains(&address);
         assert_eq!(rt;
@@ -96,6 +110,12 @@ fn expect_case(rt: &(impl Abort + AllocGlobal), case: &Case) -> Result<(), Fail>
             "{address} {:?}",
             case.heard
         );
+    }
+}
+
+fn expect_cases(rt: &(impl Abort + AllocGlobal), cases: &[Case]) -> Result<(), Fail> {
+    for case in cases {
+        expect_case(rt, case)?;
     }
     Ok(())
 }
