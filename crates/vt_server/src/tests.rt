@@ -120,28 +120,58 @@ fn expect_cases(rt: &(impl Abort + AllocGlobal), cases: &[Case]) -> Result<(), F
     Ok(())
 }
 
+// Takes an input, if need be a second time: the memory is there then.
+fn step_again(
+    terminal: &mut Terminal,
+    input: &Input<'_>,
+    outputs: &mut Vec<Output>,
+) -> Result<(), OutOfMemory> {
+    match terminal.step(input, outputs) {
+        Ok(()) => Ok(()),
+        Err(_) => terminal.step(input, outputs),
+    }
+}
+
+// Takes inputs one by one, each of which leaves so many outputs.
+fn expect_counts(
+    rt: &(impl Abort + AllocGlobal),
+    terminal: &mut Terminal,
+    inputs: &[Input<'_>],
+    counts: &[usize],
+) -> Result<(), OutOfMemory> {
+    let mut outputs = Vec::new(rt.alloc());
+    for (input, count) in inputs.iter().zip(counts) {
+        step_again(terminal, input, &mut outputs)?;
+        assert_eq!(rt; outputs.len(), *count);
+    }
+    Ok(())
+}
+
 // The steps one after the other are the run.
 #[test]
 fn inputs_one_by_one(rt: HostRuntime) -> Result<(), Fail> {
-    let mut terminal = started(&rt, true)?;
     let mut inputs = inputs_of(&rt, &["14E72680#A0640000FFFFFFFF", "18EA2680#00EE00"])?;
     inputs.push(Input::Operator(Action::Press(100)))?;
-    let mut outputs = Vec::new(rt.alloc());
-    for (input, count) in inputs.iter().zip([1, 2, 2]) {
-        match terminal.step(input, &mut outputs) {
-            Ok(()) => {}
-            Err(_) => terminal.step(input, &mut outputs)?,
-        }
-        assert_eq!(rt; outputs.len(), count);
-    }
+    let mut terminal = started(&rt, true)?;
+    expect_counts(&rt, &mut terminal, &inputs, &[1, 2, 2])?;
     Ok(())
+}
+
+// So many requests for the terminal's claim.
+fn requests<'a>(alloc: Global, count: u16) -> Result<Vec<Input<'a>>, Fail> {
+    let mut inputs = Vec::new(alloc);
+    for _ in 0..count {
+        let input = input_of(alloc, "18EA2680#00EE00")?;
+        inputs.push(input)?;
+    }
+    Ok(inputs)
 }
 
 // Each input has room for 1,024 outputs, also where many were sent already.
 #[test]
 fn many_inputs(rt: HostRuntime) -> Result<(), Fail> {
+    let inputs = requests(rt.alloc(), 2_000)?;
     let mut terminal = started(&rt, false)?;
-    let inputs = inputs_of(&rt, &["18EA2680#00EE00"; 2_000])?;
     let mut outputs = Vec::new(rt.alloc());
     run_all(&rt, &mut terminal, &inputs, &mut outputs);
     assert_eq!(rt; outputs.len(), 2_000);

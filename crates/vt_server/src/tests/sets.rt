@@ -189,8 +189,10 @@ fn a_global_address_and_two_sets_in_turn(rt: HostRuntime) -> Result<(), Fail> {
 
 // How many members a set has, and at which place it stands.
 fn members_at(terminal: &Terminal, index: usize) -> Option<(u8, usize)> {
-    let set = terminal.registry.at(index)?;
-    Some((set.address(), set.members().len()))
+    match terminal.registry.at(index) {
+        Some(set) => Some((set.address(), set.members().len())),
+        None => None,
+    }
 }
 
 const MEMBERS: [&str; 10] = [
