@@ -8,6 +8,8 @@ mod sources;
 
 use super::*;
 use arrayvec::ArrayVec;
+use std::alloc::{AllocGlobal, Global};
+use std::process::Abort;
 use std::test::Fail;
 use vt_can::assigned::ETP_DT;
 use vt_can::{CanId, Frame, Line, parse_line, write_frame};
@@ -67,4 +69,64 @@ fn packet_from(source: u8, number: u8, bytes: [u8; 7]) -> Frame {
         id: CanId::new(7, ETP_DT, NODE, source),
         bytes: ArrayVec::from([number, a, b, c, d, e, f, g]),
     }
+}
+
+// The packets 1 to a count, of their number seven times, each taken in silence but the last.
+fn hears_group(receiver: &mut Receiver, count: u8, last: Wanted) -> Result<bool, OutOfMemory> {
+    let mut same = true;
+    for number in 1..=count {
+        let wanted = if number == count {
+            last
+        } else {
+            Wanted::Silence
+        };
+        same = hears_packet(receiver, number, wanted)? && same;
+    }
+    Ok(same)
+}
+
+fn hears_packet(receiver: &mut Receiver, number: u8, wanted: Wanted) -> Result<bool, OutOfMemory> {
+    let heard = receiver.hear(1_000_000, &packet(number, [number; 7]))?;
+    Ok(is_answer(heard, wanted))
+}
+
+// What happens to a receiver: it answers this to the frame of a line, to one packet, or to the last of so many;
+// or the abort that is due at a time has this text, and is none for an empty one.
+#[derive(Clone, Copy)]
+enum Act {
+    Hears(&'static [u8], Wanted),
+    Packet(u8, Wanted),
+    Group(u8, Wanted),
+    Expires(u64, &'static [u8]),
+}
+
+fn does(receiver: &mut Receiver, act: Act) -> Result<bool, OutOfMemory> {
+    match act {
+        Act::Hears(line, wanted) => answers(receiver, line, wanted),
+        Act::Packet(number, wanted) => hears_packet(receiver, number, wanted),
+        Act::Group(count, last) => hears_group(receiver, count, last),
+        Act::Expires(now, text) => Ok(expires(receiver, now, text)),
+    }
+}
+
+// Whether a new receiver does all this, one after the other.
+fn does_all(alloc: Global, acts: &[Act]) -> Result<bool, OutOfMemory> {
+    let mut receiver = Receiver::new(alloc, NODE);
+    let mut same = true;
+    for act in acts {
+        same = does(&mut receiver, *act)? && same;
+    }
+    Ok(same)
+}
+
+// What a receiver does in each case, by its name.
+fn expect_acts(
+    rt: &(impl Abort + AllocGlobal),
+    cases: &[(&str, &[Act])],
+) -> Result<(), OutOfMemory> {
+    for (name, acts) in cases {
+        let same = does_all(rt.alloc(), acts)?;
+        assert!(rt; same, "{name}");
+    }
+    Ok(())
 }

@@ -108,36 +108,53 @@ fn entries(rt: HostRuntime) -> Result<(), Fail> {
     Ok(())
 }
 
-#[test]
-fn scales(rt: HostRuntime) {
-    for (scale, bytes, places) in [
-        (Scale::One, [0x00, 0x00, 0x80, 0x3F], 0),
-        (Scale::Tenth, [0xCD, 0xCC, 0xCC, 0x3D], 1),
-        (Scale::Hundredth, [0x0A, 0xD7, 0x23, 0x3C], 2),
-        (Scale::Thousandth, [0x6F, 0x12, 0x83, 0x3A], 3),
-    ] {
-        assert_eq!(rt; Scale::from_bytes(bytes), Some(scale));
-        assert_eq!(rt; scale.to_bytes(), bytes);
-        assert_eq!(rt; scale.places(), places);
+// Each scale, its bytes, and how many places it shifts.
+const SCALES: [(Scale, [u8; 4], u8); 4] = [
+    (Scale::One, [0x00, 0x00, 0x80, 0x3F], 0),
+    (Scale::Tenth, [0xCD, 0xCC, 0xCC, 0x3D], 1),
+    (Scale::Hundredth, [0x0A, 0xD7, 0x23, 0x3C], 2),
+    (Scale::Thousandth, [0x6F, 0x12, 0x83, 0x3A], 3),
+];
+
+const NO_SCALES: [[u8; 4]; 4] = [
+    [0, 0, 0, 0x3F],
+    [0, 0, 0x80, 0xBF],
+    [0x3F, 0x80, 0, 0],
+    [0; 4],
+];
+
+fn is_scale(scale: Scale, bytes: [u8; 4], places: u8) -> bool {
+    Scale::from_bytes(bytes) == Some(scale) && scale.to_bytes() == bytes && scale.places() == places
+}
+
+fn are_scales(rt: &impl Abort, rows: &[(Scale, [u8; 4], u8)]) {
+    for (scale, bytes, places) in rows {
+        assert!(rt; is_scale(*scale, *bytes, *places), "{bytes:?}");
     }
-    for bytes in [
-        [0, 0, 0, 0x3F],
-        [0, 0, 0x80, 0xBF],
-        [0x3F, 0x80, 0, 0],
-        [0; 4],
-    ] {
-        assert_eq!(rt; Scale::from_bytes(bytes), None, "{bytes:?}");
+}
+
+fn are_no_scales(rt: &impl Abort, rows: &[[u8; 4]]) {
+    for bytes in rows {
+        assert!(rt; Scale::from_bytes(*bytes).is_none(), "{bytes:?}");
     }
 }
 
 #[test]
+fn scales(rt: HostRuntime) {
+    are_scales(&rt, &SCALES);
+    are_no_scales(&rt, &NO_SCALES);
+}
+
+fn decimals_of(count: u8) -> Option<u8> {
+    Decimals::new(count).map(|decimals| decimals.count())
+}
+
+#[test]
 fn numbers_of_decimals(rt: HostRuntime) {
-    for count in 0..=7 {
-        let decimals = Decimals::new(count).map(|decimals| decimals.count());
-        assert_eq!(rt; decimals, Some(count));
+    for count in 0..=255u8 {
+        let wanted = (count <= 7).then_some(count);
+        assert_eq!(rt; decimals_of(count), wanted, "{count}");
     }
-    assert!(rt; Decimals::new(8).is_none());
-    assert!(rt; Decimals::new(255).is_none());
 }
 
 #[test]

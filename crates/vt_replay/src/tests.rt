@@ -5,6 +5,7 @@ mod messages;
 mod streams;
 
 use crate::program::{Open, Status, run};
+use std::alloc::{AllocError, Global};
 use std::io::{self, Error, ErrorKind};
 use std::process::Abort;
 use std::test::Fail;
@@ -14,20 +15,20 @@ const POOL: &[u8] = b"\x00\x00\x00\x00\x01\xE8\x03\x00\x00\x00\
     \xE8\x03\x01\x00\xFF\xFF\x01\x00\x64\x00\x0A\x00\x05\x00\
     \x64\x00\x03\x32\x00\x14\x00\x00\x00\x00";
 
-/// The same, where the Container lists macro 3, which sets the volume, at event 4.
+/// Its first two records, and these without the last byte.
+const TWO_RECORDS: &[u8] = b"\x00\x00\x00\x00\x01\xE8\x03\x00\x00\x00\
+    \xE8\x03\x01\x00\xFF\xFF\x01\x00\x64\x00\x0A\x00\x05\x00";
+
+const CUT_RECORDS: &[u8] = b"\x00\x00\x00\x00\x01\xE8\x03\x00\x00\x00\
+    \xE8\x03\x01\x00\xFF\xFF\x01\x00\x64\x00\x0A\x00\x05";
+
+/// The pool, where the Container lists macro 3, which sets the volume, at event 4.
 const MACRO_POOL: &[u8] = b"\x00\x00\x00\x00\x01\xE8\x03\x00\x00\x00\
     \xE8\x03\x01\x00\xFF\xFF\x01\x00\x64\x00\x0A\x00\x05\x00\
     \x64\x00\x03\x32\x00\x14\x00\x00\x00\x01\x04\x03\
     \x03\x00\x1C\x08\x00\xA4\x32\xFF\xFF\xFF\xFF\xFF\xFF";
 
-const MACRO_REPORT: &str = "accepted 4 objects\n\
-    object 3 event 0 budget 1\n\
-    object 100 event 4 budget 1\n";
-
 const HIDE: &[u8] = b"(1.000000) can0 14E72680#A0640000FFFFFFFF\n";
-
-const HIDE_TEXT: &str = "14E68026#A064000000FFFFFF\n\
-    lines 1 frames 1 operator 0 skipped 0 comments 0 faults 0\n";
 
 /// The files of the tests.
 #[derive(Drop)]
@@ -51,70 +52,84 @@ impl<'a> Open for Shelf<'a> {
     }
 }
 
-/// Runs the program, and checks its status, its text, and whether it names a fault.
-fn expect_run(
-    rt: &(impl Abort + AllocGlobal),
-    words: &[&str],
-    files: (&[u8], &[u8]),
-    wanted: (Status, &str, bool),
-) -> Result<(), Fail> {
+/// A run: the words, the log and the pool; and its status, its text, and whether it names a fault.
+type Run<'a> = (&'a [&'a str], (&'a [u8], &'a [u8]), (Status, &'a str, bool));
+
+fn expect_run(rt: &(impl Abort + AllocGlobal), wanted: &Run<'_>) -> Result<(), Fail> {
+    let (words, (log, pool), (status, text, names_fault)) = *wanted;
     let mut out = Vec::new(rt.alloc());
     let mut errors = Vec::new(rt.alloc());
-    let mut shelf = Shelf {
-        log: files.0,
-        pool: files.1,
-    };
-    let status = run(rt.alloc(), words, &mut shelf, &mut out, &mut errors)?;
-    assert_eq!(rt; status, wanted.0, "{words:?}");
-    assert_eq!(rt; out.as_slice(), wanted.1.as_bytes(), "{words:?}");
-    assert_eq!(rt; !errors.is_empty(), wanted.2, "{words:?}");
+    let mut shelf = Shelf { log, pool };
+    let ended = run(rt.alloc(), words, &mut shelf, &mut out, &mut errors)?;
+    assert_eq!(rt; ended, status, "{words:?}");
+    assert_eq!(rt; out.as_slice(), text.as_bytes(), "{words:?}");
+    assert_eq!(rt; !errors.is_empty(), names_fault, "{words:?}");
     Ok(())
 }
 
-#[test]
-fn commands_are_answered(rt: HostRuntime) -> Result<(), Fail> {
-    let words = ["vt_replay", "log", "--pool", "pool", "--owner", "80"].as_slice();
-    expect_run(&rt, words, (HIDE, POOL), (Status::Done, HIDE_TEXT, false))?;
-    let cases = [
-        ("14E72680#A0650000FFFFFFFF", "14E68026#A065000002FFFFFF\n"),
-        ("14E72680#A0640001FFFFFFFF", "14E68026#A064000100FFFFFF\n"),
-        ("14E72680#A0640002FFFFFFFF", "14E68026#A064000204FFFFFF\n"),
-        ("14E72680#A0E80300FFFFFFFF", "14E68026#A0E8030002FFFFFF\n"),
-        ("18E72680#A0640000FFFFFFFF", "14E68026#A064000000FFFFFF\n"),
-        ("14E72681#A0640000FFFFFFFF", ""),
-        ("14E72780#A0640000FFFFFFFF", ""),
-        ("14E6FF80#A0640000FFFFFFFF", ""),
-        ("15E72680#A0640000FFFFFFFF", ""),
-        ("14E72680#A0640000FFFFFF", ""),
-        ("14E72680#A1640000FFFFFFFF", ""),
-    ];
-    for (frame, reply) in cases {
-        let log = format!(in rt.alloc(); "(1.000000) can0 {frame}\n")?;
-        let text = format!(in rt.alloc();
-            "{reply}lines 1 frames 1 operator 0 skipped 0 comments 0 faults 0\n"
-        )?;
-        let wanted = (Status::Done, text.as_str(), false);
-        expect_run(&rt, words, (log.as_bytes(), POOL), wanted)?;
+fn expect_runs(rt: &(impl Abort + AllocGlobal), runs: &[Run<'_>]) -> Result<(), Fail> {
+    for wanted in runs {
+        expect_run(rt, wanted)?;
+    }
+    Ok(())
+}
+
+const LOG: [&str; 2] = ["vt_replay", "log"];
+
+const WITH_POOL: [&str; 6] = ["vt_replay", "log", "--pool", "pool", "--owner", "80"];
+
+/// Logs of one frame, and what is printed of each, with the pool there from the start.
+const COMMANDS: [(&[u8], &str); 12] = [
+    (
+        HIDE,
+        "14E68026#A064000000FFFFFF\n\
+        lines 1 frames 1 operator 0 skipped 0 comments 0 faults 0\n",
+    ),
+    (
+        b"(1.000000) can0 14E72680#A0650000FFFFFFFF\n",
+        "14E68026#A065000002FFFFFF\n\
+        lines 1 frames 1 operator 0 skipped 0 comments 0 faults 0\n",
+    ),
+    (
+        b"(1.000000) can0 14E72680#A0640001FFFFFFFF\n",
+        "14E68026#A064000100FFFFFF\n\
+        lines 1 frames 1 operator 0 skipped 0 comments 0 faults 0\n",
+    ),
+    (
+        b"(1.000000) can0 14E72680#A0640002FFFFFFFF\n",
+        "14E68026#A064000204FFFFFF\n\
+        lines 1 frames 1 operator 0 skipped 0 comments 0 faults 0\n",
+    ),
+    (
+        b"(1.000000) can0 14E72680#A0E80300FFFFFFFF\n",
+        "14E68026#A0E8030002FFFFFF\n\
+        lines 1 frames 1 operator 0 skipped 0 comments 0 faults 0\n",
+    ),
+    (
+        b"(1.000000) can0 18E72680#A0640000FFFFFFFF\n",
+        "14E68026#A064000000FFFFFF\n\
+        lines 1 frames 1 operator 0 skipped 0 comments 0 faults 0\n",
+    ),
+    (b"(1.000000) can0 14E72681#A0640000FFFFFFFF\n", NO_REPLY),
+    (b"(1.000000) can0 14E72780#A0640000FFFFFFFF\n", NO_REPLY),
+    (b"(1.000000) can0 14E6FF80#A0640000FFFFFFFF\n", NO_REPLY),
+    (b"(1.000000) can0 15E72680#A0640000FFFFFFFF\n", NO_REPLY),
+    (b"(1.000000) can0 14E72680#A0640000FFFFFF\n", NO_REPLY),
+    (b"(1.000000) can0 14E72680#A1640000FFFFFFFF\n", NO_REPLY),
+];
+
+const NO_REPLY: &str = "lines 1 frames 1 operator 0 skipped 0 comments 0 faults 0\n";
+
+fn expect_replies(rt: &(impl Abort + AllocGlobal), commands: &[(&[u8], &str)]) -> Result<(), Fail> {
+    for (log, text) in commands {
+        expect_run(rt, &(&WITH_POOL, (log, POOL), (Status::Done, text, false)))?;
     }
     Ok(())
 }
 
 #[test]
-fn other_addresses(rt: HostRuntime) -> Result<(), Fail> {
-    let words = [
-        "vt_replay",
-        "log",
-        "--pool=pool",
-        "--owner",
-        "0a",
-        "--own",
-        "FD",
-    ]
-    .as_slice();
-    let text = "14E60AFD#A064000000FFFFFF\n\
-        lines 1 frames 1 operator 0 skipped 0 comments 0 faults 0\n";
-    let log = b"(1.000000) can0 14E7FD0A#A0640000FFFFFFFF";
-    expect_run(&rt, words, (log, POOL), (Status::Done, text, false))
+fn commands_are_answered(rt: HostRuntime) -> Result<(), Fail> {
+    expect_replies(&rt, &COMMANDS)
 }
 
 /// A request for the terminal's claim, a claim of its address by a lower NAME, and a command.
@@ -122,214 +137,322 @@ const CLAIMED: &[u8] = b"(1.000000) can0 18EA2680#00EE00\n\
     (1.000000) can0 18EEFF26#0000000000000000\n\
     (1.000000) can0 14E72680#A0640000FFFFFFFF\n";
 
+const ADDRESSES_AND_NAMES: [Run<'static>; 4] = [
+    (
+        &[
+            "vt_replay",
+            "log",
+            "--pool=pool",
+            "--owner",
+            "0a",
+            "--own",
+            "FD",
+        ],
+        (b"(1.000000) can0 14E7FD0A#A0640000FFFFFFFF", POOL),
+        (
+            Status::Done,
+            "14E60AFD#A064000000FFFFFF\n\
+            lines 1 frames 1 operator 0 skipped 0 comments 0 faults 0\n",
+            false,
+        ),
+    ),
+    (
+        &WITH_POOL,
+        (CLAIMED, POOL),
+        (
+            Status::Done,
+            "18EEFF26#01000000001D0020\n18EEFFFE#01000000001D0020\n\
+            lines 3 frames 3 operator 0 skipped 0 comments 0 faults 0\n",
+            false,
+        ),
+    ),
+    (
+        &["vt_replay", "log", "--name", "a00084ffFEdcba98"],
+        (CLAIMED, POOL),
+        (
+            Status::Done,
+            "18EEFF26#98BADCFEFF8400A0\n18EEFFFE#98BADCFEFF8400A0\n\
+            lines 3 frames 3 operator 0 skipped 0 comments 0 faults 0\n",
+            false,
+        ),
+    ),
+    (
+        &["vt_replay", "--name=0000000000000000", "log"],
+        (CLAIMED, POOL),
+        (
+            Status::Done,
+            "18EEFF26#0000000000000000\n\
+            lines 3 frames 3 operator 0 skipped 0 comments 0 faults 0\n",
+            false,
+        ),
+    ),
+];
+
 #[test]
-fn names_of_the_terminal(rt: HostRuntime) -> Result<(), Fail> {
-    let words = ["vt_replay", "log", "--pool", "pool", "--owner", "80"].as_slice();
-    let text = "18EEFF26#01000000001D0020\n18EEFFFE#01000000001D0020\n\
-        lines 3 frames 3 operator 0 skipped 0 comments 0 faults 0\n";
-    expect_run(&rt, words, (CLAIMED, POOL), (Status::Done, text, false))?;
-    let words = ["vt_replay", "log", "--name", "a00084ffFEdcba98"].as_slice();
-    let text = "18EEFF26#98BADCFEFF8400A0\n18EEFFFE#98BADCFEFF8400A0\n\
-        lines 3 frames 3 operator 0 skipped 0 comments 0 faults 0\n";
-    expect_run(&rt, words, (CLAIMED, POOL), (Status::Done, text, false))?;
-    let words = ["vt_replay", "--name=0000000000000000", "log"].as_slice();
-    let text = "18EEFF26#0000000000000000\n\
-        lines 3 frames 3 operator 0 skipped 0 comments 0 faults 0\n";
-    expect_run(&rt, words, (CLAIMED, POOL), (Status::Done, text, false))
+fn addresses_and_names(rt: HostRuntime) -> Result<(), Fail> {
+    expect_runs(&rt, &ADDRESSES_AND_NAMES)
 }
+
+/// A set is registered after the claim of its NAME, and without it is not.
+const REGISTRATIONS: [Run<'static>; 2] = [
+    (
+        &LOG,
+        (
+            b"(1.000000) can0 18EEFF80#0100000000800020\n\
+            (1.000000) can0 18FE0D80#01FFFFFFFFFFFFFF\n\
+            (1.000000) can0 14E72680#C0FF00100000FFFF\n",
+            POOL,
+        ),
+        (
+            Status::Done,
+            "14E68026#C00300FFFFFFFFFF\n\
+            lines 3 frames 3 operator 0 skipped 0 comments 0 faults 0\n",
+            false,
+        ),
+    ),
+    (
+        &LOG,
+        (
+            b"(1.000000) can0 18FE0D80#01FFFFFFFFFFFFFF\n\
+            (1.000000) can0 14E72680#C0FF00100000FFFF\n",
+            POOL,
+        ),
+        (
+            Status::Done,
+            "lines 2 frames 2 operator 0 skipped 0 comments 0 faults 0\n",
+            false,
+        ),
+    ),
+];
 
 #[test]
 fn a_set_registers(rt: HostRuntime) -> Result<(), Fail> {
-    let words = ["vt_replay", "log"].as_slice();
-    let claim = "(1.000000) can0 18EEFF80#0100000000800020\n";
-    let rest = "(1.000000) can0 18FE0D80#01FFFFFFFFFFFFFF\n\
-        (1.000000) can0 14E72680#C0FF00100000FFFF\n";
-    let log = format!(in rt.alloc(); "{claim}{rest}")?;
-    let text = "14E68026#C00300FFFFFFFFFF\n\
-        lines 3 frames 3 operator 0 skipped 0 comments 0 faults 0\n";
-    let wanted = (Status::Done, text, false);
-    expect_run(&rt, words, (log.as_bytes(), POOL), wanted)?;
-    let text = "lines 2 frames 2 operator 0 skipped 0 comments 0 faults 0\n";
-    let wanted = (Status::Done, text, false);
-    expect_run(&rt, words, (rest.as_bytes(), POOL), wanted)
+    expect_runs(&rt, &REGISTRATIONS)
+}
+
+/// Words that are not understood.
+const REFUSED_WORDS: [&[&str]; 24] = [
+    &["vt_replay"],
+    &["vt_replay", "log", "pool"],
+    &["vt_replay", "log", "--speed", "2"],
+    &["vt_replay", "log", "--owner", "80"],
+    &["vt_replay", "log", "--pool", "pool"],
+    &["vt_replay", "log", "--own", "2G"],
+    &["vt_replay", "log", "--own", "1"],
+    &["vt_replay", "log", "--own", "FE"],
+    &["vt_replay", "log", "--own", "26", "--own", "26"],
+    &["vt_replay", "log", "--name", ""],
+    &["vt_replay", "log", "--name", "1"],
+    &["vt_replay", "log", "--name", "20001D000000001"],
+    &["vt_replay", "log", "--name", "20001D00000000011"],
+    &["vt_replay", "log", "--name", "20001D000000000G"],
+    &["vt_replay", "log", "--pool", "pool", "--owner", "FF"],
+    &["vt_replay", "log", "--pool", "pool", "--owner", "26"],
+    &[
+        "vt_replay",
+        "none",
+        "--pool",
+        "none",
+        "--owner",
+        "44",
+        "--own",
+        "44",
+    ],
+    &["vt_replay", "--report"],
+    &["vt_replay", "pool", "--report", "--own", "zz"],
+    &["vt_replay", "pool", "--report", "--name", "1"],
+    &["vt_replay", "pool", "--report", "--pool", "pool"],
+    &[
+        "vt_replay",
+        "pool",
+        "--report",
+        "--pool",
+        "pool",
+        "--owner",
+        "26",
+    ],
+    &["vt_replay", "pool", "--report", "--report"],
+    &["vt_replay", "pool", "--report=x"],
+];
+
+/// Runs each command line, which is not understood.
+fn expect_usage(rt: &(impl Abort + AllocGlobal), lines: &[&[&str]]) -> Result<(), Fail> {
+    for words in lines {
+        expect_run(rt, &(words, (HIDE, POOL), (Status::Usage, "", true)))?;
+    }
+    Ok(())
 }
 
 #[test]
 fn words_that_are_refused(rt: HostRuntime) -> Result<(), Fail> {
-    let cases: [&[&str]; 17] = [
-        &["vt_replay"],
-        &["vt_replay", "log", "pool"],
-        &["vt_replay", "log", "--speed", "2"],
-        &["vt_replay", "log", "--owner", "80"],
-        &["vt_replay", "log", "--pool", "pool"],
-        &["vt_replay", "log", "--own", "2G"],
-        &["vt_replay", "log", "--own", "1"],
-        &["vt_replay", "log", "--own", "FE"],
-        &["vt_replay", "log", "--own", "26", "--own", "26"],
-        &["vt_replay", "log", "--name", ""],
-        &["vt_replay", "log", "--name", "1"],
-        &["vt_replay", "log", "--name", "20001D000000001"],
-        &["vt_replay", "log", "--name", "20001D00000000011"],
-        &["vt_replay", "log", "--name", "20001D000000000G"],
-        &["vt_replay", "log", "--pool", "pool", "--owner", "FF"],
-        &["vt_replay", "log", "--pool", "pool", "--owner", "26"],
-        &[
-            "vt_replay",
-            "none",
-            "--pool",
-            "none",
-            "--owner",
-            "44",
-            "--own",
-            "44",
-        ],
-    ];
-    for words in cases {
-        expect_run(&rt, words, (HIDE, POOL), (Status::Usage, "", true))?;
-    }
-    Ok(())
+    expect_usage(&rt, &REFUSED_WORDS)
 }
+
+const POOL_FIRST: [&str; 6] = ["vt_replay", "none", "--pool", "pool", "--owner", "80"];
+
+const FAULTY_FILES: [Run<'static>; 6] = [
+    (
+        &POOL_FIRST,
+        (HIDE, CUT_RECORDS),
+        (Status::Fault, "fault 1 Truncated at 10\n", false),
+    ),
+    (
+        &POOL_FIRST,
+        (HIDE, b"\x01\x00\x1D"),
+        (Status::Fault, "fault 3 LeftOutType at 0\n", false),
+    ),
+    (
+        &POOL_FIRST,
+        (HIDE, TWO_RECORDS),
+        (Status::Fault, "refused 3 Missing 1000 100\n", false),
+    ),
+    (&POOL_FIRST, (HIDE, POOL), (Status::Fault, "", true)),
+    (
+        &["vt_replay", "log", "--pool", "none", "--owner", "80"],
+        (HIDE, POOL),
+        (Status::Fault, "", true),
+    ),
+    (
+        &["vt_replay", "--report", "none"],
+        (HIDE, POOL),
+        (Status::Fault, "", true),
+    ),
+];
 
 #[test]
 fn files_with_faults(rt: HostRuntime) -> Result<(), Fail> {
-    let pool_first = ["vt_replay", "none", "--pool", "pool", "--owner", "80"].as_slice();
-    let cut = (Status::Fault, "fault 1 Truncated at 10\n", false);
-    expect_run(&rt, pool_first, (HIDE, &POOL[..23]), cut)?;
-    let left_out = (Status::Fault, "fault 3 LeftOutType at 0\n", false);
-    expect_run(&rt, pool_first, (HIDE, b"\x01\x00\x1D"), left_out)?;
-    let refused = (Status::Fault, "refused 3 Missing 1000 100\n", false);
-    expect_run(&rt, pool_first, (HIDE, &POOL[..24]), refused)?;
-    let no_file = (Status::Fault, "", true);
-    expect_run(&rt, pool_first, (HIDE, POOL), no_file)?;
-    let no_pool = ["vt_replay", "log", "--pool", "none", "--owner", "80"].as_slice();
-    expect_run(&rt, no_pool, (HIDE, POOL), no_file)
+    expect_runs(&rt, &FAULTY_FILES)
 }
 
-/// Runs `--report` on each pool, and checks its status and its text.
-fn expect_reports(
-    rt: &(impl Abort + AllocGlobal),
-    pools: &[(&[u8], Status, &str)],
-) -> Result<(), Fail> {
-    let words = ["vt_replay", "--report", "pool"].as_slice();
-    for &(pool, status, text) in pools {
-        expect_run(rt, words, (HIDE, pool), (status, text, false))?;
-    }
-    Ok(())
-}
+const REPORT: [&str; 3] = ["vt_replay", "--report", "pool"];
 
-/// Runs each command line, which is not understood.
-fn expect_usage(rt: &(impl Abort + AllocGlobal), lines: &[&[&str]]) -> Result<(), Fail> {
-    for &words in lines {
-        expect_run(rt, words, (HIDE, POOL), (Status::Usage, "", true))?;
-    }
-    Ok(())
-}
-
-#[test]
-fn reports_of_pools(rt: HostRuntime) -> Result<(), Fail> {
-    let pools: [(&[u8], Status, &str); 6] = [
-        (POOL, Status::Done, "accepted 3 objects\n"),
-        (MACRO_POOL, Status::Done, MACRO_REPORT),
-        (&POOL[..24], Status::Fault, "refused 3 Missing 1000 100\n"),
-        (b"", Status::Fault, "refused 1 NoWorkingSet\n"),
-        (b"\x01\x00\x22", Status::Fault, "fault 2 UnknownType at 0\n"),
-        (&POOL[..23], Status::Fault, "fault 1 Truncated at 10\n"),
-    ];
-    expect_reports(&rt, &pools)
-}
-
-#[test]
-fn words_of_a_report(rt: HostRuntime) -> Result<(), Fail> {
-    let no_file = ["vt_replay", "--report", "none"].as_slice();
-    expect_run(&rt, no_file, (HIDE, POOL), (Status::Fault, "", true))?;
-    let words = [
-        "vt_replay",
-        "pool",
-        "--owner=80",
-        "--pool",
-        "none",
-        "--own=27",
-        "--report",
-    ];
-    let report = (Status::Done, "accepted 3 objects\n", false);
-    expect_run(&rt, words.as_slice(), (HIDE, POOL), report)?;
-    let lines: [&[&str]; 7] = [
-        &["vt_replay", "--report"],
-        &["vt_replay", "pool", "--report", "--own", "zz"],
-        &["vt_replay", "pool", "--report", "--name", "1"],
-        &["vt_replay", "pool", "--report", "--pool", "pool"],
+const REPORTS: [Run<'static>; 7] = [
+    (
+        &REPORT,
+        (HIDE, POOL),
+        (Status::Done, "accepted 3 objects\n", false),
+    ),
+    (
+        &REPORT,
+        (HIDE, MACRO_POOL),
+        (
+            Status::Done,
+            "accepted 4 objects\n\
+            object 3 event 0 budget 1\n\
+            object 100 event 4 budget 1\n",
+            false,
+        ),
+    ),
+    (
+        &REPORT,
+        (HIDE, TWO_RECORDS),
+        (Status::Fault, "refused 3 Missing 1000 100\n", false),
+    ),
+    (
+        &REPORT,
+        (HIDE, b""),
+        (Status::Fault, "refused 1 NoWorkingSet\n", false),
+    ),
+    (
+        &REPORT,
+        (HIDE, b"\x01\x00\x22"),
+        (Status::Fault, "fault 2 UnknownType at 0\n", false),
+    ),
+    (
+        &REPORT,
+        (HIDE, CUT_RECORDS),
+        (Status::Fault, "fault 1 Truncated at 10\n", false),
+    ),
+    (
         &[
             "vt_replay",
             "pool",
-            "--report",
+            "--owner=80",
             "--pool",
-            "pool",
-            "--owner",
-            "26",
+            "none",
+            "--own=27",
+            "--report",
         ],
-        &["vt_replay", "pool", "--report", "--report"],
-        &["vt_replay", "pool", "--report=x"],
-    ];
-    expect_usage(&rt, &lines)
+        (HIDE, POOL),
+        (Status::Done, "accepted 3 objects\n", false),
+    ),
+];
+
+#[test]
+fn reports_of_pools(rt: HostRuntime) -> Result<(), Fail> {
+    expect_runs(&rt, &REPORTS)
+}
+
+/// Logs, and what is printed of each.
+const LINES: [(&[u8], &str); 4] = [
+    (
+        b"",
+        "lines 0 frames 0 operator 0 skipped 0 comments 0 faults 0\n",
+    ),
+    (
+        b"# a log\n\n(1.000000) can0 14E7\r\n(1.000000) can0 123#\n\
+        (2.000000) can0 14E72680#\r\nx",
+        "line 3 Shape\nline 6 Time\n\
+        lines 6 frames 1 operator 0 skipped 1 comments 2 faults 2\n",
+    ),
+    (
+        b"(1.000000) can0 14E72680#A0640\n\
+        (1.000000) can0 123#00\n\
+        (1.000000) can0 14E72680##0A0\n\
+        (1.000000000) can0 14E72680#FFFFFFFFFFFFFFFF T\n\
+        (1.000000) can0 14E7",
+        "line 1 Hex\nline 5 Shape\n\
+        lines 5 frames 1 operator 0 skipped 2 comments 0 faults 2\n",
+    ),
+    (
+        b"! press 100\n! text 7 \xFF  x\r\n! press  100\n! set 80\n\
+        (1.00000) can0 14E72680#\n\
+        (1.000000) can0 14E72680#000102030405060708\n\
+        (1.000000) can0 20000080#0102030405060708\n\
+        (1.000000) can0 14E72680#R8\n#! press 1\n",
+        "line 3 Operator\nline 5 Time\nline 6 Length\n\
+        lines 9 frames 0 operator 3 skipped 2 comments 1 faults 3\n",
+    ),
+];
+
+fn expect_lines(rt: &(impl Abort + AllocGlobal), logs: &[(&[u8], &str)]) -> Result<(), Fail> {
+    for (log, text) in logs {
+        expect_run(rt, &(&LOG, (log, POOL), (Status::Done, text, false)))?;
+    }
+    Ok(())
 }
 
 #[test]
 fn lines_are_counted(rt: HostRuntime) -> Result<(), Fail> {
-    let words = ["vt_replay", "log"].as_slice();
-    let none = "lines 0 frames 0 operator 0 skipped 0 comments 0 faults 0\n";
-    expect_run(&rt, words, (b"", POOL), (Status::Done, none, false))?;
-    let log = b"# a log\n\n(1.000000) can0 14E7\r\n(1.000000) can0 123#\n\
-        (2.000000) can0 14E72680#\r\nx";
-    let text = "line 3 Shape\nline 6 Time\n\
-        lines 6 frames 1 operator 0 skipped 1 comments 2 faults 2\n";
-    expect_run(&rt, words, (log, POOL), (Status::Done, text, false))
+    expect_lines(&rt, &LINES)
 }
 
-#[test]
-fn every_sort_of_line(rt: HostRuntime) -> Result<(), Fail> {
-    let words = ["vt_replay", "log"].as_slice();
-    let log = b"(1.000000) can0 14E72680#A0640\n\
-        (1.000000) can0 123#00\n\
-        (1.000000) can0 14E72680##0A0\n\
-        (1.000000000) can0 14E72680#FFFFFFFFFFFFFFFF T\n\
-        (1.000000) can0 14E7";
-    let text = "line 1 Hex\nline 5 Shape\n\
-        lines 5 frames 1 operator 0 skipped 2 comments 0 faults 2\n";
-    expect_run(&rt, words, (log, POOL), (Status::Done, text, false))?;
-    let log = b"! press 100\n! text 7 \xFF  x\r\n! press  100\n! set 80\n\
-        (1.00000) can0 14E72680#\n\
-        (1.000000) can0 14E72680#000102030405060708\n\
-        (1.000000) can0 20000080#0102030405060708\n\
-        (1.000000) can0 14E72680#R8\n#! press 1\n";
-    let text = "line 3 Operator\nline 5 Time\nline 6 Length\n\
-        lines 9 frames 0 operator 3 skipped 2 comments 1 faults 3\n";
-    expect_run(&rt, words, (log, POOL), (Status::Done, text, false))
+/// A comment of so many bytes, between these.
+fn commented(alloc: Global, front: &[u8], count: u16, back: &[u8]) -> Result<Vec<u8>, AllocError> {
+    let mut log = Vec::new(alloc);
+    log.extend_from_slice(front)?;
+    for _ in 0..count {
+        log.push(b'#')?;
+    }
+    log.extend_from_slice(back)?;
+    Ok(log)
 }
 
 #[test]
 fn the_longest_line(rt: HostRuntime) -> Result<(), Fail> {
-    let words = ["vt_replay", "log"].as_slice();
-    let mut log = Vec::new(rt.alloc());
-    for _ in 0..4095 {
-        log.push(b'#')?;
-    }
-    log.extend_from_slice(b"\r\n#")?;
+    let log = commented(rt.alloc(), b"", 4095, b"\r\n#")?;
     let text = "lines 2 frames 0 operator 0 skipped 0 comments 2 faults 0\n";
-    expect_run(&rt, words, (&log, POOL), (Status::Done, text, false))?;
-    log.insert(0, b'#')?;
-    expect_run(&rt, words, (&log, POOL), (Status::Fault, "", true))
+    expect_run(&rt, &(&LOG, (&log, POOL), (Status::Done, text, false)))?;
+    let log = commented(rt.alloc(), b"", 4096, b"\r\n#")?;
+    expect_run(&rt, &(&LOG, (&log, POOL), (Status::Fault, "", true)))
 }
 
 #[test]
 fn a_long_line_after_a_command(rt: HostRuntime) -> Result<(), Fail> {
-    let words = ["vt_replay", "log", "--pool", "pool", "--owner", "80"].as_slice();
-    let mut log = Vec::new(rt.alloc());
-    log.extend_from_slice(HIDE)?;
-    for _ in 0..4097 {
-        log.push(b'#')?;
-    }
-    log.push(b'\n')?;
-    log.extend_from_slice(HIDE)?;
+    let log = commented(rt.alloc(), HIDE, 4097, b"\n(1.000000)")?;
     let reply = "14E68026#A064000000FFFFFF\n";
-    expect_run(&rt, words, (&log, POOL), (Status::Fault, reply, true))
+    expect_run(
+        &rt,
+        &(&WITH_POOL, (&log, POOL), (Status::Fault, reply, true)),
+    )
 }

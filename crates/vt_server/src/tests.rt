@@ -3,6 +3,7 @@ mod messages_of_sets;
 mod sets;
 
 use super::*;
+use std::alloc::Global;
 use std::process::Abort;
 use std::test::Fail;
 use vt_can::{Action, Line, parse_line, write_frame};
@@ -41,14 +42,22 @@ fn started(rt: &(impl Abort + AllocGlobal), preloaded: bool) -> Result<Terminal,
     Ok(terminal)
 }
 
-fn inputs_of<'a>(rt: &(impl Abort + AllocGlobal), frames: &[&str]) -> Result<Vec<Input<'a>>, Fail> {
+// The frame of a text, at one second.
+fn input_of<'a>(alloc: Global, text: &str) -> Result<Input<'a>, Fail> {
+    let mut line = Vec::new(alloc);
+    line.extend_from_slice(b"(1.000000) can0 ")?;
+    line.extend_from_slice(text.as_bytes())?;
+    match parse_line(&line) {
+        Ok(Line::Frame { time, frame }) => Ok(Input::Frame { time, frame }),
+        _ => Err(Fail::new("no frame")),
+    }
+}
+
+fn inputs_of<'a>(rt: &impl AllocGlobal, frames: &[&str]) -> Result<Vec<Input<'a>>, Fail> {
     let mut inputs = Vec::new(rt.alloc());
     for text in frames {
-        let line = format!(in rt.alloc(); "(1.000000) can0 {text}")?;
-        let Ok(Line::Frame { time, frame }) = parse_line(line.as_bytes()) else {
-            panic!(rt; "no frame: {text}");
-        };
-        inputs.push(Input::Frame { time, frame })?;
+        let input = input_of(rt.alloc(), text)?;
+        inputs.push(input)?;
     }
     Ok(inputs)
 }
@@ -88,6 +97,11 @@ fn expect_case(rt: &(impl Abort + AllocGlobal), case: &Case) -> Result<(), Fail>
     let mut outputs = Vec::new(rt.alloc());
     run_all(rt, &mut terminal, &inputs, &mut outputs);
     expect_sent(rt, case, &outputs);
+    expect_sets(rt, case, &terminal);
+    Ok(())
+}
+
+fn expect_sets(rt: &impl Abort, case: &Case, terminal: &Terminal) {
     for address in [0x80, 0x81, OWN, 254, 255] {
         let wanted = case.sets.contains(&address);
         assert_eq!(rt;
@@ -97,31 +111,67 @@ fn expect_case(rt: &(impl Abort + AllocGlobal), case: &Case) -> Result<(), Fail>
             case.heard
         );
     }
+}
+
+fn expect_cases(rt: &(impl Abort + AllocGlobal), cases: &[Case]) -> Result<(), Fail> {
+    for case in cases {
+        expect_case(rt, case)?;
+    }
+    Ok(())
+}
+
+// Takes an input, if need be a second time: the memory is there then.
+fn step_again(
+    terminal: &mut Terminal,
+    input: &Input<'_>,
+    outputs: &mut Vec<Output>,
+) -> Result<(), OutOfMemory> {
+    match terminal.step(input, outputs) {
+        Ok(()) => Ok(()),
+        Err(_) => terminal.step(input, outputs),
+    }
+}
+
+// Takes inputs one by one, each of which leaves so many outputs.
+fn expect_counts(
+    rt: &(impl Abort + AllocGlobal),
+    terminal: &mut Terminal,
+    inputs: &[Input<'_>],
+    counts: &[usize],
+) -> Result<(), OutOfMemory> {
+    let mut outputs = Vec::new(rt.alloc());
+    for (input, count) in inputs.iter().zip(counts) {
+        step_again(terminal, input, &mut outputs)?;
+        assert_eq!(rt; outputs.len(), *count);
+    }
     Ok(())
 }
 
 // The steps one after the other are the run.
 #[test]
 fn inputs_one_by_one(rt: HostRuntime) -> Result<(), Fail> {
-    let mut terminal = started(&rt, true)?;
     let mut inputs = inputs_of(&rt, &["14E72680#A0640000FFFFFFFF", "18EA2680#00EE00"])?;
     inputs.push(Input::Operator(Action::Press(100)))?;
-    let mut outputs = Vec::new(rt.alloc());
-    for (input, count) in inputs.iter().zip([1, 2, 2]) {
-        match terminal.step(input, &mut outputs) {
-            Ok(()) => {}
-            Err(_) => terminal.step(input, &mut outputs)?,
-        }
-        assert_eq!(rt; outputs.len(), count);
-    }
+    let mut terminal = started(&rt, true)?;
+    expect_counts(&rt, &mut terminal, &inputs, &[1, 2, 2])?;
     Ok(())
+}
+
+// So many requests for the terminal's claim.
+fn requests<'a>(alloc: Global, count: u16) -> Result<Vec<Input<'a>>, Fail> {
+    let mut inputs = Vec::new(alloc);
+    for _ in 0..count {
+        let input = input_of(alloc, "18EA2680#00EE00")?;
+        inputs.push(input)?;
+    }
+    Ok(inputs)
 }
 
 // Each input has room for 1,024 outputs, also where many were sent already.
 #[test]
 fn many_inputs(rt: HostRuntime) -> Result<(), Fail> {
+    let inputs = requests(rt.alloc(), 2_000)?;
     let mut terminal = started(&rt, false)?;
-    let inputs = inputs_of(&rt, &["18EA2680#00EE00"; 2_000])?;
     let mut outputs = Vec::new(rt.alloc());
     run_all(&rt, &mut terminal, &inputs, &mut outputs);
     assert_eq!(rt; outputs.len(), 2_000);

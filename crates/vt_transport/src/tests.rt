@@ -7,8 +7,12 @@ mod serving;
 mod sources;
 
 use super::*;
+use std::alloc::{AllocGlobal, Global};
+use std::process::Abort;
 use std::test::Fail;
 use vt_can::{Frame, Line, parse_line, write_frame};
+
+const NODE: u8 = 0x26;
 
 // What a receiver is to answer to a frame.
 #[derive(Clone, Copy)]
@@ -43,4 +47,41 @@ fn expires(receiver: &mut Receiver, now: u64, text: &[u8]) -> bool {
         Some(frame) => write_frame(&frame).as_slice() == text,
         None => text.is_empty(),
     }
+}
+
+// What happens to a receiver: it answers this to the frame of a line, or the abort that is due at a time has
+// this text, and is none for an empty one.
+#[derive(Clone, Copy)]
+enum Act {
+    Hears(&'static [u8], Wanted),
+    Expires(u64, &'static [u8]),
+}
+
+fn does(receiver: &mut Receiver, act: Act) -> Result<bool, OutOfMemory> {
+    match act {
+        Act::Hears(line, wanted) => answers(receiver, line, wanted),
+        Act::Expires(now, text) => Ok(expires(receiver, now, text)),
+    }
+}
+
+// Whether a new receiver does all this, one after the other.
+fn does_all(alloc: Global, acts: &[Act]) -> Result<bool, OutOfMemory> {
+    let mut receiver = Receiver::new(alloc, NODE);
+    let mut same = true;
+    for act in acts {
+        same = does(&mut receiver, *act)? && same;
+    }
+    Ok(same)
+}
+
+// What a receiver does in each case, by its name.
+fn expect_acts(
+    rt: &(impl Abort + AllocGlobal),
+    cases: &[(&str, &[Act])],
+) -> Result<(), OutOfMemory> {
+    for (name, acts) in cases {
+        let same = does_all(rt.alloc(), acts)?;
+        assert!(rt; same, "{name}");
+    }
+    Ok(())
 }

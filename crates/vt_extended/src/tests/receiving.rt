@@ -1,343 +1,263 @@
+use super::Act::{Expires, Group, Hears, Packet};
 use super::Wanted::*;
 use super::*;
 
-// The packets 1 to a count, each taken in silence but the last.
-fn hears_group(receiver: &mut Receiver, count: u8, last: Wanted) -> Result<bool, OutOfMemory> {
-    let mut same = true;
-    for number in 1..=count {
-        let wanted = if number == count { last } else { Silence };
-        let heard = receiver.hear(1_000_000, &packet(number, [number; 7]))?;
-        same = same && is_answer(heard, wanted);
-    }
-    Ok(same)
-}
+const REQUEST: &[u8] = b"(1.000000) can0 1CC82680#140900000000E700";
+
+const CLEAR: Wanted = Reply(b"1CC88026#150201000000E700");
+
+const OFFSET: &[u8] = b"(1.000000) can0 1CC82680#160200000000E700";
+
+const REQUEST_600: &[u8] = b"(1.000000) can0 1CC82680#146810000000E700";
+
+const CLEAR_600: Wanted = Reply(b"1CC88026#15FF01000000E700");
+
+const OFFSET_255: &[u8] = b"(1.000000) can0 1CC82680#16FF00000000E700";
+
+const DISORDER: Wanted = Reply(b"1CC88026#FF07FFFFFF00E700");
+
+const MESSAGES: [(&str, &[Act]); 8] = [
+    (
+        "nine bytes",
+        &[
+            Hears(REQUEST, CLEAR),
+            Hears(OFFSET, Silence),
+            Group(
+                2,
+                Message(
+                    b"1CC88026#170900000000E700",
+                    b"\x01\x01\x01\x01\x01\x01\x01\x02\x02",
+                ),
+            ),
+        ],
+    ),
+    (
+        "sizes at their bounds",
+        &[
+            Hears(
+                b"(1.000000) can0 1CC82680#140800000000E700",
+                Reply(b"1CC88026#FF07FFFFFF00E700"),
+            ),
+            Hears(
+                b"(1.000000) can0 1CC82680#140100100000E700",
+                Reply(b"1CC88026#FF02FFFFFF00E700"),
+            ),
+            Hears(
+                b"(1.000000) can0 1CC82680#140000100000E700",
+                Reply(b"1CC88026#15FF01000000E700"),
+            ),
+            Hears(
+                b"(1.000000) can0 1CC82680#14FFFFFFFF00E700",
+                Reply(b"1CC88026#FF02FFFFFF00E700"),
+            ),
+        ],
+    ),
+    (
+        "255 packets",
+        &[
+            Hears(
+                b"(1.000000) can0 1CC82680#14F906000000E700",
+                Reply(b"1CC88026#15FF01000000E700"),
+            ),
+            Hears(OFFSET_255, Silence),
+            Group(255, Size(b"1CC88026#17F906000000E700", 1785)),
+        ],
+    ),
+    (
+        "256 packets",
+        &[
+            Hears(
+                b"(1.000000) can0 1CC82680#14FA06000000E700",
+                Reply(b"1CC88026#15FF01000000E700"),
+            ),
+            Hears(OFFSET_255, Silence),
+            Group(255, Reply(b"1CC88026#150100010000E700")),
+            Hears(b"(1.000000) can0 1CC82680#1601FF000000E700", Silence),
+            Group(1, Size(b"1CC88026#17FA06000000E700", 1786)),
+        ],
+    ),
+    (
+        "257 packets",
+        &[
+            Hears(
+                b"(1.000000) can0 1CC82680#140707000000E700",
+                Reply(b"1CC88026#15FF01000000E700"),
+            ),
+            Hears(OFFSET_255, Silence),
+            Group(255, Reply(b"1CC88026#150200010000E700")),
+            Hears(b"(1.000000) can0 1CC82680#1602FF000000E700", Silence),
+            Group(2, Size(b"1CC88026#170707000000E700", 1799)),
+        ],
+    ),
+    (
+        "600 packets, of which a CTS opens 255",
+        &[
+            Hears(REQUEST_600, CLEAR_600),
+            Hears(b"(1.000000) can0 1CC82680#166400000000E700", Silence),
+            Group(100, Reply(b"1CC88026#15FF65000000E700")),
+            Hears(b"(1.000000) can0 1CC82680#169B64000000E700", Silence),
+            Group(155, Reply(b"1CC88026#15FF00010000E700")),
+            Hears(b"(1.000000) can0 1CC82680#16FFFF000000E700", Silence),
+            Group(255, Reply(b"1CC88026#155AFF010000E700")),
+            Hears(b"(1.000000) can0 1CC82680#165AFE010000E700", Silence),
+            Group(90, Size(b"1CC88026#176810000000E700", 4200)),
+        ],
+    ),
+    (
+        "an offset before the group is whole",
+        &[
+            Hears(REQUEST_600, CLEAR_600),
+            Hears(b"(1.000000) can0 1CC82680#166400000000E700", Silence),
+            Group(50, Silence),
+            Hears(b"(1.000000) can0 1CC82680#16CD32000000E700", Silence),
+            Group(205, Reply(b"1CC88026#15FF00010000E700")),
+        ],
+    ),
+    (
+        "two sources at once",
+        &[
+            Hears(REQUEST, CLEAR),
+            Hears(
+                b"(1.000000) can0 1CC82681#140A00000000CA00",
+                Reply(b"1CC88126#150201000000CA00"),
+            ),
+            Hears(OFFSET, Silence),
+            Hears(b"(1.000000) can0 1CC72680#0101020304050607", Silence),
+            Hears(b"(1.000000) can0 1CC82681#160200000000CA00", Silence),
+            Hears(b"(1.000000) can0 1CC72681#0111121314151617", Silence),
+            Hears(
+                b"(1.000000) can0 1CC72680#020809FFFFFFFFFF",
+                Message(
+                    b"1CC88026#170900000000E700",
+                    b"\x01\x02\x03\x04\x05\x06\x07\x08\x09",
+                ),
+            ),
+            Hears(
+                b"(1.000000) can0 1CC72681#0218191AFFFFFFFF",
+                Message(
+                    b"1CC88126#170A00000000CA00",
+                    b"\x11\x12\x13\x14\x15\x16\x17\x18\x19\x1A",
+                ),
+            ),
+        ],
+    ),
+];
 
 #[test]
-fn a_message_of_nine_bytes(rt: HostRuntime) -> Result<(), Fail> {
-    let mut receiver = Receiver::new(rt.alloc(), NODE);
-    let opened = answers(
-        &mut receiver,
-        b"(1.000000) can0 1CC82680#140900000000E700",
-        Reply(b"1CC88026#150201000000E700"),
-    )?;
-    let announced = answers(
-        &mut receiver,
-        b"(1.000000) can0 1CC82680#160200000000E700",
-        Silence,
-    )?;
-    let heard = hears_group(
-        &mut receiver,
-        2,
-        Message(
-            b"1CC88026#170900000000E700",
-            b"\x01\x01\x01\x01\x01\x01\x01\x02\x02",
-        ),
-    )?;
-    assert!(rt; opened && announced && heard);
+fn messages_are_handed_out(rt: HostRuntime) -> Result<(), Fail> {
+    expect_acts(&rt, &MESSAGES)?;
     Ok(())
 }
 
-#[test]
-fn requests_at_the_bounds_of_the_size(rt: HostRuntime) -> Result<(), Fail> {
-    let mut receiver = Receiver::new(rt.alloc(), NODE);
-    let small = answers(
-        &mut receiver,
-        b"(1.000000) can0 1CC82680#140800000000E700",
-        Reply(b"1CC88026#FF07FFFFFF00E700"),
-    )?;
-    let large = answers(
-        &mut receiver,
-        b"(1.000000) can0 1CC82680#140100100000E700",
-        Reply(b"1CC88026#FF02FFFFFF00E700"),
-    )?;
-    let largest = answers(
-        &mut receiver,
-        b"(1.000000) can0 1CC82680#140000100000E700",
-        Reply(b"1CC88026#15FF01000000E700"),
-    )?;
-    let huge = answers(
-        &mut receiver,
-        b"(1.000000) can0 1CC82680#14FFFFFFFF00E700",
-        Reply(b"1CC88026#FF02FFFFFF00E700"),
-    )?;
-    assert!(rt; small && large && largest && huge);
-    Ok(())
-}
+const ENDS: [(&str, &[Act]); 11] = [
+    (
+        "an early offset opens nothing",
+        &[
+            Hears(REQUEST_600, CLEAR_600),
+            Hears(b"(1.000000) can0 1CC82680#166400000000E700", Silence),
+            Group(50, Silence),
+            Hears(b"(1.000000) can0 1CC82680#16CE32000000E700", DISORDER),
+        ],
+    ),
+    (
+        "a packet that is not announced",
+        &[
+            Hears(REQUEST, CLEAR),
+            Hears(b"(1.000000) can0 1CC72680#0101010101010101", DISORDER),
+            Hears(OFFSET, Silence),
+            Packet(1, Silence),
+        ],
+    ),
+    (
+        "no packets announced",
+        &[
+            Hears(REQUEST, CLEAR),
+            Hears(b"(1.000000) can0 1CC82680#160000000000E700", DISORDER),
+            Hears(OFFSET, Silence),
+            Packet(1, Silence),
+        ],
+    ),
+    (
+        "more packets than are left",
+        &[
+            Hears(REQUEST, CLEAR),
+            Hears(b"(1.000000) can0 1CC82680#160300000000E700", DISORDER),
+            Hears(OFFSET, Silence),
+            Packet(1, Silence),
+        ],
+    ),
+    (
+        "an offset of 1",
+        &[
+            Hears(REQUEST, CLEAR),
+            Hears(b"(1.000000) can0 1CC82680#160101000000E700", DISORDER),
+            Hears(OFFSET, Silence),
+            Packet(1, Silence),
+        ],
+    ),
+    (
+        "a packet after its group",
+        &[
+            Hears(REQUEST, CLEAR),
+            Hears(b"(1.000000) can0 1CC82680#160100000000E700", Silence),
+            Group(1, Reply(b"1CC88026#150102000000E700")),
+            Packet(2, DISORDER),
+        ],
+    ),
+    (
+        "the second packet first",
+        &[
+            Hears(REQUEST, CLEAR),
+            Hears(OFFSET, Silence),
+            Packet(2, DISORDER),
+        ],
+    ),
+    (
+        "an abort",
+        &[
+            Hears(REQUEST, CLEAR),
+            Hears(b"(1.000000) can0 1CC82680#FF07FFFFFF00E600", Silence),
+            Hears(OFFSET, Silence),
+            Packet(1, Silence),
+        ],
+    ),
+    (
+        "a refused request",
+        &[
+            Hears(REQUEST, CLEAR),
+            Hears(
+                b"(1.000000) can0 1CC82680#140800000000EA00",
+                Reply(b"1CC88026#FF07FFFFFF00EA00"),
+            ),
+            Hears(OFFSET, Silence),
+            Packet(1, Silence),
+        ],
+    ),
+    (
+        "a timeout",
+        &[
+            Hears(REQUEST, CLEAR),
+            Hears(b"(2.000000) can0 1CC82680#160200000000E700", Silence),
+            Expires(0, b""),
+            Expires(3_250_000, b""),
+            Expires(3_250_001, b"1CC88026#FF03FFFFFF00E700"),
+            Expires(3_250_001, b""),
+        ],
+    ),
+    (
+        "frames that are not heard",
+        &[
+            Hears(b"(1.000000) can0 1CC82680#140900000000E7", Silence),
+            Hears(b"(1.000000) can0 1CC82780#140900000000E700", Silence),
+            Hears(b"(1.000000) can0 1CEC2680#140900000000E700", Silence),
+            Hears(REQUEST, CLEAR),
+            Hears(b"(1.000000) can0 1CC82680#150201000000E700", Silence),
+        ],
+    ),
+];
 
 #[test]
-fn a_message_of_255_packets(rt: HostRuntime) -> Result<(), Fail> {
-    let mut receiver = Receiver::new(rt.alloc(), NODE);
-    let opened = answers(
-        &mut receiver,
-        b"(1.000000) can0 1CC82680#14F906000000E700",
-        Reply(b"1CC88026#15FF01000000E700"),
-    )?;
-    let announced = answers(
-        &mut receiver,
-        b"(1.000000) can0 1CC82680#16FF00000000E700",
-        Silence,
-    )?;
-    let heard = hears_group(&mut receiver, 255, Size(b"1CC88026#17F906000000E700", 1785))?;
-    assert!(rt; opened && announced && heard);
-    Ok(())
-}
-
-#[test]
-fn a_message_of_256_packets(rt: HostRuntime) -> Result<(), Fail> {
-    let mut receiver = Receiver::new(rt.alloc(), NODE);
-    let opened = answers(
-        &mut receiver,
-        b"(1.000000) can0 1CC82680#14FA06000000E700",
-        Reply(b"1CC88026#15FF01000000E700"),
-    )?;
-    let announced = answers(
-        &mut receiver,
-        b"(1.000000) can0 1CC82680#16FF00000000E700",
-        Silence,
-    )?;
-    let group = hears_group(&mut receiver, 255, Reply(b"1CC88026#150100010000E700"))?;
-    let last = answers(
-        &mut receiver,
-        b"(1.000000) can0 1CC82680#1601FF000000E700",
-        Silence,
-    )?;
-    let heard = hears_group(&mut receiver, 1, Size(b"1CC88026#17FA06000000E700", 1786))?;
-    assert!(rt; opened && announced && group && last && heard);
-    Ok(())
-}
-
-#[test]
-fn a_message_of_257_packets(rt: HostRuntime) -> Result<(), Fail> {
-    let mut receiver = Receiver::new(rt.alloc(), NODE);
-    let opened = answers(
-        &mut receiver,
-        b"(1.000000) can0 1CC82680#140707000000E700",
-        Reply(b"1CC88026#15FF01000000E700"),
-    )?;
-    let announced = answers(
-        &mut receiver,
-        b"(1.000000) can0 1CC82680#16FF00000000E700",
-        Silence,
-    )?;
-    let group = hears_group(&mut receiver, 255, Reply(b"1CC88026#150200010000E700"))?;
-    let last = answers(
-        &mut receiver,
-        b"(1.000000) can0 1CC82680#1602FF000000E700",
-        Silence,
-    )?;
-    let heard = hears_group(&mut receiver, 2, Size(b"1CC88026#170707000000E700", 1799))?;
-    assert!(rt; opened && announced && group && last && heard);
-    Ok(())
-}
-
-// The groups of 600 packets, each with the answer to its last packet. A CTS opens 255 packets more.
-fn groups_of_600(receiver: &mut Receiver) -> Result<bool, OutOfMemory> {
-    let opened = answers(
-        receiver,
-        b"(1.000000) can0 1CC82680#146810000000E700",
-        Reply(b"1CC88026#15FF01000000E700"),
-    )?;
-    let of_100 = answers(
-        receiver,
-        b"(1.000000) can0 1CC82680#166400000000E700",
-        Silence,
-    )? && hears_group(receiver, 100, Reply(b"1CC88026#15FF65000000E700"))?;
-    let of_155 = answers(
-        receiver,
-        b"(1.000000) can0 1CC82680#169B64000000E700",
-        Silence,
-    )? && hears_group(receiver, 155, Reply(b"1CC88026#15FF00010000E700"))?;
-    let of_255 = answers(
-        receiver,
-        b"(1.000000) can0 1CC82680#16FFFF000000E700",
-        Silence,
-    )? && hears_group(receiver, 255, Reply(b"1CC88026#155AFF010000E700"))?;
-    let of_90 = answers(
-        receiver,
-        b"(1.000000) can0 1CC82680#165AFE010000E700",
-        Silence,
-    )? && hears_group(receiver, 90, Size(b"1CC88026#176810000000E700", 4200))?;
-    Ok(opened && of_100 && of_155 && of_255 && of_90)
-}
-
-#[test]
-fn a_message_of_600_packets(rt: HostRuntime) -> Result<(), Fail> {
-    let mut receiver = Receiver::new(rt.alloc(), NODE);
-    let heard = groups_of_600(&mut receiver)?;
-    assert!(rt; heard);
-    Ok(())
-}
-
-#[test]
-fn an_offset_before_the_group_is_whole(rt: HostRuntime) -> Result<(), Fail> {
-    let mut receiver = Receiver::new(rt.alloc(), NODE);
-    let opened = opens_600(&mut receiver)?;
-    let first = answers(
-        &mut receiver,
-        b"(1.000000) can0 1CC82680#166400000000E700",
-        Silence,
-    )? && hears_group(&mut receiver, 50, Silence)?;
-    let early = answers(
-        &mut receiver,
-        b"(1.000000) can0 1CC82680#16CD32000000E700",
-        Silence,
-    )? && hears_group(&mut receiver, 205, Reply(b"1CC88026#15FF00010000E700"))?;
-    assert!(rt; opened && first && early);
-    Ok(())
-}
-
-#[test]
-fn an_early_offset_opens_nothing(rt: HostRuntime) -> Result<(), Fail> {
-    let mut receiver = Receiver::new(rt.alloc(), NODE);
-    let opened = opens_600(&mut receiver)?;
-    let first = answers(
-        &mut receiver,
-        b"(1.000000) can0 1CC82680#166400000000E700",
-        Silence,
-    )? && hears_group(&mut receiver, 50, Silence)?;
-    let past = answers(
-        &mut receiver,
-        b"(1.000000) can0 1CC82680#16CE32000000E700",
-        Reply(b"1CC88026#FF07FFFFFF00E700"),
-    )?;
-    assert!(rt; opened && first && past);
-    Ok(())
-}
-
-fn opens_600(receiver: &mut Receiver) -> Result<bool, OutOfMemory> {
-    answers(
-        receiver,
-        b"(1.000000) can0 1CC82680#146810000000E700",
-        Reply(b"1CC88026#15FF01000000E700"),
-    )
-}
-
-// Whether this frame is refused in a new session of nine bytes, and the session is gone after it.
-fn is_refused(receiver: &mut Receiver, line: &[u8]) -> Result<bool, OutOfMemory> {
-    let refused = opens_nine(receiver)?
-        && answers(receiver, line, Reply(b"1CC88026#FF07FFFFFF00E700"))?;
-    Ok(refused && is_gone(receiver)?)
-}
-
-// Whether a DPO and a packet are ignored.
-fn is_gone(receiver: &mut Receiver) -> Result<bool, OutOfMemory> {
-    let announced = answers(
-        receiver,
-        b"(1.000000) can0 1CC82680#160200000000E700",
-        Silence,
-    )?;
-    let heard = receiver.hear(1_000_000, &packet(1, [1; 7]))?;
-    Ok(announced && is_answer(heard, Silence))
-}
-
-fn opens_nine(receiver: &mut Receiver) -> Result<bool, OutOfMemory> {
-    answers(
-        receiver,
-        b"(1.000000) can0 1CC82680#140900000000E700",
-        Reply(b"1CC88026#150201000000E700"),
-    )
-}
-
-#[test]
-fn frames_out_of_order(rt: HostRuntime) -> Result<(), Fail> {
-    let mut receiver = Receiver::new(rt.alloc(), NODE);
-    let packet_first = is_refused(&mut receiver, b"(1.000000) can0 1CC72680#0101010101010101")?;
-    let none_announced = is_refused(&mut receiver, b"(1.000000) can0 1CC82680#160000000000E700")?;
-    let too_many = is_refused(&mut receiver, b"(1.000000) can0 1CC82680#160300000000E700")?;
-    let offset_1 = is_refused(&mut receiver, b"(1.000000) can0 1CC82680#160101000000E700")?;
-    assert!(rt; packet_first && none_announced && too_many && offset_1);
-    Ok(())
-}
-
-#[test]
-fn packets_out_of_order(rt: HostRuntime) -> Result<(), Fail> {
-    let mut receiver = Receiver::new(rt.alloc(), NODE);
-    let opened = opens_nine(&mut receiver)?
-        && answers(
-            &mut receiver,
-            b"(1.000000) can0 1CC82680#160100000000E700",
-            Silence,
-        )?;
-    let one = hears_group(&mut receiver, 1, Reply(b"1CC88026#150102000000E700"))?;
-    let unannounced = is_answer(
-        receiver.hear(1_000_000, &packet(2, [2; 7]))?,
-        Reply(b"1CC88026#FF07FFFFFF00E700"),
-    );
-    let again = opens_nine(&mut receiver)?
-        && answers(
-            &mut receiver,
-            b"(1.000000) can0 1CC82680#160200000000E700",
-            Silence,
-        )?;
-    let second_first = is_answer(
-        receiver.hear(1_000_000, &packet(2, [2; 7]))?,
-        Reply(b"1CC88026#FF07FFFFFF00E700"),
-    );
-    assert!(rt; opened && one && unannounced && again && second_first);
-    Ok(())
-}
-
-#[test]
-fn what_ends_a_session(rt: HostRuntime) -> Result<(), Fail> {
-    let mut receiver = Receiver::new(rt.alloc(), NODE);
-    let aborted = opens_nine(&mut receiver)?
-        && answers(
-            &mut receiver,
-            b"(1.000000) can0 1CC82680#FF07FFFFFF00E600",
-            Silence,
-        )?;
-    let ignored = is_gone(&mut receiver)?;
-    let refused = opens_nine(&mut receiver)?
-        && answers(
-            &mut receiver,
-            b"(1.000000) can0 1CC82680#140800000000EA00",
-            Reply(b"1CC88026#FF07FFFFFF00EA00"),
-        )?;
-    let gone = is_gone(&mut receiver)?;
-    assert!(rt; aborted && ignored && refused && gone);
-    Ok(())
-}
-
-#[test]
-fn sessions_without_frames_are_aborted(rt: HostRuntime) -> Result<(), Fail> {
-    let mut receiver = Receiver::new(rt.alloc(), NODE);
-    let opened = opens_nine(&mut receiver)?
-        && answers(
-            &mut receiver,
-            b"(2.000000) can0 1CC82680#160200000000E700",
-            Silence,
-        )?;
-    let stays = expires(&mut receiver, 0, b"") && expires(&mut receiver, 3_250_000, b"");
-    let aborted = expires(&mut receiver, 3_250_001, b"1CC88026#FF03FFFFFF00E700");
-    let gone = expires(&mut receiver, 3_250_001, b"");
-    assert!(rt; opened && stays && aborted && gone);
-    Ok(())
-}
-
-#[test]
-fn frames_that_are_not_heard(rt: HostRuntime) -> Result<(), Fail> {
-    let mut receiver = Receiver::new(rt.alloc(), NODE);
-    let short = answers(
-        &mut receiver,
-        b"(1.000000) can0 1CC82680#140900000000E7",
-        Silence,
-    )?;
-    let elsewhere = answers(
-        &mut receiver,
-        b"(1.000000) can0 1CC82780#140900000000E700",
-        Silence,
-    )?;
-    let small_transport = answers(
-        &mut receiver,
-        b"(1.000000) can0 1CEC2680#140900000000E700",
-        Silence,
-    )?;
-    let others = opens_nine(&mut receiver)?
-        && answers(
-            &mut receiver,
-            b"(1.000000) can0 1CC82680#150201000000E700",
-            Silence,
-        )?;
-    assert!(rt; short && elsewhere && small_transport && others);
+fn sessions_end(rt: HostRuntime) -> Result<(), Fail> {
+    expect_acts(&rt, &ENDS)?;
     Ok(())
 }

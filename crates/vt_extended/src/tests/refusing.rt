@@ -1,5 +1,6 @@
 // What a receiver refuses with an abort and what it ignores; and a call that is refused memory changes
 // nothing, so it may be made again.
+use super::Act::Hears;
 use super::Wanted::*;
 use super::*;
 
@@ -44,113 +45,161 @@ fn ends(receiver: &mut Receiver, line: &[u8], wanted: Wanted) -> Result<bool, Ou
     Ok(opens(receiver)? && answers(receiver, line, wanted)? && answers(receiver, LAST, Silence)?)
 }
 
-#[test]
-fn sizes_that_are_refused(rt: HostRuntime) -> Result<(), Fail> {
-    let mut receiver = Receiver::new(rt.alloc(), NODE);
-    let none = b"(1.000000) can0 1CC82680#140000000000E700";
-    let eight = b"(1.000000) can0 1CC82680#140800000000E700";
-    let small = ends(&mut receiver, none, Reply(DISORDER))?
-        && ends(&mut receiver, eight, Reply(DISORDER))?;
-    let one_more = b"(1.000000) can0 1CC82680#140100100000E700";
-    let most = b"(1.000000) can0 1CC82680#14FFFFFFFF00E700";
-    let large = ends(&mut receiver, one_more, Reply(TOO_LARGE))?
-        && ends(&mut receiver, most, Reply(TOO_LARGE))?;
-    assert!(rt; small && large);
+// Frames that end a session, and what is answered to them.
+const ENDS: [(&[u8], Wanted); 15] = [
+    // Sizes.
+    (
+        b"(1.000000) can0 1CC82680#140000000000E700",
+        Reply(DISORDER),
+    ),
+    (
+        b"(1.000000) can0 1CC82680#140800000000E700",
+        Reply(DISORDER),
+    ),
+    (
+        b"(1.000000) can0 1CC82680#140100100000E700",
+        Reply(TOO_LARGE),
+    ),
+    (
+        b"(1.000000) can0 1CC82680#14FFFFFFFF00E700",
+        Reply(TOO_LARGE),
+    ),
+    // Counts: none, past the last packet, and the most.
+    (
+        b"(1.000000) can0 1CC82680#160001000000E700",
+        Reply(DISORDER),
+    ),
+    (
+        b"(1.000000) can0 1CC82680#160201000000E700",
+        Reply(DISORDER),
+    ),
+    (
+        b"(1.000000) can0 1CC82680#16FF01000000E700",
+        Reply(DISORDER),
+    ),
+    // Offsets: before the next packet, after it, and of two and three bytes.
+    (
+        b"(1.000000) can0 1CC82680#160100000000E700",
+        Reply(DISORDER),
+    ),
+    (
+        b"(1.000000) can0 1CC82680#160102000000E700",
+        Reply(DISORDER),
+    ),
+    (
+        b"(1.000000) can0 1CC82680#160101010000E700",
+        Reply(DISORDER),
+    ),
+    (
+        b"(1.000000) can0 1CC82680#160101000100E700",
+        Reply(DISORDER),
+    ),
+    // Packets 0, 1 again and 3.
+    (
+        b"(1.000000) can0 1CC72680#00B4E8036400FFFF",
+        Reply(DISORDER),
+    ),
+    (FIRST, Reply(DISORDER)),
+    (
+        b"(1.000000) can0 1CC72680#030500FFFFFFFFFF",
+        Reply(DISORDER),
+    ),
+    // An abort of another group.
+    (b"(1.000000) can0 1CC82680#FF03FFFFFF00E600", Silence),
+];
+
+fn expect_ends(
+    rt: &impl Abort,
+    receiver: &mut Receiver,
+    frames: &[(&[u8], Wanted)],
+) -> Result<(), OutOfMemory> {
+    for (line, wanted) in frames {
+        let ended = ends(receiver, line, *wanted)?;
+        assert!(rt; ended, "{line:?}");
+    }
     Ok(())
 }
 
 #[test]
-fn counts_that_are_refused(rt: HostRuntime) -> Result<(), Fail> {
+fn frames_that_end_a_session(rt: HostRuntime) -> Result<(), Fail> {
     let mut receiver = Receiver::new(rt.alloc(), NODE);
-    let none = b"(1.000000) can0 1CC82680#160001000000E700";
-    let past_the_last = b"(1.000000) can0 1CC82680#160201000000E700";
-    let most = b"(1.000000) can0 1CC82680#16FF01000000E700";
-    let refused = ends(&mut receiver, none, Reply(DISORDER))?
-        && ends(&mut receiver, past_the_last, Reply(DISORDER))?
-        && ends(&mut receiver, most, Reply(DISORDER))?;
-    assert!(rt; refused);
+    expect_ends(&rt, &mut receiver, &ENDS)?;
+    Ok(())
+}
+
+const ABORT: &[u8] = b"(1.000000) can0 1CC82680#FF07FFFFFF00E700";
+
+const AFTER_THE_FIRST: [(&str, &[Act]); 2] = [
+    (
+        "after a new group the packets count from 1 again",
+        &[
+            Hears(REQUEST, Reply(CLEAR)),
+            Hears(OFFSET, Silence),
+            Hears(FIRST, Silence),
+            Hears(b"(1.000000) can0 1CC82680#160101000000E700", Silence),
+            Hears(LAST, Reply(DISORDER)),
+        ],
+    ),
+    (
+        "an abort, and one without a session",
+        &[
+            Hears(REQUEST, Reply(CLEAR)),
+            Hears(OFFSET, Silence),
+            Hears(FIRST, Silence),
+            Hears(ABORT, Silence),
+            Hears(LAST, Silence),
+            Hears(ABORT, Silence),
+        ],
+    ),
+];
+
+#[test]
+fn groups_and_aborts(rt: HostRuntime) -> Result<(), Fail> {
+    expect_acts(&rt, &AFTER_THE_FIRST)?;
+    Ok(())
+}
+
+// Frames that leave a session as it is.
+const IGNORED: [&[u8]; 18] = [
+    // Short ones.
+    b"(1.000000) can0 1CC82680#140900000000E7",
+    b"(1.000000) can0 1CC82680#160000000000E7",
+    b"(1.000000) can0 1CC82680#FF07FFFFFF00E7",
+    b"(1.000000) can0 1CC72680#01B4E8036400FF",
+    b"(1.000000) can0 1CC72680#",
+    // Frames to another node, to all, and from another source.
+    b"(1.000000) can0 1CC82780#140900000000E700",
+    b"(1.000000) can0 1CC72780#01B4E8036400FFFF",
+    b"(1.000000) can0 1CC82780#FF07FFFFFF00E700",
+    b"(1.000000) can0 1CC8FF80#FF07FFFFFF00E700",
+    b"(1.000000) can0 1CC82681#160000000000E700",
+    b"(1.000000) can0 1CC72681#020500FFFFFFFFFF",
+    b"(1.000000) can0 1CC82681#FF07FFFFFF00E700",
+    // Its own replies, the other transport protocol, and a message.
+    b"(1.000000) can0 1CC82680#150202000000E700",
+    b"(1.000000) can0 1CC82680#170900000000E700",
+    b"(1.000000) can0 1CEC2680#10090002FF00E700",
+    b"(1.000000) can0 1CEC2680#FF07FFFFFF00E700",
+    b"(1.000000) can0 1CEB2680#01B4E8036400FFFF",
+    b"(1.000000) can0 1CE72680#A0E80300FFFFFFFF",
+];
+
+fn expect_ignored(
+    rt: &impl Abort,
+    receiver: &mut Receiver,
+    lines: &[&[u8]],
+) -> Result<(), OutOfMemory> {
+    for line in lines {
+        let ignored = is_ignored(receiver, line)?;
+        assert!(rt; ignored, "{line:?}");
+    }
     Ok(())
 }
 
 #[test]
-fn offsets_that_are_refused(rt: HostRuntime) -> Result<(), Fail> {
+fn frames_that_are_ignored(rt: HostRuntime) -> Result<(), Fail> {
     let mut receiver = Receiver::new(rt.alloc(), NODE);
-    let before = b"(1.000000) can0 1CC82680#160100000000E700";
-    let after = b"(1.000000) can0 1CC82680#160102000000E700";
-    let of_two_bytes = b"(1.000000) can0 1CC82680#160101010000E700";
-    let of_three_bytes = b"(1.000000) can0 1CC82680#160101000100E700";
-    let refused = ends(&mut receiver, before, Reply(DISORDER))?
-        && ends(&mut receiver, after, Reply(DISORDER))?
-        && ends(&mut receiver, of_two_bytes, Reply(DISORDER))?
-        && ends(&mut receiver, of_three_bytes, Reply(DISORDER))?;
-    assert!(rt; refused);
-    Ok(())
-}
-
-#[test]
-fn packets_that_are_refused(rt: HostRuntime) -> Result<(), Fail> {
-    let mut receiver = Receiver::new(rt.alloc(), NODE);
-    let none = b"(1.000000) can0 1CC72680#00B4E8036400FFFF";
-    let third = b"(1.000000) can0 1CC72680#030500FFFFFFFFFF";
-    let refused = ends(&mut receiver, none, Reply(DISORDER))?
-        && ends(&mut receiver, FIRST, Reply(DISORDER))?
-        && ends(&mut receiver, third, Reply(DISORDER))?;
-    // After a new group the packets count from 1 again.
-    let one_more = b"(1.000000) can0 1CC82680#160101000000E700";
-    let announced = opens(&mut receiver)? && answers(&mut receiver, one_more, Silence)?;
-    let old_number = answers(&mut receiver, LAST, Reply(DISORDER))?;
-    assert!(rt; refused && announced && old_number);
-    Ok(())
-}
-
-#[test]
-fn short_frames_are_ignored(rt: HostRuntime) -> Result<(), Fail> {
-    let mut receiver = Receiver::new(rt.alloc(), NODE);
-    let ignored = is_ignored(&mut receiver, b"(1.000000) can0 1CC82680#140900000000E7")?
-        && is_ignored(&mut receiver, b"(1.000000) can0 1CC82680#160000000000E7")?
-        && is_ignored(&mut receiver, b"(1.000000) can0 1CC82680#FF07FFFFFF00E7")?
-        && is_ignored(&mut receiver, b"(1.000000) can0 1CC72680#01B4E8036400FF")?
-        && is_ignored(&mut receiver, b"(1.000000) can0 1CC72680#")?;
-    assert!(rt; ignored);
-    Ok(())
-}
-
-#[test]
-fn frames_of_other_nodes_are_ignored(rt: HostRuntime) -> Result<(), Fail> {
-    let mut receiver = Receiver::new(rt.alloc(), NODE);
-    let to_another = is_ignored(&mut receiver, b"(1.000000) can0 1CC82780#140900000000E700")?
-        && is_ignored(&mut receiver, b"(1.000000) can0 1CC72780#01B4E8036400FFFF")?
-        && is_ignored(&mut receiver, b"(1.000000) can0 1CC82780#FF07FFFFFF00E700")?;
-    let to_all = is_ignored(&mut receiver, b"(1.000000) can0 1CC8FF80#FF07FFFFFF00E700")?;
-    let from_another = is_ignored(&mut receiver, b"(1.000000) can0 1CC82681#160000000000E700")?
-        && is_ignored(&mut receiver, b"(1.000000) can0 1CC72681#020500FFFFFFFFFF")?
-        && is_ignored(&mut receiver, b"(1.000000) can0 1CC82681#FF07FFFFFF00E700")?;
-    assert!(rt; to_another && to_all && from_another);
-    Ok(())
-}
-
-#[test]
-fn frames_of_other_kinds_are_ignored(rt: HostRuntime) -> Result<(), Fail> {
-    let mut receiver = Receiver::new(rt.alloc(), NODE);
-    let own_replies = is_ignored(&mut receiver, b"(1.000000) can0 1CC82680#150202000000E700")?
-        && is_ignored(&mut receiver, b"(1.000000) can0 1CC82680#170900000000E700")?;
-    let transport = is_ignored(&mut receiver, b"(1.000000) can0 1CEC2680#10090002FF00E700")?
-        && is_ignored(&mut receiver, b"(1.000000) can0 1CEC2680#FF07FFFFFF00E700")?
-        && is_ignored(&mut receiver, b"(1.000000) can0 1CEB2680#01B4E8036400FFFF")?;
-    let message = is_ignored(&mut receiver, b"(1.000000) can0 1CE72680#A0E80300FFFFFFFF")?;
-    assert!(rt; own_replies && transport && message);
-    Ok(())
-}
-
-#[test]
-fn aborts_of_any_group_end_a_session(rt: HostRuntime) -> Result<(), Fail> {
-    let mut receiver = Receiver::new(rt.alloc(), NODE);
-    let own_address = b"(1.000000) can0 1CC82680#FF07FFFFFF00E700";
-    let sending = b"(1.000000) can0 1CC82680#FF03FFFFFF00E600";
-    let ended = ends(&mut receiver, own_address, Silence)?
-        && ends(&mut receiver, sending, Silence)?;
-    let without_session = answers(&mut receiver, own_address, Silence)?;
-    assert!(rt; ended && without_session);
+    expect_ignored(&rt, &mut receiver, &IGNORED)?;
     Ok(())
 }
 

@@ -1,6 +1,7 @@
 //! Commands by their bytes.
 
 use crate::{Command, ObjectId};
+use std::process::Abort;
 
 fn id_of(id: ObjectId) -> u32 {
     u32::from(id.raw())
@@ -238,29 +239,45 @@ const COMMANDS: [(&[u8], (u8, [u32; 5])); 23] = [
     ),
 ];
 
+fn is_read(bytes: &[u8], wanted: (u8, [u32; 5])) -> bool {
+    match Command::read(bytes) {
+        Some(command) => parts_of(&command) == wanted,
+        None => false,
+    }
+}
+
+fn are_read(rt: &impl Abort, rows: &[(&[u8], (u8, [u32; 5]))]) {
+    for (bytes, wanted) in rows {
+        assert!(rt; is_read(bytes, *wanted), "{bytes:?}");
+    }
+}
+
 #[test]
 fn reads_commands(rt: HostRuntime) {
-    for (bytes, wanted) in COMMANDS {
-        let Some(command) = Command::read(bytes) else {
-            panic!(rt; "no command {bytes:?}");
-        };
-        assert_eq!(rt; parts_of(&command), wanted, "{bytes:?}");
+    are_read(&rt, &COMMANDS);
+}
+
+// Whether a command is refused that has a byte less than its function has at least.
+fn is_refused_short(bytes: &[u8], function: u8) -> bool {
+    let most = match function {
+        0xB3 => 4,
+        0xB4 => 8,
+        _ => 7,
+    };
+    bytes
+        .get(..most)
+        .is_some_and(|short| Command::read(short).is_none())
+}
+
+fn are_refused_short(rt: &impl Abort, rows: &[(&[u8], (u8, [u32; 5]))]) {
+    for (bytes, (function, _)) in rows {
+        assert!(rt; is_refused_short(bytes, *function), "{bytes:?}");
     }
 }
 
 #[test]
 fn refuses_what_is_too_short(rt: HostRuntime) {
-    for (bytes, (function, _)) in COMMANDS {
-        let least = match function {
-            0xB3 => 5,
-            0xB4 => 9,
-            _ => 8,
-        };
-        let Some(short) = bytes.get(..least - 1) else {
-            panic!(rt; "too short {bytes:?}");
-        };
-        assert!(rt; Command::read(short).is_none(), "{bytes:?}");
-    }
+    are_refused_short(&rt, &COMMANDS);
     assert!(rt; Command::read(b"").is_none());
     for function in [0x00, 0x11, 0x92, 0x9F, 0xA2, 0xB5, 0xBD, 0xBF, 0xFF] {
         let bytes = [function, 0, 0, 0, 0, 0, 0, 0, 0];
@@ -268,17 +285,26 @@ fn refuses_what_is_too_short(rt: HostRuntime) {
     }
 }
 
+const STRINGS: [(&[u8], &[u8]); 3] = [
+    (b"\xB3\x2C\x01\x02\x00AB\xFF", b"AB"),
+    (b"\xB3\x2C\x01\x00\x00\xFF\xFF\xFF", b""),
+    (b"\xB3\x2C\x01\x09\x00ABC", b"ABC"),
+];
+
+fn has_text(bytes: &[u8], wanted: &[u8]) -> bool {
+    match Command::read(bytes) {
+        Some(Command::ChangeStringValue { text, .. }) => text.as_slice() == wanted,
+        _ => false,
+    }
+}
+
+fn have_texts(rt: &impl Abort, rows: &[(&[u8], &[u8])]) {
+    for (bytes, wanted) in rows {
+        assert!(rt; has_text(bytes, wanted), "{bytes:?}");
+    }
+}
+
 #[test]
 fn texts_end_at_their_length(rt: HostRuntime) {
-    let cases: [(&[u8], &[u8]); 3] = [
-        (b"\xB3\x2C\x01\x02\x00AB\xFF", b"AB"),
-        (b"\xB3\x2C\x01\x00\x00\xFF\xFF\xFF", b""),
-        (b"\xB3\x2C\x01\x09\x00ABC", b"ABC"),
-    ];
-    for (bytes, wanted) in cases {
-        let Some(Command::ChangeStringValue { text, .. }) = Command::read(bytes) else {
-            panic!(rt; "another command");
-        };
-        assert_eq!(rt; text.as_slice(), wanted, "{bytes:?}");
-    }
+    have_texts(&rt, &STRINGS);
 }

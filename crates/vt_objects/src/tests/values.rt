@@ -1,6 +1,7 @@
 //! What a value of Change Attribute has to meet.
 
 use crate::{Kind, Place, ValueType};
+use std::process::Abort;
 
 // Each type of values, what its field gets of 0x04030201, and how many bytes it has.
 const WIDTHS: [(ValueType, u32, u8); 8] = [
@@ -14,13 +15,21 @@ const WIDTHS: [(ValueType, u32, u8); 8] = [
     (ValueType::Decimals, 0x01, 1),
 ];
 
+fn has_width(value_type: ValueType, lowest: u32, width: u8) -> bool {
+    value_type.width() == width
+        && value_type.lowest(0x0403_0201) == lowest
+        && value_type.lowest(0) == 0
+}
+
+fn have_widths(rt: &impl Abort, rows: &[(ValueType, u32, u8)]) {
+    for (value_type, lowest, width) in rows {
+        assert!(rt; has_width(*value_type, *lowest, *width), "{value_type:?}");
+    }
+}
+
 #[test]
 fn lowest_bytes(rt: HostRuntime) {
-    for (value_type, lowest, width) in WIDTHS {
-        assert_eq!(rt; value_type.width(), width, "{value_type:?}");
-        assert_eq!(rt; value_type.lowest(0x0403_0201), lowest, "{value_type:?}");
-        assert_eq!(rt; value_type.lowest(0), 0, "{value_type:?}");
-    }
+    have_widths(&rt, &WIDTHS);
 }
 
 // Values, and whether a field of this sort takes their lowest bytes.
@@ -53,12 +62,16 @@ const NUMBERS: [(ValueType, u32, bool); 26] = [
     (ValueType::Priority, 0x0103, false),
 ];
 
+fn are_taken(rt: &impl Abort, rows: &[(ValueType, u32, bool)]) {
+    for (value_type, number, wanted) in rows {
+        let taken = value_type.accepts(Kind::OutputNumber, *number, None);
+        assert_eq!(rt; taken, *wanted, "{value_type:?} {number}");
+    }
+}
+
 #[test]
 fn numbers_taken(rt: HostRuntime) {
-    for (value_type, number, wanted) in NUMBERS {
-        let taken = value_type.accepts(Kind::OutputNumber, number, None);
-        assert_eq!(rt; taken, wanted, "{value_type:?} {number}");
-    }
+    are_taken(&rt, &NUMBERS);
 }
 
 // The kinds of objects, the places of them that attributes write, a kind that may stand there, and one that may not.
@@ -137,23 +150,27 @@ const REFERENCES: [(Kind, Place, Kind, Kind); 12] = [
     ),
 ];
 
+// Whether a place takes an ID of an object of one kind, and of none of the other kind and of no object.
+fn takes(value_type: ValueType, kind: Kind, id: u32, allowed: Kind, other: Kind) -> bool {
+    value_type.accepts(kind, id, Some(allowed))
+        && !value_type.accepts(kind, id, Some(other))
+        && !value_type.accepts(kind, id, None)
+}
+
+fn take(rt: &impl Abort, rows: &[(Kind, Place, Kind, Kind)]) {
+    for (kind, place, allowed, other) in rows {
+        let value_type = ValueType::Reference(*place);
+        let taken = takes(value_type, *kind, 0, *allowed, *other)
+            && takes(value_type, *kind, 100, *allowed, *other)
+            && takes(value_type, *kind, 65_534, *allowed, *other)
+            && value_type.accepts(*kind, 65_535, None);
+        assert!(rt; taken, "{kind} {place:?}");
+    }
+}
+
 #[test]
 fn references_taken(rt: HostRuntime) {
-    for (kind, place, allowed, other) in REFERENCES {
-        let value_type = ValueType::Reference(place);
-        for id in [0, 100, 65_534] {
-            assert!(rt;
-                value_type.accepts(kind, id, Some(allowed)),
-                "{kind} {place:?}"
-            );
-            assert!(rt;
-                !value_type.accepts(kind, id, Some(other)),
-                "{kind} {place:?}"
-            );
-            assert!(rt; !value_type.accepts(kind, id, None), "{kind} {place:?}");
-        }
-        assert!(rt; value_type.accepts(kind, 65_535, None), "{kind} {place:?}");
-    }
+    take(&rt, &REFERENCES);
     let child = ValueType::Reference(Place::Child(0));
     assert!(rt; !child.accepts(Kind::Container, 65_535, None));
     assert!(rt; child.accepts(Kind::Container, 100, Some(Kind::Container)));

@@ -3,9 +3,13 @@
 mod fields;
 mod references;
 
-use crate::{PoolFault, read_pool, write_object};
+use super::is_written_again;
+use crate::{Pool, PoolFault, read_pool};
 use fields::is_as_written;
+use std::alloc::{AllocError, AllocGlobal, Global};
+use std::process::Abort;
 use std::test::Fail;
+use vt_objects::Object;
 
 // The records by kind, as the table of records lays them out.
 const RECORDS: [&[u8]; 29] = [
@@ -113,40 +117,65 @@ const RECORDS: [&[u8]; 29] = [
     &[28, 1, 28, 8, 0, 16, 17, 18, 19, 20, 21, 22, 23],
 ];
 
-#[test]
-fn read_and_written_again(rt: HostRuntime) -> Result<(), Fail> {
-    let mut bytes = Vec::new(rt.alloc());
-    for record in RECORDS {
+/// All these records, one after the other.
+fn joined(alloc: Global, records: &[&[u8]]) -> Result<Vec<u8>, AllocError> {
+    let mut bytes = Vec::new(alloc);
+    for record in records {
         bytes.extend_from_slice(record)?;
     }
+    Ok(bytes)
+}
+
+/// Whether an object is the one that stands at this place in the table.
+fn is_in_place(object: &Object<&[u8]>, place: usize) -> bool {
+    usize::from(object.kind().number()) == place && is_as_written(object)
+}
+
+fn are_in_place(pool: &Pool<'_>) -> bool {
+    let mut same = true;
+    for (place, (_, object)) in pool.objects().iter().enumerate() {
+        same = same && is_in_place(object, place);
+    }
+    same
+}
+
+#[test]
+fn read_and_written_again(rt: HostRuntime) -> Result<(), Fail> {
+    let bytes = joined(rt.alloc(), &RECORDS)?;
     let pool = read_pool(rt.alloc(), &bytes)?;
     assert_eq!(rt; pool.objects().len(), RECORDS.len());
-    let mut out = Vec::new(rt.alloc());
-    for (index, (id, object)) in pool.objects().iter().enumerate() {
-        assert_eq!(rt; usize::from(object.kind().number()), index);
-        assert!(rt; is_as_written(object), "{}", object.kind());
-        assert!(rt; id.raw() < 0xFFFF);
-        write_object(rt.alloc(), *id, object, &mut out)?;
+    assert!(rt; are_in_place(&pool));
+    let same = is_written_again(rt.alloc(), &bytes)?;
+    assert!(rt; same);
+    Ok(())
+}
+
+/// Adds the bytes of a record, each of which leaves it cut but the last.
+fn expect_cuts(
+    rt: &(impl Abort + AllocGlobal),
+    bytes: &mut Vec<u8>,
+    record: &[u8],
+) -> Result<(), AllocError> {
+    let at = bytes.len();
+    for (index, byte) in record.iter().enumerate() {
+        bytes.push(*byte)?;
+        let is_whole = index + 1 == record.len();
+        let wanted = (!is_whole).then_some(PoolFault::Truncated { at });
+        assert_eq!(rt; read_pool(rt.alloc(), bytes).err(), wanted);
     }
-    assert_eq!(rt; out.as_slice(), bytes.as_slice());
+    Ok(())
+}
+
+fn expect_all_cuts(rt: &(impl Abort + AllocGlobal), records: &[&[u8]]) -> Result<(), AllocError> {
+    let mut bytes = Vec::new(rt.alloc());
+    for record in records {
+        expect_cuts(rt, &mut bytes, record)?;
+    }
     Ok(())
 }
 
 #[test]
 fn cut_at_each_byte(rt: HostRuntime) -> Result<(), Fail> {
-    let mut bytes = Vec::new(rt.alloc());
-    for record in RECORDS {
-        let at = bytes.len();
-        for (index, byte) in record.iter().enumerate() {
-            bytes.push(*byte)?;
-            let is_whole = index + 1 == record.len();
-            let want = if is_whole {
-                None
-            } else {
-                Some(PoolFault::Truncated { at })
-            };
-            assert_eq!(rt; read_pool(rt.alloc(), &bytes).err(), want);
-        }
-    }
+    expect_all_cuts(&rt, &RECORDS)?;
     Ok(())
 }

@@ -3,8 +3,8 @@ use crate::counts::Counts;
 use crate::fault::ReplayFault;
 use crate::program::run;
 use crate::replay::replay;
+use std::alloc::Global;
 use std::io::{self, Error, ErrorKind, Read, Write};
-use std::test::Fail;
 use vt_names::Name;
 use vt_server::Terminal;
 
@@ -52,41 +52,52 @@ impl Write for Narrow {
     }
 }
 
-#[test]
-fn pieces_make_no_difference(rt: HostRuntime) -> Result<(), Fail> {
-    let log = b"(1.000000) can0 14E7\n# one\n\n(1.000000) can0 18EEFF80#\n(1.0";
-    for most in 1..=log.len() {
-        let mut reader = Pieces {
-            rest: log,
-            most,
-            fails: false,
-        };
-        let mut out = Vec::new(rt.alloc());
-        let mut terminal = Terminal::new(rt.alloc(), 0x26, Name::from_raw(1));
-        let counts = replay(rt.alloc(), &mut reader, &mut out, &mut terminal)
-            .ok()
-            .ok_or("it ends")?;
-        let wanted = Counts {
-            lines: 5,
-            frames: 1,
-            operator: 0,
-            skipped: 0,
-            comments: 2,
-            faults: 2,
-        };
-        assert_eq!(&rt; counts, wanted);
-        let text = b"line 1 Shape\nline 5 Time\n\
-            lines 5 frames 1 operator 0 skipped 0 comments 2 faults 2\n";
-        assert_eq!(&rt; out.as_slice(), text.as_slice());
+const LOG: &[u8] = b"(1.000000) can0 14E7\n# one\n\n(1.000000) can0 18EEFF80#\n(1.0";
+
+const TEXT: &[u8] = b"line 1 Shape\nline 5 Time\n\
+    lines 5 frames 1 operator 0 skipped 0 comments 2 faults 2\n";
+
+const COUNTS: Counts = Counts {
+    lines: 5,
+    frames: 1,
+    operator: 0,
+    skipped: 0,
+    comments: 2,
+    faults: 2,
+};
+
+/// Whether a log that is read in pieces of so many bytes is replayed alike.
+fn is_replayed(alloc: Global, most: usize) -> bool {
+    let mut reader = Pieces {
+        rest: LOG,
+        most,
+        fails: false,
+    };
+    let mut out = Vec::new(alloc);
+    let mut terminal = Terminal::new(alloc, 0x26, Name::from_raw(1));
+    match replay(alloc, &mut reader, &mut out, &mut terminal) {
+        Ok(counts) => counts == COUNTS && out.as_slice() == TEXT,
+        Err(_) => false,
     }
-    Ok(())
 }
 
 #[test]
-fn readers_and_writers_that_fail(rt: HostRuntime) -> Result<(), Fail> {
-    let log = b"(1.000000) can0 14E7\n";
+fn pieces_make_no_difference(rt: HostRuntime) {
+    for most in 1..=LOG.len() {
+        let same = is_replayed(rt.alloc(), most);
+        assert!(&rt; same, "{most}");
+    }
+}
+
+const FAULTY: &[u8] = b"(1.000000) can0 14E7\n";
+
+const FAULTY_TEXT: &[u8] =
+    b"line 1 Shape\nlines 1 frames 0 operator 0 skipped 0 comments 0 faults 1\n";
+
+#[test]
+fn a_reader_that_fails(rt: HostRuntime) {
     let mut reader = Pieces {
-        rest: log,
+        rest: FAULTY,
         most: 4,
         fails: true,
     };
@@ -95,31 +106,41 @@ fn readers_and_writers_that_fail(rt: HostRuntime) -> Result<(), Fail> {
     let end = replay(rt.alloc(), &mut reader, &mut out, &mut terminal);
     assert!(&rt; matches!(end, Err(ReplayFault::Read)));
     assert_eq!(&rt; out.as_slice(), b"line 1 Shape\n".as_slice());
-    let whole = b"line 1 Shape\nlines 1 frames 0 operator 0 skipped 0 comments 0 faults 1\n";
-    for room in 0..whole.len() {
-        let mut reader: &[u8] = log;
-        let taken = Vec::new(rt.alloc());
-        let mut writer = Narrow { taken, room };
-        let mut terminal = Terminal::new(rt.alloc(), 0x26, Name::from_raw(1));
-        let end = replay(rt.alloc(), &mut reader, &mut writer, &mut terminal);
-        assert!(&rt; matches!(end, Err(ReplayFault::Write)), "{room}");
-        assert_eq!(&rt; writer.taken.as_slice(), &whole[..room], "{room}");
-    }
-    Ok(())
+}
+
+/// Whether a writer with room for so many bytes ends the replay, and has the front of its text.
+fn is_cut(alloc: Global, room: usize) -> bool {
+    let mut reader: &[u8] = FAULTY;
+    let taken = Vec::new(alloc);
+    let mut writer = Narrow { taken, room };
+    let mut terminal = Terminal::new(alloc, 0x26, Name::from_raw(1));
+    let end = replay(alloc, &mut reader, &mut writer, &mut terminal);
+    matches!(end, Err(ReplayFault::Write))
+        && FAULTY_TEXT.get(..room) == Some(writer.taken.as_slice())
 }
 
 #[test]
-fn reports_that_cannot_be_written(rt: HostRuntime) -> Result<(), Fail> {
-    for pool in [POOL, b"\x01\x00\x22".as_slice()] {
-        let taken = Vec::new(rt.alloc());
-        let mut out = Narrow { taken, room: 3 };
-        let mut errors = Vec::new(rt.alloc());
-        let mut shelf = Shelf { log: b"", pool };
-        let words = ["vt_replay", "pool", "--report"];
-        let end = run(rt.alloc(), &words, &mut shelf, &mut out, &mut errors);
-        assert!(&rt; end.is_err());
-        assert_eq!(&rt; out.taken.len(), 3);
-        assert!(&rt; errors.is_empty());
+fn writers_that_fail(rt: HostRuntime) {
+    for room in 0..FAULTY_TEXT.len() {
+        let cut = is_cut(rt.alloc(), room);
+        assert!(&rt; cut, "{room}");
     }
-    Ok(())
+}
+
+/// Whether a report is cut at three bytes, and no fault is named.
+fn report_is_cut(alloc: Global, pool: &[u8]) -> bool {
+    let taken = Vec::new(alloc);
+    let mut out = Narrow { taken, room: 3 };
+    let mut errors = Vec::new(alloc);
+    let mut shelf = Shelf { log: b"", pool };
+    let words = ["vt_replay", "pool", "--report"];
+    let end = run(alloc, &words, &mut shelf, &mut out, &mut errors);
+    end.is_err() && out.taken.len() == 3 && errors.is_empty()
+}
+
+#[test]
+fn reports_that_cannot_be_written(rt: HostRuntime) {
+    let accepted = report_is_cut(rt.alloc(), POOL);
+    let faulty = report_is_cut(rt.alloc(), b"\x01\x00\x22");
+    assert!(&rt; accepted && faulty);
 }

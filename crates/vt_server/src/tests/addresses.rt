@@ -55,16 +55,20 @@ const CASES: [Said; 10] = [
     ),
 ];
 
-#[test]
-fn claims_and_requests(rt: HostRuntime) -> Result<(), Fail> {
-    for (heard, sent) in CASES {
+fn expect_said(rt: &(impl Abort + AllocGlobal), cases: &[Said]) -> Result<(), Fail> {
+    for &(heard, sent) in cases {
         let case = Case {
             preloaded: false,
             heard,
             sent,
             sets: &[],
         };
-        expect_case(&rt, &case)?;
+        expect_case(rt, &case)?;
     }
     Ok(())
+}
+
+#[test]
+fn claims_and_requests(rt: HostRuntime) -> Result<(), Fail> {
+    expect_said(&rt, &CASES)
 }

@@ -79,24 +79,27 @@ const CASES: [Said; 12] = [
     ),
 ];
 
-#[test]
-fn messages_and_replies(rt: HostRuntime) -> Result<(), Fail> {
-    for (heard, sent) in CASES {
+fn expect_said(rt: &(impl Abort + AllocGlobal), cases: &[Said]) -> Result<(), Fail> {
+    for &(heard, sent) in cases {
         let case = Case {
             preloaded: true,
             heard,
             sent,
             sets: &[0x80],
         };
-        expect_case(&rt, &case)?;
+        expect_case(rt, &case)?;
     }
     Ok(())
 }
 
-// The questions of a set without a pool are answered, and its commands are not.
 #[test]
-fn a_set_without_a_pool(rt: HostRuntime) -> Result<(), Fail> {
-    let case = Case {
+fn messages_and_replies(rt: HostRuntime) -> Result<(), Fail> {
+    expect_said(&rt, &CASES)
+}
+
+const WITHOUT_A_POOL: [Case; 2] = [
+    // The questions of a set without a pool are answered, and its commands are not.
+    Case {
         preloaded: false,
         heard: &[
             CLAIM_80,
@@ -106,18 +109,17 @@ fn a_set_without_a_pool(rt: HostRuntime) -> Result<(), Fail> {
         ],
         sent: &[MEMORY],
         sets: &[0x80],
-    };
-    expect_case(&rt, &case)
-}
-
-// Without a claim there is no set.
-#[test]
-fn a_master_without_a_claim(rt: HostRuntime) -> Result<(), Fail> {
-    let case = Case {
+    },
+    // Without a claim there is no set.
+    Case {
         preloaded: false,
         heard: &[MASTER_80, ASKS_MEMORY],
         sent: &[],
         sets: &[],
-    };
-    expect_case(&rt, &case)
+    },
+];
+
+#[test]
+fn sets_without_a_pool(rt: HostRuntime) -> Result<(), Fail> {
+    expect_cases(&rt, &WITHOUT_A_POOL)
 }

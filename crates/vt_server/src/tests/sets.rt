@@ -131,36 +131,34 @@ const CASES: [Registers; 18] = [
     ),
 ];
 
-#[test]
-fn sets_of_addresses(rt: HostRuntime) -> Result<(), Fail> {
-    for (preloaded, heard, sent, sets) in CASES {
+fn expect_registers(rt: &(impl Abort + AllocGlobal), cases: &[Registers]) -> Result<(), Fail> {
+    for &(preloaded, heard, sent, sets) in cases {
         let case = Case {
             preloaded,
             heard,
             sent,
             sets,
         };
-        expect_case(&rt, &case)?;
+        expect_case(rt, &case)?;
     }
     Ok(())
 }
 
-// An address without a rule of its own is like others.
 #[test]
-fn a_set_of_the_global_address(rt: HostRuntime) -> Result<(), Fail> {
-    let case = Case {
+fn sets_of_addresses(rt: HostRuntime) -> Result<(), Fail> {
+    expect_registers(&rt, &CASES)
+}
+
+const OTHERS: [Case; 2] = [
+    // An address without a rule of its own is like others.
+    Case {
         preloaded: false,
         heard: &["18EEFFFF#0100000000800020", "18FE0DFF#01", "14E726FF#C2"],
         sent: &["14E6FF26#C2FFFFFF40404006"],
         sets: &[0xFF],
-    };
-    expect_case(&rt, &case)
-}
-
-// The frames of two sets in turn: each gets its own replies, and the claim that closes one leaves the other.
-#[test]
-fn two_sets_in_turn(rt: HostRuntime) -> Result<(), Fail> {
-    let case = Case {
+    },
+    // The frames of two sets in turn: each gets its own replies, and the claim that closes one leaves the other.
+    Case {
         preloaded: true,
         heard: &[
             CLAIM_81,
@@ -181,34 +179,39 @@ fn two_sets_in_turn(rt: HostRuntime) -> Result<(), Fail> {
             HIDDEN_80,
         ],
         sets: &[0x80],
-    };
-    expect_case(&rt, &case)
+    },
+];
+
+#[test]
+fn a_global_address_and_two_sets_in_turn(rt: HostRuntime) -> Result<(), Fail> {
+    expect_cases(&rt, &OTHERS)
 }
 
 // How many members a set has, and at which place it stands.
 fn members_at(terminal: &Terminal, index: usize) -> Option<(u8, usize)> {
-    let set = terminal.registry.at(index)?;
-    Some((set.address(), set.members().len()))
+    match terminal.registry.at(index) {
+        Some(set) => Some((set.address(), set.members().len())),
+        None => None,
+    }
 }
+
+const MEMBERS: [&str; 10] = [
+    CLAIM_80,
+    CLAIM_81,
+    MASTER_81,
+    MASTER_80,
+    "18FE0C81#0300000000800020",
+    "18FE0C81#04000000008000",
+    "18FE0C81#0400000000800020",
+    "18FE0C81#0500000000800020",
+    "18FE0C80#0600000000800020",
+    "18FE0C82#0600000000800020",
+];
 
 #[test]
 fn members_and_order(rt: HostRuntime) -> Result<(), Fail> {
     let mut terminal = started(&rt, false)?;
-    let inputs = inputs_of(
-        &rt,
-        &[
-            CLAIM_80,
-            CLAIM_81,
-            MASTER_81,
-            MASTER_80,
-            "18FE0C81#0300000000800020",
-            "18FE0C81#04000000008000",
-            "18FE0C81#0400000000800020",
-            "18FE0C81#0500000000800020",
-            "18FE0C80#0600000000800020",
-            "18FE0C82#0600000000800020",
-        ],
-    )?;
+    let inputs = inputs_of(&rt, &MEMBERS)?;
     let mut outputs = Vec::new(rt.alloc());
     run_all(&rt, &mut terminal, &inputs, &mut outputs);
     assert!(rt; outputs.is_empty());

@@ -1,13 +1,10 @@
 use super::linux_logs::*;
 use super::*;
 use arrayvec::ArrayVec;
-use std::alloc::Global;
 use vt_can::CanId;
 use vt_can::assigned::TP_DT;
 
 const LINUX: u8 = 0x80;
-
-const NODE: u8 = 0x26;
 
 // What a receiver answers: the text of its reply, and whether it hands out this message.
 fn answer(heard: Heard, sent: &[u8]) -> (ArrayVec<u8, 25>, bool) {
@@ -41,24 +38,33 @@ fn follows(alloc: Global, log: &[&[u8]], sent: &[u8]) -> Result<bool, OutOfMemor
     Ok(same && whole && heard.is_empty())
 }
 
-#[test]
-fn the_answers_to_the_short_sessions_of_linux(rt: HostRuntime) -> Result<(), Fail> {
-    let stored: [(&[&[u8]], &[u8]); 8] = [
-        (&LOG_9, SENT_9),
-        (&LOG_10, SENT_10),
-        (&LOG_14, SENT_14),
-        (&LOG_15, SENT_15),
-        (&LOG_16, SENT_16),
-        (&LOG_21, SENT_21),
-        (&LOG_22, SENT_22),
-        (&LOG_100, SENT_100),
-    ];
-    for (log, digits) in stored {
+// Whether a receiver follows each of these sessions: a log, and the bytes sent in hexadecimal.
+fn expect_sessions(
+    rt: &(impl Abort + AllocGlobal),
+    sessions: &[(&[&[u8]], &[u8])],
+) -> Result<(), Fail> {
+    for (log, digits) in sessions {
         let sent = hex::decode(rt.alloc(), digits)?;
         let same = follows(rt.alloc(), log, &sent)?;
         assert!(rt; same, "{} bytes", sent.len());
     }
     Ok(())
+}
+
+const SHORT: [(&[&[u8]], &[u8]); 8] = [
+    (&LOG_9, SENT_9),
+    (&LOG_10, SENT_10),
+    (&LOG_14, SENT_14),
+    (&LOG_15, SENT_15),
+    (&LOG_16, SENT_16),
+    (&LOG_21, SENT_21),
+    (&LOG_22, SENT_22),
+    (&LOG_100, SENT_100),
+];
+
+#[test]
+fn the_answers_to_the_short_sessions_of_linux(rt: HostRuntime) -> Result<(), Fail> {
+    expect_sessions(&rt, &SHORT)
 }
 
 // A packet of Linux's sender, filled with FF.
@@ -99,6 +105,16 @@ fn follows_packets(alloc: Global, log: &[&[u8]; 3], sent: &[u8]) -> Result<bool,
     Ok(same && whole && is_frame(end, heard.as_slice()))
 }
 
+// Whether these frames are the packets of the bytes.
+fn are_packets(frames: &ArrayVec<Frame, 255>, sent: &[u8]) -> bool {
+    let mut same = frames.len() == sent.len().div_ceil(7);
+    for (frame, (number, part)) in frames.iter().zip((1..=255u8).zip(sent.chunks(7))) {
+        let wanted = packet(number, part);
+        same = same && write_frame(frame).as_slice() == write_frame(&wanted).as_slice();
+    }
+    same
+}
+
 // Whether a sender in the place of Linux's sends the request of a log and the packets of the bytes.
 fn sends_packets(alloc: Global, log: &[&[u8]; 3], sent: &[u8]) -> Result<bool, SendFault> {
     let [request, clear, _] = *log;
@@ -108,13 +124,7 @@ fn sends_packets(alloc: Global, log: &[&[u8]; 3], sent: &[u8]) -> Result<bool, S
     let mut sender = Sender::new(alloc, LINUX);
     let first = sender.start(time, NODE, 0xE700, sent)?;
     let frames = sender.hear(time, &frame);
-    let mut same = is_frame(request, write_frame(&first).as_slice())
-        && frames.len() == sent.len().div_ceil(7);
-    for (frame, (number, part)) in frames.iter().zip((1..=255u8).zip(sent.chunks(7))) {
-        let wanted = packet(number, part);
-        same = same && write_frame(frame).as_slice() == write_frame(&wanted).as_slice();
-    }
-    Ok(same)
+    Ok(is_frame(request, write_frame(&first).as_slice()) && are_packets(&frames, sent))
 }
 
 #[test]

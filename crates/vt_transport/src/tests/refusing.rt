@@ -1,8 +1,6 @@
 // A call that is refused memory changes nothing, so it may be made again.
 use super::*;
 
-const NODE: u8 = 0x26;
-
 const REQUEST: &[u8] = b"(1.000000) can0 1CEC2680#10090002FF00E700";
 
 const FIRST: &[u8] = b"(1.000000) can0 1CEB2680#01B4E8036400FFFF";

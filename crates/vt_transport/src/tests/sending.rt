@@ -1,7 +1,6 @@
 use super::*;
+use SenderAct::*;
 use arrayvec::ArrayVec;
-
-const NODE: u8 = 0x26;
 
 // Whether the frames have these texts, in order.
 fn are_written(frames: &ArrayVec<Frame, 255>, texts: &[&[u8]]) -> bool {
@@ -45,20 +44,136 @@ const TEN: &[u8] = b"\x08\x2D\x01\x08ABCDEF";
 
 const TWELVE: &[u8] = b"\x08\x2D\x01\x08ABCDEFGH";
 
+// What happens to a sender: it starts a message to a destination with the request of this text, or refuses it;
+// it answers the frame of a line with frames of these texts; or the abort that is due at a time has this text,
+// and is none for an empty one.
+#[derive(Clone, Copy)]
+enum SenderAct {
+    Starts(u8, &'static [u8], &'static [u8]),
+    Refuses(u8, &'static [u8], SendFault),
+    Hears(&'static [u8], &'static [&'static [u8]]),
+    Expires(u64, &'static [u8]),
+}
+
+fn does(sender: &mut Sender, act: SenderAct) -> Result<bool, SendFault> {
+    match act {
+        Starts(to, message, text) => starts(sender, to, message, text),
+        Refuses(to, message, fault) => Ok(refuses(sender, to, message, fault)),
+        Hears(line, texts) => Ok(sends(sender, line, texts)),
+        Expires(now, text) => Ok(expires(sender, now, text)),
+    }
+}
+
+// Whether a new sender does all this, one after the other.
+fn does_all(alloc: Global, acts: &[SenderAct]) -> Result<bool, SendFault> {
+    let mut sender = Sender::new(alloc, NODE);
+    let mut same = true;
+    for act in acts {
+        same = does(&mut sender, *act)? && same;
+    }
+    Ok(same)
+}
+
+fn expect_acts(
+    rt: &(impl Abort + AllocGlobal),
+    cases: &[(&str, &[SenderAct])],
+) -> Result<(), SendFault> {
+    for (name, acts) in cases {
+        let same = does_all(rt.alloc(), acts)?;
+        assert!(rt; same, "{name}");
+    }
+    Ok(())
+}
+
+const START_80: SenderAct = Starts(0x80, TWELVE, b"1CEC8026#100C0002FF00E600");
+
+const CASES: [(&str, &[SenderAct]); 5] = [
+    (
+        "starts and their faults",
+        &[
+            Starts(0x80, TEN, b"1CEC8026#100A0002FF00E600"),
+            Refuses(0x80, TEN, SendFault::Busy),
+            Refuses(0x80, b"", SendFault::Busy),
+            Refuses(0x81, b"\x08\x2D\x01\x08ABCD", SendFault::Size),
+            Starts(0x81, b"\x08\x2D\x01\x08ABCDE", b"1CEC8126#10090002FF00E600"),
+        ],
+    ),
+    (
+        "a message in two packets",
+        &[
+            START_80,
+            Hears(
+                b"(1.000000) can0 1CEC2680#110201FFFF00E600",
+                &[b"1CEB8026#01082D0108414243", b"1CEB8026#024445464748FFFF"],
+            ),
+            Hears(
+                b"(1.000000) can0 1CEC2680#11FF02FFFF00E600",
+                &[b"1CEB8026#024445464748FFFF"],
+            ),
+            Hears(b"(1.000000) can0 1CEC2680#130C0002FF00E600", &[]),
+            Starts(0x80, TEN, b"1CEC8026#100A0002FF00E600"),
+        ],
+    ),
+    (
+        "answers without packets",
+        &[
+            Hears(b"(1.000000) can0 1CEC2680#110201FFFF00E600", &[]),
+            START_80,
+            // Frames of another group.
+            Hears(b"(1.000000) can0 1CEC2680#110201FFFF00E700", &[]),
+            Hears(b"(1.000000) can0 1CEC2680#130C0002FF00E700", &[]),
+            Hears(b"(1.000000) can0 1CEC2680#FF07FFFFFF00E700", &[]),
+            // It waits, whatever packet is named, and is refreshed.
+            Hears(b"(1.400000) can0 1CEC2680#110000FFFF00E600", &[]),
+            Hears(b"(1.500000) can0 1CEC2680#110009FFFF00E600", &[]),
+            Expires(2_750_000, b""),
+            Hears(
+                b"(2.750000) can0 1CEC2680#110103FFFF00E600",
+                &[b"1CEC8026#FF07FFFFFF00E600"],
+            ),
+        ],
+    ),
+    (
+        "sessions that end",
+        &[
+            START_80,
+            Hears(b"(1.000000) can0 1CEC2680#FF03FFFFFF00E600", &[]),
+            START_80,
+            Starts(0x7F, TWELVE, b"1CEC7F26#100C0002FF00E600"),
+            Hears(
+                b"(1.000000) can0 1CEC2680#110100FFFF00E600",
+                &[b"1CEC8026#FF07FFFFFF00E600"],
+            ),
+            START_80,
+            Expires(2_250_000, b""),
+            Expires(2_250_001, b"1CEC7F26#FF03FFFFFF00E600"),
+            Expires(2_250_001, b"1CEC8026#FF03FFFFFF00E600"),
+            Expires(2_250_001, b""),
+        ],
+    ),
+    (
+        "the highest destinations",
+        &[
+            Starts(0xFE, TEN, b"1CECFE26#100A0002FF00E600"),
+            Starts(0xFF, TWELVE, b"1CECFF26#100C0002FF00E600"),
+            Hears(
+                b"(1.000000) can0 1CEC26FE#110201FFFF00E600",
+                &[b"1CEBFE26#01082D0108414243", b"1CEBFE26#02444546FFFFFFFF"],
+            ),
+            Hears(
+                b"(1.000000) can0 1CEC26FF#110102FFFF00E600",
+                &[b"1CEBFF26#024445464748FFFF"],
+            ),
+            Expires(2_250_001, b"1CECFE26#FF03FFFFFF00E600"),
+            Expires(2_250_001, b"1CECFF26#FF03FFFFFF00E600"),
+            Expires(2_250_001, b""),
+        ],
+    ),
+];
+
 #[test]
-fn starts_and_their_faults(rt: HostRuntime) -> Result<(), Fail> {
-    let mut sender = Sender::new(rt.alloc(), NODE);
-    let started = starts(&mut sender, 0x80, TEN, b"1CEC8026#100A0002FF00E600")?;
-    let busy = refuses(&mut sender, 0x80, TEN, SendFault::Busy)
-        && refuses(&mut sender, 0x80, b"", SendFault::Busy);
-    let size = refuses(&mut sender, 0x81, b"\x08\x2D\x01\x08ABCD", SendFault::Size);
-    let nine = starts(
-        &mut sender,
-        0x81,
-        b"\x08\x2D\x01\x08ABCDE",
-        b"1CEC8126#10090002FF00E600",
-    )?;
-    assert!(rt; started && busy && size && nine);
+fn messages_are_sent(rt: HostRuntime) -> Result<(), Fail> {
+    expect_acts(&rt, &CASES)?;
     Ok(())
 }
 
@@ -78,113 +193,5 @@ fn printed_faults(rt: HostRuntime) -> Result<(), Fail> {
         let text = format!(in rt.alloc(); "{}", fault)?;
         assert_eq!(rt; text.as_str(), wanted);
     }
-    Ok(())
-}
-
-#[test]
-fn a_message_in_two_packets(rt: HostRuntime) -> Result<(), Fail> {
-    let mut sender = Sender::new(rt.alloc(), NODE);
-    let started = starts(&mut sender, 0x80, TWELVE, b"1CEC8026#100C0002FF00E600")?;
-    let sent = sends(
-        &mut sender,
-        b"(1.000000) can0 1CEC2680#110201FFFF00E600",
-        &[b"1CEB8026#01082D0108414243", b"1CEB8026#024445464748FFFF"],
-    );
-    let again = sends(
-        &mut sender,
-        b"(1.000000) can0 1CEC2680#11FF02FFFF00E600",
-        &[b"1CEB8026#024445464748FFFF"],
-    );
-    let ended = sends(
-        &mut sender,
-        b"(1.000000) can0 1CEC2680#130C0002FF00E600",
-        &[],
-    );
-    let free = starts(&mut sender, 0x80, TEN, b"1CEC8026#100A0002FF00E600")?;
-    assert!(rt; started && sent && again && ended && free);
-    Ok(())
-}
-
-#[test]
-fn answers_without_packets(rt: HostRuntime) -> Result<(), Fail> {
-    let mut sender = Sender::new(rt.alloc(), NODE);
-    let no_session = sends(
-        &mut sender,
-        b"(1.000000) can0 1CEC2680#110201FFFF00E600",
-        &[],
-    );
-    let started = starts(&mut sender, 0x80, TWELVE, b"1CEC8026#100C0002FF00E600")?;
-    let other_group = sends(
-        &mut sender,
-        b"(1.000000) can0 1CEC2680#110201FFFF00E700",
-        &[],
-    ) && sends(
-        &mut sender,
-        b"(1.000000) can0 1CEC2680#130C0002FF00E700",
-        &[],
-    ) && sends(
-        &mut sender,
-        b"(1.000000) can0 1CEC2680#FF07FFFFFF00E700",
-        &[],
-    );
-    let wait = sends(
-        &mut sender,
-        b"(1.500000) can0 1CEC2680#110009FFFF00E600",
-        &[],
-    );
-    let refreshed = expires(&mut sender, 2_750_000, b"");
-    let past = sends(
-        &mut sender,
-        b"(2.750000) can0 1CEC2680#110103FFFF00E600",
-        &[b"1CEC8026#FF07FFFFFF00E600"],
-    );
-    assert!(rt; no_session && started && other_group && wait && refreshed && past);
-    Ok(())
-}
-
-#[test]
-fn sessions_that_end(rt: HostRuntime) -> Result<(), Fail> {
-    let mut sender = Sender::new(rt.alloc(), NODE);
-    let started = starts(&mut sender, 0x80, TWELVE, b"1CEC8026#100C0002FF00E600")?;
-    let aborted = sends(
-        &mut sender,
-        b"(1.000000) can0 1CEC2680#FF03FFFFFF00E600",
-        &[],
-    );
-    let again = starts(&mut sender, 0x80, TWELVE, b"1CEC8026#100C0002FF00E600")?
-        && starts(&mut sender, 0x7F, TWELVE, b"1CEC7F26#100C0002FF00E600")?;
-    let packet_0 = sends(
-        &mut sender,
-        b"(1.000000) can0 1CEC2680#110100FFFF00E600",
-        &[b"1CEC8026#FF07FFFFFF00E600"],
-    );
-    let third = starts(&mut sender, 0x80, TWELVE, b"1CEC8026#100C0002FF00E600")?;
-    let timeouts = expires(&mut sender, 2_250_000, b"")
-        && expires(&mut sender, 2_250_001, b"1CEC7F26#FF03FFFFFF00E600")
-        && expires(&mut sender, 2_250_001, b"1CEC8026#FF03FFFFFF00E600")
-        && expires(&mut sender, 2_250_001, b"");
-    assert!(rt; started && aborted && again && packet_0 && third && timeouts);
-    Ok(())
-}
-
-#[test]
-fn the_highest_destinations(rt: HostRuntime) -> Result<(), Fail> {
-    let mut sender = Sender::new(rt.alloc(), NODE);
-    let started = starts(&mut sender, 0xFE, TEN, b"1CECFE26#100A0002FF00E600")?
-        && starts(&mut sender, 0xFF, TWELVE, b"1CECFF26#100C0002FF00E600")?;
-    let to_254 = sends(
-        &mut sender,
-        b"(1.000000) can0 1CEC26FE#110201FFFF00E600",
-        &[b"1CEBFE26#01082D0108414243", b"1CEBFE26#02444546FFFFFFFF"],
-    );
-    let to_255 = sends(
-        &mut sender,
-        b"(1.000000) can0 1CEC26FF#110102FFFF00E600",
-        &[b"1CEBFF26#024445464748FFFF"],
-    );
-    let timeouts = expires(&mut sender, 2_250_001, b"1CECFE26#FF03FFFFFF00E600")
-        && expires(&mut sender, 2_250_001, b"1CECFF26#FF03FFFFFF00E600")
-        && expires(&mut sender, 2_250_001, b"");
-    assert!(rt; started && to_254 && to_255 && timeouts);
     Ok(())
 }

@@ -6,7 +6,6 @@ ghost use Rattle.vt_can.specs.transport.Bus.{Serves, input_of};
 ghost use Rattle.vt_transport.specs.Protocol.{protocol};
 
 use super::*;
-use std::alloc::Global;
 
 // An input as a node serves it: room is set aside, the sessions that are overdue end, and the frame is
 // heard, which is not refused any more.
@@ -48,38 +47,33 @@ fn is_prepared(
     }
 }
 
-fn both_are_prepared(alloc: Global) -> Result<bool, OutOfMemory> {
-    let mut receiver = Receiver::new(alloc, 0x26);
-    let opened = is_prepared(
-        &mut receiver,
-        b"(1.000000) can0 1CEC2680#10090002FF00E700",
-        None,
-    )?;
-    let first = is_prepared(
-        &mut receiver,
-        b"(2.000000) can0 1CEB2680#01B4E8036400FFFF",
-        None,
-    )?;
-    let last = is_prepared(
-        &mut receiver,
+// A frame's line, and of what size and first byte the message is that is prepared for it.
+type Prepared = (&'static [u8], Option<(usize, u8)>);
+
+const PREPARED: [Prepared; 5] = [
+    (b"(1.000000) can0 1CEC2680#10090002FF00E700", None),
+    (b"(2.000000) can0 1CEB2680#01B4E8036400FFFF", None),
+    (
         b"(3.250000) can0 1CEB2680#020500FFFFFFFFFF",
         Some((9, 0xB4)),
-    )?;
-    let late = is_prepared(
-        &mut receiver,
-        b"(3.250000) can0 1CEC2680#10090002FF00E700",
-        None,
-    )? && is_prepared(
-        &mut receiver,
-        b"(4.500001) can0 1CEB2680#01B4E8036400FFFF",
-        None,
-    )?;
-    Ok(opened && first && last && late)
+    ),
+    // The session is overdue at its packet.
+    (b"(3.250000) can0 1CEC2680#10090002FF00E700", None),
+    (b"(4.500001) can0 1CEB2680#01B4E8036400FFFF", None),
+];
+
+fn are_prepared(alloc: Global, frames: &[Prepared]) -> Result<bool, OutOfMemory> {
+    let mut receiver = Receiver::new(alloc, NODE);
+    let mut same = true;
+    for (line, answer) in frames {
+        same = is_prepared(&mut receiver, line, *answer)? && same;
+    }
+    Ok(same)
 }
 
 #[test]
 fn a_message_is_prepared_before_it_is_heard(rt: HostRuntime) -> Result<(), Fail> {
-    let answer = both_are_prepared(rt.alloc())?;
-    assert!(rt; answer);
+    let same = are_prepared(rt.alloc(), &PREPARED)?;
+    assert!(rt; same);
     Ok(())
 }

@@ -1,52 +1,10 @@
 ghost use Rattle.std.specs.Prelude.{◌<◌};
 
-use super::Wanted::*;
 use super::receiving::both_packets;
 use super::*;
 use arrayvec::ArrayVec;
 use vt_can::CanId;
-use vt_can::assigned::{TP_CM, TP_DT};
-
-const NODE: u8 = 0x26;
-
-#[test]
-fn two_sources_alternating(rt: HostRuntime) -> Result<(), Fail> {
-    let mut receiver = Receiver::new(rt.alloc(), NODE);
-    let message = b"\xB4\xE8\x03\x64\x00\xFF\xFF\x05\x00";
-    let heard: [(&[u8], Wanted); 6] = [
-        (
-            b"(1.000000) can0 1CEC2680#10090002FF00E700",
-            Reply(b"1CEC8026#110201FFFF00E700"),
-        ),
-        (
-            b"(1.000000) can0 1CEC2681#10090002FF00E700",
-            Reply(b"1CEC8126#110201FFFF00E700"),
-        ),
-        (b"(1.000000) can0 1CEB2680#01B4E8036400FFFF", Silence),
-        (b"(1.000000) can0 1CEB2681#01B4E8036400FFFF", Silence),
-        (
-            b"(1.000000) can0 1CEB2680#020500FFFFFFFFFF",
-            Message(b"1CEC8026#13090002FF00E700", message),
-        ),
-        (
-            b"(1.000000) can0 1CEB2681#020500FFFFFFFFFF",
-            Message(b"1CEC8126#13090002FF00E700", message),
-        ),
-    ];
-    for (line, wanted) in heard {
-        let same = answers(&mut receiver, line, wanted)?;
-        assert!(rt; same);
-    }
-    Ok(())
-}
-
-// A frame of connection management.
-fn control(from: u8, to: u8, bytes: [u8; 8]) -> Frame {
-    Frame {
-        id: CanId::new(7, TP_CM, to, from),
-        bytes: ArrayVec::from(bytes),
-    }
-}
+use vt_can::assigned::TP_DT;
 
 // A packet to the node.
 fn packet(from: u8, bytes: [u8; 8]) -> Frame {
@@ -56,12 +14,32 @@ fn packet(from: u8, bytes: [u8; 8]) -> Frame {
     }
 }
 
+// Two hex digits of an address.
+fn digits(address: u8) -> [u8; 2] {
+    [digit(address / 16), digit(address % 16)]
+}
+
+// A reply to a source, of a group with its address.
+fn reply_to(source: u8, text: &[u8; 25]) -> [u8; 25] {
+    let mut text = *text;
+    let [high, low] = digits(source);
+    text[4] = high;
+    text[5] = low;
+    text[19] = high;
+    text[20] = low;
+    text
+}
+
 // Whether a source is answered when it asks for nine bytes, of a group with its address.
 fn requests(receiver: &mut Receiver, source: u8) -> Result<bool, OutOfMemory> {
-    let request = control(source, NODE, [0x10, 9, 0, 2, 0xFF, source, 0xE7, 0]);
-    let clear = control(NODE, source, [0x11, 2, 1, 0xFF, 0xFF, source, 0xE7, 0]);
-    let heard = receiver.hear(0, &request)?;
-    Ok(is_reply(&heard, write_frame(&clear).as_slice()))
+    let mut line = *b"(1.000000) can0 1CEC2600#10090002FF00E700";
+    let [high, low] = digits(source);
+    line[22] = high;
+    line[23] = low;
+    line[35] = high;
+    line[36] = low;
+    let clear = reply_to(source, b"1CEC0026#110201FFFF00E700");
+    replies(receiver, &line, &clear)
 }
 
 // Whether the first packet of a source is taken.
@@ -76,7 +54,7 @@ fn begins(receiver: &mut Receiver, source: u8) -> Result<bool, OutOfMemory> {
 // Whether the second packet of a source makes its message whole.
 fn ends(receiver: &mut Receiver, source: u8) -> Result<bool, OutOfMemory> {
     let last = packet(source, [2, source, source, 0xFF, 0xFF, 0xFF, 0xFF, 0xFF]);
-    let end = control(NODE, source, [0x13, 9, 0, 2, 0xFF, source, 0xE7, 0]);
+    let end = reply_to(source, b"1CEC0026#13090002FF00E700");
     match receiver.hear(0, &last)? {
         Heard::Message {
             source: from,
@@ -87,7 +65,7 @@ fn ends(receiver: &mut Receiver, source: u8) -> Result<bool, OutOfMemory> {
             from == source
                 && pgn == 0xE700 + u32::from(source)
                 && bytes.into_vec().as_slice() == [source; 9].as_slice()
-                && write_frame(&reply).as_slice() == write_frame(&end).as_slice(),
+                && write_frame(&reply).as_slice() == end.as_slice(),
         ),
         _ => Ok(false),
     }
@@ -117,8 +95,7 @@ fn all_others_open(receiver: &mut Receiver) -> Result<bool, OutOfMemory> {
     let mut answer = *b"1CEC0026#11FF01FFFF00E700";
     let mut all = true;
     for source in 0..=0xFDu8 {
-        let high = digit(source / 16);
-        let low = digit(source % 16);
+        let [high, low] = digits(source);
         line[22] = high;
         line[23] = low;
         answer[4] = high;
