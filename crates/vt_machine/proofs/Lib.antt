@@ -24,3 +24,4 @@ pub mod Executing
 pub mod Nesting
 pub mod Indexing
 pub mod IndexOrder
+pub mod Marking

@@ -9,3 +9,4 @@ pub mod Replacements
 pub mod Indexes
 pub mod Nested
 pub mod Showing
+pub mod Marks

@@ -1,7 +1,6 @@
 -- What a mask shows: the elements of its drawing, however long, and its soft keys (docs/PROFILE.md, "The drawing").
 use Rattle.std.specs.Prelude.{◌≡◌, ℕ, Bool, true, false, ◌==◌, if◌then◌else◌, List, [], map, slice_get, Option, Some, None, Contains, IsTrue}
 use Rattle.std.specs.Option.{option_map, option_to_list}
-use Rattle.std.specs.List.{flat_map}
 use Rattle.std.specs.FinMap as finite
 use Rattle.vt_objects.specs.declared.entries.Child.{Child}
 use Rattle.vt_objects.specs.declared.object.Object.TheVariants as objects

@@ -16,6 +16,7 @@ mod raising;
 mod references;
 mod replacements;
 mod runs;
+mod showing;
 
 pub use changes::change;
 pub use effects::change_in;
