@@ -25,3 +25,4 @@ pub mod Nesting
 pub mod Living
 pub mod Indexing
 pub mod IndexOrder
+pub mod Marking

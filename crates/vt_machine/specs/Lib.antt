@@ -10,3 +10,4 @@ pub mod Indexes
 pub mod Nested
 pub mod Showing
 pub mod Lives
+pub mod Marks

@@ -17,6 +17,7 @@ mod raising;
 mod references;
 mod replacements;
 mod runs;
+mod showing;
 mod working_set;
 
 pub use laws::{

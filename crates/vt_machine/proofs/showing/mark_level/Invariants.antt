@@ -1,0 +1,5 @@
+use Rattle.vt_machine.proofs.Marking.{ArePassed}
+use Rattle.vt_machine.proofs.showing.mark_level.Given as goal
+
+abbrev pub invariant-loop-place : goal.invariant-loop-place
+invariant-loop-place g l = ArePassed (g.S.Store.contents l.store) l.levels l.fn.mask l.level l.place l.marks

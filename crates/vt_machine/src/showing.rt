@@ -1,0 +1,230 @@
+//! Which objects a mask shows.
+
+ghost use Rattle.std.specs.Prelude.{◌≡◌, ◌+◌, ◌∷◌, ℕ, [], false, true, length, Some};
+ghost use Rattle.std.specs.Option.{option_map};
+ghost use Rattle.std.specs.FinMap as finite;
+ghost use Rattle.vt_objects.specs.Records.{seen};
+ghost use Rattle.vt_verify.specs.Depths.{ids_of, inclusions_of, Stands};
+ghost use Rattle.vt_machine.specs.Certificates.{IsCertificate};
+ghost use Rattle.vt_machine.specs.Marks.{Marks, AreMarked};
+ghost use Rattle.vt_machine.specs.Showing as showing;
+ghost use Rattle.vt_machine.specs.Showing.{IsShown};
+
+use vt_objects::{Child, Entries, InputList, Object, ObjectId, Store};
+
+/// Whether a mask shows an object: in its drawing, however long, or on its soft keys. Neither a pointer nor a hidden
+/// container is shown, nor what is not there. The marks are room to work in, one for each object, of any value.
+/// docs/PROFILE.md, "The drawing".
+pub(crate) fn is_shown<S: Store>(
+    store: &S,
+    levels: &[u8],
+    marks: &mut [bool],
+    mask: ObjectId,
+    id: ObjectId,
+) -> bool
+    requires levels { IsCertificate (ids_of (S.contents store.now)) (inclusions_of (S.contents store.now)) levels.now }
+    requires marks { length marks.old ≡ length (ids_of (S.contents store.now)) }
+    ensures shown { result ≡ true → IsShown (S.contents store.now) mask id }
+    ensures not_shown { result ≡ false → IsShown (S.contents store.now) mask id → ⊥ }
+{
+    let Some(place) = store.place(id) else {
+        return false;
+    };
+    if !is_element(store, id) {
+        return false;
+    }
+    mark_mask(store, levels, marks, mask);
+    mark_within(store, levels, marks, mask);
+    marks[place]
+}
+
+/// Marks what a mask draws and its soft keys, and nothing else.
+fn mark_mask<S: Store>(store: &S, levels: &[u8], marks: &mut [bool], mask: ObjectId)
+    requires levels { IsCertificate (ids_of (S.contents store.now)) (inclusions_of (S.contents store.now)) levels.now }
+    requires marks { length marks.old ≡ length (ids_of (S.contents store.now)) }
+    ensures { AreMarked (S.contents store.now) levels.now mask 33 marks.new }
+{
+    marks.fill(false);
+    mark_drawing(store, marks, mask);
+    mark_soft_keys(store, marks, mask);
+}
+
+/// Marks all that stands within what is marked.
+fn mark_within<S: Store>(store: &S, levels: &[u8], marks: &mut [bool], mask: ObjectId)
+    requires levels { IsCertificate (ids_of (S.contents store.now)) (inclusions_of (S.contents store.now)) levels.now }
+    requires marks { AreMarked (S.contents store.now) levels.now mask 33 marks.old }
+    ensures { AreMarked (S.contents store.now) levels.now mask 0 marks.new }
+{
+    for level in (0..33u8).rev() {
+        mark_level(store, levels, marks, mask, level);
+    }
+}
+
+/// Marks what the marked objects of a level draw, where that of the levels above is marked.
+fn mark_level<S: Store>(store: &S, levels: &[u8], marks: &mut [bool], mask: ObjectId, level: u8)
+    requires levels { IsCertificate (ids_of (S.contents store.now)) (inclusions_of (S.contents store.now)) levels.now }
+    requires marks { AreMarked (S.contents store.now) levels.now mask (level + 1) marks.old }
+    ensures { AreMarked (S.contents store.now) levels.now mask level marks.new }
+{
+    for place in 0..store.count() {
+        if marks[place] && levels[place] == level {
+            mark_drawing_at(store, marks, place);
+        }
+    }
+}
+
+/// Marks the elements that the object at a place draws.
+fn mark_drawing_at<S: Store>(store: &S, marks: &mut [bool], place: usize)
+    requires { length marks.old ≡ length (ids_of (S.contents store.now)) }
+    ensures { (id : ℕ) → Stands (ids_of (S.contents store.now)) place id → Marks (S.contents store.now) (showing.drawn_in (S.contents store.now) (finite.get (S.contents store.now) id)) marks.old marks.new }
+{
+    match store.entry_at(place) {
+        Some((_, object)) => mark_drawn(store, marks, object),
+        None => {}
+    }
+}
+
+/// Marks the elements that the object of an ID draws.
+fn mark_drawing<S: Store>(store: &S, marks: &mut [bool], id: ObjectId)
+    requires { length marks.old ≡ length (ids_of (S.contents store.now)) }
+    ensures { Marks (S.contents store.now) (showing.drawn_in (S.contents store.now) (finite.get (S.contents store.now) id)) marks.old marks.new }
+{
+    match store.get(id) {
+        Some(object) => mark_drawn(store, marks, object),
+        None => {}
+    }
+}
+
+/// Marks the elements that an object draws.
+fn mark_drawn<S: Store>(store: &S, marks: &mut [bool], object: &Object<Vec<u8>>)
+    requires { length marks.old ≡ length (ids_of (S.contents store.now)) }
+    ensures { Marks (S.contents store.now) (showing.drawn_in (S.contents store.now) (Some (seen object.now))) marks.old marks.new }
+{
+    match object {
+        Object::WorkingSet(o) => mark_children(store, marks, &o.children),
+        Object::DataMask(o) => mark_children(store, marks, &o.children),
+        Object::AlarmMask(o) => mark_children(store, marks, &o.children),
+        Object::Container(o) if o.hidden == 0 => mark_children(store, marks, &o.children),
+        Object::Key(o) => mark_children(store, marks, &o.children),
+        Object::Button(o) => mark_children(store, marks, &o.children),
+        Object::InputList(o) => mark_item(store, marks, o),
+        _ => {}
+    }
+}
+
+/// Marks the elements that children stand for.
+fn mark_children<S: Store>(store: &S, marks: &mut [bool], children: &Entries<Child>)
+    requires { length marks.old ≡ length (ids_of (S.contents store.now)) }
+    ensures { Marks (S.contents store.now) (showing.ids_in children.now) marks.old marks.new }
+{
+    for child in children.as_slice() {
+        mark_named(store, marks, child.id);
+    }
+}
+
+/// Marks the element that the item of a list's index stands for.
+fn mark_item<S: Store>(store: &S, marks: &mut [bool], list: &InputList)
+    requires { length marks.old ≡ length (ids_of (S.contents store.now)) }
+    ensures { Marks (S.contents store.now) (showing.item_of list.now.items (showing.number_shown (S.contents store.now) list.now.variable list.now.value)) marks.old marks.new }
+{
+    let Some(index) = number_shown(store, list.variable, u32::from(list.value)) else {
+        return;
+    };
+    match list.items.as_slice().get(index as usize) {
+        Some(item) => mark_named(store, marks, *item),
+        None => {}
+    }
+}
+
+/// Marks the keys of the soft key mask of a mask.
+fn mark_soft_keys<S: Store>(store: &S, marks: &mut [bool], mask: ObjectId)
+    requires { length marks.old ≡ length (ids_of (S.contents store.now)) }
+    ensures { Marks (S.contents store.now) (showing.soft_keys (S.contents store.now) mask) marks.old marks.new }
+{
+    match store.get(soft_key_mask(store, mask)) {
+        Some(Object::SoftKeyMask(o)) => mark_keys(store, marks, &o.keys),
+        _ => {}
+    }
+}
+
+/// Marks the elements that keys stand for.
+fn mark_keys<S: Store>(store: &S, marks: &mut [bool], keys: &Entries<ObjectId>)
+    requires { length marks.old ≡ length (ids_of (S.contents store.now)) }
+    ensures { Marks (S.contents store.now) keys.now marks.old marks.new }
+{
+    for key in keys.as_slice() {
+        mark_named(store, marks, *key);
+    }
+}
+
+/// Marks what a name stands for, if that is an element.
+fn mark_named<S: Store>(store: &S, marks: &mut [bool], name: ObjectId)
+    requires { length marks.old ≡ length (ids_of (S.contents store.now)) }
+    ensures { Marks (S.contents store.now) (name ∷ []) marks.old marks.new }
+{
+    let Some(id) = stands_for(store, name) else {
+        return;
+    };
+    if !is_element(store, id) {
+        return;
+    }
+    if let Some(place) = store.place(id) {
+        marks[place] = true;
+    }
+}
+
+/// What an ID in a list stands for: a pointer for its value.
+fn stands_for<S: Store>(store: &S, id: ObjectId) -> Option<ObjectId>
+    ensures { result ≡ showing.stands_for (S.contents store.now) id }
+{
+    match store.get(id) {
+        None => None,
+        Some(Object::ObjectPointer(pointer)) => if_there(store, pointer.value),
+        Some(_) => Some(id),
+    }
+}
+
+fn if_there<S: Store>(store: &S, id: ObjectId) -> Option<ObjectId>
+    ensures { result ≡ option_map (λ o. id) (finite.get (S.contents store.now) id) }
+{
+    match store.get(id) {
+        None => None,
+        Some(_) => Some(id),
+    }
+}
+
+/// Whether an object is there that is neither a pointer nor a hidden container.
+fn is_element<S: Store>(store: &S, id: ObjectId) -> bool
+    ensures { result ≡ showing.is_element (finite.get (S.contents store.now) id) }
+{
+    match store.get(id) {
+        None => false,
+        Some(Object::ObjectPointer(_)) => false,
+        Some(Object::Container(o)) => o.hidden == 0,
+        Some(_) => true,
+    }
+}
+
+/// The number that an object shows: that of its variable, if it has one.
+fn number_shown<S: Store>(store: &S, variable: ObjectId, own: u32) -> Option<u32>
+    ensures { result ≡ showing.number_shown (S.contents store.now) variable own }
+{
+    if variable.is_null() {
+        return Some(own);
+    }
+    match store.get(variable) {
+        Some(Object::NumberVariable(o)) => Some(o.value),
+        _ => None,
+    }
+}
+
+/// The soft key mask of a mask, NULL of what is none.
+fn soft_key_mask<S: Store>(store: &S, mask: ObjectId) -> ObjectId
+    ensures { result ≡ showing.soft_key_mask_of (finite.get (S.contents store.now) mask) }
+{
+    match store.get(mask) {
+        Some(Object::DataMask(o)) => o.soft_key_mask,
+        Some(Object::AlarmMask(o)) => o.soft_key_mask,
+        _ => ObjectId::from_raw(0xFFFF),
+    }
+}
