@@ -101,7 +101,7 @@ ids_in : (es : Objects) → map (λ (e : ℕ × Fixed). e.0) (shape_of es) ≡ i
 ids_in [] = refl
 ids_in (e ∷ es) = ap (λ (l : List ℕ). e.0 ∷ l) (ids_in es)
 
-ids_by : (a b : Contents) → shape_in a ≡ shape_in b → ids_of a ≡ ids_of b
+pub ids_by : (a b : Contents) → shape_in a ≡ shape_in b → ids_of a ≡ ids_of b
 unfolding shape_in
 ids_by a b same = sym (ids_in (finite.entries a)) ∙ ap (map (λ (e : ℕ × Fixed). e.0)) same ∙ ids_in (finite.entries b)
 

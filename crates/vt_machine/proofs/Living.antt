@@ -1,5 +1,5 @@
 -- What calls on a working set begin with, and what they leave.
-use Rattle.std.proofs.Common.{◌≡◌, ◌≤◌, ◌<◌, ◌+◌, ◌-◌, ◌*◌, ◌++◌, ℕ, zero, suc, List, [], ◌∷◌, map, length, slice_get, slice_index_or, true, Some, None, Ok, refl, sym, ap, subst, ◌∙◌, arith}
+use Rattle.std.proofs.Common.{◌≡◌, ◌≤◌, ◌<◌, ◌+◌, ◌-◌, ◌*◌, ◌++◌, ℕ, zero, suc, Bool, List, [], ◌∷◌, map, length, slice_get, slice_index_or, true, Some, None, Ok, refl, sym, ap, subst, ◌∙◌, arith}
 use Rattle.std.proofs.lemmas.List.Sums.{sum_by-cons}
 use Rattle.std.proofs.lemmas.Cmp.{nat_cmp_total}
 use Rattle.std.specs.List.{AllByRecursion}
@@ -29,10 +29,12 @@ use Rattle.vt_machine.specs.Certificates.{AreLevels}
 use Rattle.vt_machine.specs.Changes.{Answers}
 use Rattle.vt_machine.specs.Effects.{kind_in, effect, after}
 use Rattle.vt_machine.specs.Indexes.{IsIndexOf}
-use Rattle.vt_machine.specs.Lives.{HasRun, IsDone}
+use Rattle.vt_machine.specs.Lives.{SetState, HasRun, IsDone}
+use Rattle.vt_machine.specs.Operating.{HasActed}
 use Rattle.vt_machine.specs.Machines.{fault, shape_in, events_of, joined_all, total_budget, run}
 use Rattle.vt_machine.specs.Nested.{CanRun, HaveRun}
 use Rattle.vt_machine.specs.Runs.{IsReady}
+use Rattle.vt_machine.proofs.Adding.{ids_by}
 use Rattle.vt_machine.proofs.Executing.{answered}
 use Rattle.vt_machine.proofs.Faultless.{faultless}
 use Rattle.vt_machine.proofs.Ready.{pools_are_ready}
@@ -144,3 +146,22 @@ stored_set m es pool id is all stored set =
 
 pub after_shape : (m new : Contents) (command : Command) → new ≡ after m command → shape_in new ≡ shape_in m
 after_shape m new command is = ap shape_in is ∙ shapes_stay m command
+
+-- ---- the marks
+
+pub marks_stay : (old new : Contents) (marks : List Bool) → shape_in new ≡ shape_in old → length marks ≡ length (ids_of old) → length marks ≡ length (ids_of new)
+marks_stay old new marks same are = are ∙ sym (ap length (ids_by new old same))
+
+-- ---- events
+
+pub has_acted : (index : Index) (state new : SetState) (raised : List Raised) (k : ℕ) (m last : Contents) (then : Levels) → m ≡ state.objects → last ≡ new.objects
+    → new.key ≡ state.key → new.input ≡ state.input
+    → HaveRun index m (joined_all (shape_in m) raised) (total_budget (shape_in m) raised) k last then → HasActed state raised k new
+has_acted index state new raised k m last then is last_is key input ran =
+    record {
+      has_run = subst (λ (n : Contents). HasRun state.objects (joined_all (shape_in state.objects) raised) (total_budget (shape_in state.objects) raised) k n) last_is
+          (subst (λ (o : Contents). HasRun o (joined_all (shape_in o) raised) (total_budget (shape_in o) raised) k last) is
+          (has_run index m (joined_all (shape_in m) raised) (total_budget (shape_in m) raised) k last then ran));
+      key = key;
+      input = input;
+    }

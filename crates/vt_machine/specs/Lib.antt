@@ -11,3 +11,4 @@ pub mod Nested
 pub mod Showing
 pub mod Lives
 pub mod Marks
+pub mod Operating

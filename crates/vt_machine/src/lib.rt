@@ -12,6 +12,7 @@ mod laws;
 mod levels;
 mod live;
 mod numbers;
+mod operator;
 mod pointers;
 mod raising;
 mod references;
@@ -25,6 +26,7 @@ pub use laws::{
     runs_end,
 };
 pub use live::{Live, Outcome};
+pub use operator::{Acted, OperatorRefusal};
 
 /// A growth that was refused.
 pub use std::alloc::AllocError as OutOfMemory;

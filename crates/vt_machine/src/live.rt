@@ -1,6 +1,6 @@
 //! A working set with its object pool, and the event machine that runs on it.
 
-ghost use Rattle.std.specs.Prelude.{◌≡◌, ℕ, None, IfOk};
+ghost use Rattle.std.specs.Prelude.{◌≡◌, ◌≤◌, ℕ, None, IfOk, true, false, length};
 ghost use Rattle.std.specs.Option.{option_map};
 ghost use Rattle.std.specs.FinMap as finite;
 ghost use Rattle.vt_objects.specs.Records.{seen};
@@ -9,7 +9,8 @@ ghost use Rattle.vt_verify.specs.Budgets.{budget};
 ghost use Rattle.vt_verify.specs.Rules.{working_sets};
 ghost use Rattle.vt_verify.specs.Triggers.{listing};
 ghost use Rattle.vt_machine.specs.Machines.{shape_in, joined};
-ghost use Rattle.vt_machine.specs.Showing.{soft_key_mask_of};
+ghost use Rattle.vt_machine.specs.Operating.{HasActed};
+ghost use Rattle.vt_machine.specs.Showing.{IsShown, soft_key_mask_of};
 ghost use Rattle.vt_machine.specs.Soundness.{IsSound};
 ghost use Rattle.vt_machine.specs.Lives.{HasRun, Applied, IsActive, is_kept, kept_key, kept_input, with_objects, renewed};
 
@@ -18,10 +19,11 @@ use crate::index::Index;
 use crate::levels::Levels;
 use crate::raising::{active_mask, events_of};
 use crate::runs::{raise, raise_all};
+use crate::showing::is_shown;
 use crate::working_set::{soft_key_mask, working_set};
 use std::alloc::{AllocError, Global};
 use std::marker::Model;
-use vt_objects::{Command, Object, ObjectId, Store};
+use vt_objects::{Command, Object, ObjectId, Raised, Store};
 use vt_verify::Accepted;
 
 /// The key that an operator holds.
@@ -51,12 +53,15 @@ pub struct Live<S: Store> {
     levels: Levels,
     index: Index,
     working_set: ObjectId,
-    key: Option<HeldKey>,
-    input: Option<ObjectId>,
+    /// Room for the search for what is shown: a mark for each object.
+    marks: Vec<bool>,
+    pub(crate) key: Option<HeldKey>,
+    pub(crate) input: Option<ObjectId>,
 }
 
 impl<S: Store> Model for Live<S> {
-    ghost use Rattle.std.specs.Prelude.{◌≡◌, Some};
+    ghost use Rattle.std.specs.Prelude.{◌≡◌, Some, length};
+    ghost use Rattle.vt_verify.specs.Depths.{ids_of};
     ghost use Rattle.vt_objects.specs.declared.kind.Kind.TheVariants as kinds;
     ghost use Rattle.vt_machine.specs.Effects.{kind_in};
     ghost use Rattle.vt_machine.specs.Lives.{SetState, state_code};
@@ -68,7 +73,8 @@ impl<S: Store> Model for Live<S> {
 
     ghost view = { λ a. record { objects = S.contents a.store; key = a.key; input = a.input } };
 
-    ghost invariant = { λ a. CanRun a.index (S.contents a.store) a.levels × (kind_in (S.contents a.store) a.working_set ≡ Some kinds.WorkingSet) };
+    ghost invariant = { λ a. CanRun a.index (S.contents a.store) a.levels × (kind_in (S.contents a.store) a.working_set ≡ Some kinds.WorkingSet)
+        × (length a.marks.items ≡ length (ids_of (S.contents a.store))) };
 }
 
 impl<S: Store> Live<S> {
@@ -80,6 +86,7 @@ impl<S: Store> Live<S> {
         let store = S::from_objects(alloc, objects)?;
         let levels = Levels::of_store(alloc, &store)?;
         let index = Index::new(alloc, accepted)?;
+        let marks = Vec::from_elem(alloc, false, store.count())?;
         let working_set = match working_set(objects) {
             Some(id) => id,
             None => unreachable!(),
@@ -89,6 +96,7 @@ impl<S: Store> Live<S> {
             levels,
             index,
             working_set,
+            marks,
             key: None,
             input: None,
         })
@@ -144,6 +152,23 @@ impl<S: Store> Live<S> {
         ensures kept { self.new ≡ with_objects self.old self.new.objects }
     {
         raise(&self.index, &mut self.store, &mut self.levels, id, event)
+    }
+
+    /// Raises events, one after the other.
+    pub(crate) fn raise_all(&mut self, raised: &[Raised]) -> u32
+        requires { length raised.now ≤ 3 }
+        ensures { HasActed self.old raised.now result self.new }
+    {
+        raise_all(&self.index, &mut self.store, &mut self.levels, raised)
+    }
+
+    /// Whether a mask shows an object.
+    pub(crate) fn shows(&mut self, mask: ObjectId, id: ObjectId) -> bool
+        ensures shown { result ≡ true → IsShown self.old.objects mask id }
+        ensures not_shown { result ≡ false → IsShown self.old.objects mask id → ⊥ }
+        ensures same { self.new ≡ self.old }
+    {
+        is_shown(&self.store, &self.levels.levels, &mut self.marks, mask, id)
     }
 
     /// Does a command, and runs the macros of the events that it raises.

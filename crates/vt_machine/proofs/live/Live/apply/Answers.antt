@@ -1,7 +1,7 @@
 use Rattle.std.proofs.Common.{◌∙◌, ◌+◌, ap, subst}
 use Rattle.vt_objects.specs.Stores.{Contents}
 use Rattle.vt_machine.specs.Lives.{IsDone}
-use Rattle.vt_machine.proofs.Living.{after_shape, events_small, is_done, kind_stays}
+use Rattle.vt_machine.proofs.Living.{after_shape, events_small, is_done, kind_stays, marks_stay}
 use Rattle.vt_machine.proofs.Nesting.{after_can}
 use Rattle.vt_machine.proofs.live.Live.apply.Goals as goal
 
@@ -27,4 +27,7 @@ invariant_of-self g c = (
   kind_stays (g.S.Store.contents c.raise_all-steps.new.store) (g.S.Store.contents c.self.inside.store) c.self.inside.working_set
       (c.raise_all-steps.ensures.shape ∙ after_shape (g.S.Store.contents c.self.inside.store) (g.S.Store.contents c.execute.new.store) c.args.command.now c.execute.ensures.objects)
       ∙ c.self.invariant.1,
+  marks_stay (g.S.Store.contents c.self.inside.store) (g.S.Store.contents c.raise_all-steps.new.store) c.self.inside.marks.items
+      (c.raise_all-steps.ensures.shape ∙ after_shape (g.S.Store.contents c.self.inside.store) (g.S.Store.contents c.execute.new.store) c.args.command.now c.execute.ensures.objects)
+      c.self.invariant.2,
 )

@@ -1,0 +1,19 @@
+use Rattle.std.proofs.Common.{ap, refl, sym, ◌∙◌}
+use Rattle.vt_machine.proofs.Living.{events_small, has_acted, kind_stays, marks_stay}
+use Rattle.vt_machine.proofs.live.Live.raise_all.Goals as goal
+
+pub raise_all-requires-clause-small : goal.raise_all-requires-clause-small
+raise_all-requires-clause-small g c =
+    events_small c.self.inside.index (g.S.Store.contents c.self.inside.store) c.self.inside.levels c.args.raised.now c.self.invariant.0 c.requires
+
+pub invariant_of-self : goal.invariant_of-self
+invariant_of-self g c = (
+  c.raise_all.ensures.can,
+  kind_stays (g.S.Store.contents c.raise_all.new.store) (g.S.Store.contents c.self.inside.store) c.self.inside.working_set c.raise_all.ensures.shape ∙ c.self.invariant.1,
+  marks_stay (g.S.Store.contents c.self.inside.store) (g.S.Store.contents c.raise_all.new.store) c.self.inside.marks.items c.raise_all.ensures.shape c.self.invariant.2,
+)
+
+pub returns : goal.returns
+returns g c =
+    has_acted c.self.inside.index c.args.self.now _ c.args.raised.now c.raise_all.result (g.S.Store.contents c.self.inside.store) (g.S.Store.contents c.raise_all.new.store)
+    c.raise_all.new.levels (ap (λ s. s.objects) c.self.view_is) refl (ap (λ s. s.key) c.self.view_is) (ap (λ s. s.input) c.self.view_is) c.raise_all.ensures

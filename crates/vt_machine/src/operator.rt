@@ -1,0 +1,181 @@
+//! The operator's actions on a working set (docs/PROFILE.md, "The operator").
+
+ghost use Rattle.std.specs.Prelude.{◌≡◌, ◌≤◌, length};
+ghost use Rattle.std.specs.Option.{option_map};
+ghost use Rattle.std.specs.FinMap as finite;
+ghost use Rattle.vt_objects.specs.Events.{raise};
+ghost use Rattle.vt_machine.specs.Operating as operating;
+ghost use Rattle.vt_machine.specs.Operating.{ComesTo, ComesToShown};
+
+use crate::live::{HeldKey, Live};
+use arrayvec::ArrayVec;
+use byteorder::{ByteOrder, LittleEndian};
+use vt_objects::{Event, Object, ObjectId, Raised, Store};
+
+/// Why an action of the operator is refused.
+#[derive(Clone, Copy, Debug, PartialEq, Eq)]
+pub enum OperatorRefusal {
+    /// The object is not shown.
+    NotShown,
+    /// The input is not enabled.
+    Disabled,
+    /// The number is not accepted.
+    Range,
+    /// The text is longer than that of the object, or of its variable.
+    TooLong,
+    /// The object is of another kind.
+    WrongKind,
+    /// The key is not the one that is held.
+    NotPressed,
+    /// A key is held already.
+    Held,
+}
+
+/// What an action of the operator came to.
+#[derive(Drop)]
+pub struct Acted {
+    /// The message to the working set, of no bytes where none is sent.
+    pub message: ArrayVec<u8, 259>,
+    /// How many steps the macros of its events took.
+    pub steps: u32,
+}
+
+impl<S: Store> Live<S> {
+    /// Presses a Key or a Button that is shown: its message has code 1 and the mask that is active, the key is held, and its event
+    /// Key Press is raised.
+    pub fn press(&mut self, id: ObjectId) -> Result<Acted, OperatorRefusal>
+        ensures { ComesToShown self.old id (λ shown mask. operating.press shown self.old mask id) result self.new }
+    {
+        let mask = self.active_mask();
+        if !self.shows(mask, id) {
+            return Err(OperatorRefusal::NotShown);
+        }
+        let Some(message) = key_message(self.store(), 1, id, mask) else {
+            return Err(OperatorRefusal::WrongKind);
+        };
+        if self.key.is_some() {
+            return Err(OperatorRefusal::Held);
+        }
+        self.key = Some(HeldKey { id, mask });
+        let event = Event::KeyPress;
+        let steps = self.raise_all(&[Raised { id, event }]);
+        Ok(Acted { message, steps })
+    }
+
+    /// Releases the key that is held: its message has code 0, the mask of the press and the key code as it is now, and its event
+    /// Key Release is raised. It need not be shown.
+    pub fn release(&mut self, id: ObjectId) -> Result<Acted, OperatorRefusal>
+        ensures { ComesTo self.old (operating.release self.old id) result self.new }
+    {
+        let Some(key) = self.key else {
+            return Err(OperatorRefusal::NotPressed);
+        };
+        if key.id != id {
+            return Err(OperatorRefusal::NotPressed);
+        }
+        let message = key_message(self.store(), 0, id, key.mask).unwrap_or_default();
+        self.key = None;
+        let event = Event::KeyRelease;
+        let steps = self.raise_all(&[Raised { id, event }]);
+        Ok(Acted { message, steps })
+    }
+
+    /// Selects an input that is shown and enabled: the event Input Deselected is raised on the one that was selected, and then
+    /// Input Selected on this one. The same input again raises none. No message is sent.
+    pub fn select(&mut self, id: ObjectId) -> Result<Acted, OperatorRefusal>
+        ensures { ComesToShown self.old id (λ shown mask. operating.select shown self.old id) result self.new }
+    {
+        let mask = self.active_mask();
+        if !self.shows(mask, id) {
+            return Err(OperatorRefusal::NotShown);
+        }
+        match is_enabled(self.store(), id) {
+            None => return Err(OperatorRefusal::WrongKind),
+            Some(false) => return Err(OperatorRefusal::Disabled),
+            Some(true) => {}
+        }
+        let raised = select_events(id, self.input);
+        self.input = Some(id);
+        let steps = self.raise_all(&raised);
+        let message = ArrayVec::new();
+        Ok(Acted { message, steps })
+    }
+}
+
+/// The message of a Key or a Button; other objects have none.
+fn key_message<S: Store>(
+    store: &S,
+    code: u8,
+    id: ObjectId,
+    mask: ObjectId,
+) -> Option<ArrayVec<u8, 259>>
+    ensures { option_map (λ message. message.items) result ≡ operating.key_message code id mask (finite.get (S.contents store.now) id) }
+{
+    match store.get(id) {
+        Some(Object::Key(key)) => Some(key_bytes(0, code, id, mask, key.key_code)),
+        Some(Object::Button(button)) => Some(key_bytes(1, code, id, mask, button.key_code)),
+        _ => None,
+    }
+}
+
+fn key_bytes(
+    function: u8,
+    code: u8,
+    id: ObjectId,
+    mask: ObjectId,
+    key_code: u8,
+) -> ArrayVec<u8, 259>
+    ensures { result.items ≡ operating.key_bytes function code id mask key_code }
+{
+    let mut bytes = [function, code, 0, 0, 0, 0, key_code, 0xFF];
+    LittleEndian::write_u16(&mut bytes[2..4], id.raw());
+    LittleEndian::write_u16(&mut bytes[4..6], mask.raw());
+    message(&bytes)
+}
+
+/// A message of these bytes.
+fn message(bytes: &[u8]) -> ArrayVec<u8, 259>
+    requires { length bytes.now ≤ 259 }
+    ensures { result.items ≡ bytes.now }
+{
+    let mut message = ArrayVec::new();
+    match message.try_extend_from_slice(bytes) {
+        Ok(()) => message,
+        Err(_full) => unreachable!(),
+    }
+}
+
+/// Whether an input is enabled; other objects are none.
+fn is_enabled<S: Store>(store: &S, id: ObjectId) -> Option<bool>
+    ensures { result ≡ operating.is_enabled (finite.get (S.contents store.now) id) }
+{
+    match store.get(id) {
+        Some(Object::InputBoolean(input)) => Some(input.enabled != 0),
+        Some(Object::InputString(input)) => Some(input.enabled != 0),
+        Some(Object::InputNumber(input)) => Some(input.options_two % 2 == 1),
+        Some(Object::InputList(list)) => Some(list.options % 2 == 1),
+        _ => None,
+    }
+}
+
+/// The events of an input that becomes the one selected.
+fn select_events(id: ObjectId, selected: Option<ObjectId>) -> ArrayVec<Raised, 2>
+    ensures { result.items ≡ operating.select_events id selected }
+{
+    let mut events = ArrayVec::new();
+    match selected {
+        Some(old) if old == id => {}
+        Some(old) => {
+            events.push(raised(old, Event::InputDeselected));
+            events.push(raised(id, Event::InputSelected));
+        }
+        None => events.push(raised(id, Event::InputSelected)),
+    }
+    events
+}
+
+fn raised(id: ObjectId, event: Event) -> Raised
+    ensures { result ≡ raise id event }
+{
+    Raised { id, event }
+}
