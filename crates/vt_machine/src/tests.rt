@@ -4,6 +4,7 @@ mod attributes;
 mod children;
 mod indexes;
 mod lives;
+mod operators;
 mod records;
 mod references;
 mod sizes;

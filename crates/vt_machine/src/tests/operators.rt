@@ -1,0 +1,98 @@
+//! The operator's actions.
+
+use crate::{Acted, Live, OperatorRefusal};
+use std::alloc::Global;
+use std::test::Fail;
+use vt_objects::{Command, ObjectId, SortedStore};
+use vt_pool::read_pool;
+use vt_verify::verify;
+
+/// A Working Set 0 that shows the Data Mask 1000 with the Soft Key Mask 400. The mask has the Button 501, which runs macro 1 where
+/// it is pressed, and the Input Booleans 601, which runs macro 1 where it is selected and twice where it is deselected, and 602,
+/// which is disabled. The Key 500 is on the soft key mask; the Key 502 is on none.
+const POOL: &[u8] = &[
+    0, 0, 0, 0, 1, 0xE8, 3, 0, 0, 0, // Working Set
+    0xE8, 3, 1, 0, 0x90, 1, 3, 0, // Data Mask
+    0xF5, 1, 0, 0, 0, 0, 0x59, 2, 0, 0, 0, 0, 0x5A, 2, 0, 0, 0, 0, //
+    0x90, 1, 4, 0, 1, 0, 0xF4, 1, // Soft Key Mask
+    0xF4, 1, 5, 0, 7, 0, 0, // Key
+    0xF6, 1, 5, 0, 8, 0, 0, // Key
+    0xF5, 1, 6, 9, 0, 9, 0, 0, 0, 3, 0, 0, 1, 24, 1, // Button
+    0x59, 2, 7, 0, 9, 0, 50, 0, 0xFF, 0xFF, 0, 1, 3, 19, 1, 20, 1, 20, 1, // Input Boolean
+    0x5A, 2, 7, 0, 9, 0, 50, 0, 0xFF, 0xFF, 0, 0, 0, // Input Boolean
+    50, 0, 23, 0, 0, 0, 0, 0, // Font
+    1, 0, 28, 8, 0, 0xA4, 50, 0xFF, 0xFF, 0xFF, 0xFF, 0xFF, 0xFF, // Macro
+];
+
+fn live(alloc: Global) -> Result<Live<SortedStore>, Fail> {
+    let pool = read_pool(alloc, POOL)?;
+    let Ok(accepted) = verify(alloc, &pool) else {
+        return Err(Fail::new("not accepted"));
+    };
+    let live = Live::new(alloc, &accepted)?;
+    Ok(live)
+}
+
+/// Whether an action sent a message, and took so many steps.
+fn sent(result: &Result<Acted, OperatorRefusal>, message: &[u8], steps: u32) -> bool {
+    match result {
+        Ok(acted) => acted.message.as_slice() == message && acted.steps == steps,
+        Err(_) => false,
+    }
+}
+
+/// Whether an action was refused.
+fn refused(result: &Result<Acted, OperatorRefusal>, refusal: OperatorRefusal) -> bool {
+    match result {
+        Ok(_) => false,
+        Err(answered) => *answered == refusal,
+    }
+}
+
+fn id(number: u16) -> ObjectId {
+    ObjectId::from_raw(number)
+}
+
+#[test]
+fn keys(rt: HostRuntime) -> Result<(), Fail> {
+    let mut live = live(rt.alloc())?;
+    assert!(rt; refused(&live.press(id(1)), OperatorRefusal::NotShown));
+    assert!(rt; refused(&live.press(id(502)), OperatorRefusal::NotShown));
+    assert!(rt; refused(&live.press(id(601)), OperatorRefusal::WrongKind));
+    assert!(rt; refused(&live.release(id(500)), OperatorRefusal::NotPressed));
+    assert!(rt; sent(&live.press(id(500)), &[0, 1, 0xF4, 1, 0xE8, 3, 7, 0xFF], 0));
+    assert!(rt; refused(&live.press(id(501)), OperatorRefusal::Held));
+    assert!(rt; refused(&live.release(id(501)), OperatorRefusal::NotPressed));
+    assert!(rt; sent(&live.release(id(500)), &[0, 0, 0xF4, 1, 0xE8, 3, 7, 0xFF], 0));
+    assert!(rt; refused(&live.release(id(500)), OperatorRefusal::NotPressed));
+    assert!(rt; sent(&live.press(id(501)), &[1, 1, 0xF5, 1, 0xE8, 3, 3, 0xFF], 1));
+    Ok(())
+}
+
+#[test]
+fn key_codes_as_they_are_at_the_release(rt: HostRuntime) -> Result<(), Fail> {
+    let mut live = live(rt.alloc())?;
+    assert!(rt; sent(&live.press(id(501)), &[1, 1, 0xF5, 1, 0xE8, 3, 3, 0xFF], 1));
+    let Some(command) = Command::read(&[0xAF, 0xF5, 1, 5, 9, 0, 0, 0]) else {
+        return Err(Fail::new("no command"));
+    };
+    live.apply(&command);
+    assert!(rt; sent(&live.release(id(501)), &[1, 0, 0xF5, 1, 0xE8, 3, 9, 0xFF], 0));
+    Ok(())
+}
+
+#[test]
+fn selections(rt: HostRuntime) -> Result<(), Fail> {
+    let mut live = live(rt.alloc())?;
+    assert!(rt; refused(&live.select(id(500)), OperatorRefusal::WrongKind));
+    assert!(rt; refused(&live.select(id(603)), OperatorRefusal::NotShown));
+    assert!(rt; refused(&live.select(id(602)), OperatorRefusal::Disabled));
+    assert!(rt; sent(&live.select(id(601)), &[], 1));
+    assert!(rt; sent(&live.select(id(601)), &[], 0));
+    let Some(command) = Command::read(&[0xA1, 0x5A, 2, 1, 0xFF, 0xFF, 0xFF, 0xFF]) else {
+        return Err(Fail::new("no command"));
+    };
+    live.apply(&command);
+    assert!(rt; sent(&live.select(id(602)), &[], 2));
+    Ok(())
+}
