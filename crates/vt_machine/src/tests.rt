@@ -5,6 +5,7 @@ mod children;
 mod indexes;
 mod records;
 mod references;
+mod showing;
 mod sizes;
 mod states;
 mod stores;
