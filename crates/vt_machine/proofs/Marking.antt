@@ -368,3 +368,17 @@ cleared n marks is at = ap (λ (xs : List Bool). slice_index_or xs at false) is 
     all_clear zero at = refl
     all_clear (suc n) zero = refl
     all_clear (suc n) (suc at) = all_clear n at
+
+-- no object is of a level from the count of the levels on
+pub none_above : (m : Contents) (levels : List ℕ) (mask count : ℕ) (marks : List Bool) → length levels ≡ length (ids_of m)
+    → ((at : ℕ) → at < length levels → slice_index levels at < count) → AreMarked m levels mask 33 marks → AreMarked m levels mask count marks
+none_above m levels mask count marks long below are = record {
+  each = are.each;
+  shown = are.shown;
+  in_mask = are.in_mask;
+  keys = are.keys;
+  within = λ at id there set le.
+      let inside = within (ids_of m) at id there in
+      let less = below at (omega (arith, inside, long)) in
+      absurd (omega (arith, le, less));
+}

@@ -1,6 +1,6 @@
 //! Which objects a mask shows.
 
-ghost use Rattle.std.specs.Prelude.{◌≡◌, ◌+◌, ◌∷◌, ℕ, [], false, true, length, Some};
+ghost use Rattle.std.specs.Prelude.{◌≡◌, ◌≤◌, ◌<◌, ◌+◌, ◌∷◌, ℕ, [], false, true, length, slice_index, EachIndex, Some};
 ghost use Rattle.std.specs.Option.{option_map};
 ghost use Rattle.std.specs.FinMap as finite;
 ghost use Rattle.vt_objects.specs.Records.{seen};
@@ -55,9 +55,23 @@ fn mark_within<S: Store>(store: &S, levels: &[u8], marks: &mut [bool], mask: Obj
     requires marks { AreMarked (S.contents store.now) levels.now mask 33 marks.old }
     ensures { AreMarked (S.contents store.now) levels.now mask 0 marks.new }
 {
-    for level in (0..33u8).rev() {
+    for level in (0..level_count(levels)).rev() {
         mark_level(store, levels, marks, mask, level);
     }
+}
+
+/// How many levels there are, from 0 to the greatest.
+fn level_count(levels: &[u8]) -> u8
+    requires { (place : ℕ) → slice_index levels.now place ≤ 32 }
+    ensures { EachIndex levels.now (λ place. slice_index levels.now place < result) }
+{
+    let mut count = 0;
+    for level in levels {
+        if *level >= count {
+            count = *level + 1;
+        }
+    }
+    count
 }
 
 /// Marks what the marked objects of a level draw, where that of the levels above is marked.
