@@ -23,6 +23,7 @@ pub mod Adding
 pub mod Executing
 pub mod Nesting
 pub mod Living
+pub mod Plain
 pub mod Indexing
 pub mod IndexOrder
 pub mod Marking

@@ -93,7 +93,7 @@ shallow_by_test m short (id ∷ b ∷ rest) chain =
 
 -- ---- fewer inclusions
 
-fewer_chains : (next less : ℕ → List ℕ) → ((q x : ℕ) → Contains (less q) x → Contains (next q) x) → (chain : List ℕ) → IsChain less chain → IsChain next chain
+pub fewer_chains : (next less : ℕ → List ℕ) → ((q x : ℕ) → Contains (less q) x → Contains (next q) x) → (chain : List ℕ) → IsChain less chain → IsChain next chain
 fewer_chains next less of [] is = tt
 fewer_chains next less of (a ∷ []) is = tt
 fewer_chains next less of (a ∷ b ∷ rest) is = (of a b is.0, fewer_chains next less of (b ∷ rest) is.1)

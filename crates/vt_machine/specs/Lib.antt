@@ -12,3 +12,4 @@ pub mod Showing
 pub mod Lives
 pub mod Marks
 pub mod Operating
+pub mod Entering

@@ -6,6 +6,7 @@
 mod attributes;
 mod changes;
 mod effects;
+mod entries;
 mod execution;
 mod index;
 mod laws;

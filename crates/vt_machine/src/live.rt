@@ -49,7 +49,7 @@ pub enum Outcome {
 /// (ISO 11783-6; docs/PROFILE.md, "Runs", "Steps").
 #[derive(Drop)]
 pub struct Live<S: Store> {
-    store: S,
+    pub(crate) store: S,
     levels: Levels,
     index: Index,
     working_set: ObjectId,

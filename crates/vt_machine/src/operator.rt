@@ -134,7 +134,7 @@ fn key_bytes(
 }
 
 /// A message of these bytes.
-fn message(bytes: &[u8]) -> ArrayVec<u8, 259>
+pub(crate) fn message(bytes: &[u8]) -> ArrayVec<u8, 259>
     requires { length bytes.now ≤ 259 }
     ensures { result.items ≡ bytes.now }
 {
@@ -174,7 +174,7 @@ fn select_events(id: ObjectId, selected: Option<ObjectId>) -> ArrayVec<Raised, 2
     events
 }
 
-fn raised(id: ObjectId, event: Event) -> Raised
+pub(crate) fn raised(id: ObjectId, event: Event) -> Raised
     ensures { result ≡ raise id event }
 {
     Raised { id, event }

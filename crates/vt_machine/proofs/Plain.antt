@@ -1,0 +1,167 @@
+-- What stays where an object is changed that names what it named: macros can run as before.
+use Rattle.std.proofs.Common.{◌≡◌, ℕ, Bool, true, false, cond, ◌==◌, ◌&&◌, eqb, List, [], ◌∷◌, map, filter, length, Option, Some, None, refl, sym, ap, subst, ◌∙◌}
+use Rattle.std.proofs.lemmas.Bool.{eqb-true}
+use Rattle.std.specs.Prelude.{Contains, IsTrue, slice_index}
+use Rattle.std.specs.Option.{option_map}
+use Rattle.std.specs.List.{AllByRecursion}
+use Rattle.std.specs.FinMap as finite
+use Rattle.vt_objects.specs.declared.kind.Kind.{Kind}
+use Rattle.vt_objects.specs.declared.slot.Slot.{Slot}
+use Rattle.vt_objects.specs.declared.object.Object.TheVariants as objects
+use Rattle.vt_objects.specs.Records.{Seen, kind_of}
+use Rattle.vt_objects.specs.References.{slots_of}
+use Rattle.vt_objects.specs.Stores.{Contents, replaced, with_object}
+use Rattle.vt_verify.specs.Shapes.{Shape, Fixed, fixed}
+use Rattle.vt_verify.specs.Macros.{commands}
+use Rattle.vt_verify.specs.Budgets.{CostsAreTotals}
+use Rattle.vt_verify.specs.Rules.{IsWithinBudget, terminal, working_sets}
+use Rattle.vt_verify.specs.Inclusions.{IsChain, IsShallow, includes, included_by}
+use Rattle.vt_verify.specs.Depths.{Stands, IsBelow, ids_of, inclusions_of}
+use Rattle.vt_machine.specs.declared.index.Index.{Index}
+use Rattle.vt_machine.specs.declared.levels.Levels.{Levels}
+use Rattle.vt_machine.specs.Certificates.{IsCertificate, AreLevels}
+use Rattle.vt_machine.specs.Changes.{is_one_of}
+use Rattle.vt_machine.specs.Effects.{kind_in, pointer_value, allows}
+use Rattle.vt_machine.specs.Entering.{changed_at, with_number, with_text}
+use Rattle.vt_machine.specs.Indexes.{IsIndexOf}
+use Rattle.vt_machine.specs.Machines.{shape_in, fault}
+use Rattle.vt_machine.specs.Nested.{CanRun}
+use Rattle.vt_machine.specs.Soundness.{IsSound, value_fits, is_in_order}
+use Rattle.vt_machine.proofs.Adding.{ids_by}
+use Rattle.vt_machine.proofs.InOrder.{get_there, get_other, kinds_stay}
+use Rattle.vt_machine.proofs.Shapes.{shape_same}
+use Rattle.vt_machine.proofs.ShortChains.{fewer_chains}
+
+-- a change that touches no reference, no macro entry and no macro byte
+pub record IsPlain (change : Seen → Seen) : Type 0 where
+  pub slots : (o : Seen) → slots_of (change o) ≡ slots_of o
+  pub same : (o : Seen) → fixed (change o) ≡ fixed o
+  pub values : (o : Seen) → pointer_value (Some (change o)) ≡ pointer_value (Some o)
+
+pub numbers_plain : (n : ℕ) → IsPlain (with_number n)
+numbers_plain n = record { slots = slots; same = same; values = values }
+  where
+    slots : (o : Seen) → slots_of (with_number n o) ≡ slots_of o
+    slots (objects.InputBoolean o) = refl
+    slots (objects.InputNumber o) = refl
+    slots (objects.InputList o) = refl
+    slots (objects.NumberVariable o) = refl
+    slots _ = refl
+
+    same : (o : Seen) → fixed (with_number n o) ≡ fixed o
+    same (objects.InputBoolean o) = refl
+    same (objects.InputNumber o) = refl
+    same (objects.InputList o) = refl
+    same (objects.NumberVariable o) = refl
+    same _ = refl
+
+    values : (o : Seen) → pointer_value (Some (with_number n o)) ≡ pointer_value (Some o)
+    values (objects.InputBoolean o) = refl
+    values (objects.InputNumber o) = refl
+    values (objects.InputList o) = refl
+    values (objects.NumberVariable o) = refl
+    values _ = refl
+
+-- ---- an object under its ID
+
+module _ (m : Contents) (id : ℕ) (old new : Seen) (at : finite.get m id ≡ Some old) (slots : slots_of new ≡ slots_of old) (same : fixed new ≡ fixed old)
+    (value : pointer_value (Some new) ≡ pointer_value (Some old)) where
+  abbrev n : Contents
+  n = finite.insert m id new
+
+  kinds : (q : ℕ) → kind_in n q ≡ kind_in m q
+  kinds q = kinds_stay m id old new q at (ap (λ (f : Fixed). f.kind) same)
+
+  by_key : {A : Type 0} (f : Option Seen → A) → f (Some new) ≡ f (Some old) → (q : ℕ) (b : Bool) → eqb q id ≡ b → f (finite.get n q) ≡ f (finite.get m q)
+  by_key f is q true e = ap f (get_there m id new q e) ∙ is ∙ ap f (sym at) ∙ ap (λ (k : ℕ). f (finite.get m k)) (sym (eqb-true q id e))
+  by_key f is q false e = ap f (get_other m id new q e)
+
+  values : (q : ℕ) → pointer_value (finite.get n q) ≡ pointer_value (finite.get m q)
+  values q = by_key pointer_value value q (eqb q id) refl
+
+  included : (q : ℕ) → inclusions_of n q ≡ inclusions_of m q
+  included q =
+      ap included_by (sym (finite.get-entries n q))
+      ∙ by_key included_by (ap (λ (l : List Slot). map (λ (s : Slot). s.id) (filter includes l)) slots) q (eqb q id) refl
+      ∙ ap included_by (finite.get-entries m q)
+
+  fits_same : (s : Slot) (v : Option ℕ) → value_fits n s v ≡ value_fits m s v
+  fits_same s None = refl
+  fits_same s (Some w) = ap (λ (k : Option Kind). cond (w == 0xFFFF) true (is_one_of s.kinds k)) (kinds w)
+
+  order_same : (s : Slot) → is_in_order n s ≡ is_in_order m s
+  order_same s =
+      ap (λ (k : Option Kind). cond (s.id == 0xFFFF) s.null (is_one_of s.kinds k && value_fits n s (pointer_value (finite.get n s.id)))) (kinds s.id)
+      ∙ ap (λ (b : Bool). cond (s.id == 0xFFFF) s.null (is_one_of s.kinds (kind_in m s.id) && b))
+      (fits_same s (pointer_value (finite.get n s.id)) ∙ ap (value_fits m s) (values s.id))
+
+  all_same : (ss : List Slot) → AllByRecursion (λ s. IsTrue (is_in_order m s)) ss → AllByRecursion (λ s. IsTrue (is_in_order n s)) ss
+  all_same [] all = tt
+  all_same (s ∷ ss) all = (order_same s ∙ all.0, all_same ss all.1)
+
+  slots_sound : IsSound m → (q : ℕ) (o : Seen) (b : Bool) → eqb q id ≡ b → finite.get n q ≡ Some o → AllByRecursion (λ s. IsTrue (is_in_order n s)) (slots_of o)
+  slots_sound sound q o true e there =
+      all_same (slots_of o)
+      (subst (λ (l : List Slot). AllByRecursion (λ s. IsTrue (is_in_order m s)) l) (sym slots ∙ ap slots_of (seen_same new o (sym (get_there m id new q e) ∙ there)))
+      (sound.slots id old at))
+    where
+      seen_same : (a b : Seen) → Some a ≡ Some b → a ≡ b
+      seen_same a b is = cc
+  slots_sound sound q o false e there = all_same (slots_of o) (sound.slots q o (sym (get_other m id new q e) ∙ there))
+
+  pub still_sound : IsSound m → IsSound n
+  still_sound sound = record {
+    slots = λ q o there. slots_sound sound q o (eqb q id) refl there;
+    shallow = λ chain is. sound.shallow chain
+        (fewer_chains (inclusions_of m) (inclusions_of n) (λ q x h. subst (λ (l : List ℕ). Contains l x) (included q) h) chain is);
+  }
+
+  pub still_shaped : shape_in n ≡ shape_in m
+  still_shaped = shape_same m id old new at same
+
+  pub still_levelled : (levels : Levels) → AreLevels m levels → AreLevels n levels
+  still_levelled levels are = record {
+    certificate = subst (λ (l : List ℕ). IsCertificate l (inclusions_of n) levels.levels.items) (sym (ids_by n m still_shaped))
+        (record {
+          each = are.certificate.each;
+          within = are.certificate.within;
+          falls = λ place q there x h. are.certificate.falls place q there x (subst (λ (l : List ℕ). Contains l x) (included q) h);
+        });
+    room = are.room ∙ sym (ap length (ids_by n m still_shaped));
+  }
+
+  pub still_runs : (index : Index) (levels : Levels) → CanRun index m levels → CanRun index n levels
+  still_runs index levels can = record {
+    indexed = subst (λ (s : Shape). IsIndexOf s index) (sym still_shaped) can.indexed;
+    levelled = still_levelled levels can.levelled;
+    sound = still_sound can.sound;
+    working_set = ap working_sets still_shaped ∙ can.working_set;
+    totals = subst CostsAreTotals (sym still_shaped) can.totals;
+    within = subst (IsWithinBudget terminal.steps) (sym still_shaped) can.within;
+    faultless = λ id. subst (λ (s : Shape). AllByRecursion (λ command. fault s command ≡ None) (commands s id)) (sym still_shaped) (can.faultless id);
+  }
+
+-- ---- an object that is changed where it is there
+
+changed_runs : (m : Contents) (id : ℕ) (change : Seen → Seen) (found : Option Seen) (index : Index) (levels : Levels) → finite.get m id ≡ found → IsPlain change
+    → CanRun index m levels → CanRun index (changed_at m id change found) levels
+changed_runs m id change None index levels is plain can = can
+changed_runs m id change (Some o) index levels is plain can = still_runs m id o (change o) is (plain.slots o) (plain.same o) (plain.values o) index levels can
+
+changed_shape : (m : Contents) (id : ℕ) (change : Seen → Seen) (found : Option Seen) → finite.get m id ≡ found → IsPlain change → shape_in (changed_at m id change found) ≡ shape_in m
+changed_shape m id change None is plain = refl
+changed_shape m id change (Some o) is plain = still_shaped m id o (change o) is (plain.slots o) (plain.same o) (plain.values o)
+
+pub plain_runs : (m n : Contents) (id : ℕ) (change : Seen → Seen) (index : Index) (levels : Levels) → n ≡ changed_at m id change (finite.get m id) → IsPlain change
+    → CanRun index m levels → CanRun index n levels
+plain_runs m n id change index levels is plain can =
+    subst (λ (k : Contents). CanRun index k levels) (sym is) (changed_runs m id change (finite.get m id) index levels refl plain can)
+
+pub plain_shape : (m n : Contents) (id : ℕ) (change : Seen → Seen) → n ≡ changed_at m id change (finite.get m id) → IsPlain change → shape_in n ≡ shape_in m
+plain_shape m n id change is plain = ap shape_in is ∙ changed_shape m id change (finite.get m id) refl plain
+
+-- what is written through a store is what a change makes
+pub put_changed : (m after : Contents) (id : ℕ) (change : Seen → Seen) (old new : Seen) → Some old ≡ finite.get m id → after ≡ with_object m id new → new ≡ change old
+    → after ≡ changed_at m id change (finite.get m id)
+put_changed m after id change old new at wrote is =
+    wrote ∙ ap (λ (f : Option Seen). replaced f m id new) (sym at) ∙ ap (finite.insert m id) is ∙ ap (λ (f : Option Seen). changed_at m id change f) at
