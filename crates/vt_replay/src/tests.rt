@@ -447,9 +447,11 @@ fn the_longest_line(rt: HostRuntime) -> Result<(), Fail> {
     expect_run(&rt, &(&LOG, (&log, POOL), (Status::Fault, "", true)))
 }
 
+const NEXT_HIDE: &[u8] = b"\n(1.000000) can0 14E72680#A0640000FFFFFFFF\n";
+
 #[test]
 fn a_long_line_after_a_command(rt: HostRuntime) -> Result<(), Fail> {
-    let log = commented(rt.alloc(), HIDE, 4097, b"\n(1.000000)")?;
+    let log = commented(rt.alloc(), HIDE, 4097, NEXT_HIDE)?;
     let reply = "14E68026#A064000000FFFFFF\n";
     expect_run(
         &rt,
