@@ -41,6 +41,19 @@ const DECIMALS: [u8; 29] = [
 /// A String Variable 9 of the text `AB`.
 const TEXT: [u8; 7] = [9, 0, 22, 2, 0, 65, 66];
 
+/// An Output Number 9 with the offset -2, the scale 1 and no decimals.
+const OFFSET: [u8; 29] = [
+    9, 0, 12, 1, 0, 2, 0, 3, 4, 0, 5, 0xFF, 0xFF, 6, 0, 0, 0, 0xFE, 0xFF, 0xFF, 0xFF, 0, 0, 0x80,
+    0x3F, 0, 0, 0, 0,
+];
+
+fn has_offset(object: Option<&Object<&[u8]>>, want: i32) -> bool {
+    match object {
+        Some(Object::OutputNumber(o)) => o.offset == want,
+        _ => false,
+    }
+}
+
 fn is_number(object: Option<&Object<&[u8]>>, want: u32) -> bool {
     match object {
         Some(Object::NumberVariable(o)) => o.value == want,
@@ -199,5 +212,12 @@ fn text(rt: HostRuntime) -> Result<(), Fail> {
     assert_eq!(rt; out.as_slice(), TEXT.as_slice());
     let pool = read_pool(rt.alloc(), &TEXT)?;
     assert!(rt; is_text(pool.get(ObjectId::from_raw(9)), b"AB"));
+    Ok(())
+}
+
+#[test]
+fn an_offset_below_zero(rt: HostRuntime) -> Result<(), Fail> {
+    let pool = read_pool(rt.alloc(), &OFFSET)?;
+    assert!(rt; has_offset(pool.get(ObjectId::from_raw(9)), -2));
     Ok(())
 }

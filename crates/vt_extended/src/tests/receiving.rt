@@ -149,7 +149,7 @@ fn messages_are_handed_out(rt: HostRuntime) -> Result<(), Fail> {
     Ok(())
 }
 
-const ENDS: [(&str, &[Act]); 11] = [
+const ENDS: [(&str, &[Act]); 12] = [
     (
         "an early offset opens nothing",
         &[
@@ -252,6 +252,19 @@ const ENDS: [(&str, &[Act]); 11] = [
             Hears(b"(1.000000) can0 1CEC2680#140900000000E700", Silence),
             Hears(REQUEST, CLEAR),
             Hears(b"(1.000000) can0 1CC82680#150201000000E700", Silence),
+        ],
+    ),
+    (
+        "timeouts of two sources, the least one first",
+        &[
+            Hears(
+                b"(1.000000) can0 1CC82681#140A00000000CA00",
+                Reply(b"1CC88126#150201000000CA00"),
+            ),
+            Hears(REQUEST, CLEAR),
+            Expires(2_250_001, b"1CC88026#FF03FFFFFF00E700"),
+            Expires(2_250_001, b"1CC88126#FF03FFFFFF00CA00"),
+            Expires(2_250_001, b""),
         ],
     ),
 ];

@@ -93,6 +93,7 @@ fn an_entry_of_an_object_in_a_store(rt: HostRuntime) -> Result<(), Fail> {
             Some(Object::Container(container)) => {
                 assert_eq!(rt; container.children.as_slice().first(), Some(&wanted));
                 assert_eq!(rt; container.children.len(), 2);
+                assert_eq!(rt; [container.width, container.height], [50, 20]);
             }
             _ => assert!(rt; false, "no container {id}"),
         }

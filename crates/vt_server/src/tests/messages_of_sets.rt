@@ -16,7 +16,7 @@ const KEYS: &str = "14E68026#C2FFFFFF40404006";
 type Said = (&'static [&'static str], &'static [&'static str]);
 
 // The messages of a set with a pool, and of others.
-const CASES: [Said; 12] = [
+const CASES: [Said; 13] = [
     // Hide and show, an absent object, one that is no container, and another state.
     (
         &["14E72680#A0640000FFFFFFFF"],
@@ -29,6 +29,11 @@ const CASES: [Said; 12] = [
     (
         &["14E72680#A0650000FFFFFFFF"],
         &["14E68026#A065000002FFFFFF"],
+    ),
+    // Of an absent object the state is not looked at.
+    (
+        &["14E72680#A0650002FFFFFFFF"],
+        &["14E68026#A065000202FFFFFF"],
     ),
     (
         &["00E72680#A0E80300FFFFFFFF"],
