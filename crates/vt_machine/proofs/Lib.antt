@@ -24,6 +24,7 @@ pub mod Executing
 pub mod Nesting
 pub mod Living
 pub mod Plain
+pub mod Filling
 pub mod Indexing
 pub mod IndexOrder
 pub mod Marking

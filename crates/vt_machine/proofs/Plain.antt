@@ -62,6 +62,24 @@ numbers_plain n = record { slots = slots; same = same; values = values }
     values (objects.NumberVariable o) = refl
     values _ = refl
 
+pub texts_plain : (text : List ℕ) → IsPlain (with_text text)
+texts_plain text = record { slots = slots; same = same; values = values }
+  where
+    slots : (o : Seen) → slots_of (with_text text o) ≡ slots_of o
+    slots (objects.InputString o) = refl
+    slots (objects.StringVariable o) = refl
+    slots _ = refl
+
+    same : (o : Seen) → fixed (with_text text o) ≡ fixed o
+    same (objects.InputString o) = refl
+    same (objects.StringVariable o) = refl
+    same _ = refl
+
+    values : (o : Seen) → pointer_value (Some (with_text text o)) ≡ pointer_value (Some o)
+    values (objects.InputString o) = refl
+    values (objects.StringVariable o) = refl
+    values _ = refl
+
 -- ---- an object under its ID
 
 module _ (m : Contents) (id : ℕ) (old new : Seen) (at : finite.get m id ≡ Some old) (slots : slots_of new ≡ slots_of old) (same : fixed new ≡ fixed old)

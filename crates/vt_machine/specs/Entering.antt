@@ -1,5 +1,6 @@
 -- Numbers and texts that the operator enters (docs/PROFILE.md, "The operator").
-use Rattle.std.specs.Prelude.{◌%◌, ℕ, Bool, true, false, not, nat_le, nat_lt, ◌==◌, ◌&&◌, if◌then◌else◌, List, [], ◌∷◌, ◌++◌, length, bytes_eq, Option, Some, None, Result, Ok, Err}
+use Rattle.std.specs.Prelude.{◌%◌, ℕ, Bool, true, false, not, nat_le, nat_lt, ◌==◌, ◌&&◌, if◌then◌else◌, List, [], ◌∷◌, ◌++◌, length, Option, Some, None, Result, Ok, Err}
+use Rattle.std.specs.List.{list_all}
 use Rattle.std.specs.FinMap as finite
 use Rattle.byteorder.specs.Endian.{little_bytes}
 use Rattle.vt_objects.specs.declared.object.Object.TheVariants as objects
@@ -102,9 +103,15 @@ with_text text o = o
 abbrev pub text_message : ℕ → List ℕ → List ℕ
 text_message id text = 8 ∷ little_bytes 2 id ++ length text ∷ text
 
+-- a text, and then spaces alone
+abbrev pub is_filled : List ℕ → List ℕ → Bool
+is_filled [] kept = list_all (λ byte. byte == 32) kept
+is_filled (byte ∷ text) [] = false
+is_filled (byte ∷ text) (first ∷ kept) = first == byte && is_filled text kept
+
 abbrev pub same_text : List ℕ → Option (List ℕ) → Bool
 same_text text None = false
-same_text text (Some kept) = bytes_eq kept (filled_up (length kept) text)
+same_text text (Some kept) = is_filled text kept
 
 -- a text is no longer than the one that is kept
 abbrev pub text_fits : List ℕ → Option (List ℕ) → Bool
@@ -136,8 +143,3 @@ text_entered state id text (Ok at) = store_text state id at text
 abbrev pub enter_text : Bool → SetState → ℕ → List ℕ → Action
 enter_text false state id text = Refused refusals.NotShown
 enter_text true state id text = text_entered state id text (text_place state.objects id text (finite.get state.objects id))
-
--- the refusal of an action, if it is refused
-abbrev pub refusal_of : Action → Option OperatorRefusal
-refusal_of (Refused refusal) = Some refusal
-refusal_of (Acts message state raised) = None

@@ -111,3 +111,12 @@ ComesTo old (Acts message start raised) (Err answered) new = ⊥
 abbrev pub ComesToShown : SetState → ℕ → (Bool → ℕ → Action) → Result Acted OperatorRefusal → SetState → Type 0
 ComesToShown old id action result new =
     (mask : ℕ) × (shown : Bool) × IsActive old.objects mask × Decides shown (IsShown old.objects mask id) × ComesTo old (action shown mask) result new
+
+-- the refusal of an action, if it is refused
+abbrev pub refusal_of : Action → Option OperatorRefusal
+refusal_of (Refused refusal) = Some refusal
+refusal_of (Acts message state raised) = None
+
+abbrev pub WouldRefuse : SetState → ℕ → (Bool → ℕ → Action) → Option OperatorRefusal → Type 0
+WouldRefuse old id action result =
+    (mask : ℕ) × (shown : Bool) × IsActive old.objects mask × Decides shown (IsShown old.objects mask id) × (result ≡ refusal_of (action shown mask))

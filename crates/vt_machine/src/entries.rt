@@ -1,10 +1,13 @@
 //! Numbers and texts that the operator enters (docs/PROFILE.md, "The operator").
 
-ghost use Rattle.std.specs.Prelude.{◌≡◌, ◌≤◌, Ok, length};
+ghost use Rattle.std.specs.Prelude.{◌≡◌, ◌≤◌, ◌==◌, true, Ok, IfOk, length};
+ghost use Rattle.std.specs.Option.{option_map};
+ghost use Rattle.std.specs.List.{list_all};
 ghost use Rattle.std.specs.FinMap as finite;
 ghost use Rattle.vt_objects.specs.Records.{seen};
 ghost use Rattle.vt_machine.specs.Entering as entering;
-ghost use Rattle.vt_machine.specs.Operating.{ComesTo, ComesToShown};
+ghost use Rattle.vt_machine.specs.Entering.{text_of, text_at, text_fits};
+ghost use Rattle.vt_machine.specs.Operating.{ComesTo, ComesToShown, WouldRefuse};
 
 use crate::live::Live;
 use crate::numbers::byte;
@@ -39,6 +42,171 @@ impl<S: Store> Live<S> {
         let steps = self.raise_all(&entry_events(id, is_new));
         let message = number_message(id, number);
         Acted { message, steps }
+    }
+}
+
+impl<S: Store> Live<S> {
+    /// Enters a text in an Input String that is shown and enabled. It is kept in the variable of the object, if it has one, filled
+    /// with spaces. The message has the text as it was entered. The event Entry of Value is raised on the object, and where what
+    /// is kept is another text, Entry of New Value and Value too.
+    pub fn enter_text(&mut self, id: ObjectId, text: &[u8]) -> Result<Acted, OperatorRefusal>
+        ensures { ComesToShown self.old id (λ shown mask. entering.enter_text shown self.old id text.now) result self.new }
+    {
+        let mask = self.active_mask();
+        if !self.shows(mask, id) {
+            return Err(OperatorRefusal::NotShown);
+        }
+        match text_place(self.store(), id, text) {
+            Err(refusal) => Err(refusal),
+            Ok(place) => Ok(self.keep_text(id, place, text)),
+        }
+    }
+
+    /// What `enter_text` would refuse. Nothing is changed.
+    pub fn text_fault(&mut self, id: ObjectId, text: &[u8]) -> Option<OperatorRefusal>
+        ensures fault { WouldRefuse self.old id (λ shown mask. entering.enter_text shown self.old id text.now) result }
+        ensures same { self.new ≡ self.old }
+    {
+        let mask = self.active_mask();
+        if !self.shows(mask, id) {
+            return Some(OperatorRefusal::NotShown);
+        }
+        match text_place(self.store(), id, text) {
+            Err(refusal) => Some(refusal),
+            Ok(_place) => None,
+        }
+    }
+
+    /// Keeps a text, and raises the events of its entry.
+    fn keep_text(&mut self, id: ObjectId, place: ObjectId, text: &[u8]) -> Acted
+        requires fits { text_fits text.now (text_at self.old.objects place) ≡ true }
+        requires short { length text.now ≤ 255 }
+        ensures { ComesTo self.old (entering.store_text self.old id place text.now) (Ok result) self.new }
+    {
+        let is_new = !is_text(self.store(), place, text);
+        put_text(&mut self.store, place, text);
+        let steps = self.raise_all(&entry_events(id, is_new));
+        let message = text_message(id, text);
+        Acted { message, steps }
+    }
+}
+
+/// Where a text is kept that an input takes.
+fn text_place<S: Store>(
+    store: &S,
+    id: ObjectId,
+    text: &[u8],
+) -> Result<ObjectId, OperatorRefusal>
+    ensures place { result ≡ entering.text_place (S.contents store.now) id text.now (finite.get (S.contents store.now) id) }
+    ensures fits { IfOk result (λ place. text_fits text.now (text_at (S.contents store.now) place) ≡ true) }
+    ensures short { IfOk result (λ place. length text.now ≤ 255) }
+{
+    let Some(Object::InputString(input)) = store.get(id) else {
+        return Err(OperatorRefusal::WrongKind);
+    };
+    let place = kept_at(id, input.variable);
+    if input.enabled == 0 {
+        return Err(OperatorRefusal::Disabled);
+    }
+    if text.len() > input.text.as_slice().len() {
+        return Err(OperatorRefusal::TooLong);
+    }
+    if !text_fits(store, place, text) {
+        return Err(OperatorRefusal::TooLong);
+    }
+    Ok(place)
+}
+
+/// The text that is kept under an ID.
+fn text_at<S: Store>(store: &S, id: ObjectId) -> Option<&[u8]>
+    ensures { option_map (λ text. text.now) result ≡ text_at (S.contents store.now) id }
+{
+    match store.get(id) {
+        Some(Object::InputString(input)) => Some(input.text.as_slice()),
+        Some(Object::StringVariable(variable)) => Some(variable.text.as_slice()),
+        _ => None,
+    }
+}
+
+fn text_fits<S: Store>(store: &S, id: ObjectId, text: &[u8]) -> bool
+    ensures { result ≡ text_fits text.now (text_at (S.contents store.now) id) }
+{
+    match text_at(store, id) {
+        Some(kept) => text.len() <= kept.len(),
+        None => false,
+    }
+}
+
+/// Whether this text is kept under an ID.
+fn is_text<S: Store>(store: &S, id: ObjectId, text: &[u8]) -> bool
+    ensures { result ≡ entering.same_text text.now (text_at (S.contents store.now) id) }
+{
+    match text_at(store, id) {
+        Some(kept) => is_filled(text, kept),
+        None => false,
+    }
+}
+
+/// Whether what is kept is a text, and then spaces alone.
+fn is_filled(text: &[u8], kept: &[u8]) -> bool
+    ensures { result ≡ entering.is_filled text.now kept.now }
+{
+    let mut rest = kept;
+    for byte in text {
+        let Some((first, more)) = rest.split_first() else {
+            return false;
+        };
+        if first != byte {
+            return false;
+        }
+        rest = more;
+    }
+    is_blank(rest)
+}
+
+fn is_blank(bytes: &[u8]) -> bool
+    ensures { result ≡ list_all (λ byte. byte == 32) bytes.now }
+{
+    for byte in bytes {
+        if *byte != b' ' {
+            return false;
+        }
+    }
+    true
+}
+
+/// Keeps a text under an ID, filled with spaces.
+fn put_text<S: Store>(store: &mut S, id: ObjectId, text: &[u8])
+    requires { text_fits text.now (text_at (S.contents store.old) id) ≡ true }
+    ensures { S.contents store.new ≡ entering.changed_at (S.contents store.old) id (entering.with_text text.now) (finite.get (S.contents store.old) id) }
+{
+    match store.get_mut(id) {
+        Some(object) => set_text(object, text),
+        None => {}
+    }
+}
+
+fn set_text(object: &mut Object<Vec<u8>>, text: &[u8])
+    requires { text_fits text.now (text_of (seen object.old)) ≡ true }
+    ensures { seen object.new ≡ entering.with_text text.now (seen object.old) }
+{
+    match object {
+        Object::InputString(input) => input.text.overwrite(text),
+        Object::StringVariable(variable) => variable.text.overwrite(text),
+        _ => {}
+    }
+}
+
+fn text_message(id: ObjectId, text: &[u8]) -> ArrayVec<u8, 259>
+    requires { length text.now ≤ 255 }
+    ensures { result.items ≡ entering.text_message id text.now }
+{
+    let mut head = [8, 0, 0, text.len() as u8];
+    LittleEndian::write_u16(&mut head[1..3], id.raw());
+    let mut message = message(&head);
+    match message.try_extend_from_slice(text) {
+        Ok(()) => message,
+        Err(_full) => unreachable!(),
     }
 }
 

@@ -3,7 +3,7 @@
 use crate::{Acted, Live, OperatorRefusal};
 use std::alloc::Global;
 use std::test::Fail;
-use vt_objects::{Command, ObjectId, SortedStore};
+use vt_objects::{Command, Object, ObjectId, SortedStore};
 use vt_pool::read_pool;
 use vt_verify::verify;
 
@@ -25,7 +25,11 @@ const POOL: &[u8] = &[
 ];
 
 fn live(alloc: Global) -> Result<Live<SortedStore>, Fail> {
-    let pool = read_pool(alloc, POOL)?;
+    live_of(alloc, POOL)
+}
+
+fn live_of(alloc: Global, bytes: &[u8]) -> Result<Live<SortedStore>, Fail> {
+    let pool = read_pool(alloc, bytes)?;
     let Ok(accepted) = verify(alloc, &pool) else {
         return Err(Fail::new("not accepted"));
     };
@@ -51,6 +55,80 @@ fn refused(result: &Result<Acted, OperatorRefusal>, refusal: OperatorRefusal) ->
 
 fn id(number: u16) -> ObjectId {
     ObjectId::from_raw(number)
+}
+
+/// The Data Mask 1000 with the Input Number 600 of 0 to 10, which runs macro 1 where a number is entered and twice where that is a
+/// new one, the Input List 601 of two items, the Input Boolean 602, the Input String 603 of 8 bytes, and the Input Number 604 and
+/// the Input String 605, which have variables.
+const INPUTS: &[u8] = &[
+    0, 0, 0, 0, 1, 0xE8, 3, 0, 0, 0, // Working Set
+    0xE8, 3, 1, 0, 0xFF, 0xFF, 6, 0, // Data Mask
+    0x58, 2, 0, 0, 0, 0, 0x59, 2, 0, 0, 0, 0, 0x5A, 2, 0, 0, 0, 0, //
+    0x5B, 2, 0, 0, 0, 0, 0x5C, 2, 0, 0, 0, 0, 0x5D, 2, 0, 0, 0, 0, //
+    0x58, 2, 9, 50, 0, 20, 0, 0, 50, 0, 0, 0xFF, 0xFF, 5, 0, 0, 0, 0, 0, 0, 0, 10, 0, 0, 0, //
+    0, 0, 0, 0, 0, 0, 0x80, 0x3F, 0, 0, 0, 1, 3, 22, 1, 23, 1, 16, 1, // Input Number
+    0x59, 2, 10, 50, 0, 20, 0, 0xFF, 0xFF, 0, 2, 1, 0xFF, 0xFF, 0xFF, 0xFF, 0, // Input List
+    0x5A, 2, 7, 0, 9, 0, 50, 0, 0xFF, 0xFF, 0, 1, 0, // Input Boolean
+    0x5B, 2, 8, 50, 0, 20, 0, 0, 50, 0, 0xFF, 0xFF, 0, 0xFF, 0xFF, 0, 8, //
+    65, 66, 32, 32, 32, 32, 32, 32, 1, 0, // Input String
+    0x5C, 2, 9, 50, 0, 20, 0, 0, 50, 0, 0, 0xBC, 2, 5, 0, 0, 0, 0, 0, 0, 0, 10, 0, 0, 0, //
+    0, 0, 0, 0, 0, 0, 0x80, 0x3F, 0, 0, 0, 1, 0, // Input Number
+    0x5D, 2, 8, 50, 0, 20, 0, 0, 50, 0, 0xFF, 0xFF, 0, 0xBD, 2, 0, 8, //
+    32, 32, 32, 32, 32, 32, 32, 32, 1, 0, // Input String
+    0xBC, 2, 21, 9, 0, 0, 0, // Number Variable
+    0xBD, 2, 22, 3, 0, 65, 32, 32, // String Variable
+    50, 0, 23, 0, 0, 0, 0, 0, // Font
+    1, 0, 28, 8, 0, 0xA4, 50, 0xFF, 0xFF, 0xFF, 0xFF, 0xFF, 0xFF, // Macro
+];
+
+#[test]
+fn numbers(rt: HostRuntime) -> Result<(), Fail> {
+    let mut live = live_of(rt.alloc(), INPUTS)?;
+    assert!(rt; refused(&live.enter_number(id(606), 1), OperatorRefusal::NotShown));
+    assert!(rt; refused(&live.enter_number(id(603), 1), OperatorRefusal::WrongKind));
+    assert!(rt; refused(&live.enter_number(id(600), 11), OperatorRefusal::Range));
+    assert!(rt; sent(&live.enter_number(id(600), 10), &[5, 0x58, 2, 0xFF, 10, 0, 0, 0], 3));
+    assert!(rt; sent(&live.enter_number(id(600), 10), &[5, 0x58, 2, 0xFF, 10, 0, 0, 0], 1));
+    assert!(rt; refused(&live.enter_number(id(601), 2), OperatorRefusal::Range));
+    assert!(rt; refused(&live.enter_number(id(601), 255), OperatorRefusal::Range));
+    assert!(rt; sent(&live.enter_number(id(601), 1), &[5, 0x59, 2, 0xFF, 1, 0, 0, 0], 0));
+    assert!(rt; refused(&live.enter_number(id(602), 2), OperatorRefusal::Range));
+    assert!(rt; sent(&live.enter_number(id(602), 1), &[5, 0x5A, 2, 0xFF, 1, 0, 0, 0], 0));
+    assert!(rt; sent(&live.enter_number(id(604), 7), &[5, 0x5C, 2, 0xFF, 7, 0, 0, 0], 0));
+    assert!(rt; is_number(&live, 600, 10) && is_number(&live, 604, 5) && is_number(&live, 700, 7));
+    Ok(())
+}
+
+fn is_number(live: &Live<SortedStore>, number: u16, value: u32) -> bool {
+    match live.get(id(number)) {
+        Some(Object::InputNumber(input)) => input.value == value,
+        Some(Object::NumberVariable(variable)) => variable.value == value,
+        _ => false,
+    }
+}
+
+fn is_text(live: &Live<SortedStore>, number: u16, text: &[u8]) -> bool {
+    match live.get(id(number)) {
+        Some(Object::InputString(input)) => input.text.as_slice() == text,
+        Some(Object::StringVariable(variable)) => variable.text.as_slice() == text,
+        _ => false,
+    }
+}
+
+#[test]
+fn texts(rt: HostRuntime) -> Result<(), Fail> {
+    let mut live = live_of(rt.alloc(), INPUTS)?;
+    assert!(rt; refused(&live.enter_text(id(606), b"A"), OperatorRefusal::NotShown));
+    assert!(rt; refused(&live.enter_text(id(600), b"A"), OperatorRefusal::WrongKind));
+    assert!(rt; refused(&live.enter_text(id(603), b"ABCDEFGHI"), OperatorRefusal::TooLong));
+    assert!(rt; refused(&live.enter_text(id(605), b"ABCD"), OperatorRefusal::TooLong));
+    assert!(rt; live.text_fault(id(605), b"ABCD") == Some(OperatorRefusal::TooLong));
+    assert!(rt; live.text_fault(id(605), b"ABC") == None);
+    assert!(rt; sent(&live.enter_text(id(603), b"C"), &[8, 0x5B, 2, 1, 67], 0));
+    assert!(rt; is_text(&live, 603, b"C       "));
+    assert!(rt; sent(&live.enter_text(id(605), b""), &[8, 0x5D, 2, 0], 0));
+    assert!(rt; is_text(&live, 701, b"   ") && is_text(&live, 605, b"        "));
+    Ok(())
 }
 
 #[test]

@@ -1,0 +1,9 @@
+use Rattle.vt_objects.specs.Records.{seen}
+use Rattle.vt_machine.specs.Entering.{with_text}
+use Rattle.vt_machine.proofs.Plain.{put_changed}
+use Rattle.vt_machine.proofs.entries.put_text.Goals as goal
+
+pub returns-in-Some : goal.returns-in-Some
+returns-in-Some g c =
+    put_changed (g.S.Store.contents c.args.store.now) _ c.args.id (with_text c.args.text.now) (seen c.in-Some.object.now) (seen c.set_text.new.object)
+    c.in-Some.ensures.value (c.get_mut.follows.holds c.set_text.new.object) c.set_text.ensures
