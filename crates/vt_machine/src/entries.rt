@@ -92,11 +92,7 @@ impl<S: Store> Live<S> {
 }
 
 /// Where a text is kept that an input takes.
-fn text_place<S: Store>(
-    store: &S,
-    id: ObjectId,
-    text: &[u8],
-) -> Result<ObjectId, OperatorRefusal>
+fn text_place<S: Store>(store: &S, id: ObjectId, text: &[u8]) -> Result<ObjectId, OperatorRefusal>
     ensures place { result ≡ entering.text_place (S.contents store.now) id text.now (finite.get (S.contents store.now) id) }
     ensures fits { IfOk result (λ place. text_fits text.now (text_at (S.contents store.now) place) ≡ true) }
     ensures short { IfOk result (λ place. length text.now ≤ 255) }
@@ -211,16 +207,17 @@ fn text_message(id: ObjectId, text: &[u8]) -> ArrayVec<u8, 259>
 }
 
 /// Where a number is kept that an input takes.
-fn number_place<S: Store>(
-    store: &S,
-    id: ObjectId,
-    number: u32,
-) -> Result<ObjectId, OperatorRefusal>
+fn number_place<S: Store>(store: &S, id: ObjectId, number: u32) -> Result<ObjectId, OperatorRefusal>
     ensures { result ≡ entering.number_place id number (finite.get (S.contents store.now) id) }
 {
     match store.get(id) {
         Some(Object::InputBoolean(input)) => {
-            place_if(input.enabled != 0, number <= 1, OperatorRefusal::Range, kept_at(id, input.variable))
+            place_if(
+                input.enabled != 0,
+                number <= 1,
+                OperatorRefusal::Range,
+                kept_at(id, input.variable),
+            )
         }
         Some(Object::InputNumber(input)) => place_if(
             input.options_two % 2 == 1,

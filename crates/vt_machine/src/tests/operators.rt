@@ -87,14 +87,44 @@ fn numbers(rt: HostRuntime) -> Result<(), Fail> {
     assert!(rt; refused(&live.enter_number(id(606), 1), OperatorRefusal::NotShown));
     assert!(rt; refused(&live.enter_number(id(603), 1), OperatorRefusal::WrongKind));
     assert!(rt; refused(&live.enter_number(id(600), 11), OperatorRefusal::Range));
-    assert!(rt; sent(&live.enter_number(id(600), 10), &[5, 0x58, 2, 0xFF, 10, 0, 0, 0], 3));
-    assert!(rt; sent(&live.enter_number(id(600), 10), &[5, 0x58, 2, 0xFF, 10, 0, 0, 0], 1));
+    assert!(rt;
+        sent(
+            &live.enter_number(id(600), 10),
+            &[5, 0x58, 2, 0xFF, 10, 0, 0, 0],
+            3
+        )
+    );
+    assert!(rt;
+        sent(
+            &live.enter_number(id(600), 10),
+            &[5, 0x58, 2, 0xFF, 10, 0, 0, 0],
+            1
+        )
+    );
     assert!(rt; refused(&live.enter_number(id(601), 2), OperatorRefusal::Range));
     assert!(rt; refused(&live.enter_number(id(601), 255), OperatorRefusal::Range));
-    assert!(rt; sent(&live.enter_number(id(601), 1), &[5, 0x59, 2, 0xFF, 1, 0, 0, 0], 0));
+    assert!(rt;
+        sent(
+            &live.enter_number(id(601), 1),
+            &[5, 0x59, 2, 0xFF, 1, 0, 0, 0],
+            0
+        )
+    );
     assert!(rt; refused(&live.enter_number(id(602), 2), OperatorRefusal::Range));
-    assert!(rt; sent(&live.enter_number(id(602), 1), &[5, 0x5A, 2, 0xFF, 1, 0, 0, 0], 0));
-    assert!(rt; sent(&live.enter_number(id(604), 7), &[5, 0x5C, 2, 0xFF, 7, 0, 0, 0], 0));
+    assert!(rt;
+        sent(
+            &live.enter_number(id(602), 1),
+            &[5, 0x5A, 2, 0xFF, 1, 0, 0, 0],
+            0
+        )
+    );
+    assert!(rt;
+        sent(
+            &live.enter_number(id(604), 7),
+            &[5, 0x5C, 2, 0xFF, 7, 0, 0, 0],
+            0
+        )
+    );
     assert!(rt; is_number(&live, 600, 10) && is_number(&live, 604, 5) && is_number(&live, 700, 7));
     Ok(())
 }
@@ -120,7 +150,12 @@ fn texts(rt: HostRuntime) -> Result<(), Fail> {
     let mut live = live_of(rt.alloc(), INPUTS)?;
     assert!(rt; refused(&live.enter_text(id(606), b"A"), OperatorRefusal::NotShown));
     assert!(rt; refused(&live.enter_text(id(600), b"A"), OperatorRefusal::WrongKind));
-    assert!(rt; refused(&live.enter_text(id(603), b"ABCDEFGHI"), OperatorRefusal::TooLong));
+    assert!(rt;
+        refused(
+            &live.enter_text(id(603), b"ABCDEFGHI"),
+            OperatorRefusal::TooLong
+        )
+    );
     assert!(rt; refused(&live.enter_text(id(605), b"ABCD"), OperatorRefusal::TooLong));
     assert!(rt; live.text_fault(id(605), b"ABCD") == Some(OperatorRefusal::TooLong));
     assert!(rt; live.text_fault(id(605), b"ABC") == None);
@@ -141,7 +176,13 @@ fn keys(rt: HostRuntime) -> Result<(), Fail> {
     assert!(rt; sent(&live.press(id(500)), &[0, 1, 0xF4, 1, 0xE8, 3, 7, 0xFF], 0));
     assert!(rt; refused(&live.press(id(501)), OperatorRefusal::Held));
     assert!(rt; refused(&live.release(id(501)), OperatorRefusal::NotPressed));
-    assert!(rt; sent(&live.release(id(500)), &[0, 0, 0xF4, 1, 0xE8, 3, 7, 0xFF], 0));
+    assert!(rt;
+        sent(
+            &live.release(id(500)),
+            &[0, 0, 0xF4, 1, 0xE8, 3, 7, 0xFF],
+            0
+        )
+    );
     assert!(rt; refused(&live.release(id(500)), OperatorRefusal::NotPressed));
     assert!(rt; sent(&live.press(id(501)), &[1, 1, 0xF5, 1, 0xE8, 3, 3, 0xFF], 1));
     Ok(())
@@ -155,7 +196,13 @@ fn key_codes_as_they_are_at_the_release(rt: HostRuntime) -> Result<(), Fail> {
         return Err(Fail::new("no command"));
     };
     live.apply(&command);
-    assert!(rt; sent(&live.release(id(501)), &[1, 0, 0xF5, 1, 0xE8, 3, 9, 0xFF], 0));
+    assert!(rt;
+        sent(
+            &live.release(id(501)),
+            &[1, 0, 0xF5, 1, 0xE8, 3, 9, 0xFF],
+            0
+        )
+    );
     Ok(())
 }
 

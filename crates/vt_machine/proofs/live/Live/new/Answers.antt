@@ -19,14 +19,14 @@ of_store-requires-clause-shallow g c =
 pub invariant_of-result : goal.invariant_of-result
 invariant_of-result g c =
     let long : length c.in_ok-marks.marks.items ≡ c.count.result = search rules in (
-  stored_runs (g.S.Store.contents c.in_ok-store.store) c.args.accepted.now c.in_ok-index.index c.in_ok-levels.levels
-      (c.in_ok-store.ensures ∙ stored_is c.objects-objects.result.now c.args.accepted.now c.objects-objects.ensures.all c.objects-objects.ensures.stored)
-      c.objects-objects.ensures.stored c.objects-objects.ensures.acceptable c.objects-objects.ensures.totals c.in_ok-index.ensures c.in_ok-levels.ensures,
-  stored_set (g.S.Store.contents c.in_ok-store.store) c.objects-objects.result.now c.args.accepted.now c.in-Some.id
-      (c.in_ok-store.ensures ∙ stored_is c.objects-objects.result.now c.args.accepted.now c.objects-objects.ensures.all c.objects-objects.ensures.stored)
-      c.objects-objects.ensures.all c.objects-objects.ensures.stored c.in-Some.ensures.some,
-  long ∙ c.count.ensures.count ∙ count_is (g.S.Store.contents c.in_ok-store.store),
-)
+      stored_runs (g.S.Store.contents c.in_ok-store.store) c.args.accepted.now c.in_ok-index.index c.in_ok-levels.levels
+          (c.in_ok-store.ensures ∙ stored_is c.objects-objects.result.now c.args.accepted.now c.objects-objects.ensures.all c.objects-objects.ensures.stored)
+          c.objects-objects.ensures.stored c.objects-objects.ensures.acceptable c.objects-objects.ensures.totals c.in_ok-index.ensures c.in_ok-levels.ensures,
+      stored_set (g.S.Store.contents c.in_ok-store.store) c.objects-objects.result.now c.args.accepted.now c.in-Some.id
+          (c.in_ok-store.ensures ∙ stored_is c.objects-objects.result.now c.args.accepted.now c.objects-objects.ensures.all c.objects-objects.ensures.stored)
+          c.objects-objects.ensures.all c.objects-objects.ensures.stored c.in-Some.ensures.some,
+      long ∙ c.count.ensures.count ∙ count_is (g.S.Store.contents c.in_ok-store.store),
+    )
 
 pub returns : goal.returns
 returns g c =
