@@ -1,27 +1,26 @@
 -- What stays where an object is changed that names what it named: macros can run as before.
 use Rattle.std.proofs.Common.{◌≡◌, ℕ, Bool, true, false, cond, ◌==◌, ◌&&◌, eqb, List, [], ◌∷◌, map, filter, length, Option, Some, None, refl, sym, ap, subst, ◌∙◌}
 use Rattle.std.proofs.lemmas.Bool.{eqb-true}
-use Rattle.std.specs.Prelude.{Contains, IsTrue, slice_index}
-use Rattle.std.specs.Option.{option_map}
+use Rattle.std.specs.Prelude.{Contains, IsTrue}
 use Rattle.std.specs.List.{AllByRecursion}
 use Rattle.std.specs.FinMap as finite
 use Rattle.vt_objects.specs.declared.kind.Kind.{Kind}
 use Rattle.vt_objects.specs.declared.slot.Slot.{Slot}
 use Rattle.vt_objects.specs.declared.object.Object.TheVariants as objects
-use Rattle.vt_objects.specs.Records.{Seen, kind_of}
+use Rattle.vt_objects.specs.Records.{Seen}
 use Rattle.vt_objects.specs.References.{slots_of}
 use Rattle.vt_objects.specs.Stores.{Contents, replaced, with_object}
 use Rattle.vt_verify.specs.Shapes.{Shape, Fixed, fixed}
 use Rattle.vt_verify.specs.Macros.{commands}
 use Rattle.vt_verify.specs.Budgets.{CostsAreTotals}
 use Rattle.vt_verify.specs.Rules.{IsWithinBudget, terminal, working_sets}
-use Rattle.vt_verify.specs.Inclusions.{IsChain, IsShallow, includes, included_by}
-use Rattle.vt_verify.specs.Depths.{Stands, IsBelow, ids_of, inclusions_of}
+use Rattle.vt_verify.specs.Inclusions.{includes, included_by}
+use Rattle.vt_verify.specs.Depths.{inclusions_of}
 use Rattle.vt_machine.specs.declared.index.Index.{Index}
 use Rattle.vt_machine.specs.declared.levels.Levels.{Levels}
 use Rattle.vt_machine.specs.Certificates.{IsCertificate, AreLevels}
 use Rattle.vt_machine.specs.Changes.{is_one_of}
-use Rattle.vt_machine.specs.Effects.{kind_in, pointer_value, allows}
+use Rattle.vt_machine.specs.Effects.{kind_in, pointer_value}
 use Rattle.vt_machine.specs.Entering.{changed_at, with_number, with_text}
 use Rattle.vt_machine.specs.Indexes.{IsIndexOf}
 use Rattle.vt_machine.specs.Machines.{shape_in, fault}

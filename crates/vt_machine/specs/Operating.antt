@@ -1,6 +1,6 @@
 -- The operator's actions on a working set: each is refused by the first test that fails, or comes to a message, a change and the
 -- events that it raises, all of them chosen before the first macro runs (docs/PROFILE.md, "The operator").
-use Rattle.std.specs.Prelude.{◌≡◌, ◌%◌, ℕ, Bool, true, false, not, nat_le, nat_lt, ◌==◌, if◌then◌else◌, List, [], ◌∷◌, ◌++◌, length, Decides, Option, Some, None, Result, Ok, Err}
+use Rattle.std.specs.Prelude.{◌≡◌, ◌%◌, ℕ, Bool, true, false, not, ◌==◌, if◌then◌else◌, List, [], ◌∷◌, ◌++◌, Decides, Option, Some, None, Result, Ok, Err}
 use Rattle.std.specs.FinMap as finite
 use Rattle.byteorder.specs.Endian.{little_bytes}
 use Rattle.vt_objects.specs.declared.object.Object.TheVariants as objects
@@ -8,8 +8,6 @@ use Rattle.vt_objects.specs.declared.event.Event.TheVariants as events
 use Rattle.vt_objects.specs.declared.raising.Raised.{Raised}
 use Rattle.vt_objects.specs.Events.{raise}
 use Rattle.vt_objects.specs.Records.{Seen}
-use Rattle.vt_objects.specs.Stores.{Contents}
-use Rattle.vt_objects.specs.Texts.{filled_up}
 use Rattle.vt_machine.specs.declared.live.HeldKey.{HeldKey}
 use Rattle.vt_machine.specs.declared.operator.Acted.{Acted}
 use Rattle.vt_machine.specs.declared.operator.OperatorRefusal.{OperatorRefusal}

@@ -38,16 +38,16 @@ fn live_of(alloc: Global, bytes: &[u8]) -> Result<Live<SortedStore>, Fail> {
 }
 
 /// Whether an action sent a message, and took so many steps.
-fn sent(result: &Result<Acted, OperatorRefusal>, message: &[u8], steps: u32) -> bool {
-    match result {
+fn sent(answer: &Result<Acted, OperatorRefusal>, message: &[u8], steps: u32) -> bool {
+    match answer {
         Ok(acted) => acted.message.as_slice() == message && acted.steps == steps,
         Err(_) => false,
     }
 }
 
 /// Whether an action was refused.
-fn refused(result: &Result<Acted, OperatorRefusal>, refusal: OperatorRefusal) -> bool {
-    match result {
+fn refused(answer: &Result<Acted, OperatorRefusal>, refusal: OperatorRefusal) -> bool {
+    match answer {
         Ok(_) => false,
         Err(answered) => *answered == refusal,
     }
@@ -67,7 +67,7 @@ const INPUTS: &[u8] = &[
     0x5B, 2, 0, 0, 0, 0, 0x5C, 2, 0, 0, 0, 0, 0x5D, 2, 0, 0, 0, 0, //
     0x58, 2, 9, 50, 0, 20, 0, 0, 50, 0, 0, 0xFF, 0xFF, 5, 0, 0, 0, 0, 0, 0, 0, 10, 0, 0, 0, //
     0, 0, 0, 0, 0, 0, 0x80, 0x3F, 0, 0, 0, 1, 3, 22, 1, 23, 1, 16, 1, // Input Number
-    0x59, 2, 10, 50, 0, 20, 0, 0xFF, 0xFF, 0, 2, 1, 0xFF, 0xFF, 0xFF, 0xFF, 0, // Input List
+    0x59, 2, 10, 50, 0, 20, 0, 0xFF, 0xFF, 0, 2, 1, 0, 0xFF, 0xFF, 0xFF, 0xFF, // Input List
     0x5A, 2, 7, 0, 9, 0, 50, 0, 0xFF, 0xFF, 0, 1, 0, // Input Boolean
     0x5B, 2, 8, 50, 0, 20, 0, 0, 50, 0, 0xFF, 0xFF, 0, 0xFF, 0xFF, 0, 8, //
     65, 66, 32, 32, 32, 32, 32, 32, 1, 0, // Input String

@@ -1,4 +1,4 @@
-use Rattle.std.proofs.Common.{ap, refl, sym, ◌∙◌}
+use Rattle.std.proofs.Common.{ap, refl, ◌∙◌}
 use Rattle.vt_machine.proofs.Living.{events_small, has_acted, kind_stays, marks_stay}
 use Rattle.vt_machine.proofs.live.Live.raise_all.Goals as goal
 
