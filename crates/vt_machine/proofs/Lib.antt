@@ -25,6 +25,7 @@ pub mod Nesting
 pub mod Living
 pub mod Plain
 pub mod Filling
+pub mod OneSet
 pub mod Indexing
 pub mod IndexOrder
 pub mod Marking

@@ -21,7 +21,7 @@ use Rattle.vt_machine.specs.declared.levels.Levels.{Levels}
 use Rattle.vt_machine.specs.Certificates.{IsCertificate, AreLevels}
 use Rattle.vt_machine.specs.Changes.{is_one_of}
 use Rattle.vt_machine.specs.Effects.{kind_in, pointer_value}
-use Rattle.vt_machine.specs.Entering.{changed_at, with_number, with_text}
+use Rattle.vt_machine.specs.Entering.{put_at, with_number, with_text}
 use Rattle.vt_machine.specs.Indexes.{IsIndexOf}
 use Rattle.vt_machine.specs.Machines.{shape_in, fault}
 use Rattle.vt_machine.specs.Nested.{CanRun}
@@ -161,24 +161,24 @@ module _ (m : Contents) (id : ℕ) (old new : Seen) (at : finite.get m id ≡ So
 -- ---- an object that is changed where it is there
 
 changed_runs : (m : Contents) (id : ℕ) (change : Seen → Seen) (found : Option Seen) (index : Index) (levels : Levels) → finite.get m id ≡ found → IsPlain change
-    → CanRun index m levels → CanRun index (changed_at m id change found) levels
+    → CanRun index m levels → CanRun index (put_at m id change found) levels
 changed_runs m id change None index levels is plain can = can
 changed_runs m id change (Some o) index levels is plain can = still_runs m id o (change o) is (plain.slots o) (plain.same o) (plain.values o) index levels can
 
-changed_shape : (m : Contents) (id : ℕ) (change : Seen → Seen) (found : Option Seen) → finite.get m id ≡ found → IsPlain change → shape_in (changed_at m id change found) ≡ shape_in m
+changed_shape : (m : Contents) (id : ℕ) (change : Seen → Seen) (found : Option Seen) → finite.get m id ≡ found → IsPlain change → shape_in (put_at m id change found) ≡ shape_in m
 changed_shape m id change None is plain = refl
 changed_shape m id change (Some o) is plain = still_shaped m id o (change o) is (plain.slots o) (plain.same o) (plain.values o)
 
-pub plain_runs : (m n : Contents) (id : ℕ) (change : Seen → Seen) (index : Index) (levels : Levels) → n ≡ changed_at m id change (finite.get m id) → IsPlain change
+pub plain_runs : (m n : Contents) (id : ℕ) (change : Seen → Seen) (index : Index) (levels : Levels) → n ≡ put_at m id change (finite.get m id) → IsPlain change
     → CanRun index m levels → CanRun index n levels
 plain_runs m n id change index levels is plain can =
     subst (λ (k : Contents). CanRun index k levels) (sym is) (changed_runs m id change (finite.get m id) index levels refl plain can)
 
-pub plain_shape : (m n : Contents) (id : ℕ) (change : Seen → Seen) → n ≡ changed_at m id change (finite.get m id) → IsPlain change → shape_in n ≡ shape_in m
+pub plain_shape : (m n : Contents) (id : ℕ) (change : Seen → Seen) → n ≡ put_at m id change (finite.get m id) → IsPlain change → shape_in n ≡ shape_in m
 plain_shape m n id change is plain = ap shape_in is ∙ changed_shape m id change (finite.get m id) refl plain
 
 -- what is written through a store is what a change makes
 pub put_changed : (m after : Contents) (id : ℕ) (change : Seen → Seen) (old new : Seen) → Some old ≡ finite.get m id → after ≡ with_object m id new → new ≡ change old
-    → after ≡ changed_at m id change (finite.get m id)
+    → after ≡ put_at m id change (finite.get m id)
 put_changed m after id change old new at wrote is =
-    wrote ∙ ap (λ (f : Option Seen). replaced f m id new) (sym at) ∙ ap (finite.insert m id) is ∙ ap (λ (f : Option Seen). changed_at m id change f) at
+    wrote ∙ ap (λ (f : Option Seen). replaced f m id new) (sym at) ∙ ap (finite.insert m id) is ∙ ap (λ (f : Option Seen). put_at m id change f) at

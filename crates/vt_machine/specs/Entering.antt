@@ -1,5 +1,5 @@
 -- Numbers and texts that the operator enters (docs/PROFILE.md, "The operator").
-use Rattle.std.specs.Prelude.{◌%◌, ℕ, Bool, true, false, not, nat_le, nat_lt, ◌==◌, ◌&&◌, if◌then◌else◌, List, [], ◌∷◌, ◌++◌, length, Option, Some, None, Result, Ok, Err}
+use Rattle.std.specs.Prelude.{◌≡◌, ◌%◌, ℕ, Bool, true, false, not, nat_le, nat_lt, ◌==◌, ◌&&◌, if◌then◌else◌, List, [], ◌∷◌, ◌++◌, length, Option, Some, None, Result, Ok, Err}
 use Rattle.std.specs.List.{list_all}
 use Rattle.std.specs.FinMap as finite
 use Rattle.byteorder.specs.Endian.{little_bytes}
@@ -14,6 +14,7 @@ use Rattle.vt_machine.specs.declared.operator.OperatorRefusal.{OperatorRefusal}
 use Rattle.vt_machine.specs.declared.operator.OperatorRefusal.TheVariants as refusals
 use Rattle.vt_machine.specs.Fields.{byte}
 use Rattle.vt_machine.specs.Lives.{SetState, with_objects}
+use Rattle.vt_machine.specs.Machines.{shape_in}
 use Rattle.vt_machine.specs.Operating.{Action, Refused, Acts}
 
 -- where a value is kept: in the variable of an object, if it has one
@@ -26,9 +27,9 @@ entry_events id changed =
     raise id events.EntryOfValue ∷ (if changed then raise id events.EntryOfNewValue ∷ raise id events.Value ∷ [] else [])
 
 -- another object under an ID
-abbrev pub changed_at : Contents → ℕ → (Seen → Seen) → Option Seen → Contents
-changed_at store id change None = store
-changed_at store id change (Some o) = finite.insert store id (change o)
+abbrev pub put_at : Contents → ℕ → (Seen → Seen) → Option Seen → Contents
+put_at store id change None = store
+put_at store id change (Some o) = finite.insert store id (change o)
 
 -- ---- numbers
 
@@ -61,7 +62,7 @@ is_number n (Some o) = is_value n (number_of o)
 -- the number is kept, and its events are raised
 abbrev pub store_number : SetState → ℕ → ℕ → ℕ → Action
 store_number state id at n =
-    Acts (number_message id n) (with_objects state (changed_at state.objects at (with_number n) (finite.get state.objects at)))
+    Acts (number_message id n) (with_objects state (put_at state.objects at (with_number n) (finite.get state.objects at)))
     (entry_events id (not (is_number n (finite.get state.objects at))))
 
 -- where a value is kept that an input takes, if it is enabled and the value passes
@@ -127,7 +128,7 @@ text_at store at = text_in (finite.get store at)
 
 abbrev pub store_text : SetState → ℕ → ℕ → List ℕ → Action
 store_text state id at text =
-    Acts (text_message id text) (with_objects state (changed_at state.objects at (with_text text) (finite.get state.objects at)))
+    Acts (text_message id text) (with_objects state (put_at state.objects at (with_text text) (finite.get state.objects at)))
     (entry_events id (not (same_text text (text_at state.objects at))))
 
 -- no longer than the object's text, and than that of its variable
@@ -143,3 +144,10 @@ text_entered state id text (Ok at) = store_text state id at text
 abbrev pub enter_text : Bool → SetState → ℕ → List ℕ → Action
 enter_text false state id text = Refused refusals.NotShown
 enter_text true state id text = text_entered state id text (text_place state.objects id text (finite.get state.objects id))
+
+-- ---- what an entry leaves
+
+-- No number and no text that is entered changes a kind, a macro entry or a macro byte under any ID.
+pub record EntriesKeepShapes : Type 0 where
+  pub numbers : (store : Contents) (at n : ℕ) → shape_in (put_at store at (with_number n) (finite.get store at)) ≡ shape_in store
+  pub texts : (store : Contents) (at : ℕ) (text : List ℕ) → shape_in (put_at store at (with_text text) (finite.get store at)) ≡ shape_in store

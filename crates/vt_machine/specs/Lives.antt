@@ -12,6 +12,7 @@ use Rattle.vt_objects.specs.declared.kind.Kind.TheVariants as kinds
 use Rattle.vt_objects.specs.Kinds.{kind_number}
 use Rattle.vt_objects.specs.Rows.{bytes_row}
 use Rattle.vt_objects.specs.Stores.{Contents}
+use Rattle.vt_verify.specs.Rules.{working_sets}
 use Rattle.vt_machine.specs.contracts.live.HeldKey as held_key
 use Rattle.vt_machine.specs.declared.live.HeldKey.{HeldKey}
 use Rattle.vt_machine.specs.declared.live.Outcome.{Outcome}
@@ -44,6 +45,10 @@ with_objects state new = record state { objects = new }
 -- the active mask of the working set
 abbrev pub IsActive : Contents → ℕ → Type 0
 IsActive store mask = (set : ℕ) × (kind_in store set ≡ Some kinds.WorkingSet) × (mask_of (map.get store set) ≡ mask)
+
+-- Where there is one working set, there is one active mask.
+abbrev pub ActiveMasksAreOne : Type 0
+ActiveMasksAreOne = (store : Contents) (mask other : ℕ) → working_sets (shape_in store) ≡ 1 → IsActive store mask → IsActive store other → mask ≡ other
 
 -- ---- what runs leave
 

@@ -17,8 +17,10 @@ use byteorder::{ByteOrder, LittleEndian};
 use vt_objects::{Event, Object, ObjectId, Raised, Store};
 
 impl<S: Store> Live<S> {
-    /// Enters a number in an Input Boolean, Input Number or Input List that is shown and enabled. It is kept in the variable of the
-    /// object, if it has one. The event Entry of Value is raised on the object, and where what is kept is another number, Entry of
+    /// Enters a number in an Input Boolean (0 or 1), an Input Number (from its least to its greatest value, before offset and
+    /// scale) or an Input List (the index of an item) that is shown and enabled. It is kept in the variable of the object, if it has
+    /// one. Refused are, in this order, what is not shown, what is of another kind, what is disabled, and another number; then
+    /// nothing is changed. The event Entry of Value is raised on the object, and where what is kept is another number, Entry of
     /// New Value and Value too.
     pub fn enter_number(&mut self, id: ObjectId, number: u32) -> Result<Acted, OperatorRefusal>
         ensures { ComesToShown self.old id (λ shown mask. entering.enter_number shown self.old id number) result self.new }
@@ -47,7 +49,8 @@ impl<S: Store> Live<S> {
 
 impl<S: Store> Live<S> {
     /// Enters a text in an Input String that is shown and enabled. It is kept in the variable of the object, if it has one, filled
-    /// with spaces. The message has the text as it was entered. The event Entry of Value is raised on the object, and where what
+    /// with spaces. Refused are, in this order, what is not shown, what is of another kind, what is disabled, and a text of more
+    /// bytes than the object's or its variable's; then nothing is changed. The message has the text as it was entered. The event Entry of Value is raised on the object, and where what
     /// is kept is another text, Entry of New Value and Value too.
     pub fn enter_text(&mut self, id: ObjectId, text: &[u8]) -> Result<Acted, OperatorRefusal>
         ensures { ComesToShown self.old id (λ shown mask. entering.enter_text shown self.old id text.now) result self.new }
@@ -62,7 +65,7 @@ impl<S: Store> Live<S> {
         }
     }
 
-    /// What `enter_text` would refuse. Nothing is changed.
+    /// Why `enter_text` would refuse, if it would. Nothing is changed.
     pub fn text_fault(&mut self, id: ObjectId, text: &[u8]) -> Option<OperatorRefusal>
         ensures fault { WouldRefuse self.old id (λ shown mask. entering.enter_text shown self.old id text.now) result }
         ensures same { self.new ≡ self.old }
@@ -174,7 +177,7 @@ fn is_blank(bytes: &[u8]) -> bool
 /// Keeps a text under an ID, filled with spaces.
 fn put_text<S: Store>(store: &mut S, id: ObjectId, text: &[u8])
     requires { text_fits text.now (text_at (S.contents store.old) id) ≡ true }
-    ensures { S.contents store.new ≡ entering.changed_at (S.contents store.old) id (entering.with_text text.now) (finite.get (S.contents store.old) id) }
+    ensures { S.contents store.new ≡ entering.put_at (S.contents store.old) id (entering.with_text text.now) (finite.get (S.contents store.old) id) }
 {
     match store.get_mut(id) {
         Some(object) => set_text(object, text),
@@ -274,7 +277,7 @@ fn is_number<S: Store>(store: &S, id: ObjectId, number: u32) -> bool
 
 /// Keeps a number under an ID.
 fn put_number<S: Store>(store: &mut S, id: ObjectId, number: u32)
-    ensures { S.contents store.new ≡ entering.changed_at (S.contents store.old) id (entering.with_number number) (finite.get (S.contents store.old) id) }
+    ensures { S.contents store.new ≡ entering.put_at (S.contents store.old) id (entering.with_number number) (finite.get (S.contents store.old) id) }
 {
     match store.get_mut(id) {
         Some(object) => set_number(object, number),

@@ -1,6 +1,8 @@
 //! What commands leave of every object.
 
 ghost use Rattle.vt_machine.specs.Changes.{ChangesKeep, ReferencesMayStand};
+ghost use Rattle.vt_machine.specs.Entering.{EntriesKeepShapes};
+ghost use Rattle.vt_machine.specs.Lives.{ActiveMasksAreOne};
 ghost use Rattle.vt_machine.specs.Runs.{PoolsAreReady, RunsEnd};
 ghost use Rattle.vt_machine.specs.Soundness.{CommandsKeepOrder, CommandsKeepShapes};
 
@@ -38,4 +40,15 @@ pub fn runs_end()
 /// docs/PROFILE.md, "What every store keeps".
 pub fn pools_are_ready()
     ensures { PoolsAreReady }
+{}
+
+/// The law that no number and no text that the operator enters changes a kind, a macro entry or a macro byte under any ID.
+/// docs/PROFILE.md, "The operator".
+pub fn entries_keep_shapes()
+    ensures { EntriesKeepShapes }
+{}
+
+/// The law that there is one active mask where there is one working set.
+pub fn active_masks_are_one()
+    ensures { ActiveMasksAreOne }
 {}

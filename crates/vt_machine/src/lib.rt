@@ -1,6 +1,7 @@
-//! The event machine of a working set (ISO 11783-6): what its commands make of its objects.
+//! The event machine of a working set (ISO 11783-6): what its commands make of its objects, how the macros of events run, what
+//! is shown of it, and what the operator does with it.
 //!
-//! docs/PROFILE.md, "Commands: all rows" and the section of each command, "Attributes".
+//! docs/PROFILE.md, "Commands: all rows" and the section of each command, "Attributes", "Runs", "Steps", "The operator".
 #![tactic(auto)]
 
 mod attributes;
@@ -23,8 +24,8 @@ mod showing;
 mod working_set;
 
 pub use laws::{
-    changes_keep, commands_keep_order, commands_keep_shapes, pools_are_ready, references_may_stand,
-    runs_end,
+    active_masks_are_one, changes_keep, commands_keep_order, commands_keep_shapes,
+    entries_keep_shapes, pools_are_ready, references_may_stand, runs_end,
 };
 pub use live::{Live, Outcome};
 pub use operator::{Acted, OperatorRefusal};

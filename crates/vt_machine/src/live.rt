@@ -45,7 +45,8 @@ pub enum Outcome {
 }
 
 /// The object pool of a working set as it is now, with the key that is held and the input that is selected. Its macros run to
-/// their ends: every call ends within the steps that the pool's report prints. Only `new` and `renew` take memory
+/// their ends: each event takes at most the steps that the pool's report prints, and a call the sum of those of the events that
+/// it raises, `apply` one more for its command. Only `new` and `renew` take memory
 /// (ISO 11783-6; docs/PROFILE.md, "Runs", "Steps").
 #[derive(Drop)]
 pub struct Live<S: Store> {
@@ -78,7 +79,8 @@ impl<S: Store> Model for Live<S> {
 }
 
 impl<S: Store> Live<S> {
-    /// A working set with the objects of an accepted pool. No key is held, and no input is selected.
+    /// A working set with the objects of an accepted pool. No key is held, and no input is selected. `OutOfMemory` where a growth
+    /// was refused.
     pub fn new(alloc: Global, accepted: &Accepted) -> Result<Live<S>, AllocError>
         ensures { IfOk result (λ live. live ≡ record { objects = map_of accepted.now; key = None; input = None }) }
     {
@@ -103,7 +105,8 @@ impl<S: Store> Live<S> {
     }
 
     /// The working set with the objects of an accepted update of its store. The key held and the input selected stay where the
-    /// object of their ID is of the kind that it was of.
+    /// object of their ID is of the kind that it was of. This working set stays as it is, also where a growth was refused
+    /// (`OutOfMemory`).
     pub fn renew(&self, accepted: &Accepted) -> Result<Live<S>, AllocError>
         ensures { IfOk result (λ live. live ≡ renewed self.now (map_of accepted.now)) }
     {
@@ -146,7 +149,8 @@ impl<S: Store> Live<S> {
     }
 
     /// Raises an event of an object, by its number: runs the macros that are listed for it, and those of the events that their
-    /// commands raise, and answers how many steps that took. None are listed for what is not there.
+    /// commands raise, and answers how many steps that took: 0 for an ID that is not there, and for a number above 26. Event 0 of a
+    /// macro runs the macro itself.
     pub fn raise(&mut self, id: ObjectId, event: u8) -> u32
         ensures run { HasRun self.old.objects (joined (shape_in self.old.objects) (listing id event)) (budget (shape_in self.old.objects) id event) result self.new.objects }
         ensures kept { self.new ≡ with_objects self.old self.new.objects }
@@ -171,7 +175,8 @@ impl<S: Store> Live<S> {
         is_shown(&self.store, &self.levels.levels, &mut self.marks, mask, id)
     }
 
-    /// Does a command, and runs the macros of the events that it raises.
+    /// Does a command, and runs the macros of the events that it raises. Delete Object Pool is for the terminal, and changes nothing
+    /// here.
     pub fn apply(&mut self, command: &Command<'_>) -> Outcome
         ensures applied { Applied self.old.objects command.now result self.new.objects }
         ensures kept { self.new ≡ with_objects self.old self.new.objects }

@@ -12,7 +12,7 @@ use arrayvec::ArrayVec;
 use byteorder::{ByteOrder, LittleEndian};
 use vt_objects::{Event, Object, ObjectId, Raised, Store};
 
-/// Why an action of the operator is refused.
+/// Why an action of the operator is refused: the refusals 1 to 7 of docs/PROFILE.md, "Refusals".
 #[derive(Clone, Copy, Debug, PartialEq, Eq)]
 pub enum OperatorRefusal {
     /// The object is not shown.
@@ -34,7 +34,8 @@ pub enum OperatorRefusal {
 /// What an action of the operator came to.
 #[derive(Drop)]
 pub struct Acted {
-    /// The message to the working set, of no bytes where none is sent.
+    /// The message to the working set, from its function byte on, or no bytes where none is sent. A text of up to 4 bytes is not
+    /// filled to the 8 bytes of a frame.
     pub message: ArrayVec<u8, 259>,
     /// How many steps the macros of its events took.
     pub steps: u32,
@@ -42,7 +43,8 @@ pub struct Acted {
 
 impl<S: Store> Live<S> {
     /// Presses a Key or a Button that is shown: its message has code 1 and the mask that is active, the key is held, and its event
-    /// Key Press is raised.
+    /// Key Press is raised. Refused are, in this order, what is not shown, what is of another kind, and any key while one is held;
+    /// then nothing is changed.
     pub fn press(&mut self, id: ObjectId) -> Result<Acted, OperatorRefusal>
         ensures { ComesToShown self.old id (λ shown mask. operating.press shown self.old mask id) result self.new }
     {
@@ -63,7 +65,7 @@ impl<S: Store> Live<S> {
     }
 
     /// Releases the key that is held: its message has code 0, the mask of the press and the key code as it is now, and its event
-    /// Key Release is raised. It need not be shown.
+    /// Key Release is raised. It need not be shown. Any other ID is refused as not pressed, and then nothing is changed.
     pub fn release(&mut self, id: ObjectId) -> Result<Acted, OperatorRefusal>
         ensures { ComesTo self.old (operating.release self.old id) result self.new }
     {
@@ -81,7 +83,8 @@ impl<S: Store> Live<S> {
     }
 
     /// Selects an input that is shown and enabled: the event Input Deselected is raised on the one that was selected, and then
-    /// Input Selected on this one. The same input again raises none. No message is sent.
+    /// Input Selected on this one. The same input again raises none. No message is sent. Refused are, in this order, what is not
+    /// shown, what is no input, and what is disabled; then nothing is changed.
     pub fn select(&mut self, id: ObjectId) -> Result<Acted, OperatorRefusal>
         ensures { ComesToShown self.old id (λ shown mask. operating.select shown self.old id) result self.new }
     {

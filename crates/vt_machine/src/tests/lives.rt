@@ -3,7 +3,7 @@
 use crate::{Live, Outcome};
 use std::alloc::Global;
 use std::test::Fail;
-use vt_objects::{Command, Object, ObjectId, SortedStore, Store};
+use vt_objects::{Command, ListStore, Object, ObjectId, SortedStore, Store};
 use vt_pool::read_pool;
 use vt_verify::{Accepted, verify};
 
@@ -44,58 +44,87 @@ const MASKS: &[u8] = &[
 fn accepted(alloc: Global, more: &[u8]) -> Result<Accepted, Fail> {
     let mut bytes = Vec::from_slice(alloc, SET)?;
     bytes.extend_from_slice(more)?;
-    let pool = read_pool(alloc, &bytes)?;
+    accepted_of(alloc, &bytes)
+}
+
+fn accepted_of(alloc: Global, bytes: &[u8]) -> Result<Accepted, Fail> {
+    let pool = read_pool(alloc, bytes)?;
     let Ok(accepted) = verify(alloc, &pool) else {
         return Err(Fail::new("not accepted"));
     };
     Ok(accepted)
 }
 
-fn live(alloc: Global, more: &[u8]) -> Result<Live<SortedStore>, Fail> {
+fn live<S: Store>(alloc: Global, more: &[u8]) -> Result<Live<S>, Fail> {
     let accepted = accepted(alloc, more)?;
     let live = Live::new(alloc, &accepted)?;
     Ok(live)
 }
 
-/// Whether each command comes to what its row says: so many steps, or an error byte.
-fn come_to(live: &mut Live<SortedStore>, rows: &[(&[u8], Outcome)]) -> bool {
-    for (bytes, outcome) in rows {
+/// A command, and what it comes to: so many steps, or an error byte.
+type Row = (&'static [u8], u32, u8);
+
+/// Commands on the pool with the container that runs macros.
+const SHARED_ROWS: &[Row] = &[
+    (&[0xA0, 100, 0, 1, 0xFF, 0xFF, 0xFF, 0xFF], 3, 0),
+    (&[0xBE, 1, 0, 0xFF, 0xFF, 0xFF, 0xFF, 0xFF], 3, 0),
+    (&[0xBE, 100, 0, 0xFF, 0xFF, 0xFF, 0xFF, 0xFF], 0, 2),
+    (&[0xBE, 7, 0, 0xFF, 0xFF, 0xFF, 0xFF, 0xFF], 0, 1),
+    (&[0xA0, 100, 0, 2, 0xFF, 0xFF, 0xFF, 0xFF], 0, 4),
+];
+
+/// Commands on the pool with two masks.
+const MASKS_ROWS: &[Row] = &[
+    (&[0xA0, 100, 0, 0, 0xFF, 0xFF, 0xFF, 0xFF], 5, 0),
+    (&[0xA0, 100, 0, 1, 0xFF, 0xFF, 0xFF, 0xFF], 5, 0),
+    (&[0xAD, 0, 0, 0xE9, 3, 0xFF, 0xFF, 0xFF], 1, 0),
+    (&[0xAD, 0, 0, 0xE8, 3, 0xFF, 0xFF, 0xFF], 1, 0),
+    (&[0xAD, 0, 0, 0xE9, 3, 0xFF, 0xFF, 0xFF], 3, 0),
+    (&[0xAD, 0, 0, 100, 0, 0xFF, 0xFF, 0xFF], 0, 2),
+];
+
+/// Commands that would make a circle of inclusions, and one that would not.
+const CIRCLE_ROWS: &[Row] = &[
+    (&[0xA8, 200, 0, 0xFF, 100, 0, 0, 0], 0, 2),
+    (&[0xAF, 200, 0, 1, 100, 0, 0, 0], 0, 4),
+    (&[0xA8, 200, 0, 0xFF, 200, 0, 0, 0], 0, 2),
+    (&[0xA8, 200, 0, 0xFF, 0xE8, 3, 0, 0], 0, 2),
+    (&[0xA8, 200, 0, 0xFF, 0xFF, 0xFF, 0, 0], 1, 0),
+];
+
+/// The working set runs macro 1 where its mask is changed, and the mask where it is shown and hidden.
+const ONE_MASK: &[u8] = &[
+    0, 0, 0, 0, 1, 0xE8, 3, 0, 1, 0, 7, 1, // Working Set
+    0xE8, 3, 1, 0, 0xFF, 0xFF, 1, 2, 100, 0, 10, 0, 5, 0, 3, 1, 4, 1, // Data Mask
+    100, 0, 3, 50, 0, 20, 0, 0, 0, 0, // Container
+    1, 0, 28, 8, 0, 0xA4, 50, 0xFF, 0xFF, 0xFF, 0xFF, 0xFF, 0xFF, // Macro
+];
+
+/// Whether each command comes to what its row says.
+fn come_to<S: Store>(live: &mut Live<S>, rows: &[Row]) -> bool {
+    for (bytes, steps, bits) in rows {
         let Some(command) = Command::read(bytes) else {
             return false;
         };
-        if live.apply(&command) != *outcome {
+        if answer(live, &command) != (*steps, *bits) {
             return false;
         }
     }
     true
 }
 
+/// What a command comes to; there is no third way.
+fn answer<S: Store>(live: &mut Live<S>, command: &Command<'_>) -> (u32, u8) {
+    match live.apply(command) {
+        Outcome::Done { steps } => (steps, 0),
+        Outcome::Refused { bits } => (0, bits),
+    }
+}
+
 #[test]
 fn macros_of_commands(rt: HostRuntime) -> Result<(), Fail> {
-    let mut live = live(rt.alloc(), SHARED)?;
-    let rows: &[(&[u8], Outcome)] = &[
-        (
-            &[0xA0, 100, 0, 1, 0xFF, 0xFF, 0xFF, 0xFF],
-            Outcome::Done { steps: 3 },
-        ),
-        (
-            &[0xBE, 1, 0, 0xFF, 0xFF, 0xFF, 0xFF, 0xFF],
-            Outcome::Done { steps: 3 },
-        ),
-        (
-            &[0xBE, 100, 0, 0xFF, 0xFF, 0xFF, 0xFF, 0xFF],
-            Outcome::Refused { bits: 2 },
-        ),
-        (
-            &[0xBE, 7, 0, 0xFF, 0xFF, 0xFF, 0xFF, 0xFF],
-            Outcome::Refused { bits: 1 },
-        ),
-        (
-            &[0xA0, 100, 0, 2, 0xFF, 0xFF, 0xFF, 0xFF],
-            Outcome::Refused { bits: 4 },
-        ),
-    ];
-    assert!(rt; come_to(&mut live, rows));
+    let mut live = live::<SortedStore>(rt.alloc(), SHARED)?;
+    assert!(rt; come_to(&mut live, SHARED_ROWS));
     assert!(rt; live.raise(ObjectId::from_raw(261), 11) == 1);
     assert!(rt; live.raise(ObjectId::from_raw(261), 12) == 0);
     assert!(rt; live.raise(ObjectId::from_raw(262), 11) == 0);
@@ -106,35 +135,9 @@ fn macros_of_commands(rt: HostRuntime) -> Result<(), Fail> {
 
 #[test]
 fn masks_shown_and_hidden(rt: HostRuntime) -> Result<(), Fail> {
-    let mut live = live(rt.alloc(), MASKS)?;
-    let rows: &[(&[u8], Outcome)] = &[
-        (
-            &[0xA0, 100, 0, 0, 0xFF, 0xFF, 0xFF, 0xFF],
-            Outcome::Done { steps: 5 },
-        ),
-        (
-            &[0xA0, 100, 0, 1, 0xFF, 0xFF, 0xFF, 0xFF],
-            Outcome::Done { steps: 5 },
-        ),
-        (
-            &[0xAD, 0, 0, 0xE9, 3, 0xFF, 0xFF, 0xFF],
-            Outcome::Done { steps: 1 },
-        ),
-        (
-            &[0xAD, 0, 0, 0xE8, 3, 0xFF, 0xFF, 0xFF],
-            Outcome::Done { steps: 1 },
-        ),
-        (
-            &[0xAD, 0, 0, 0xE9, 3, 0xFF, 0xFF, 0xFF],
-            Outcome::Done { steps: 3 },
-        ),
-        (
-            &[0xAD, 0, 0, 100, 0, 0xFF, 0xFF, 0xFF],
-            Outcome::Refused { bits: 2 },
-        ),
-    ];
+    let mut live = live::<SortedStore>(rt.alloc(), MASKS)?;
     assert!(rt; live.active_mask() == ObjectId::from_raw(1000));
-    assert!(rt; come_to(&mut live, rows));
+    assert!(rt; come_to(&mut live, MASKS_ROWS));
     assert!(rt; live.active_mask() == ObjectId::from_raw(1001));
     assert!(rt; live.soft_key_mask().is_null());
     Ok(())
@@ -150,30 +153,8 @@ fn points_at(live: &Live<SortedStore>, value: u16) -> bool {
 
 #[test]
 fn circles_of_inclusions_are_refused(rt: HostRuntime) -> Result<(), Fail> {
-    let mut live = live(rt.alloc(), POINTER)?;
-    let circle: &[(&[u8], Outcome)] = &[
-        (
-            &[0xA8, 200, 0, 0xFF, 100, 0, 0, 0],
-            Outcome::Refused { bits: 2 },
-        ),
-        (
-            &[0xAF, 200, 0, 1, 100, 0, 0, 0],
-            Outcome::Refused { bits: 4 },
-        ),
-        (
-            &[0xA8, 200, 0, 0xFF, 200, 0, 0, 0],
-            Outcome::Refused { bits: 2 },
-        ),
-        (
-            &[0xA8, 200, 0, 0xFF, 0xE8, 3, 0, 0],
-            Outcome::Refused { bits: 2 },
-        ),
-        (
-            &[0xA8, 200, 0, 0xFF, 0xFF, 0xFF, 0, 0],
-            Outcome::Done { steps: 1 },
-        ),
-    ];
-    assert!(rt; come_to(&mut live, circle));
+    let mut live = live::<SortedStore>(rt.alloc(), POINTER)?;
+    assert!(rt; come_to(&mut live, CIRCLE_ROWS));
     assert!(rt; points_at(&live, 0xFFFF));
     Ok(())
 }
@@ -205,26 +186,53 @@ fn put_macro(bytes: &mut Vec<u8>, place: u8) -> Result<(), Fail> {
 }
 
 /// How many steps event 11 of the first font takes.
-fn steps_of(alloc: Global, count: u8) -> Result<u32, Fail> {
+fn steps_of<S: Store>(alloc: Global, count: u8) -> Result<u32, Fail> {
     let bytes = doubling(alloc, count)?;
-    let mut live = live(alloc, &bytes)?;
+    let mut live = live::<S>(alloc, &bytes)?;
     Ok(live.raise(ObjectId::from_raw(301), 11))
 }
 
 #[test]
 fn runs_as_long_as_their_budgets(rt: HostRuntime) -> Result<(), Fail> {
-    assert!(rt; steps_of(rt.alloc(), 16)? == 65_534);
-    assert!(rt; steps_of(rt.alloc(), 19)? == 524_286);
+    assert!(rt; steps_of::<SortedStore>(rt.alloc(), 16)? == 65_534);
+    assert!(rt; steps_of::<SortedStore>(rt.alloc(), 19)? == 524_286);
     Ok(())
 }
 
 #[test]
 fn updates_take_the_place_of_objects(rt: HostRuntime) -> Result<(), Fail> {
     let alloc = rt.alloc();
-    let live = live(alloc, POINTER)?;
+    let live = live::<SortedStore>(alloc, POINTER)?;
     let renewed = live.renew(&accepted(alloc, SHARED)?)?;
     assert!(rt; renewed.get(ObjectId::from_raw(200)).is_none());
     assert!(rt; renewed.get(ObjectId::from_raw(261)).is_some());
     assert!(rt; renewed.store().count() == 7);
+    Ok(())
+}
+
+/// How many steps events take, and what commands come to, on the pools of the other tests.
+fn all_answers<S: Store>(alloc: Global) -> Result<[u32; 6], Fail> {
+    let mut shared = live::<S>(alloc, SHARED)?;
+    let accepted = accepted_of(alloc, ONE_MASK)?;
+    let mut one_mask = Live::<S>::new(alloc, &accepted)?;
+    let mut pointer = live::<S>(alloc, POINTER)?;
+    Ok([
+        shared.raise(ObjectId::from_raw(100), 3),
+        shared.raise(ObjectId::from_raw(100), 4),
+        shared.raise(ObjectId::from_raw(261), 11),
+        one_mask.raise(ObjectId::from_raw(0), 7),
+        u32::from(come_to(
+            &mut one_mask,
+            &[(&[0xAD, 0, 0, 0xE8, 3, 0xFF, 0xFF, 0xFF], 2, 0)],
+        )),
+        u32::from(come_to(&mut pointer, CIRCLE_ROWS)),
+    ])
+}
+
+#[test]
+fn both_stores_answer_alike(rt: HostRuntime) -> Result<(), Fail> {
+    assert!(rt; all_answers::<SortedStore>(rt.alloc())? == [2, 2, 1, 1, 1, 1]);
+    assert!(rt; all_answers::<ListStore>(rt.alloc())? == [2, 2, 1, 1, 1, 1]);
+    assert!(rt; steps_of::<ListStore>(rt.alloc(), 12)? == 4_094);
     Ok(())
 }

@@ -49,7 +49,20 @@ fn sent(answer: &Result<Acted, OperatorRefusal>, message: &[u8], steps: u32) -> 
 fn refused(answer: &Result<Acted, OperatorRefusal>, refusal: OperatorRefusal) -> bool {
     match answer {
         Ok(_) => false,
-        Err(answered) => *answered == refusal,
+        Err(answered) => number(*answered) == number(refusal),
+    }
+}
+
+/// The number of a refusal; there is no other one.
+fn number(refusal: OperatorRefusal) -> u8 {
+    match refusal {
+        OperatorRefusal::NotShown => 1,
+        OperatorRefusal::Disabled => 2,
+        OperatorRefusal::Range => 3,
+        OperatorRefusal::TooLong => 4,
+        OperatorRefusal::WrongKind => 5,
+        OperatorRefusal::NotPressed => 6,
+        OperatorRefusal::Held => 7,
     }
 }
 
