@@ -1,5 +1,5 @@
 -- Where there is one working set, two IDs of working sets are one.
-use Rattle.std.proofs.Common.{◌≡◌, ℕ, suc, Bool, true, false, cond, List, [], ◌∷◌, filter, length, Option, Some, None, refl, sym, ap, subst, ◌∙◌, arith}
+use Rattle.std.proofs.Common.{◌≡◌, ℕ, suc, Bool, true, false, cond, [], ◌∷◌, filter, length, Some, refl, sym, ap, subst, ◌∙◌, arith}
 use Rattle.std.proofs.lemmas.Bool.{eqb-true}
 use Rattle.std.specs.Cmp.{unsigned_tied}
 use Rattle.std.specs.Option.{option_map}
@@ -11,7 +11,6 @@ use Rattle.vt_objects.specs.Records.{Seen, kind_of}
 use Rattle.vt_objects.specs.Stores.{Contents, Objects, object_at}
 use Rattle.vt_verify.specs.Shapes.{fixed, shape_of}
 use Rattle.vt_verify.specs.Rules.{is_working_set, working_sets}
-use Rattle.vt_machine.specs.Effects.{kind_in}
 use Rattle.vt_machine.specs.Lives.{IsActive}
 use Rattle.vt_machine.specs.Machines.{shape_in, mask_of}
 
