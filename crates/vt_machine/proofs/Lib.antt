@@ -29,3 +29,4 @@ pub mod OneSet
 pub mod Indexing
 pub mod IndexOrder
 pub mod Marking
+pub mod Pointing

@@ -1,5 +1,5 @@
 -- What calls on a working set begin with, and what they leave.
-use Rattle.std.proofs.Common.{◌≡◌, ◌≤◌, ◌<◌, ◌+◌, ◌-◌, ◌*◌, ◌++◌, ℕ, zero, suc, Bool, List, [], ◌∷◌, map, length, slice_get, slice_index_or, true, Some, None, Ok, refl, sym, ap, subst, ◌∙◌, arith}
+use Rattle.std.proofs.Common.{◌≡◌, ◌≤◌, ◌<◌, ◌+◌, ◌-◌, ◌*◌, ◌++◌, ℕ, zero, suc, Bool, cond, List, [], ◌∷◌, map, length, slice_get, slice_index_or, true, false, Option, Some, None, Ok, refl, sym, ap, subst, ◌∙◌, arith}
 use Rattle.std.proofs.lemmas.List.Sums.{sum_by-cons}
 use Rattle.std.proofs.lemmas.Cmp.{nat_cmp_total}
 use Rattle.std.specs.List.{AllByRecursion}
@@ -9,8 +9,9 @@ use Rattle.vt_objects.specs.declared.kind.Kind.{Kind}
 use Rattle.vt_objects.specs.declared.kind.Kind.TheVariants as kinds
 use Rattle.vt_objects.specs.declared.command.Command.{Command}
 use Rattle.vt_objects.specs.declared.object.Object.{Object}
+use Rattle.vt_objects.specs.declared.object.Object.TheVariants as objects
 use Rattle.vt_objects.specs.declared.raising.Raised.{Raised}
-use Rattle.vt_objects.specs.Records.{seen, kind_of}
+use Rattle.vt_objects.specs.Records.{Seen, seen, kind_of}
 use Rattle.vt_objects.specs.Stores.{Contents, Objects, AreStored, shown, object_at, map_of, contents_of}
 use Rattle.vt_objects.proofs.Stored.{get_from}
 use Rattle.vt_verify.specs.Macros.{commands}
@@ -25,12 +26,13 @@ use Rattle.vt_verify.proofs.Places.{found_at}
 use Rattle.vt_verify.proofs.Shapes.{kind_found, seen_kind}
 use Rattle.vt_machine.specs.declared.index.Index.{Index}
 use Rattle.vt_machine.specs.declared.levels.Levels.{Levels}
+use Rattle.vt_machine.specs.declared.live.HeldKey.{HeldKey}
 use Rattle.vt_machine.specs.Certificates.{AreLevels}
 use Rattle.vt_machine.specs.Changes.{Answers}
 use Rattle.vt_machine.specs.Effects.{kind_in, effect, after}
 use Rattle.vt_machine.specs.Indexes.{IsIndexOf}
-use Rattle.vt_machine.specs.Lives.{SetState, HasRun, IsDone}
-use Rattle.vt_machine.specs.Operating.{HasActed}
+use Rattle.vt_machine.specs.Lives.{SetState, HasRun, IsDone, is_key, holds_key, same_kind, kept_key}
+use Rattle.vt_machine.specs.Operating.{HasActed, key_message}
 use Rattle.vt_machine.specs.Machines.{fault, shape_in, events_of, joined_all, total_budget, run}
 use Rattle.vt_machine.specs.Nested.{CanRun, HaveRun}
 use Rattle.vt_machine.specs.Runs.{IsReady}
@@ -122,6 +124,47 @@ unfolding shape_in
 kind_stays a b id same =
     ap (option_map kind_of) (finite.get-entries a id) ∙ sym (kind_found (finite.entries a) id) ∙ ap (λ (s : Shape). kind_at s id) same
     ∙ kind_found (finite.entries b) id ∙ sym (ap (option_map kind_of) (finite.get-entries b id))
+
+-- ---- the key that is held
+
+pub key_stays : (old new : Contents) (key : Option HeldKey) → shape_in new ≡ shape_in old → holds_key old key ≡ true → holds_key new key ≡ true
+key_stays old new None same is = refl
+key_stays old new (Some key) same is = ap is_key (kind_stays new old key.id same) ∙ is
+
+-- one that has a message may be held
+pub key_held : (m : Contents) (code id mask : ℕ) (message : List ℕ) → key_message code id mask (finite.get m id) ≡ Some message → is_key (kind_in m id) ≡ true
+key_held m code id mask message is = by (finite.get m id) is
+  where
+    by : (o : Option Seen) → key_message code id mask o ≡ Some message → is_key (option_map kind_of o) ≡ true
+    by (Some (objects.Key o)) is = refl
+    by (Some (objects.Button o)) is = refl
+    by _ is = absurd cc
+
+-- what is held has a message of eight bytes
+pub message_of_key : (m : Contents) (code id mask : ℕ) (message : Option (List ℕ)) → is_key (kind_in m id) ≡ true → message ≡ key_message code id mask (finite.get m id)
+    → (P : Type 0) → ((bytes : List ℕ) → message ≡ Some bytes → length bytes ≡ 8 → P) → P
+message_of_key m code id mask message held is P then = by (finite.get m id) held is
+  where
+    by : (o : Option Seen) → is_key (option_map kind_of o) ≡ true → message ≡ key_message code id mask o → P
+    by (Some (objects.Key o)) held is = then _ is refl
+    by (Some (objects.Button o)) held is = then _ is refl
+    by _ held is = absurd cc
+
+-- where the object stays of a kind, so does what is held
+pub key_kept : (old new : Contents) (key : Option HeldKey) → holds_key old key ≡ true → holds_key new (kept_key old new key) ≡ true
+key_kept old new None is = refl
+key_kept old new (Some key) is = by (same_kind (kind_in old key.id) (kind_in new key.id)) refl
+  where
+    both : (a b : Option Kind) → same_kind a b ≡ true → is_key a ≡ true → is_key b ≡ true
+    both (Some kinds.Key) (Some kinds.Key) same is = refl
+    both (Some kinds.Button) (Some kinds.Button) same is = refl
+    both (Some kinds.Key) (Some _) same is = absurd cc
+    both (Some kinds.Button) (Some _) same is = absurd cc
+    both _ _ same is = absurd cc
+
+    by : (b : Bool) → same_kind (kind_in old key.id) (kind_in new key.id) ≡ b → holds_key new (cond b (Some key) None) ≡ true
+    by true same = both (kind_in old key.id) (kind_in new key.id) same is
+    by false same = refl
 
 placed_at : {B : Type 0} (es : List (ℕ × Object B)) (place : ℕ) (e d : ℕ × Object B) → e ≡ slice_index_or es place d → place < length es
     → slice_get (map shown es) place ≡ Some (shown e)

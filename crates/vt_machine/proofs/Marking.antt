@@ -136,7 +136,7 @@ in_more slot slots name h = more_by (includes slot)
     more_by true = Contains-tail slot.id name (included_in slots) h
     more_by false = h
 
-listed_included : (kind : Kind) (place : ℕ → Place) (index : ℕ) (ids : List ℕ) (name : ℕ) → ((i : ℕ) → is_inclusion (place i) ≡ true) → eqb name 65535 ≡ false
+pub listed_included : (kind : Kind) (place : ℕ → Place) (index : ℕ) (ids : List ℕ) (name : ℕ) → ((i : ℕ) → is_inclusion (place i) ≡ true) → eqb name 65535 ≡ false
     → Contains ids name → Contains (included_in (listed kind place index ids)) name
 listed_included kind place index [] name inclusion there h = absurd (Contains-nil name h)
 listed_included kind place index (id ∷ ids) name inclusion there h =
@@ -166,7 +166,7 @@ shown_within : (b : Bool) (xs : List ℕ) (name : ℕ) → Contains (cond b xs [
 shown_within true xs name h = h
 shown_within false xs name h = absurd (Contains-nil name h)
 
-drawn_included : (m : Contents) (o : Option Seen) (name : ℕ) → eqb name 65535 ≡ false → Contains (drawn_in m o) name → Contains (included_by o) name
+pub drawn_included : (m : Contents) (o : Option Seen) (name : ℕ) → eqb name 65535 ≡ false → Contains (drawn_in m o) name → Contains (included_by o) name
 drawn_included m (Some (objects.WorkingSet o)) name there h = children_included kinds.WorkingSet o.children name there h
 drawn_included m (Some (objects.DataMask o)) name there h = children_included kinds.DataMask o.children name there h
 drawn_included m (Some (objects.AlarmMask o)) name there h = children_included kinds.AlarmMask o.children name there h
@@ -190,7 +190,7 @@ value_of m value other null is = from (finite.get m value) refl is
         let same : value ≡ other = some_is value other is in
         (ne_eqb other 65535 (λ e. let never = sym null ∙ ap (finite.get m) (sym (same ∙ e)) ∙ at in absurd cc), same)
 
-behind_case : (P : Type 0) (m : Contents) (name other : ℕ) (o : Option Seen) → finite.get m 65535 ≡ None → behind m name o ≡ Some other
+pub behind_case : (P : Type 0) (m : Contents) (name other : ℕ) (o : Option Seen) → finite.get m 65535 ≡ None → behind m name o ≡ Some other
     → (name ≡ other → P) → (Contains (included_by o) other → P) → P
 behind_case P m name other None null is here later = absurd cc
 behind_case P m name other (Some (objects.ObjectPointer o)) null is here later =
@@ -199,11 +199,11 @@ behind_case P m name other (Some (objects.ObjectPointer o)) null is here later =
     (subst (Contains (o.value ∷ [])) value.1 (Contains-head o.value [])))
 behind_case P m name other (Some _) null is here later = here (some_is name other is)
 
-is_there : (m : Contents) (name other : ℕ) (o : Option Seen) → finite.get m name ≡ o → behind m name o ≡ Some other → finite.get m 65535 ≡ None → eqb name 65535 ≡ false
+pub is_there : (m : Contents) (name other : ℕ) (o : Option Seen) → finite.get m name ≡ o → behind m name o ≡ Some other → finite.get m 65535 ≡ None → eqb name 65535 ≡ false
 is_there m name other None at is null = absurd cc
 is_there m name other (Some o) at is null = ne_eqb name 65535 (λ e. let never = sym null ∙ ap (finite.get m) (sym e) ∙ at in absurd cc)
 
-included_at : (m : Contents) (id other : ℕ) → Contains (included_by (finite.get m id)) other → Contains (inclusions_of m id) other
+pub included_at : (m : Contents) (id other : ℕ) → Contains (included_by (finite.get m id)) other → Contains (inclusions_of m id) other
 included_at m id other h = subst (λ (o : Option Seen). Contains (included_by o) other) (finite.get-entries m id) h
 
 pub named_falls : (m : Contents) (levels : List ℕ) (place id other : ℕ) → IsCertificate (ids_of m) (inclusions_of m) levels → finite.get m 65535 ≡ None

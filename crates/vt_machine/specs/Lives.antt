@@ -1,7 +1,7 @@
 -- A working set with its object pool: its objects, the key that is held, and the input that is selected, and what calls on it do
 -- (docs/PROFILE.md, "Runs", "Steps").
 use denote.RattleType.{RattleType}
-use Rattle.std.specs.Prelude.{◌≡◌, ◌≤◌, ◌+◌, ◌-◌, ℕ, Bool, false, ◌==◌, if◌then◌else◌, List, Option, Some, None, Result, Ok, Err, refl}
+use Rattle.std.specs.Prelude.{◌≡◌, ◌≤◌, ◌+◌, ◌-◌, ℕ, Bool, true, false, ◌==◌, if◌then◌else◌, List, Option, Some, None, Result, Ok, Err, refl}
 use Rattle.std.specs.Coded.{Coded, code_by, coded×, coded_option, coded_ℕ}
 use Rattle.std.specs.FinMap as map
 use Rattle.vt_objects.specs.contracts.macro_bytes.MacroBytes as macro_bytes
@@ -41,6 +41,16 @@ state_code =
 -- with other objects
 abbrev pub with_objects : SetState → Contents → SetState
 with_objects state new = record state { objects = new }
+
+-- a Key or a Button is held, or nothing
+abbrev pub is_key : Option Kind → Bool
+is_key (Some kinds.Key) = true
+is_key (Some kinds.Button) = true
+is_key _ = false
+
+abbrev pub holds_key : Contents → Option HeldKey → Bool
+holds_key store None = true
+holds_key store (Some key) = is_key (kind_in store key.id)
 
 -- the active mask of the working set
 abbrev pub IsActive : Contents → ℕ → Type 0

@@ -1,6 +1,6 @@
 -- Commands that put another ID in the place of one that an object includes: the value of a pointer, or an item of a list
 -- (docs/PROFILE.md, "Inclusions and chains").
-use Rattle.std.specs.Prelude.{ℕ, Bool, true, not, ◌==◌, ◌||◌, if◌then◌else◌, set, slice_get, Option, Some, None}
+use Rattle.std.specs.Prelude.{◌≡◌, ℕ, Bool, true, false, not, ◌==◌, ◌||◌, if◌then◌else◌, set, slice_get, Option, Some, None}
 use Rattle.std.specs.Option.{option_map}
 use Rattle.std.specs.FinMap as finite
 use Rattle.vt_objects.specs.declared.slot.Slot.{Slot}
@@ -13,7 +13,7 @@ use Rattle.vt_machine.specs.declared.pointers.Pointed.{Pointed}
 use Rattle.vt_machine.specs.declared.replacements.Replacement.{Replacement}
 use Rattle.vt_machine.specs.Changes.{is_one_of}
 use Rattle.vt_machine.specs.Fields.{word}
-use Rattle.vt_machine.specs.Effects.{pointer_value, places_allow, value_drawn}
+use Rattle.vt_machine.specs.Effects.{kind_in, pointer_value, places_allow, value_drawn}
 
 -- the item at an index of a list
 abbrev pub item_at : ℕ → Option Seen → Option ℕ
@@ -40,6 +40,13 @@ fits store command = true
 -- a slot allows the value of a pointer, where it names the pointer
 abbrev pub slot_allows : Pointed → Slot → Bool
 slot_allows p slot = not (slot.id == p.pointer) || (if p.value == 0xFFFF then true else is_one_of slot.kinds p.kind)
+
+-- the value that a pointer has is of the kind of another one
+pub record IsOfThatKind (store : Contents) (p : Pointed) : Type 0 where
+  pub value : ℕ
+  pub held : pointer_value (finite.get store p.pointer) ≡ Some value
+  pub there : (value == 0xFFFF) ≡ false
+  pub same : kind_in store value ≡ p.kind
 
 -- an object with the ID put back that was replaced
 abbrev pub restored : Command → ℕ → Seen → Seen

@@ -7,6 +7,7 @@ ghost use Rattle.vt_machine.specs.Effects as effects;
 ghost use Rattle.vt_machine.specs.Effects.{effect, after};
 ghost use Rattle.vt_machine.specs.Certificates.{AreLevels, AreLevelsBut, HasLongChain, HasSameLevels};
 ghost use Rattle.vt_machine.specs.Replacements as replacements;
+ghost use Rattle.vt_machine.specs.Soundness.{IsSound};
 
 use crate::effects::change_in;
 use crate::levels::Levels;
@@ -23,7 +24,8 @@ pub(crate) fn execute<S: Store>(
     levels: &mut Levels,
     command: &Command<'_>,
 ) -> Result<(), u8>
-    requires { AreLevels (S.contents store.old) levels.old }
+    requires levels { AreLevels (S.contents store.old) levels.old }
+    requires sound { IsSound (S.contents store.old) }
     ensures result { Answers result (effect (S.contents store.old) command.now) }
     ensures objects { S.contents store.new ≡ after (S.contents store.old) command.now }
     ensures levels { AreLevels (S.contents store.new) levels.new }
@@ -45,6 +47,7 @@ fn replace<S: Store>(
     replacement: &Replacement,
 ) -> Result<(), u8>
     requires levels { AreLevels (S.contents store.old) levels.old }
+    requires sound { IsSound (S.contents store.old) }
     requires named { named ≡ effects.other_kind (S.contents store.old) (changes.other_id command.now) }
     requires replaces { replacements.replaced (S.contents store.old) command.now ≡ Some replacement.now }
     ensures result { Answers result (effect (S.contents store.old) command.now) }
@@ -85,6 +88,7 @@ fn is_in_order<S: Store>(
 
 /// Whether the ID that a command puts somewhere fits wherever it is to stand.
 fn fits<S: Store>(store: &S, command: &Command<'_>) -> bool
+    requires { IsSound (S.contents store.now) }
     ensures { result ≡ replacements.fits (S.contents store.now) command.now }
 {
     match *command {

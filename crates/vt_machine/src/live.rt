@@ -61,11 +61,11 @@ pub struct Live<S: Store> {
 }
 
 impl<S: Store> Model for Live<S> {
-    ghost use Rattle.std.specs.Prelude.{◌≡◌, Some, length};
+    ghost use Rattle.std.specs.Prelude.{◌≡◌, Some, true, length};
     ghost use Rattle.vt_verify.specs.Depths.{ids_of};
     ghost use Rattle.vt_objects.specs.declared.kind.Kind.TheVariants as kinds;
     ghost use Rattle.vt_machine.specs.Effects.{kind_in};
-    ghost use Rattle.vt_machine.specs.Lives.{SetState, state_code};
+    ghost use Rattle.vt_machine.specs.Lives.{SetState, state_code, holds_key};
     ghost use Rattle.vt_machine.specs.Nested.{CanRun};
 
     ghost Value = { SetState };
@@ -75,7 +75,8 @@ impl<S: Store> Model for Live<S> {
     ghost view = { λ a. record { objects = S.contents a.store; key = a.key; input = a.input } };
 
     ghost invariant = { λ a. CanRun a.index (S.contents a.store) a.levels × (kind_in (S.contents a.store) a.working_set ≡ Some kinds.WorkingSet)
-        × (length a.marks.items ≡ length (ids_of (S.contents a.store))) };
+        × (length a.marks.items ≡ length (ids_of (S.contents a.store)))
+        × (holds_key (S.contents a.store) a.key ≡ true) };
 }
 
 impl<S: Store> Live<S> {

@@ -1,6 +1,6 @@
 //! The operator's actions on a working set (docs/PROFILE.md, "The operator").
 
-ghost use Rattle.std.specs.Prelude.{◌≡◌, ◌≤◌, length};
+ghost use Rattle.std.specs.Prelude.{◌≡◌, ◌≤◌, IfOk, length};
 ghost use Rattle.std.specs.Option.{option_map};
 ghost use Rattle.std.specs.FinMap as finite;
 ghost use Rattle.vt_objects.specs.Events.{raise};
@@ -10,24 +10,32 @@ ghost use Rattle.vt_machine.specs.Operating.{ComesTo, ComesToShown};
 use crate::live::{HeldKey, Live};
 use arrayvec::ArrayVec;
 use byteorder::{ByteOrder, LittleEndian};
+use thiserror::Error;
 use vt_objects::{Event, Object, ObjectId, Raised, Store};
 
 /// Why an action of the operator is refused: the refusals 1 to 7 of docs/PROFILE.md, "Refusals".
-#[derive(Clone, Copy, Debug, PartialEq, Eq)]
+#[derive(Clone, Copy, Debug, PartialEq, Eq, Error)]
 pub enum OperatorRefusal {
     /// The object is not shown.
+    #[error("the object is not shown")]
     NotShown,
     /// The input is not enabled.
+    #[error("the input is not enabled")]
     Disabled,
     /// The number is not accepted.
+    #[error("the number is not accepted")]
     Range,
     /// The text is longer than that of the object, or of its variable.
+    #[error("the text is longer than that of the object, or of its variable")]
     TooLong,
     /// The object is of another kind.
+    #[error("the object is of another kind")]
     WrongKind,
     /// The key is not the one that is held.
+    #[error("the key is not the one that is held")]
     NotPressed,
     /// A key is held already.
+    #[error("a key is held already")]
     Held,
 }
 
@@ -67,7 +75,9 @@ impl<S: Store> Live<S> {
     /// Releases the key that is held: its message has code 0, the mask of the press and the key code as it is now, and its event
     /// Key Release is raised. It need not be shown. Any other ID is refused as not pressed, and then nothing is changed.
     pub fn release(&mut self, id: ObjectId) -> Result<Acted, OperatorRefusal>
-        ensures { ComesTo self.old (operating.release self.old id) result self.new }
+        ensures released { ComesTo self.old (operating.release self.old id) result self.new }
+        // What is held is a Key or a Button, so there is a message.
+        ensures message { IfOk result (λ acted. length acted.message.items ≡ 8) }
     {
         let Some(key) = self.key else {
             return Err(OperatorRefusal::NotPressed);
@@ -75,7 +85,9 @@ impl<S: Store> Live<S> {
         if key.id != id {
             return Err(OperatorRefusal::NotPressed);
         }
-        let message = key_message(self.store(), 0, id, key.mask).unwrap_or_default();
+        let Some(message) = key_message(self.store(), 0, id, key.mask) else {
+            unreachable!();
+        };
         self.key = None;
         let event = Event::KeyRelease;
         let steps = self.raise_all(&[Raised { id, event }]);

@@ -1,6 +1,6 @@
 //! What the places that name a pointer allow.
 
-ghost use Rattle.std.specs.Prelude.{◌≡◌, slice_get};
+ghost use Rattle.std.specs.Prelude.{◌≡◌, true, None, slice_get};
 ghost use Rattle.std.specs.Option.{option_to_list};
 ghost use Rattle.std.specs.List.{list_all, flat_map};
 ghost use Rattle.std.specs.FinMap as finite;
@@ -8,6 +8,8 @@ ghost use Rattle.vt_objects.specs.Records.{seen};
 ghost use Rattle.vt_objects.specs.References.{slots_of};
 ghost use Rattle.vt_machine.specs.Effects as effects;
 ghost use Rattle.vt_machine.specs.Replacements as replacements;
+ghost use Rattle.vt_machine.specs.Replacements.{IsOfThatKind};
+ghost use Rattle.vt_machine.specs.Soundness.{IsSound};
 
 use crate::execution::kind_in;
 use crate::references::is_one_of;
@@ -24,8 +26,10 @@ pub(crate) struct Pointed {
     pub(crate) kind: Option<Kind>,
 }
 
-/// Whether each place that names a pointer allows a value.
+/// Whether each place that names a pointer allows a value. They do where it is of the kind of the value that they allow now;
+/// else each of them is looked at.
 pub(crate) fn places_allow<S: Store>(store: &S, pointer: ObjectId, value: ObjectId) -> bool
+    requires { IsSound (S.contents store.now) }
     ensures { result ≡ effects.places_allow (S.contents store.now) pointer value }
 {
     let kind = kind_in(store, value);
@@ -34,8 +38,27 @@ pub(crate) fn places_allow<S: Store>(store: &S, pointer: ObjectId, value: Object
         value,
         kind,
     };
+    has_that_kind(store, &pointed) || all_allow(store, &pointed)
+}
+
+/// Whether the value that a pointer has is of that kind too.
+fn has_that_kind<S: Store>(store: &S, pointed: &Pointed) -> bool
+    ensures kind { result ≡ true → IsOfThatKind (S.contents store.now) pointed.now }
+    ensures named { result ≡ true → finite.get (S.contents store.now) 0xFFFF ≡ None }
+{
+    match store.get(pointed.pointer) {
+        Some(Object::ObjectPointer(pointer)) if !pointer.value.is_null() => {
+            kind_in(store, pointer.value) == pointed.kind
+        }
+        _ => false,
+    }
+}
+
+fn all_allow<S: Store>(store: &S, pointed: &Pointed) -> bool
+    ensures { result ≡ list_all (replacements.slot_allows pointed.now) (effects.all_slots (S.contents store.now)) }
+{
     for place in 0..store.count() {
-        if !entry_allows(store, place, &pointed) {
+        if !entry_allows(store, place, pointed) {
             return false;
         }
     }

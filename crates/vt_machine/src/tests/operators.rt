@@ -5,7 +5,7 @@ use std::alloc::Global;
 use std::test::Fail;
 use vt_objects::{Command, Object, ObjectId, SortedStore};
 use vt_pool::read_pool;
-use vt_verify::verify;
+use vt_verify::{Accepted, verify};
 
 /// A Working Set 0 that shows the Data Mask 1000 with the Soft Key Mask 400. The mask has the Button 501, which runs macro 1 where
 /// it is pressed, and the Input Booleans 601, which runs macro 1 where it is selected and twice where it is deselected, and 602,
@@ -29,12 +29,16 @@ fn live(alloc: Global) -> Result<Live<SortedStore>, Fail> {
 }
 
 fn live_of(alloc: Global, bytes: &[u8]) -> Result<Live<SortedStore>, Fail> {
+    let live = Live::new(alloc, &accepted(alloc, bytes)?)?;
+    Ok(live)
+}
+
+fn accepted(alloc: Global, bytes: &[u8]) -> Result<Accepted, Fail> {
     let pool = read_pool(alloc, bytes)?;
     let Ok(accepted) = verify(alloc, &pool) else {
         return Err(Fail::new("not accepted"));
     };
-    let live = Live::new(alloc, &accepted)?;
-    Ok(live)
+    Ok(accepted)
 }
 
 /// Whether an action sent a message, and took so many steps.
@@ -71,8 +75,8 @@ fn id(number: u16) -> ObjectId {
 }
 
 /// The Data Mask 1000 with the Input Number 600 of 0 to 10, which runs macro 1 where a number is entered and twice where that is a
-/// new one, the Input List 601 of two items, the Input Boolean 602, the Input String 603 of 8 bytes, and the Input Number 604 and
-/// the Input String 605, which have variables.
+/// new one, the Input List 601 of two items, the Input Boolean 602, the Input String 603 of 8 bytes with the same macros, and the
+/// Input Number 604 and the Input String 605, which have variables.
 const INPUTS: &[u8] = &[
     0, 0, 0, 0, 1, 0xE8, 3, 0, 0, 0, // Working Set
     0xE8, 3, 1, 0, 0xFF, 0xFF, 6, 0, // Data Mask
@@ -83,7 +87,7 @@ const INPUTS: &[u8] = &[
     0x59, 2, 10, 50, 0, 20, 0, 0xFF, 0xFF, 0, 2, 1, 0, 0xFF, 0xFF, 0xFF, 0xFF, // Input List
     0x5A, 2, 7, 0, 9, 0, 50, 0, 0xFF, 0xFF, 0, 1, 0, // Input Boolean
     0x5B, 2, 8, 50, 0, 20, 0, 0, 50, 0, 0xFF, 0xFF, 0, 0xFF, 0xFF, 0, 8, //
-    65, 66, 32, 32, 32, 32, 32, 32, 1, 0, // Input String
+    65, 66, 32, 32, 32, 32, 32, 32, 1, 3, 22, 1, 23, 1, 16, 1, // Input String
     0x5C, 2, 9, 50, 0, 20, 0, 0, 50, 0, 0, 0xBC, 2, 5, 0, 0, 0, 0, 0, 0, 0, 10, 0, 0, 0, //
     0, 0, 0, 0, 0, 0, 0x80, 0x3F, 0, 0, 0, 1, 0, // Input Number
     0x5D, 2, 8, 50, 0, 20, 0, 0, 50, 0, 0xFF, 0xFF, 0, 0xBD, 2, 0, 8, //
@@ -172,8 +176,15 @@ fn texts(rt: HostRuntime) -> Result<(), Fail> {
     assert!(rt; refused(&live.enter_text(id(605), b"ABCD"), OperatorRefusal::TooLong));
     assert!(rt; live.text_fault(id(605), b"ABCD") == Some(OperatorRefusal::TooLong));
     assert!(rt; live.text_fault(id(605), b"ABC") == None);
-    assert!(rt; sent(&live.enter_text(id(603), b"C"), &[8, 0x5B, 2, 1, 67], 0));
+    assert!(rt; sent(&live.enter_text(id(603), b"C"), &[8, 0x5B, 2, 1, 67], 3));
     assert!(rt; is_text(&live, 603, b"C       "));
+    assert!(rt;
+        sent(
+            &live.enter_text(id(603), b"C "),
+            &[8, 0x5B, 2, 2, 67, 32],
+            1
+        )
+    );
     assert!(rt; sent(&live.enter_text(id(605), b""), &[8, 0x5D, 2, 0], 0));
     assert!(rt; is_text(&live, 701, b"   ") && is_text(&live, 605, b"        "));
     Ok(())
@@ -227,10 +238,78 @@ fn selections(rt: HostRuntime) -> Result<(), Fail> {
     assert!(rt; refused(&live.select(id(602)), OperatorRefusal::Disabled));
     assert!(rt; sent(&live.select(id(601)), &[], 1));
     assert!(rt; sent(&live.select(id(601)), &[], 0));
-    let Some(command) = Command::read(&[0xA1, 0x5A, 2, 1, 0xFF, 0xFF, 0xFF, 0xFF]) else {
+    enable(&mut live, 602, true)?;
+    // What was selected is deselected, though it is disabled by then.
+    enable(&mut live, 601, false)?;
+    assert!(rt; sent(&live.select(id(602)), &[], 2));
+    Ok(())
+}
+
+/// Enables or disables an input.
+fn enable(live: &mut Live<SortedStore>, number: u16, enabled: bool) -> Result<(), Fail> {
+    let [low, high] = number.to_le_bytes();
+    let bytes = [0xA1, low, high, u8::from(enabled), 0xFF, 0xFF, 0xFF, 0xFF];
+    let Some(command) = Command::read(&bytes) else {
         return Err(Fail::new("no command"));
     };
     live.apply(&command);
-    assert!(rt; sent(&live.select(id(602)), &[], 2));
+    Ok(())
+}
+
+/// The same set with a Key 501 and a Line 601, which runs macro 1 where it is deselected.
+const OTHER_KINDS: &[u8] = &[
+    0, 0, 0, 0, 1, 0xE8, 3, 0, 0, 0, // Working Set
+    0xE8, 3, 1, 0, 0x90, 1, 1, 0, 0x5A, 2, 0, 0, 0, 0, // Data Mask
+    0x90, 1, 4, 0, 1, 0, 0xF5, 1, // Soft Key Mask
+    0xF5, 1, 5, 0, 7, 0, 0, // Key
+    0x59, 2, 13, 0xFF, 0xFF, 1, 0, 1, 0, 0, 1, 20, 1, // Line
+    0x5A, 2, 7, 0, 9, 0, 50, 0, 0xFF, 0xFF, 0, 1, 0, // Input Boolean
+    50, 0, 23, 0, 0, 0, 0, 0, // Font
+    1, 0, 28, 8, 0, 0xA4, 50, 0xFF, 0xFF, 0xFF, 0xFF, 0xFF, 0xFF, // Macro
+];
+
+#[test]
+fn what_an_update_keeps(rt: HostRuntime) -> Result<(), Fail> {
+    let mut live = live(rt.alloc())?;
+    assert!(rt; sent(&live.press(id(501)), &[1, 1, 0xF5, 1, 0xE8, 3, 3, 0xFF], 1));
+    assert!(rt; sent(&live.select(id(601)), &[], 1));
+    let mut same = live.renew(&accepted(rt.alloc(), POOL)?)?;
+    assert!(rt; sent(&same.select(id(601)), &[], 0));
+    assert!(rt;
+        sent(
+            &same.release(id(501)),
+            &[1, 0, 0xF5, 1, 0xE8, 3, 3, 0xFF],
+            0
+        )
+    );
+    let mut other = live.renew(&accepted(rt.alloc(), OTHER_KINDS)?)?;
+    assert!(rt; sent(&other.select(id(602)), &[], 0));
+    assert!(rt; refused(&other.release(id(501)), OperatorRefusal::NotPressed));
+    Ok(())
+}
+
+/// The sentence of each refusal.
+const SENTENCES: &[(OperatorRefusal, &str)] = &[
+    (OperatorRefusal::NotShown, "the object is not shown"),
+    (OperatorRefusal::Disabled, "the input is not enabled"),
+    (OperatorRefusal::Range, "the number is not accepted"),
+    (
+        OperatorRefusal::TooLong,
+        "the text is longer than that of the object, or of its variable",
+    ),
+    (OperatorRefusal::WrongKind, "the object is of another kind"),
+    (
+        OperatorRefusal::NotPressed,
+        "the key is not the one that is held",
+    ),
+    (OperatorRefusal::Held, "a key is held already"),
+];
+
+#[test]
+fn sentences(rt: HostRuntime) -> Result<(), Fail> {
+    for (refusal, wanted) in SENTENCES {
+        let text = format!(in rt.alloc(); "{refusal}")?;
+        assert!(rt; text.as_str() == *wanted);
+    }
     Ok(())
 }

@@ -26,4 +26,4 @@ returns-in-None-clause-levels g c =
     let m = g.S.Store.contents c.args.store.now in
     let named : c.other_kind-named.result ≡ other_kind m (other_id c.args.command.now) = c.other_kind-named.ensures ∙ ap (other_kind m) c.other_id.ensures in
     subst (λ (n : Contents). AreLevels n c.args.levels.now) (sym (c.change_in.ensures.objects ∙ ap (λ (k : Option Kind). left m (changed_by m c.args.command.now k)) named))
-    (levels_plain m c.args.command.now c.args.levels.now (sym c.in-None.ensures) c.requires)
+    (levels_plain m c.args.command.now c.args.levels.now (sym c.in-None.ensures) c.requires.levels)

@@ -1,7 +1,7 @@
 use Rattle.std.proofs.Common.{◌∙◌, ◌+◌, ap, subst}
 use Rattle.vt_objects.specs.Stores.{Contents}
 use Rattle.vt_machine.specs.Lives.{IsDone}
-use Rattle.vt_machine.proofs.Living.{after_shape, events_small, is_done, kind_stays, marks_stay}
+use Rattle.vt_machine.proofs.Living.{key_stays, after_shape, events_small, is_done, kind_stays, marks_stay}
 use Rattle.vt_machine.proofs.Nesting.{after_can}
 use Rattle.vt_machine.proofs.live.Live.apply.Goals as goal
 
@@ -30,4 +30,18 @@ invariant_of-self g c = (
   marks_stay (g.S.Store.contents c.self.inside.store) (g.S.Store.contents c.raise_all-steps.new.store) c.self.inside.marks.items
       (c.raise_all-steps.ensures.shape ∙ after_shape (g.S.Store.contents c.self.inside.store) (g.S.Store.contents c.execute.new.store) c.args.command.now c.execute.ensures.objects)
       c.self.invariant.2,
+  key_stays (g.S.Store.contents c.self.inside.store) (g.S.Store.contents c.raise_all-steps.new.store) c.self.inside.key
+      (c.raise_all-steps.ensures.shape ∙ after_shape (g.S.Store.contents c.self.inside.store) (g.S.Store.contents c.execute.new.store) c.args.command.now c.execute.ensures.objects)
+      c.self.invariant.3,
 )
+
+pub invariant_of-self-in-Err : goal.invariant_of-self-in-Err
+invariant_of-self-in-Err g c =
+    let m = g.S.Store.contents c.self.inside.store in
+    let n = g.S.Store.contents c.execute.new.store in
+    let shape = after_shape m n c.args.command.now c.execute.ensures.objects in (
+      after_can c.self.inside.index m c.self.inside.levels c.execute.new.levels c.args.command.now n c.self.invariant.0 c.execute.ensures.objects c.execute.ensures.levels,
+      kind_stays n m c.self.inside.working_set shape ∙ c.self.invariant.1,
+      marks_stay m n c.self.inside.marks.items shape c.self.invariant.2,
+      key_stays m n c.self.inside.key shape c.self.invariant.3,
+    )

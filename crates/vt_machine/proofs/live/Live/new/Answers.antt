@@ -1,4 +1,4 @@
-use Rattle.std.proofs.Common.{◌≡◌, length, rules, None, ◌∙◌, ap}
+use Rattle.std.proofs.Common.{◌≡◌, length, rules, None, refl, ◌∙◌, ap}
 use Rattle.vt_objects.specs.Stores.{Contents}
 use Rattle.vt_verify.proofs.Places.{count_is}
 use Rattle.vt_machine.proofs.Living.{stored_is, stored_closed, stored_shallow, stored_runs, stored_set}
@@ -26,6 +26,7 @@ invariant_of-result g c =
           (c.in_ok-store.ensures ∙ stored_is c.objects-objects.result.now c.args.accepted.now c.objects-objects.ensures.all c.objects-objects.ensures.stored)
           c.objects-objects.ensures.all c.objects-objects.ensures.stored c.in-Some.ensures.some,
       long ∙ c.count.ensures.count ∙ count_is (g.S.Store.contents c.in_ok-store.store),
+      refl,
     )
 
 pub returns : goal.returns

@@ -4,7 +4,7 @@ use Rattle.vt_verify.specs.Budgets.{budget}
 use Rattle.vt_verify.specs.Triggers.{listing}
 use Rattle.vt_machine.specs.Machines.{shape_in, joined}
 use Rattle.vt_machine.specs.Lives.{HasRun}
-use Rattle.vt_machine.proofs.Living.{has_run, kind_stays, marks_stay}
+use Rattle.vt_machine.proofs.Living.{key_stays, has_run, kind_stays, marks_stay}
 use Rattle.vt_machine.proofs.live.Live.raise.Goals as goal
 
 pub returns-clause-run : goal.returns-clause-run
@@ -20,4 +20,5 @@ invariant_of-self g c = (
   c.raise.ensures.can,
   kind_stays (g.S.Store.contents c.raise.new.store) (g.S.Store.contents c.self.inside.store) c.self.inside.working_set c.raise.ensures.shape ∙ c.self.invariant.1,
   marks_stay (g.S.Store.contents c.self.inside.store) (g.S.Store.contents c.raise.new.store) c.self.inside.marks.items c.raise.ensures.shape c.self.invariant.2,
+  key_stays (g.S.Store.contents c.self.inside.store) (g.S.Store.contents c.raise.new.store) c.self.inside.key c.raise.ensures.shape c.self.invariant.3,
 )

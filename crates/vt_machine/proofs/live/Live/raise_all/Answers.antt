@@ -1,5 +1,5 @@
 use Rattle.std.proofs.Common.{ap, refl, ◌∙◌}
-use Rattle.vt_machine.proofs.Living.{events_small, has_acted, kind_stays, marks_stay}
+use Rattle.vt_machine.proofs.Living.{key_stays, events_small, has_acted, kind_stays, marks_stay}
 use Rattle.vt_machine.proofs.live.Live.raise_all.Goals as goal
 
 pub raise_all-requires-clause-small : goal.raise_all-requires-clause-small
@@ -11,6 +11,7 @@ invariant_of-self g c = (
   c.raise_all.ensures.can,
   kind_stays (g.S.Store.contents c.raise_all.new.store) (g.S.Store.contents c.self.inside.store) c.self.inside.working_set c.raise_all.ensures.shape ∙ c.self.invariant.1,
   marks_stay (g.S.Store.contents c.self.inside.store) (g.S.Store.contents c.raise_all.new.store) c.self.inside.marks.items c.raise_all.ensures.shape c.self.invariant.2,
+  key_stays (g.S.Store.contents c.self.inside.store) (g.S.Store.contents c.raise_all.new.store) c.self.inside.key c.raise_all.ensures.shape c.self.invariant.3,
 )
 
 pub returns : goal.returns

@@ -4,7 +4,7 @@ use Rattle.std.specs.FinMap as finite
 use Rattle.vt_objects.specs.References.{slots_of}
 use Rattle.vt_machine.specs.Effects.{all_slots}
 use Rattle.vt_machine.specs.Replacements.{slot_allows}
-use Rattle.vt_machine.proofs.pointers.places_allow.Given as goal
+use Rattle.vt_machine.proofs.pointers.all_allow.Given as goal
 
 abbrev pub invariant-loop-place : goal.invariant-loop-place
 invariant-loop-place g l =
