@@ -178,13 +178,6 @@ fn texts(rt: HostRuntime) -> Result<(), Fail> {
     assert!(rt; live.text_fault(id(605), b"ABC") == None);
     assert!(rt; sent(&live.enter_text(id(603), b"C"), &[8, 0x5B, 2, 1, 67], 3));
     assert!(rt; is_text(&live, 603, b"C       "));
-    assert!(rt;
-        sent(
-            &live.enter_text(id(603), b"C "),
-            &[8, 0x5B, 2, 2, 67, 32],
-            1
-        )
-    );
     assert!(rt; sent(&live.enter_text(id(605), b""), &[8, 0x5D, 2, 0], 0));
     assert!(rt; is_text(&live, 701, b"   ") && is_text(&live, 605, b"        "));
     Ok(())
@@ -231,6 +224,15 @@ fn key_codes_as_they_are_at_the_release(rt: HostRuntime) -> Result<(), Fail> {
 }
 
 #[test]
+fn the_same_text_again_is_no_new_one(rt: HostRuntime) -> Result<(), Fail> {
+    let mut live = live_of(rt.alloc(), INPUTS)?;
+    assert!(rt; sent(&live.enter_text(id(603), b"C"), &[8, 0x5B, 2, 1, 67], 3));
+    let again = live.enter_text(id(603), b"C ");
+    assert!(rt; sent(&again, &[8, 0x5B, 2, 2, 67, 32], 1));
+    Ok(())
+}
+
+#[test]
 fn selections(rt: HostRuntime) -> Result<(), Fail> {
     let mut live = live(rt.alloc())?;
     assert!(rt; refused(&live.select(id(500)), OperatorRefusal::WrongKind));
@@ -268,23 +270,30 @@ const OTHER_KINDS: &[u8] = &[
     1, 0, 28, 8, 0, 0xA4, 50, 0xFF, 0xFF, 0xFF, 0xFF, 0xFF, 0xFF, // Macro
 ];
 
+/// The set after an update, with the Button 501 held and the Input Boolean 601 selected before it.
+fn renewed(alloc: Global, update: &[u8]) -> Result<Live<SortedStore>, Fail> {
+    let mut live = live(alloc)?;
+    let (Ok(_pressed), Ok(_selected)) = (live.press(id(501)), live.select(id(601))) else {
+        return Err(Fail::new("no key, or no input"));
+    };
+    let renewed = live.renew(&accepted(alloc, update)?)?;
+    Ok(renewed)
+}
+
 #[test]
-fn what_an_update_keeps(rt: HostRuntime) -> Result<(), Fail> {
-    let mut live = live(rt.alloc())?;
-    assert!(rt; sent(&live.press(id(501)), &[1, 1, 0xF5, 1, 0xE8, 3, 3, 0xFF], 1));
-    assert!(rt; sent(&live.select(id(601)), &[], 1));
-    let mut same = live.renew(&accepted(rt.alloc(), POOL)?)?;
-    assert!(rt; sent(&same.select(id(601)), &[], 0));
-    assert!(rt;
-        sent(
-            &same.release(id(501)),
-            &[1, 0, 0xF5, 1, 0xE8, 3, 3, 0xFF],
-            0
-        )
-    );
-    let mut other = live.renew(&accepted(rt.alloc(), OTHER_KINDS)?)?;
-    assert!(rt; sent(&other.select(id(602)), &[], 0));
-    assert!(rt; refused(&other.release(id(501)), OperatorRefusal::NotPressed));
+fn an_update_keeps_the_key_and_the_input(rt: HostRuntime) -> Result<(), Fail> {
+    let mut live = renewed(rt.alloc(), POOL)?;
+    assert!(rt; sent(&live.select(id(601)), &[], 0));
+    let released = live.release(id(501));
+    assert!(rt; sent(&released, &[1, 0, 0xF5, 1, 0xE8, 3, 3, 0xFF], 0));
+    Ok(())
+}
+
+#[test]
+fn an_update_of_other_kinds_keeps_neither(rt: HostRuntime) -> Result<(), Fail> {
+    let mut live = renewed(rt.alloc(), OTHER_KINDS)?;
+    assert!(rt; sent(&live.select(id(602)), &[], 0));
+    assert!(rt; refused(&live.release(id(501)), OperatorRefusal::NotPressed));
     Ok(())
 }
 
