@@ -1,0 +1,5 @@
+use Rattle.vt_layout.proofs.Chaining.{never_sticks}
+use Rattle.vt_layout.proofs.laws.drawings_never_stick.Goals as goal
+
+pub returns : goal.returns
+returns c = never_sticks

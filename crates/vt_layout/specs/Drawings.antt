@@ -1,0 +1,149 @@
+-- What a mask shows: the elements at all paths, in their order (docs/PROFILE.md, "The drawing").
+use Rattle.std.specs.Prelude.{◌≡◌, ℕ, pos, ◌+ℤ◌, ◌+◌, ◌≤◌, ◌<◌, false, ◌==◌, if◌then◌else◌, List, [], ◌∷◌, ◌++◌, map, slice_get, Option, Some, None, Contains, ◌↔◌, ◌⊎◌, ◌-◌, length}
+use Rattle.std.specs.List.{AllByRecursion}
+use Rattle.std.specs.FinMap as finite
+use Rattle.vt_objects.specs.declared.entries.Child.{Child}
+use Rattle.vt_objects.specs.declared.kind.Kind.TheVariants as kinds
+use Rattle.vt_objects.specs.declared.object.Object.TheVariants as objects
+use Rattle.vt_objects.specs.declared.slot.Slot.{Slot}
+use Rattle.vt_objects.specs.Records.{Seen}
+use Rattle.vt_objects.specs.References.{slots_of}
+use Rattle.vt_objects.specs.Stores.{Contents}
+use Rattle.vt_verify.specs.Depths.{inclusions_of}
+use Rattle.vt_verify.specs.Inclusions.{IsChain}
+use Rattle.vt_verify.specs.Rules.{terminal}
+use Rattle.vt_layout.specs.declared.element.Element.{Element}
+use Rattle.vt_layout.specs.declared.element.Position.{Position}
+use Rattle.vt_machine.specs.Effects.{kind_in}
+use Rattle.vt_machine.specs.Showing.{stands_for, is_element, number_shown, item_of, soft_key_mask_of, soft_keys, IsShown}
+use Rattle.vt_machine.specs.Soundness.{IsSound, is_in_order}
+
+-- ---- lists of entries
+
+-- the upper left corner of a mask, or of a key
+abbrev pub origin : Position
+origin = record { x = pos 0; y = pos 0 }
+
+abbrev pub shifted : Position → Child → Position
+shifted from entry = record { x = from.x +ℤ entry.x; y = from.y +ℤ entry.y }
+
+-- an entry that stands where its list stands
+abbrev pub unmoved : ℕ → Child
+unmoved id = record { id = id; x = pos 0; y = pos 0 }
+
+-- what an object draws within it: its children, and of an input list the item of its index; a hidden container is not entered
+abbrev pub entries_in : Contents → Option Seen → List Child
+entries_in store (Some (objects.WorkingSet o)) = o.children
+entries_in store (Some (objects.DataMask o)) = o.children
+entries_in store (Some (objects.AlarmMask o)) = o.children
+entries_in store (Some (objects.Container o)) = if o.hidden == 0 then o.children else []
+entries_in store (Some (objects.Key o)) = o.children
+entries_in store (Some (objects.Button o)) = o.children
+entries_in store (Some (objects.InputList o)) = map unmoved (item_of o.items (number_shown store o.variable o.value))
+entries_in store _ = []
+
+-- the entries of a mask, and of its soft key mask
+abbrev pub mask_entries : Contents → ℕ → List Child
+mask_entries store mask = entries_in store (finite.get store mask)
+
+abbrev pub key_entries : Contents → ℕ → List Child
+key_entries store mask = map unmoved (soft_keys store mask)
+
+-- ---- paths
+
+-- the element that an ID stands for: NULL, a pointer and a hidden container are none
+abbrev pub element : Contents → ℕ → Position → Option ℕ → Option Element
+element store place at None = None
+element store place at (Some id) = if is_element (finite.get store id) then Some (record { place = place; id = id; at = at }) else None
+
+-- the element of an entry at a place, a pointer standing for its value
+abbrev pub entered : Contents → Position → ℕ → Option Child → Option Element
+entered store from place None = None
+entered store from place (Some entry) = element store place (shifted from entry) (stands_for store entry.id)
+
+-- the element to which places lead, each in what the element before it draws
+abbrev pub along : Contents → List ℕ → Option Element → Option Element
+along store path None = None
+along store [] (Some e) = Some e
+along store (place ∷ path) (Some e) = along store path (entered store e.at place (slice_get (entries_in store (finite.get store e.id)) place))
+
+-- the element at a path from a list of entries: a place in it, then places in the elements that are reached
+abbrev pub at_path : Contents → List Child → Position → List ℕ → Option Element
+at_path store entries from [] = None
+at_path store entries from (place ∷ path) = along store path (entered store from place (slice_get entries place))
+
+-- ---- the drawing
+
+-- an element with its path
+pub record Placed : Type 0 where
+  pub path : List ℕ
+  pub element : Element
+
+-- in lexicographic order
+abbrev pub IsBefore : List ℕ → List ℕ → Type 0
+IsBefore path [] = ⊥
+IsBefore [] (place ∷ path) = Unit {0}
+IsBefore (place ∷ path) (other ∷ others) = (place < other) ⊎ ((place ≡ other) × IsBefore path others)
+
+-- each before all after it
+abbrev pub IsInOrder : List Placed → Type 0
+IsInOrder [] = Unit {0}
+IsInOrder (p ∷ ps) = AllByRecursion (λ q. IsBefore p.path q.path) ps × IsInOrder ps
+
+-- the elements at all paths from a list of entries, in lexicographic order
+pub record AreAll (store : Contents) (entries : List Child) (drawn : List Placed) : Type 0 where
+  pub in_order : IsInOrder drawn
+  pub are : (p : Placed) → Contains drawn p ↔ (at_path store entries origin p.path ≡ Some p.element)
+
+-- The drawing of a mask: its own, and then that of its soft key mask.
+pub record IsDrawing (store : Contents) (mask : ℕ) (drawing : List Placed) : Type 0 where
+  pub in_mask : List Placed
+  pub of_keys : List Placed
+  pub parts : drawing ≡ in_mask ++ of_keys
+  pub mask_drawn : AreAll store (mask_entries store mask) in_mask
+  pub keys_drawn : AreAll store (key_entries store mask) of_keys
+
+-- ---- what holds of it
+
+-- A mask has one drawing.
+abbrev pub DrawingsAreOne : Type 0
+DrawingsAreOne = (store : Contents) (mask : ℕ) (one other : List Placed) → IsDrawing store mask one → IsDrawing store mask other → one ≡ other
+
+-- To be shown is to be an element of the drawing, however long.
+abbrev pub ShownAreDrawn : Type 0
+ShownAreDrawn = (store : Contents) (mask : ℕ) (drawing : List Placed) → IsDrawing store mask drawing
+    → (id : ℕ) → IsShown store mask id ↔ ((p : Placed) × Contains drawing p × (p.element.id ≡ id))
+
+-- what a drawing meets: the working set, the mask, its soft key mask, and each element
+abbrev pub IsMet : Contents → ℕ → ℕ → Type 0
+IsMet store mask id = (kind_in store id ≡ Some kinds.WorkingSet) ⊎ (id ≡ mask) ⊎ (id ≡ soft_key_mask_of (finite.get store mask)) ⊎ IsShown store mask id
+
+-- It sticks at a reference that is not in order: to no object, or to one of a kind that may not stand there, through a pointer too.
+pub record Sticks (store : Contents) (mask : ℕ) : Type 0 where
+  pub id : ℕ
+  pub met : IsMet store mask id
+  pub object : Seen
+  pub there : finite.get store id ≡ Some object
+  pub slot : Slot
+  pub among : Contains (slots_of object) slot
+  pub wrong : is_in_order store slot ≡ false
+
+-- No drawing of a store in order sticks.
+abbrev pub DrawingsNeverStick : Type 0
+DrawingsNeverStick = (store : Contents) (mask : ℕ) → IsSound store → Sticks store mask → ⊥
+
+-- a chain of inclusions along a path, with one for each of its places and one for each pointer, and no more than the terminal allows
+pub record IsChained (store : Contents) (from : ℕ) (path : List ℕ) (to : ℕ) : Type 0 where
+  pub chain : List ℕ
+  pub is : IsChain (inclusions_of store) chain
+  pub first : slice_get chain 0 ≡ Some from
+  pub last : slice_get chain (length chain - 1) ≡ Some to
+  pub each : length path + 1 ≤ length chain
+  pub short : length chain ≤ terminal.inclusions + 1
+
+-- No path of a store in order is longer than chains may be.
+pub record PathsAreChained : Type 0 where
+  pub in_mask : (store : Contents) (mask : ℕ) (path : List ℕ) (e : Element) → IsSound store → finite.get store 0xFFFF ≡ None
+      → at_path store (mask_entries store mask) origin path ≡ Some e → IsChained store mask path e.id
+  pub of_keys : (store : Contents) (mask : ℕ) (path : List ℕ) (e : Element) → IsSound store → finite.get store 0xFFFF ≡ None
+      → at_path store (key_entries store mask) origin path ≡ Some e → IsChained store (soft_key_mask_of (finite.get store mask)) path e.id

@@ -1,0 +1,5 @@
+pub mod Drawings
+pub mod Lines
+pub mod Screens
+pub mod Walks
+pub mod Sheets

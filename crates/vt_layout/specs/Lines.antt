@@ -1,0 +1,109 @@
+-- The line of an element (docs/PROFILE.md, "The drawing and the screen text").
+use Rattle.std.specs.Prelude.{ℕ, ℤ, pos, ◌+ℤ◌, Bool, false, nat_le, ◌==◌, ◌&&◌, not, if◌then◌else◌, List, [], ◌∷◌, ◌++◌, codes, take, Option, Some, None}
+use Rattle.std.specs.Fmt.{decimal, signed_decimal}
+use Rattle.std.specs.List.{flat_map}
+use Rattle.std.specs.FinMap as finite
+use Rattle.hex.specs.Hex.{encode_upper}
+use Rattle.vt_objects.specs.declared.object.Object.TheVariants as objects
+use Rattle.vt_objects.specs.Decimals.{shown_text}
+use Rattle.vt_objects.specs.Records.{Seen}
+use Rattle.vt_objects.specs.Scales.{scale_places}
+use Rattle.vt_objects.specs.Stores.{Contents}
+use Rattle.vt_machine.specs.Operating.{is_enabled}
+use Rattle.vt_machine.specs.Showing.{number_shown}
+use Rattle.vt_layout.specs.declared.element.Element.{Element}
+
+-- ---- parts of lines
+
+-- the name of the kind, the ID, and where the element stands
+abbrev pub standing : List ℕ → Element → List ℕ
+standing name e =
+    name ++ (codes " " ++ (decimal e.id ++ (codes " " ++ (signed_decimal e.at.x ++ (codes " " ++ signed_decimal e.at.y)))))
+
+-- a size
+abbrev pub sized : ℕ → ℕ → List ℕ
+sized width height = codes " " ++ (decimal width ++ (codes "x" ++ decimal height))
+
+-- a number
+abbrev pub numbered : ℕ → List ℕ
+numbered n = codes " " ++ decimal n
+
+-- the key code of a key or button
+abbrev pub coded : ℕ → List ℕ
+coded code = codes " code " ++ decimal code
+
+-- a value: none where a variable is not there, which never is so in a store that is in order
+abbrev pub valued : Option ℕ → List ℕ
+valued None = []
+valued (Some n) = numbered n
+
+abbrev pub decided : Option ℕ → List ℕ
+decided None = []
+decided (Some n) = if n == 0 then codes " false" else codes " true"
+
+-- a number as it is shown, with offset, scale and decimals
+abbrev pub shown : ℤ → ℕ → ℕ → Option ℕ → List ℕ
+shown offset places decimals None = []
+shown offset places decimals (Some n) = codes " " ++ shown_text (pos n +ℤ offset) places decimals
+
+-- a byte from 20 to 7E but `"` and `\`
+abbrev pub is_plain : ℕ → Bool
+is_plain byte = nat_le 0x20 byte && nat_le byte 0x7E && not (byte == 0x22) && not (byte == 0x5C)
+
+abbrev pub escaped : ℕ → List ℕ
+escaped byte = if is_plain byte then byte ∷ [] else codes "\\x" ++ encode_upper (byte ∷ [])
+
+-- the first 64 bytes of a text
+abbrev pub quoted : Option (List ℕ) → List ℕ
+quoted None = []
+quoted (Some text) = codes " \"" ++ (flat_map escaped (take 64 text) ++ codes "\"")
+
+-- of a string variable
+abbrev pub text_in : Option Seen → Option (List ℕ)
+text_in (Some (objects.StringVariable o)) = Some o.text
+text_in _ = None
+
+-- the text that an object shows: that of its variable, if it has one
+abbrev pub text_shown : Contents → ℕ → List ℕ → Option (List ℕ)
+text_shown store variable own = if variable == 0xFFFF then Some own else text_in (finite.get store variable)
+
+-- an input that is disabled
+abbrev pub switched : Option Bool → List ℕ
+switched (Some false) = codes " off"
+switched _ = []
+
+-- ---- the line of each kind, without `off`; what is no element has none
+
+abbrev pub described : Contents → Element → Option Seen → List ℕ
+described store e (Some (objects.WorkingSet o)) = standing (codes "workset") e
+described store e (Some (objects.Container o)) = standing (codes "container") e ++ sized o.width o.height
+described store e (Some (objects.Key o)) = codes "key " ++ (decimal e.id ++ (numbered e.place ++ coded o.key_code))
+described store e (Some (objects.Button o)) = standing (codes "button") e ++ (sized o.width o.height ++ coded o.key_code)
+described store e (Some (objects.InputBoolean o)) = standing (codes "boolean") e ++ decided (number_shown store o.variable o.value)
+described store e (Some (objects.InputString o)) = standing (codes "input") e ++ quoted (text_shown store o.variable o.text)
+described store e (Some (objects.InputNumber o)) =
+    standing (codes "number") e ++ shown o.offset (scale_places o.scale) o.decimals (number_shown store o.variable o.value)
+described store e (Some (objects.InputList o)) = standing (codes "list") e ++ valued (number_shown store o.variable o.value)
+described store e (Some (objects.OutputString o)) = standing (codes "text") e ++ quoted (text_shown store o.variable o.text)
+described store e (Some (objects.OutputNumber o)) =
+    standing (codes "value") e ++ shown o.offset (scale_places o.scale) o.decimals (number_shown store o.variable o.value)
+described store e (Some (objects.Line o)) = standing (codes "line") e ++ (sized o.width o.height ++ numbered o.direction)
+described store e (Some (objects.Rectangle o)) = standing (codes "rectangle") e ++ sized o.width o.height
+described store e (Some (objects.Ellipse o)) = standing (codes "ellipse") e ++ sized o.width o.height
+described store e (Some (objects.Polygon o)) = standing (codes "polygon") e ++ sized o.width o.height
+described store e (Some (objects.Meter o)) = standing (codes "meter") e ++ valued (number_shown store o.variable o.value)
+described store e (Some (objects.LinearBar o)) =
+    standing (codes "bar") e ++ (sized o.width o.height
+    ++ (valued (number_shown store o.variable o.value) ++ valued (number_shown store o.target_variable o.target)))
+described store e (Some (objects.ArchedBar o)) =
+    standing (codes "arch") e ++ (sized o.width o.height
+    ++ (valued (number_shown store o.variable o.value) ++ valued (number_shown store o.target_variable o.target)))
+described store e (Some (objects.Picture o)) = standing (codes "picture") e ++ numbered o.width
+described store e _ = []
+
+-- the line of an element, with its end
+abbrev pub line_of : Contents → Element → Option Seen → List ℕ
+line_of store e o = described store e o ++ (switched (is_enabled o) ++ codes "\n")
+
+abbrev pub line : Contents → Element → List ℕ
+line store e = line_of store e (finite.get store e.id)

@@ -1,0 +1,45 @@
+-- The screen of a working set as text (docs/PROFILE.md, "The drawing and the screen text").
+use Rattle.std.specs.Prelude.{◌≡◌, ℕ, ◌==◌, if◌then◌else◌, nat_lt, List, [], ◌∷◌, ◌++◌, map, length, take, codes}
+use Rattle.std.specs.Fmt.{decimal}
+use Rattle.std.specs.List.{flat_map}
+use Rattle.hex.specs.Hex.{encode_upper}
+use Rattle.vt_objects.specs.Stores.{Contents}
+use Rattle.vt_verify.specs.Rules.{working_sets}
+use Rattle.vt_machine.specs.Lives.{IsActive}
+use Rattle.vt_machine.specs.Machines.{shape_in}
+use Rattle.vt_layout.specs.Drawings.{Placed, IsDrawing}
+use Rattle.vt_layout.specs.Lines.{line}
+
+-- the most lines of elements
+abbrev pub most_lines : ℕ
+most_lines = 2000
+
+-- the lines, or the first of them and a last line that there are more
+abbrev pub cut : List (List ℕ) → List ℕ
+cut lines = flat_map (λ line. line) (take most_lines lines) ++ (if nat_lt most_lines (length lines) then codes "more\n" else [])
+
+abbrev pub mask_name : ℕ → List ℕ
+mask_name mask = if mask == 0xFFFF then codes "none" else decimal mask
+
+-- the first line: the address of the working set, and its active mask
+abbrev pub heading : ℕ → ℕ → List ℕ
+heading address mask = codes "screen " ++ (encode_upper (address ∷ []) ++ (codes " mask " ++ (mask_name mask ++ codes "\n")))
+
+-- The text is that of the drawing of the active mask.
+pub record IsScreen (address : ℕ) (store : Contents) (text : List ℕ) : Type 0 where
+  pub mask : ℕ
+  pub active : IsActive store mask
+  pub drawing : List Placed
+  pub drawn : IsDrawing store mask drawing
+  pub is : text ≡ heading address mask ++ cut (map (λ p. line store p.element) drawing)
+
+-- A vector has gained the screen.
+pub record GainsScreen (address : ℕ) (store : Contents) (old new : List ℕ) : Type 0 where
+  pub text : List ℕ
+  pub is_screen : IsScreen address store text
+  pub gained : new ≡ old ++ text
+
+-- A working set has one screen.
+abbrev pub ScreensAreOne : Type 0
+ScreensAreOne = (address : ℕ) (store : Contents) (one other : List ℕ) → working_sets (shape_in store) ≡ 1
+    → IsScreen address store one → IsScreen address store other → one ≡ other

@@ -1,0 +1,34 @@
+-- The elements of a list of entries, in their order, as far as some places deep.
+use Rattle.std.specs.Prelude.{ℕ, zero, suc, List, [], ◌∷◌, ◌++◌, Option, Some, None}
+use Rattle.std.specs.FinMap as finite
+use Rattle.vt_objects.specs.declared.entries.Child.{Child}
+use Rattle.vt_objects.specs.Stores.{Contents}
+use Rattle.vt_verify.specs.Rules.{terminal}
+use Rattle.vt_machine.specs.Showing.{stands_for}
+use Rattle.vt_layout.specs.declared.element.Element.{Element}
+use Rattle.vt_layout.specs.declared.element.Position.{Position}
+use Rattle.vt_layout.specs.Drawings.{origin, shifted, element, entries_in, mask_entries, key_entries}
+
+-- how what entries stand for is drawn from a position
+abbrev pub Draws : Type 0
+Draws = List Child → Position → List Element
+
+-- an element, and what it draws
+abbrev pub with_drawn : Draws → Contents → Option Element → List Element
+with_drawn draws store None = []
+with_drawn draws store (Some e) = e ∷ draws (entries_in store (finite.get store e.id)) e.at
+
+-- entries that stand from a place on
+abbrev pub each_from : Draws → Contents → ℕ → List Child → Position → List Element
+each_from draws store place [] from = []
+each_from draws store place (entry ∷ entries) from =
+    with_drawn draws store (element store place (shifted from entry) (stands_for store entry.id)) ++ each_from draws store (suc place) entries from
+
+unfoldable pub elements : ℕ → Contents → Draws
+elements zero store entries from = []
+elements (suc depth) store entries from = each_from (elements depth store) store 0 entries from
+
+-- those of a mask and of its soft key mask
+abbrev pub drawing : Contents → ℕ → List Element
+drawing store mask =
+    elements terminal.inclusions store (mask_entries store mask) origin ++ elements terminal.inclusions store (key_entries store mask) origin

@@ -1,0 +1,215 @@
+//! The walk through what a mask shows, in the order of its drawing. Each element has one line, and a page takes so many, so
+//! a walk ends soon, however many paths there are.
+
+ghost use Rattle.std.specs.Prelude.{◌≡◌, ◌==◌, if◌then◌else◌, [], ◌+◌, ◌*◌, ℕ, None, Some, OnOk, IfSome, IfNone, map};
+ghost use Rattle.std.specs.Option.{option_map, option_to_list};
+ghost use Rattle.std.specs.FinMap as finite;
+ghost use Rattle.vt_objects.specs.declared.object.Object.TheVariants as objects;
+ghost use Rattle.vt_objects.specs.Records.{seen};
+ghost use Rattle.vt_machine.specs.Showing.{stands_for, is_element, item_of, number_shown, soft_key_mask_of, keys_of};
+ghost use Rattle.vt_layout.specs.Drawings.{element, entries_in, unmoved, origin};
+ghost use Rattle.vt_layout.specs.Sheets.{with_elements, IsNear};
+ghost use Rattle.vt_layout.specs.Walks.{elements, with_drawn, each_from, drawing};
+
+use crate::element::{Element, Position};
+use crate::page::Page;
+use crate::values::number_shown;
+use std::alloc::AllocError;
+use vt_objects::{Child, Container, InputList, Object, ObjectId, Store};
+
+/// The most inclusions in a row.
+const MOST_INCLUSIONS: u8 = 32;
+
+/// The upper left corner of a mask, or of a key.
+const ORIGIN: Position = Position { x: 0, y: 0 };
+
+/// Draws what a mask draws, and then its soft keys.
+pub(crate) fn draw_mask<S: Store>(
+    store: &S,
+    mask: ObjectId,
+    page: &mut Page,
+) -> Result<(), AllocError>
+    ensures drawn { OnOk result (page.new ≡ with_elements (S.contents store.now) (drawing (S.contents store.now) mask) page.old) }
+    ensures named { finite.get (S.contents store.now) 0xFFFF ≡ None }
+{
+    let Some(object) = store.get(mask) else {
+        return Ok(());
+    };
+    draw_within(store, MOST_INCLUSIONS, object, ORIGIN, page)?;
+    draw_soft_keys(store, soft_key_mask(object), page)
+}
+
+/// The soft key mask of a mask, NULL of what is none.
+fn soft_key_mask(object: &Object<Vec<u8>>) -> ObjectId
+    ensures { result ≡ soft_key_mask_of (Some (seen object.now)) }
+{
+    match object {
+        Object::DataMask(o) => o.soft_key_mask,
+        Object::AlarmMask(o) => o.soft_key_mask,
+        _ => ObjectId::from_raw(0xFFFF),
+    }
+}
+
+/// Draws the keys of a soft key mask.
+fn draw_soft_keys<S: Store>(store: &S, id: ObjectId, page: &mut Page) -> Result<(), AllocError>
+    ensures { OnOk result (page.new ≡ with_elements (S.contents store.now) (elements 32 (S.contents store.now) (map unmoved (keys_of (finite.get (S.contents store.now) id))) origin) page.old) }
+{
+    match store.get(id) {
+        Some(object) => draw_keys(store, keys_of(object), page),
+        None => Ok(()),
+    }
+}
+
+/// The keys of a soft key mask, none of what is none.
+fn keys_of(object: &Object<Vec<u8>>) -> &[ObjectId]
+    ensures { result.now ≡ keys_of (Some (seen object.now)) }
+{
+    match object {
+        Object::SoftKeyMask(o) => o.keys.as_slice(),
+        _ => &[],
+    }
+}
+
+/// Draws keys, each from its own upper left corner.
+fn draw_keys<S: Store>(store: &S, keys: &[ObjectId], page: &mut Page) -> Result<(), AllocError>
+    ensures { OnOk result (page.new ≡ with_elements (S.contents store.now) (elements 32 (S.contents store.now) (map unmoved keys.now) origin) page.old) }
+{
+    for (place, key) in keys.iter().enumerate() {
+        draw_entry(store, MOST_INCLUSIONS - 1, place, *key, ORIGIN, page)?;
+    }
+    Ok(())
+}
+
+/// Draws what entries stand for from a position, as far as some places deep.
+#[cycle(drawing)]
+fn draw_entries<S: Store>(
+    store: &S,
+    depth: u8,
+    entries: &[Child],
+    from: Position,
+    page: &mut Page,
+) -> Result<(), AllocError>
+    requires { IsNear depth from }
+    ensures { OnOk result (page.new ≡ with_elements (S.contents store.now) (elements depth (S.contents store.now) entries.now from) page.old) }
+{
+    if depth == 0 {
+        return Ok(());
+    }
+    for (place, entry) in entries.iter().enumerate() {
+        draw_entry(store, depth - 1, place, entry.id, from.shifted(entry), page)?;
+    }
+    Ok(())
+}
+
+/// Draws what an entry at a position stands for.
+#[cycle(drawing)]
+fn draw_entry<S: Store>(
+    store: &S,
+    depth: u8,
+    place: usize,
+    id: ObjectId,
+    at: Position,
+    page: &mut Page,
+) -> Result<(), AllocError>
+    requires { IsNear depth at }
+    ensures { OnOk result (page.new ≡ with_elements (S.contents store.now) (with_drawn (elements depth (S.contents store.now)) (S.contents store.now) (element (S.contents store.now) place at (stands_for (S.contents store.now) id))) page.old) }
+{
+    if page.is_full() {
+        return Ok(());
+    }
+    match standing(store, id) {
+        Some(found) if is_element(found.1) => {
+            let id = found.0;
+            page.put(store, Element { place, id, at }, found.1)?;
+            draw_within(store, depth, found.1, at, page)
+        }
+        _ => Ok(()),
+    }
+}
+
+/// Draws what an element draws within it.
+#[cycle(drawing)]
+fn draw_within<S: Store>(
+    store: &S,
+    depth: u8,
+    object: &Object<Vec<u8>>,
+    at: Position,
+    page: &mut Page,
+) -> Result<(), AllocError>
+    requires { IsNear depth at }
+    ensures { OnOk result (page.new ≡ with_elements (S.contents store.now) (elements depth (S.contents store.now) (entries_in (S.contents store.now) (Some (seen object.now))) at) page.old) }
+{
+    match object {
+        Object::WorkingSet(o) => draw_entries(store, depth, o.children.as_slice(), at, page),
+        Object::DataMask(o) => draw_entries(store, depth, o.children.as_slice(), at, page),
+        Object::AlarmMask(o) => draw_entries(store, depth, o.children.as_slice(), at, page),
+        Object::Container(o) => { draw_entries(store, depth, if_visible(o), at, page) }
+        Object::Key(o) => draw_entries(store, depth, o.children.as_slice(), at, page),
+        Object::Button(o) => draw_entries(store, depth, o.children.as_slice(), at, page),
+        Object::InputList(o) => draw_item(store, depth, o, at, page),
+        _ => Ok(()),
+    }
+}
+
+/// The entries of a container, none where it is hidden.
+fn if_visible(container: &Container) -> &[Child]
+    ensures { result.now ≡ (if container.now.hidden == 0 then container.now.children else []) }
+{
+    if container.hidden == 0 {
+        container.children.as_slice()
+    } else {
+        &[]
+    }
+}
+
+/// Draws the item of a list's index, where the list stands.
+#[cycle(drawing)]
+fn draw_item<S: Store>(
+    store: &S,
+    depth: u8,
+    list: &InputList,
+    at: Position,
+    page: &mut Page,
+) -> Result<(), AllocError>
+    requires { IsNear depth at }
+    ensures { OnOk result (page.new ≡ with_elements (S.contents store.now) (elements depth (S.contents store.now) (entries_in (S.contents store.now) (Some (objects.InputList list.now))) at) page.old) }
+{
+    match item(store, list) {
+        Some(id) => draw_entries(store, depth, &[Child { id, x: 0, y: 0 }], at, page),
+        None => Ok(()),
+    }
+}
+
+/// The item of a list's index, if there is one.
+fn item<S: Store>(store: &S, list: &InputList) -> Option<ObjectId>
+    ensures { option_to_list result ≡ item_of list.now.items (number_shown (S.contents store.now) list.now.variable list.now.value) }
+{
+    let index = number_shown(store, list.variable, u32::from(list.value))?;
+    list.items.as_slice().get(index as usize).copied()
+}
+
+/// The object that an ID stands for, if it is there, and its own ID: a pointer stands for its value.
+fn standing<S: Store>(store: &S, id: ObjectId) -> Option<(ObjectId, &Object<Vec<u8>>)>
+    ensures some { IfSome result (λ found. (stands_for (S.contents store.now) id ≡ Some found.0) × (finite.get (S.contents store.now) found.0 ≡ Some (seen found.1.now))) }
+    ensures none { IfNone result (stands_for (S.contents store.now) id ≡ None) }
+{
+    match store.get(id) {
+        None => None,
+        Some(Object::ObjectPointer(pointer)) => {
+            let value = pointer.value;
+            store.get(value).map(|object| (value, object))
+        }
+        Some(object) => Some((id, object)),
+    }
+}
+
+/// Neither a pointer nor a hidden container.
+fn is_element(object: &Object<Vec<u8>>) -> bool
+    ensures { result ≡ is_element (Some (seen object.now)) }
+{
+    match object {
+        Object::ObjectPointer(_) => false,
+        Object::Container(o) => o.hidden == 0,
+        _ => true,
+    }
+}

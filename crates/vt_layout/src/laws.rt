@@ -1,0 +1,33 @@
+//! What holds of drawings and screens.
+
+ghost use Rattle.vt_layout.specs.Drawings.{DrawingsAreOne, ShownAreDrawn, DrawingsNeverStick, PathsAreChained};
+ghost use Rattle.vt_layout.specs.Screens.{ScreensAreOne};
+
+/// The law that a mask has one drawing: the elements at all paths, in their order. docs/PROFILE.md, "The drawing".
+pub fn drawings_are_one()
+    ensures { DrawingsAreOne }
+{}
+
+/// The law that to be shown, for an action of the operator, is to be an element of the drawing, however long.
+/// docs/PROFILE.md, "The drawing".
+pub fn shown_are_drawn()
+    ensures { ShownAreDrawn }
+{}
+
+/// The law that no drawing sticks: in a store that is in order, each reference of the working set, the mask, its soft key mask
+/// and each element of the drawing leads to an object of a kind that may stand there, or is NULL where it may be.
+/// docs/PROFILE.md, "The drawing".
+pub fn drawings_never_stick()
+    ensures { DrawingsNeverStick }
+{}
+
+/// The law that in a store that is in order each path to an element is along a chain of at most 32 inclusions.
+/// docs/PROFILE.md, "Inclusions and chains".
+pub fn paths_are_chained()
+    ensures { PathsAreChained }
+{}
+
+/// The law that a working set has one screen. docs/PROFILE.md, "The drawing and the screen text".
+pub fn screens_are_one()
+    ensures { ScreensAreOne }
+{}

@@ -1,0 +1,252 @@
+//! The line of each kind of element.
+
+ghost use Rattle.std.specs.Prelude.{◌≡◌, ◌++◌, [], if◌then◌else◌, Some, OnOk, string_bytes, codes};
+ghost use Rattle.std.specs.Fmt.{decimal};
+ghost use Rattle.vt_objects.specs.declared.object.Object.TheVariants as objects;
+ghost use Rattle.vt_objects.specs.Records.{seen};
+ghost use Rattle.vt_layout.specs.Lines.{line_of, described, switched, standing, sized, numbered, coded};
+ghost use Rattle.vt_machine.specs.Operating.{is_enabled};
+
+use crate::element::Element;
+use crate::texts::{
+    write_code, write_decision, write_number, write_quoted, write_shown, write_size,
+    write_standing, write_value,
+};
+use crate::values::{number_shown, text_shown};
+use std::alloc::AllocError;
+use vt_objects::{
+    ArchedBar, Button, InputBoolean, InputList, InputNumber, InputString, Key, Line, LinearBar,
+    Meter, Object, OutputNumber, OutputString, Store,
+};
+
+/// Writes the line of an element.
+pub(crate) fn write_line<S: Store>(
+    text: &mut String,
+    store: &S,
+    element: Element,
+    object: &Object<Vec<u8>>,
+) -> Result<(), AllocError>
+    ensures { OnOk result (string_bytes text.new ≡ string_bytes text.old ++ line_of (S.contents store.now) element (Some (seen object.now))) }
+{
+    describe(text, store, element, object)?;
+    if is_disabled(object) {
+        text.push_str(" off")?;
+    }
+    text.push_str("\n")
+}
+
+fn is_disabled(object: &Object<Vec<u8>>) -> bool
+    ensures { switched (is_enabled (Some (seen object.now))) ≡ if result then codes " off" else [] }
+{
+    match object {
+        Object::InputBoolean(o) => o.enabled == 0,
+        Object::InputString(o) => o.enabled == 0,
+        Object::InputNumber(o) => o.options_two % 2 == 0,
+        Object::InputList(o) => o.options % 2 == 0,
+        _ => false,
+    }
+}
+
+/// Writes what an element is.
+fn describe<S: Store>(
+    text: &mut String,
+    store: &S,
+    element: Element,
+    object: &Object<Vec<u8>>,
+) -> Result<(), AllocError>
+    ensures { OnOk result (string_bytes text.new ≡ string_bytes text.old ++ described (S.contents store.now) element (Some (seen object.now))) }
+{
+    match object {
+        Object::WorkingSet(_) => write_standing(text, "workset", element),
+        Object::Container(o) => describe_box(text, "container", element, o.width, o.height),
+        Object::Key(o) => describe_key(text, element, o),
+        Object::Button(o) => describe_button(text, element, o),
+        Object::InputBoolean(o) => describe_boolean(text, store, element, o),
+        Object::InputString(o) => describe_input(text, store, element, o),
+        Object::InputNumber(o) => describe_input_number(text, store, element, o),
+        Object::InputList(o) => describe_list(text, store, element, o),
+        Object::OutputString(o) => describe_text(text, store, element, o),
+        Object::OutputNumber(o) => describe_output_number(text, store, element, o),
+        Object::Line(o) => describe_direction(text, element, o),
+        Object::Rectangle(o) => describe_box(text, "rectangle", element, o.width, o.height),
+        Object::Ellipse(o) => describe_box(text, "ellipse", element, o.width, o.height),
+        Object::Polygon(o) => describe_box(text, "polygon", element, o.width, o.height),
+        Object::Meter(o) => describe_meter(text, store, element, o),
+        Object::LinearBar(o) => describe_linear_bar(text, store, element, o),
+        Object::ArchedBar(o) => describe_arched_bar(text, store, element, o),
+        Object::Picture(o) => describe_picture(text, element, o.width),
+        _ => Ok(()),
+    }
+}
+
+/// The name of a kind, a place and a size.
+fn describe_box(
+    text: &mut String,
+    name: &str,
+    element: Element,
+    width: u16,
+    height: u16,
+) -> Result<(), AllocError>
+    ensures { OnOk result (string_bytes text.new ≡ string_bytes text.old ++ (standing name.now element ++ sized width height)) }
+{
+    write_standing(text, name, element)?;
+    write_size(text, width, height)
+}
+
+/// A key has no place on the screen but that in its soft key mask.
+fn describe_key(text: &mut String, element: Element, o: &Key) -> Result<(), AllocError>
+    ensures { OnOk result (string_bytes text.new ≡ string_bytes text.old ++ (codes "key " ++ (decimal element.id ++ (numbered element.place ++ coded o.now.key_code)))) }
+{
+    let id = element.id.raw();
+    let place = element.place;
+    write!(text, "key {id} {place}")?;
+    write_code(text, o.key_code)
+}
+
+/// A button, with its key code.
+fn describe_button(text: &mut String, element: Element, o: &Button) -> Result<(), AllocError>
+    ensures { OnOk result (string_bytes text.new ≡ string_bytes text.old ++ (standing (codes "button") element ++ (sized o.now.width o.now.height ++ coded o.now.key_code))) }
+{
+    describe_box(text, "button", element, o.width, o.height)?;
+    write_code(text, o.key_code)
+}
+
+/// A line, with its direction.
+fn describe_direction(text: &mut String, element: Element, o: &Line) -> Result<(), AllocError>
+    ensures { OnOk result (string_bytes text.new ≡ string_bytes text.old ++ (standing (codes "line") element ++ (sized o.now.width o.now.height ++ numbered o.now.direction))) }
+{
+    describe_box(text, "line", element, o.width, o.height)?;
+    write_number(text, u32::from(o.direction))
+}
+
+/// A picture, with the width at which it is shown.
+fn describe_picture(text: &mut String, element: Element, width: u16) -> Result<(), AllocError>
+    ensures { OnOk result (string_bytes text.new ≡ string_bytes text.old ++ (standing (codes "picture") element ++ numbered width)) }
+{
+    write_standing(text, "picture", element)?;
+    write_number(text, u32::from(width))
+}
+
+/// An input of a truth value.
+fn describe_boolean<S: Store>(
+    text: &mut String,
+    store: &S,
+    element: Element,
+    o: &InputBoolean,
+) -> Result<(), AllocError>
+    ensures { OnOk result (string_bytes text.new ≡ string_bytes text.old ++ described (S.contents store.now) element (Some (objects.InputBoolean o.now))) }
+{
+    write_standing(text, "boolean", element)?;
+    let value = number_shown(store, o.variable, u32::from(o.value));
+    write_decision(text, value)
+}
+
+/// An input of a text.
+fn describe_input<S: Store>(
+    text: &mut String,
+    store: &S,
+    element: Element,
+    o: &InputString<Vec<u8>>,
+) -> Result<(), AllocError>
+    ensures { OnOk result (string_bytes text.new ≡ string_bytes text.old ++ described (S.contents store.now) element (Some (seen (objects.InputString o.now)))) }
+{
+    write_standing(text, "input", element)?;
+    write_quoted(text, text_shown(store, o.variable, o.text.as_slice()))
+}
+
+/// A text.
+fn describe_text<S: Store>(
+    text: &mut String,
+    store: &S,
+    element: Element,
+    o: &OutputString<Vec<u8>>,
+) -> Result<(), AllocError>
+    ensures { OnOk result (string_bytes text.new ≡ string_bytes text.old ++ described (S.contents store.now) element (Some (seen (objects.OutputString o.now)))) }
+{
+    write_standing(text, "text", element)?;
+    write_quoted(text, text_shown(store, o.variable, o.text.as_slice()))
+}
+
+/// An input of a number.
+fn describe_input_number<S: Store>(
+    text: &mut String,
+    store: &S,
+    element: Element,
+    o: &InputNumber,
+) -> Result<(), AllocError>
+    ensures { OnOk result (string_bytes text.new ≡ string_bytes text.old ++ described (S.contents store.now) element (Some (objects.InputNumber o.now))) }
+{
+    write_standing(text, "number", element)?;
+    let value = number_shown(store, o.variable, o.value);
+    write_shown(text, value, o.offset, o.scale, o.decimals)
+}
+
+/// A number.
+fn describe_output_number<S: Store>(
+    text: &mut String,
+    store: &S,
+    element: Element,
+    o: &OutputNumber,
+) -> Result<(), AllocError>
+    ensures { OnOk result (string_bytes text.new ≡ string_bytes text.old ++ described (S.contents store.now) element (Some (objects.OutputNumber o.now))) }
+{
+    write_standing(text, "value", element)?;
+    let value = number_shown(store, o.variable, o.value);
+    write_shown(text, value, o.offset, o.scale, o.decimals)
+}
+
+/// An input of an item, with the index of the one that is shown.
+fn describe_list<S: Store>(
+    text: &mut String,
+    store: &S,
+    element: Element,
+    o: &InputList,
+) -> Result<(), AllocError>
+    ensures { OnOk result (string_bytes text.new ≡ string_bytes text.old ++ described (S.contents store.now) element (Some (objects.InputList o.now))) }
+{
+    write_standing(text, "list", element)?;
+    write_value(text, number_shown(store, o.variable, u32::from(o.value)))
+}
+
+/// A meter, with its value.
+fn describe_meter<S: Store>(
+    text: &mut String,
+    store: &S,
+    element: Element,
+    o: &Meter,
+) -> Result<(), AllocError>
+    ensures { OnOk result (string_bytes text.new ≡ string_bytes text.old ++ described (S.contents store.now) element (Some (objects.Meter o.now))) }
+{
+    write_standing(text, "meter", element)?;
+    write_value(text, number_shown(store, o.variable, u32::from(o.value)))
+}
+
+/// A bar, with its value and its target.
+fn describe_linear_bar<S: Store>(
+    text: &mut String,
+    store: &S,
+    element: Element,
+    o: &LinearBar,
+) -> Result<(), AllocError>
+    ensures { OnOk result (string_bytes text.new ≡ string_bytes text.old ++ described (S.contents store.now) element (Some (objects.LinearBar o.now))) }
+{
+    describe_box(text, "bar", element, o.width, o.height)?;
+    write_value(text, number_shown(store, o.variable, u32::from(o.value)))?;
+    let target = number_shown(store, o.target_variable, u32::from(o.target));
+    write_value(text, target)
+}
+
+/// A bar along an arch, with its value and its target.
+fn describe_arched_bar<S: Store>(
+    text: &mut String,
+    store: &S,
+    element: Element,
+    o: &ArchedBar,
+) -> Result<(), AllocError>
+    ensures { OnOk result (string_bytes text.new ≡ string_bytes text.old ++ described (S.contents store.now) element (Some (objects.ArchedBar o.now))) }
+{
+    describe_box(text, "arch", element, o.width, o.height)?;
+    write_value(text, number_shown(store, o.variable, u32::from(o.value)))?;
+    let target = number_shown(store, o.target_variable, u32::from(o.target));
+    write_value(text, target)
+}

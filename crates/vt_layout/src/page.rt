@@ -1,0 +1,82 @@
+//! The lines of a screen, while they are written.
+
+ghost use Rattle.std.specs.Prelude.{◌≡◌, ◌↔◌, ◌++◌, IsTrue, IfOk, OnOk, Some, suc, string_bytes};
+ghost use Rattle.std.specs.FinMap as finite;
+ghost use Rattle.vt_objects.specs.Records.{seen};
+ghost use Rattle.vt_layout.specs.Lines.{line_of};
+ghost use Rattle.vt_layout.specs.Screens.{most_lines};
+ghost use Rattle.vt_layout.specs.Sheets.{with_line, finished};
+
+use crate::element::Element;
+use crate::lines::write_line;
+use std::alloc::AllocError;
+use std::marker::Model;
+use vt_objects::{Object, Store};
+
+/// The most lines of elements on a screen.
+const MOST_LINES: u16 = 2000;
+
+/// The lines so far, and how many elements there were, one too many at most.
+#[derive(Drop)]
+pub(crate) struct Page {
+    text: String,
+    count: u16,
+}
+
+impl Model for Page {
+    ghost use Rattle.std.specs.Prelude.{◌≤◌, string_bytes};
+    ghost use Rattle.vt_layout.specs.Sheets.{Sheet};
+
+    ghost Value = { Sheet };
+
+    ghost view = { λ p. record { text = string_bytes p.text; count = p.count } };
+
+    ghost invariant = { λ p. p.count ≤ 2001 };
+}
+
+impl Page {
+    /// A page with a first line.
+    pub(crate) fn new(heading: String) -> Page
+        ensures { result ≡ record { text = string_bytes heading; count = 0 } }
+    {
+        Page {
+            text: heading,
+            count: 0,
+        }
+    }
+
+    /// Whether there are more elements than lines.
+    pub(crate) fn is_full(&self) -> bool
+        ensures { IsTrue result ↔ (self.now.count ≡ suc most_lines) }
+    {
+        self.count > MOST_LINES
+    }
+
+    /// Writes the line of an element, while there are not too many.
+    pub(crate) fn put<S: Store>(
+        &mut self,
+        store: &S,
+        element: Element,
+        object: &Object<Vec<u8>>,
+    ) -> Result<(), AllocError>
+        ensures { OnOk result (self.new ≡ with_line (line_of (S.contents store.now) element (Some (seen object.now))) self.old) }
+    {
+        self.count += 1;
+        if self.count > MOST_LINES {
+            self.count = MOST_LINES + 1;
+            return Ok(());
+        }
+        write_line(&mut self.text, store, element, object)
+    }
+
+    /// The text, with a last line that there are more elements where there are.
+    pub(crate) fn finish(self) -> Result<String, AllocError>
+        ensures { IfOk result (λ text. string_bytes text ≡ finished self) }
+    {
+        let Page { mut text, count } = self;
+        if count > MOST_LINES {
+            text.push_str("more\n")?;
+        }
+        Ok(text)
+    }
+}

@@ -1,0 +1,69 @@
+//! The screen of a working set.
+
+ghost use Rattle.std.specs.Prelude.{◌≡◌, ◌++◌, None, OnOk, OnErr, IfOk, map, string_bytes};
+ghost use Rattle.std.specs.FinMap as finite;
+ghost use Rattle.vt_layout.specs.Lines.{line};
+ghost use Rattle.vt_layout.specs.Screens.{heading, mask_name, cut, GainsScreen};
+ghost use Rattle.vt_layout.specs.Walks.{drawing};
+
+use crate::drawing::draw_mask;
+use crate::page::Page;
+use std::alloc::{AllocError, Global};
+use vt_machine::Live;
+use vt_objects::{ObjectId, Store};
+
+/// The bytes of a screen for which there is room at first.
+const ROOM: usize = 4096;
+
+/// Appends the screen of the working set at an address: a line with its active mask, then one for each element that the mask
+/// and its soft keys show, at most 2,000 of them, and a last line where there are more. After `OutOfMemory` the vector is as it
+/// was. It ends after those lines, however many paths lead to elements (ISO 11783-6; docs/PROFILE.md, "The drawing and the screen text").
+pub fn draw<S: Store>(
+    alloc: Global,
+    address: u8,
+    live: &Live<S>,
+    out: &mut Vec<u8>,
+) -> Result<(), AllocError>
+    ensures drawn { OnOk result (GainsScreen address live.now.objects out.old.items out.new.items) }
+    ensures unchanged { OnErr result (out.new.items ≡ out.old.items) }
+{
+    let text = screen(alloc, address, live.store(), live.active_mask())?;
+    out.extend_from_slice(text.as_bytes())
+}
+
+/// The screen of a mask.
+fn screen<S: Store>(
+    alloc: Global,
+    address: u8,
+    store: &S,
+    mask: ObjectId,
+) -> Result<String, AllocError>
+    ensures text { IfOk result (λ text. string_bytes text ≡ heading address mask ++ cut (map (line (S.contents store.now)) (drawing (S.contents store.now) mask))) }
+    ensures named { IfOk result (λ text. finite.get (S.contents store.now) 0xFFFF ≡ None) }
+{
+    let mut page = Page::new(heading(alloc, address, mask)?);
+    draw_mask(store, mask, &mut page)?;
+    page.finish()
+}
+
+/// The first line.
+fn heading(alloc: Global, address: u8, mask: ObjectId) -> Result<String, AllocError>
+    ensures { IfOk result (λ text. string_bytes text ≡ heading address mask) }
+{
+    let mut text = String::with_capacity(alloc, ROOM)?;
+    let address = hex::encode_upper(alloc, [address])?;
+    write!(text, "screen {address} mask ")?;
+    write_mask(&mut text, mask)?;
+    text.push('\n')?;
+    Ok(text)
+}
+
+fn write_mask(text: &mut String, mask: ObjectId) -> Result<(), AllocError>
+    ensures { OnOk result (string_bytes text.new ≡ string_bytes text.old ++ mask_name mask) }
+{
+    if mask.is_null() {
+        return text.push_str("none");
+    }
+    let id = mask.raw();
+    write!(text, "{id}")
+}

@@ -1,0 +1,38 @@
+//! The values that objects show: those of their variables, if they have any.
+
+ghost use Rattle.std.specs.Prelude.{◌≡◌};
+ghost use Rattle.std.specs.Option.{option_map};
+ghost use Rattle.vt_machine.specs.Showing.{number_shown};
+ghost use Rattle.vt_layout.specs.Lines.{text_shown};
+
+use vt_objects::{Object, ObjectId, Store};
+
+/// The number that an object shows; none where its variable is not there, which a store in order rules out.
+pub(crate) fn number_shown<S: Store>(store: &S, variable: ObjectId, own: u32) -> Option<u32>
+    ensures { result ≡ number_shown (S.contents store.now) variable own }
+{
+    if variable.is_null() {
+        return Some(own);
+    }
+    match store.get(variable) {
+        Some(Object::NumberVariable(o)) => Some(o.value),
+        _ => None,
+    }
+}
+
+/// The text that an object shows; none where its variable is not there, which a store in order rules out.
+pub(crate) fn text_shown<'a, S: Store>(
+    store: &'a S,
+    variable: ObjectId,
+    own: &'a [u8],
+) -> Option<&'a [u8]>
+    ensures { option_map (λ text. text.now) result ≡ text_shown (S.contents store.now) variable own.now }
+{
+    if variable.is_null() {
+        return Some(own);
+    }
+    match store.get(variable) {
+        Some(Object::StringVariable(o)) => Some(o.text.as_slice()),
+        _ => None,
+    }
+}
