@@ -1,8 +1,10 @@
 -- A path goes along a chain of inclusions.
-use Rattle.std.proofs.Common.{◌≡◌, ◌≤◌, ◌-◌, ℕ, suc, Bool, true, false, eqb, List, [], ◌∷◌, length, Option, Some, None, refl, ap, subst, ◌∙◌, arith}
+use Rattle.std.proofs.Common.{sym, ◌≡◌, ◌≤◌, ℕ, suc, Bool, true, false, eqb, List, [], ◌∷◌, length, Option, Some, None, refl, ap, subst, ◌∙◌, arith, ◌++◌}
 use Rattle.std.specs.Prelude.{Contains, IsTrue, slice_get}
 use Rattle.std.specs.List.{AllByRecursion}
+use Rattle.std.specs.Option.{option_map}
 use Rattle.std.specs.FinMap as finite
+use Rattle.vt_objects.specs.declared.variables.ObjectPointer.{ObjectPointer}
 use Rattle.vt_objects.specs.declared.entries.Child.{Child}
 use Rattle.vt_objects.specs.declared.kind.Kind.TheVariants as kinds
 use Rattle.vt_objects.specs.declared.object.Object.TheVariants as objects
@@ -13,17 +15,16 @@ use Rattle.vt_objects.specs.Stores.{Contents}
 use Rattle.vt_verify.specs.Depths.{inclusions_of}
 use Rattle.vt_verify.specs.Inclusions.{IsChain, included_by}
 use Rattle.vt_verify.proofs.Elements.{Contains-nil, cons_case, some_is}
-use Rattle.vt_machine.specs.Showing.{ids_in, keys_of, soft_key_mask_of, IsNamed}
+use Rattle.vt_machine.specs.Showing.{ids_in, keys_of, soft_key_mask_of, behind, stands_for, is_element}
 use Rattle.vt_machine.specs.Soundness.{IsSound, is_in_order}
 use Rattle.vt_machine.proofs.Marking.{listed_included, drawn_included, is_there, behind_case, included_at}
 use Rattle.vt_layout.specs.declared.element.Element.{Element}
 use Rattle.vt_layout.specs.declared.element.Position.{Position}
-use Rattle.vt_layout.specs.Drawings.{origin, entered, along, at_path, entries_in, mask_entries, key_entries, IsChained, PathsAreChained, Sticks}
-use Rattle.vt_layout.proofs.Reaching.{entered_named, names_of, names_of_keys}
+use Rattle.vt_layout.specs.Drawings.{origin, entered, along, at_path, entries_in, mask_entries, key_entries, IsChained, PathsAreChained, Sticks, led_through, through, passed_below, passed}
+use Rattle.vt_layout.proofs.Reaching.{names_of, names_of_keys, entered_entry, name_of}
 
--- a chain leads from an object to another, with so many inclusions at least
-record Reaches (store : Contents) (from least to : ℕ) : Type 0 where
-  rest : List ℕ
+-- IDs lead from an object to another along inclusions, and there are so many at least
+record IsWay (store : Contents) (from : ℕ) (rest : List ℕ) (least to : ℕ) : Type 0 where
   is : IsChain (inclusions_of store) (from ∷ rest)
   last : slice_get (from ∷ rest) (length rest) ≡ Some to
   each : least ≤ length rest
@@ -32,32 +33,53 @@ record Reaches (store : Contents) (from least to : ℕ) : Type 0 where
 abbrev AreIncluded : Contents → ℕ → List ℕ → Type 0
 AreIncluded store id names = (name : ℕ) → eqb name 65535 ≡ false → Contains names name → Contains (included_by (finite.get store id)) name
 
--- one place more in front
-reaches_more : (store : Contents) (id : ℕ) (names : List ℕ) (next least to : ℕ) → finite.get store 65535 ≡ None → AreIncluded store id names → IsNamed store names next
-    → Reaches store next least to → Reaches store id (suc least) to
-reaches_more store id names next least to null included named reaches =
-    let name = named.name in
-    let each = reaches.each in
-    let first = included_at store id name (included name (is_there store name next (finite.get store name) refl named.stands null) named.among) in
-    behind_case (Reaches store id (suc least) to) store name next (finite.get store name) null named.stands
-    (λ same. record {
-      rest = next ∷ reaches.rest;
-      is = (subst (Contains (inclusions_of store id)) same first, reaches.is);
-      last = reaches.last;
-      each = omega (arith, each);
-    })
-    (λ value. record {
-      rest = name ∷ next ∷ reaches.rest;
-      is = (first, (included_at store name next value, reaches.is));
-      last = reaches.last;
-      each = omega (arith, each);
-    })
+value_is : (value next : ℕ) (o : Option Seen) → option_map (λ x. value) o ≡ Some next → value ≡ next
+value_is value next None is = absurd cc
+value_is value next (Some x) is = some_is value next is
 
-reaches_next : (store : Contents) (id : ℕ) (entries : List Child) (from : Position) (place : ℕ) (next : Element) (least to : ℕ) → finite.get store 65535 ≡ None
-    → AreIncluded store id (ids_in entries) → entered store from place (slice_get entries place) ≡ Some next → Reaches store next.id least to → Reaches store id (suc least) to
-reaches_next store id entries from place next least to null included is reaches =
-    entered_named (Reaches store id (suc least) to) store entries from place next is
-    (λ named. reaches_more store id (ids_in entries) next.id least to null included named reaches)
+-- a pointer is no element
+no_pointer : (store : Contents) (next : ℕ) (p : ObjectPointer) → finite.get store next ≡ Some (objects.ObjectPointer p) → IsTrue (is_element (finite.get store next)) → ⊥
+no_pointer store next p at shows = let never = subst (λ (o : Option Seen). IsTrue (is_element o)) at shows in absurd cc
+
+-- one place more in front
+way_more : (store : Contents) (id name next : ℕ) (rest : List ℕ) (least to : ℕ) → finite.get store 65535 ≡ None → Contains (inclusions_of store id) name → stands_for store name ≡ Some next
+    → IsTrue (is_element (finite.get store next)) → IsWay store next rest least to → IsWay store id (led_through name (finite.get store name) ++ rest) (suc least) to
+way_more store id name next rest least to null first stands shows way = by (finite.get store name) refl stands
+  where
+    by : (o : Option Seen) → finite.get store name ≡ o → behind store name o ≡ Some next → IsWay store id (led_through name o ++ rest) (suc least) to
+    by None at is = absurd cc
+    by (Some (objects.ObjectPointer p)) at is =
+        let within = behind_case (Contains (included_by (Some (objects.ObjectPointer p))) next) store name next (Some (objects.ObjectPointer p)) null is
+        (λ same. absurd (no_pointer store next p (ap (finite.get store) (sym same) ∙ at) shows)) (λ h. h) in
+        let value = value_is p.value next (finite.get store p.value) is in
+        let moved = subst (λ (k : ℕ). IsWay store k rest least to) (sym value) way in
+        let le = moved.each in record {
+          is = (
+            first,
+            (
+              included_at store name p.value (subst (λ (k : ℕ). Contains (included_by (finite.get store name)) k) (sym value) (subst (λ (o : Option Seen). Contains (included_by o) next) (sym at) within)),
+              moved.is,
+            ),
+          );
+          last = moved.last;
+          each = omega (arith, le);
+        }
+    by (Some _) at is =
+        let moved = subst (λ (k : ℕ). IsWay store k rest least to) (sym (some_is name next is)) way in
+        let le = moved.each in
+        record { is = (first, moved.is); last = moved.last; each = omega (arith, le) }
+
+-- a place of a list that is included
+way_step : (store : Contents) (id : ℕ) (entries : List Child) (from : Position) (place : ℕ) (next : Element) (rest : List ℕ) (least to : ℕ) → finite.get store 65535 ≡ None
+    → AreIncluded store id (ids_in entries) → entered store from place (slice_get entries place) ≡ Some next → IsWay store next.id rest least to
+    → IsWay store id (through store (slice_get entries place) ++ rest) (suc least) to
+way_step store id entries from place next rest least to null included is way =
+    entered_entry (IsWay store id (through store (slice_get entries place) ++ rest) (suc least) to) store entries from place next is
+    (λ entry there stands shows.
+    subst (λ (e : Option Child). IsWay store id (through store e ++ rest) (suc least) to) (sym there)
+    (way_more store id entry.id next.id rest least to null
+    (included_at store id entry.id (included entry.id (is_there store entry.id next.id (finite.get store entry.id) refl stands null) (name_of entries place entry there)))
+    stands shows way))
 
 drawn_are_included : (store : Contents) (id : ℕ) → AreIncluded store id (ids_in (entries_in store (finite.get store id)))
 drawn_are_included store id name there h =
@@ -71,52 +93,67 @@ keys_are_included store mask name there h =
     among (Some (objects.SoftKeyMask o)) h = listed_included kinds.SoftKeyMask places.Key 0 o.keys name (λ i. refl) there h
     among _ h = absurd (Contains-nil name h)
 
-reaches_along : (store : Contents) (path : List ℕ) (first e : Element) → finite.get store 65535 ≡ None → along store path (Some first) ≡ Some e → Reaches store first.id (length path) e.id
-reaches_along store [] first e null leads = record {
-  rest = [];
+way_along : (store : Contents) (path : List ℕ) (first e : Element) → finite.get store 65535 ≡ None → along store path (Some first) ≡ Some e
+    → IsWay store first.id (passed_below store path (Some first)) (length path) e.id
+way_along store [] first e null leads = record {
   is = tt;
   last = ap (λ (k : Element). Some k.id) (some_is first e leads);
   each = omega arith;
 }
-reaches_along store (place ∷ path) first e null leads =
-    by (entered store first.at place (slice_get (entries_in store (finite.get store first.id)) place)) refl leads (λ next. reaches_along store path next e null)
+way_along store (place ∷ path) first e null leads =
+    by (entered store first.at place (slice_get (entries_in store (finite.get store first.id)) place)) refl leads (λ next. way_along store path next e null)
   where
     by : (o : Option Element) → entered store first.at place (slice_get (entries_in store (finite.get store first.id)) place) ≡ o → along store path o ≡ Some e
-        → ((next : Element) → along store path (Some next) ≡ Some e → Reaches store next.id (length path) e.id) → Reaches store first.id (suc (length path)) e.id
+        → ((next : Element) → along store path (Some next) ≡ Some e → IsWay store next.id (passed_below store path (Some next)) (length path) e.id)
+        → IsWay store first.id (through store (slice_get (entries_in store (finite.get store first.id)) place) ++ passed_below store path o) (suc (length path)) e.id
     by None is none rest = absurd cc
     by (Some next) is leads rest =
-        reaches_next store first.id (entries_in store (finite.get store first.id)) first.at place next (length path) e.id null (drawn_are_included store first.id) is (rest next leads)
+        way_step store first.id (entries_in store (finite.get store first.id)) first.at place next (passed_below store path (Some next)) (length path) e.id null
+        (drawn_are_included store first.id) is (rest next leads)
 
-reaches_path : (store : Contents) (id : ℕ) (entries : List Child) (path : List ℕ) (e : Element) → finite.get store 65535 ≡ None → AreIncluded store id (ids_in entries)
-    → at_path store entries origin path ≡ Some e → Reaches store id (length path) e.id
-reaches_path store id entries [] e null included leads = absurd cc
-reaches_path store id entries (place ∷ path) e null included leads = by (entered store origin place (slice_get entries place)) refl leads
+way_of : (store : Contents) (id : ℕ) (entries : List Child) (path : List ℕ) (e : Element) → finite.get store 65535 ≡ None → AreIncluded store id (ids_in entries)
+    → at_path store entries origin path ≡ Some e → IsWay store id (passed store entries path) (length path) e.id
+way_of store id entries [] e null included leads = absurd cc
+way_of store id entries (place ∷ path) e null included leads = by (entered store origin place (slice_get entries place)) refl leads
   where
-    by : (o : Option Element) → entered store origin place (slice_get entries place) ≡ o → along store path o ≡ Some e → Reaches store id (suc (length path)) e.id
+    by : (o : Option Element) → entered store origin place (slice_get entries place) ≡ o → along store path o ≡ Some e
+        → IsWay store id (through store (slice_get entries place) ++ passed_below store path o) (suc (length path)) e.id
     by None is none = absurd cc
-    by (Some first) is rest = reaches_next store id entries origin place first (length path) e.id null included is (reaches_along store path first e null rest)
+    by (Some first) is rest =
+        way_step store id entries origin place first (passed_below store path (Some first)) (length path) e.id null included is (way_along store path first e null rest)
 
-chained : (store : Contents) (id : ℕ) (path : List ℕ) (to : ℕ) → IsSound store → Reaches store id (length path) to → IsChained store id path to
-chained store id path to sound reaches =
-    let each = reaches.each in
-    let ends : length (id ∷ reaches.rest) - 1 ≡ length reaches.rest = omega arith in
-    record {
-      chain = id ∷ reaches.rest;
-      is = reaches.is;
-      first = refl;
-      last = ap (slice_get (id ∷ reaches.rest)) ends ∙ reaches.last;
-      each = omega (arith, each);
-      short = sound.shallow (id ∷ reaches.rest) reaches.is;
-    }
+chained : (store : Contents) (id : ℕ) (rest : List ℕ) (least to : ℕ) → IsSound store → IsWay store id rest least to → IsChained store id rest to
+chained store id rest least to sound way =
+    let short = sound.shallow (id ∷ rest) way.is in
+    record { is = way.is; last = way.last; short = omega (arith, short) }
+
+way_in_mask : (store : Contents) (mask : ℕ) (path : List ℕ) (e : Element) → finite.get store 65535 ≡ None → at_path store (mask_entries store mask) origin path ≡ Some e
+    → IsWay store mask (passed store (mask_entries store mask) path) (length path) e.id
+way_in_mask store mask path e null leads = way_of store mask (mask_entries store mask) path e null (drawn_are_included store mask) leads
+
+way_of_keys : (store : Contents) (mask : ℕ) (path : List ℕ) (e : Element) → finite.get store 65535 ≡ None → at_path store (key_entries store mask) origin path ≡ Some e
+    → IsWay store (soft_key_mask_of (finite.get store mask)) (passed store (key_entries store mask) path) (length path) e.id
+way_of_keys store mask path e null leads = way_of store (soft_key_mask_of (finite.get store mask)) (key_entries store mask) path e null (keys_are_included store mask) leads
 
 pub paths_chained : PathsAreChained
 paths_chained = record {
-  in_mask = λ store mask path e sound null leads.
-      chained store mask path e.id sound (reaches_path store mask (mask_entries store mask) path e null (drawn_are_included store mask) leads);
+  in_mask = λ store mask path e sound null leads. chained store mask (passed store (mask_entries store mask) path) (length path) e.id sound (way_in_mask store mask path e null leads);
   of_keys = λ store mask path e sound null leads.
-      chained store (soft_key_mask_of (finite.get store mask)) path e.id sound
-      (reaches_path store (soft_key_mask_of (finite.get store mask)) (key_entries store mask) path e null (keys_are_included store mask) leads);
+      chained store (soft_key_mask_of (finite.get store mask)) (passed store (key_entries store mask) path) (length path) e.id sound (way_of_keys store mask path e null leads);
 }
+
+-- so no path has more places
+short_way : (store : Contents) (id : ℕ) (rest : List ℕ) (least to : ℕ) → IsSound store → IsWay store id rest least to → least ≤ 32
+short_way store id rest least to sound way = let short = sound.shallow (id ∷ rest) way.is in let each = way.each in omega (arith, each, short)
+
+pub short_in_mask : (store : Contents) (mask : ℕ) (path : List ℕ) (e : Element) → IsSound store → finite.get store 65535 ≡ None
+    → at_path store (mask_entries store mask) origin path ≡ Some e → length path ≤ 32
+short_in_mask store mask path e sound null leads = short_way store mask (passed store (mask_entries store mask) path) (length path) e.id sound (way_in_mask store mask path e null leads)
+
+pub short_of_keys : (store : Contents) (mask : ℕ) (path : List ℕ) (e : Element) → IsSound store → finite.get store 65535 ≡ None
+    → at_path store (key_entries store mask) origin path ≡ Some e → length path ≤ 32
+short_of_keys store mask path e sound null leads =
+    short_way store (soft_key_mask_of (finite.get store mask)) (passed store (key_entries store mask) path) (length path) e.id sound (way_of_keys store mask path e null leads)
 
 -- ---- references of what is met
 

@@ -10,18 +10,17 @@ use Rattle.vt_objects.specs.Stores.{Contents}
 use Rattle.vt_verify.specs.Rules.{working_sets}
 use Rattle.vt_machine.specs.Lives.{IsActive}
 use Rattle.vt_machine.specs.Machines.{shape_in}
-use Rattle.vt_machine.specs.Showing.{soft_key_mask_of}
 use Rattle.vt_machine.specs.Soundness.{IsSound}
 use Rattle.vt_machine.proofs.OneSet.{masks_are_one}
 use Rattle.vt_layout.specs.declared.element.Element.{Element}
-use Rattle.vt_layout.specs.Drawings.{Placed, origin, at_path, mask_entries, key_entries, AreAll, IsDrawing, IsChained}
+use Rattle.vt_layout.specs.Drawings.{Placed, origin, at_path, mask_entries, key_entries, AreAll, IsDrawing, DrawingsAreOne}
 use Rattle.vt_layout.specs.Lines.{line}
-use Rattle.vt_layout.specs.Screens.{cut, heading, IsScreen}
+use Rattle.vt_layout.specs.Screens.{cut, heading, IsScreen, ScreensAreOne}
 use Rattle.vt_layout.specs.Sheets.{Sheet, with_line, with_lines, with_elements, finished}
 use Rattle.vt_layout.specs.Walks.{elements, drawing}
 use Rattle.vt_layout.proofs.Walking.{all_placed, bare, bare_all, placed_at, all_met}
 use Rattle.vt_layout.proofs.Ordering.{walk_in_order, drawings_once}
-use Rattle.vt_layout.proofs.Chaining.{paths_chained}
+use Rattle.vt_layout.proofs.Chaining.{short_in_mask, short_of_keys}
 
 -- ---- pages
 
@@ -109,9 +108,6 @@ walk_is_all store entries short = record {
   are = λ p. (placed_at 32 store entries origin p, λ leads. all_met 32 store entries origin p.path p.element leads (short p.path p.element leads));
 }
 
-short_path : (store : Contents) (from : ℕ) (path : List ℕ) (to : ℕ) → IsChained store from path to → length path ≤ 32
-short_path store from path to is = let each = is.each in let short = is.short in omega (arith, each, short)
-
 -- the walk through a mask and its soft keys
 abbrev pub whole : Contents → ℕ → List Placed
 whole store mask = all_placed 32 store (mask_entries store mask) origin ++ all_placed 32 store (key_entries store mask) origin
@@ -121,9 +117,8 @@ whole_drawing store mask sound null = record {
   in_mask = all_placed 32 store (mask_entries store mask) origin;
   of_keys = all_placed 32 store (key_entries store mask) origin;
   parts = refl;
-  mask_drawn = walk_is_all store (mask_entries store mask) (λ path e leads. short_path store mask path e.id (paths_chained.in_mask store mask path e sound null leads));
-  keys_drawn = walk_is_all store (key_entries store mask)
-      (λ path e leads. short_path store (soft_key_mask_of (finite.get store mask)) path e.id (paths_chained.of_keys store mask path e sound null leads));
+  mask_drawn = walk_is_all store (mask_entries store mask) (λ path e leads. short_in_mask store mask path e sound null leads);
+  keys_drawn = walk_is_all store (key_entries store mask) (λ path e leads. short_of_keys store mask path e sound null leads);
 }
 
 -- its lines are those of the walk
@@ -149,7 +144,7 @@ screen_is address store mask text sound null active is = record {
 
 -- ---- one screen
 
-pub screens_once : (address : ℕ) (store : Contents) (one other : List ℕ) → working_sets (shape_in store) ≡ 1 → IsScreen address store one → IsScreen address store other → one ≡ other
+screens_once : (address : ℕ) (store : Contents) (one other : List ℕ) → working_sets (shape_in store) ≡ 1 → IsScreen address store one → IsScreen address store other → one ≡ other
 screens_once address store one other sets first second =
     let mask = masks_are_one store first.mask second.mask sets first.active second.active in
     first.is
@@ -157,3 +152,16 @@ screens_once address store one other sets first second =
     ∙ ap (λ (ps : List Placed). heading address second.mask ++ cut (map (λ p. line store p.element) ps))
     (drawings_once store second.mask first.drawing second.drawing (subst (λ (m : ℕ). IsDrawing store m first.drawing) mask first.drawn) second.drawn)
     ∙ sym second.is
+
+pub one_drawing : DrawingsAreOne
+one_drawing = record {
+  there = λ store mask sound null. (whole store mask, whole_drawing store mask sound null);
+  one = drawings_once;
+}
+
+pub one_screen : ScreensAreOne
+one_screen = record {
+  there = λ address store mask sound null active.
+      (heading address mask ++ cut (map (line store) (drawing store mask)), screen_is address store mask (heading address mask ++ cut (map (line store) (drawing store mask))) sound null active refl);
+  one = screens_once;
+}

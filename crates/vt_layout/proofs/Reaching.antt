@@ -43,7 +43,7 @@ entry_of P (entry ∷ entries) name h then =
     (λ same. then 0 entry refl same)
     (λ later. entry_of P entries name later (λ place found at is. then (suc place) found at is))
 
-name_of : (entries : List Child) (place : ℕ) (entry : Child) → slice_get entries place ≡ Some entry → Contains (ids_in entries) entry.id
+pub name_of : (entries : List Child) (place : ℕ) (entry : Child) → slice_get entries place ≡ Some entry → Contains (ids_in entries) entry.id
 name_of [] place entry is = absurd cc
 name_of (first ∷ entries) zero entry is =
     subst (λ (e : Child). Contains (first.id ∷ ids_in entries) e.id) (some_is first entry is) (Contains-head first.id (ids_in entries))
@@ -129,17 +129,16 @@ shown_met store mask other (Within id _ shown named) =
 
 -- ---- what is met is shown
 
--- what an entry at a place stands for is named
-pub entered_named : (P : Type 0) (store : Contents) (entries : List Child) (from : Position) (place : ℕ) (e : Element) → entered store from place (slice_get entries place) ≡ Some e
-    → (IsNamed store (ids_in entries) e.id → P) → P
-entered_named P store entries from place e is then = by (slice_get entries place) refl is
+-- what an entry at a place stands for
+pub entered_entry : (P : Type 0) (store : Contents) (entries : List Child) (from : Position) (place : ℕ) (e : Element) → entered store from place (slice_get entries place) ≡ Some e
+    → ((entry : Child) → slice_get entries place ≡ Some entry → stands_for store entry.id ≡ Some e.id → IsTrue (is_element (finite.get store e.id)) → P) → P
+entered_entry P store entries from place e is then = by (slice_get entries place) refl is
   where
     by_element : (entry : Child) → slice_get entries place ≡ Some entry → (id : ℕ) → stands_for store entry.id ≡ Some id → (b : Bool) → is_element (finite.get store id) ≡ b
         → (k : Element) → k.id ≡ id → cond b (Some k) None ≡ Some e → P
     by_element entry there id stands true shows k is same =
         let id_is : id ≡ e.id = sym is ∙ ap (λ (k : Element). k.id) (some_is k e same) in
-        then (subst (IsNamed store (ids_in entries)) id_is
-        (record { name = entry.id; among = name_of entries place entry there; stands = stands; element = subst IsTrue (sym shows) refl }))
+        then entry there (stands ∙ ap Some id_is) (subst (λ (n : ℕ). IsTrue (is_element (finite.get store n))) id_is (subst IsTrue (sym shows) refl))
     by_element entry there id stands false shows k is same = absurd cc
 
     by_entry : (entry : Child) → slice_get entries place ≡ Some entry → (o : Option ℕ) → stands_for store entry.id ≡ o → element store place (shifted from entry) o ≡ Some e → P
@@ -149,6 +148,13 @@ entered_named P store entries from place e is then = by (slice_get entries place
     by : (o : Option Child) → slice_get entries place ≡ o → entered store from place o ≡ Some e → P
     by None there same = absurd cc
     by (Some entry) there same = by_entry entry there (stands_for store entry.id) refl same
+
+-- it is named
+entered_named : (P : Type 0) (store : Contents) (entries : List Child) (from : Position) (place : ℕ) (e : Element) → entered store from place (slice_get entries place) ≡ Some e
+    → (IsNamed store (ids_in entries) e.id → P) → P
+entered_named P store entries from place e is so =
+    entered_entry P store entries from place e is
+    (λ entry there stands shows. so (record { name = entry.id; among = name_of entries place entry there; stands = stands; element = shows }))
 
 along_shown : (store : Contents) (mask : ℕ) (path : List ℕ) (o : Option Element) (e : Element) → ((first : Element) → o ≡ Some first → IsShown store mask first.id)
     → along store path o ≡ Some e → IsShown store mask e.id

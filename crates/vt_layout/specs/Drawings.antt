@@ -1,5 +1,5 @@
 -- What a mask shows: the elements at all paths, in their order (docs/PROFILE.md, "The drawing").
-use Rattle.std.specs.Prelude.{◌≡◌, ℕ, pos, ◌+ℤ◌, ◌+◌, ◌≤◌, ◌<◌, false, ◌==◌, if◌then◌else◌, List, [], ◌∷◌, ◌++◌, map, slice_get, Option, Some, None, Contains, ◌↔◌, ◌⊎◌, ◌-◌, length}
+use Rattle.std.specs.Prelude.{◌≡◌, ℕ, pos, ◌+ℤ◌, ◌≤◌, ◌<◌, false, ◌==◌, if◌then◌else◌, List, [], ◌∷◌, ◌++◌, map, slice_get, Option, Some, None, Contains, ◌↔◌, ◌⊎◌, length}
 use Rattle.std.specs.List.{AllByRecursion}
 use Rattle.std.specs.FinMap as finite
 use Rattle.vt_objects.specs.declared.entries.Child.{Child}
@@ -15,7 +15,7 @@ use Rattle.vt_verify.specs.Rules.{terminal}
 use Rattle.vt_layout.specs.declared.element.Element.{Element}
 use Rattle.vt_layout.specs.declared.element.Position.{Position}
 use Rattle.vt_machine.specs.Effects.{kind_in}
-use Rattle.vt_machine.specs.Showing.{stands_for, is_element, number_shown, item_of, soft_key_mask_of, soft_keys, IsShown}
+use Rattle.vt_machine.specs.Showing.{stands_for, is_element, number_shown, item_of, soft_key_mask_of, soft_keys, drawn_in, IsShown}
 use Rattle.vt_machine.specs.Soundness.{IsSound, is_in_order}
 
 -- ---- lists of entries
@@ -31,7 +31,8 @@ shifted from entry = record { x = from.x +ℤ entry.x; y = from.y +ℤ entry.y }
 abbrev pub unmoved : ℕ → Child
 unmoved id = record { id = id; x = pos 0; y = pos 0 }
 
--- what an object draws within it: its children, and of an input list the item of its index; a hidden container is not entered
+-- what an object draws within it: its children, and of an input list the item of its index, which is one entry; a hidden
+-- container is not entered
 abbrev pub entries_in : Contents → Option Seen → List Child
 entries_in store (Some (objects.WorkingSet o)) = o.children
 entries_in store (Some (objects.DataMask o)) = o.children
@@ -105,18 +106,26 @@ pub record IsDrawing (store : Contents) (mask : ℕ) (drawing : List Placed) : T
 
 -- ---- what holds of it
 
--- A mask has one drawing.
-abbrev pub DrawingsAreOne : Type 0
-DrawingsAreOne = (store : Contents) (mask : ℕ) (one other : List Placed) → IsDrawing store mask one → IsDrawing store mask other → one ≡ other
+-- A mask has one drawing, in a store that is in order and has nothing under NULL.
+pub record DrawingsAreOne : Type 0 where
+  pub there : (store : Contents) (mask : ℕ) → IsSound store → finite.get store 0xFFFF ≡ None → (drawing : List Placed) × IsDrawing store mask drawing
+  pub one : (store : Contents) (mask : ℕ) (one other : List Placed) → IsDrawing store mask one → IsDrawing store mask other → one ≡ other
 
 -- To be shown is to be an element of the drawing, however long.
 abbrev pub ShownAreDrawn : Type 0
 ShownAreDrawn = (store : Contents) (mask : ℕ) (drawing : List Placed) → IsDrawing store mask drawing
     → (id : ℕ) → IsShown store mask id ↔ ((p : Placed) × Contains drawing p × (p.element.id ≡ id))
 
--- what a drawing meets: the working set, the mask, its soft key mask, and each element
+-- a name in a list that is drawn
+abbrev pub IsListed : Contents → ℕ → ℕ → Type 0
+IsListed store mask name =
+    Contains (drawn_in store (finite.get store mask)) name ⊎ Contains (soft_keys store mask) name
+    ⊎ ((id : ℕ) × IsShown store mask id × Contains (drawn_in store (finite.get store id)) name)
+
+-- what a drawing meets: the working set, the mask, its soft key mask, what their lists and those of elements name, and the elements
 abbrev pub IsMet : Contents → ℕ → ℕ → Type 0
-IsMet store mask id = (kind_in store id ≡ Some kinds.WorkingSet) ⊎ (id ≡ mask) ⊎ (id ≡ soft_key_mask_of (finite.get store mask)) ⊎ IsShown store mask id
+IsMet store mask id =
+    (kind_in store id ≡ Some kinds.WorkingSet) ⊎ (id ≡ mask) ⊎ (id ≡ soft_key_mask_of (finite.get store mask)) ⊎ IsListed store mask id ⊎ IsShown store mask id
 
 -- It sticks at a reference that is not in order: to no object, or to one of a kind that may not stand there, through a pointer too.
 pub record Sticks (store : Contents) (mask : ℕ) : Type 0 where
@@ -132,18 +141,41 @@ pub record Sticks (store : Contents) (mask : ℕ) : Type 0 where
 abbrev pub DrawingsNeverStick : Type 0
 DrawingsNeverStick = (store : Contents) (mask : ℕ) → IsSound store → Sticks store mask → ⊥
 
--- a chain of inclusions along a path, with one for each of its places and one for each pointer, and no more than the terminal allows
-pub record IsChained (store : Contents) (from : ℕ) (path : List ℕ) (to : ℕ) : Type 0 where
-  pub chain : List ℕ
-  pub is : IsChain (inclusions_of store) chain
-  pub first : slice_get chain 0 ≡ Some from
-  pub last : slice_get chain (length chain - 1) ≡ Some to
-  pub each : length path + 1 ≤ length chain
-  pub short : length chain ≤ terminal.inclusions + 1
+-- ---- the inclusions on a path
 
--- No path of a store in order is longer than chains may be.
+-- a name, and behind a pointer its value
+abbrev pub led_through : ℕ → Option Seen → List ℕ
+led_through name (Some (objects.ObjectPointer o)) = name ∷ o.value ∷ []
+led_through name _ = name ∷ []
+
+abbrev pub through : Contents → Option Child → List ℕ
+through store None = []
+through store (Some entry) = led_through entry.id (finite.get store entry.id)
+
+-- the IDs that places lead through below an element
+abbrev pub passed_below : Contents → List ℕ → Option Element → List ℕ
+passed_below store path None = []
+passed_below store [] (Some e) = []
+passed_below store (place ∷ path) (Some e) =
+    through store (slice_get (entries_in store (finite.get store e.id)) place)
+    ++ passed_below store path (entered store e.at place (slice_get (entries_in store (finite.get store e.id)) place))
+
+-- the IDs that a path leads through from a list of entries
+abbrev pub passed : Contents → List Child → List ℕ → List ℕ
+passed store entries [] = []
+passed store entries (place ∷ path) =
+    through store (slice_get entries place) ++ passed_below store path (entered store origin place (slice_get entries place))
+
+-- Each includes the next, from an object to another, with no more inclusions than the terminal allows.
+pub record IsChained (store : Contents) (from : ℕ) (passed : List ℕ) (to : ℕ) : Type 0 where
+  pub is : IsChain (inclusions_of store) (from ∷ passed)
+  pub last : slice_get (from ∷ passed) (length passed) ≡ Some to
+  pub short : length passed ≤ terminal.inclusions
+
+-- A path to an element of a store in order goes along a chain of inclusions, from the mask or its soft key mask.
 pub record PathsAreChained : Type 0 where
   pub in_mask : (store : Contents) (mask : ℕ) (path : List ℕ) (e : Element) → IsSound store → finite.get store 0xFFFF ≡ None
-      → at_path store (mask_entries store mask) origin path ≡ Some e → IsChained store mask path e.id
+      → at_path store (mask_entries store mask) origin path ≡ Some e → IsChained store mask (passed store (mask_entries store mask) path) e.id
   pub of_keys : (store : Contents) (mask : ℕ) (path : List ℕ) (e : Element) → IsSound store → finite.get store 0xFFFF ≡ None
-      → at_path store (key_entries store mask) origin path ≡ Some e → IsChained store (soft_key_mask_of (finite.get store mask)) path e.id
+      → at_path store (key_entries store mask) origin path ≡ Some e
+      → IsChained store (soft_key_mask_of (finite.get store mask)) (passed store (key_entries store mask) path) e.id

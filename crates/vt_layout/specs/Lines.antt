@@ -32,7 +32,7 @@ numbered n = codes " " ++ decimal n
 abbrev pub coded : ℕ → List ℕ
 coded code = codes " code " ++ decimal code
 
--- a value: none where a variable is not there, which never is so in a store that is in order
+-- a value: none where a variable is not there, at which a drawing sticks
 abbrev pub valued : Option ℕ → List ℕ
 valued None = []
 valued (Some n) = numbered n

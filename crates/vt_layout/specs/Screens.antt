@@ -1,12 +1,14 @@
 -- The screen of a working set as text (docs/PROFILE.md, "The drawing and the screen text").
-use Rattle.std.specs.Prelude.{◌≡◌, ℕ, ◌==◌, if◌then◌else◌, nat_lt, List, [], ◌∷◌, ◌++◌, map, length, take, codes}
+use Rattle.std.specs.Prelude.{◌≡◌, ℕ, None, ◌==◌, if◌then◌else◌, nat_lt, List, [], ◌∷◌, ◌++◌, map, length, take, codes}
 use Rattle.std.specs.Fmt.{decimal}
 use Rattle.std.specs.List.{flat_map}
+use Rattle.std.specs.FinMap as finite
 use Rattle.hex.specs.Hex.{encode_upper}
 use Rattle.vt_objects.specs.Stores.{Contents}
 use Rattle.vt_verify.specs.Rules.{working_sets}
 use Rattle.vt_machine.specs.Lives.{IsActive}
 use Rattle.vt_machine.specs.Machines.{shape_in}
+use Rattle.vt_machine.specs.Soundness.{IsSound}
 use Rattle.vt_layout.specs.Drawings.{Placed, IsDrawing}
 use Rattle.vt_layout.specs.Lines.{line}
 
@@ -39,7 +41,9 @@ pub record GainsScreen (address : ℕ) (store : Contents) (old new : List ℕ) :
   pub is_screen : IsScreen address store text
   pub gained : new ≡ old ++ text
 
--- A working set has one screen.
-abbrev pub ScreensAreOne : Type 0
-ScreensAreOne = (address : ℕ) (store : Contents) (one other : List ℕ) → working_sets (shape_in store) ≡ 1
-    → IsScreen address store one → IsScreen address store other → one ≡ other
+-- A working set has one screen, in a store that is in order and has nothing under NULL.
+pub record ScreensAreOne : Type 0 where
+  pub there : (address : ℕ) (store : Contents) (mask : ℕ) → IsSound store → finite.get store 0xFFFF ≡ None → IsActive store mask
+      → (text : List ℕ) × IsScreen address store text
+  pub one : (address : ℕ) (store : Contents) (one other : List ℕ) → working_sets (shape_in store) ≡ 1
+      → IsScreen address store one → IsScreen address store other → one ≡ other

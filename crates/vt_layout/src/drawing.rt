@@ -1,4 +1,4 @@
-//! The walk through what a mask shows, in the order of its drawing. Each element has one line, and a page takes so many, so
+//! The walk through what a mask shows, in the order of its drawing. Each element has one line, and a page takes 2,000, so
 //! a walk ends soon, however many paths there are.
 
 ghost use Rattle.std.specs.Prelude.{◌≡◌, ◌==◌, if◌then◌else◌, [], ◌+◌, ◌*◌, ℕ, None, Some, OnOk, IfSome, IfNone, map};

@@ -151,7 +151,7 @@ const PATHS: &[u8] = &[
     23, 0, 27, 11, 0, // Object Pointer
     25, 0, 27, 0xFF, 0xFF, // Object Pointer
     26, 0, 27, 60, 0, // Object Pointer
-    60, 0, 5, 0, 7, 2, 0, 20, 0, 0, 0, 0, 0, 23, 0, 0xFF, 0xFF, 0xFE, 0xFF, // Key
+    60, 0, 5, 0, 7, 3, 0, 20, 0, 0, 0, 0, 0, 21, 0, 0, 0, 0, 0, 23, 0, 0xFF, 0xFF, 0xFE, 0xFF, // Key
 ];
 
 const PATHS_SHOWN: &str = "screen 80 mask 1000
@@ -163,6 +163,28 @@ line 12 -32764 32771 0x0 0
 key 60 2 code 7
 container 11 -1 -2 2x2
 line 12 -32769 32765 0x0 0
+";
+
+/// Output Numbers that are rounded away from zero, and to zero, and the longest one.
+const NUMBERS: &[u8] = &[
+    0, 0, 0, 1, 1, 0xE8, 3, 0, 0, 0, // Working Set
+    0xE8, 3, 1, 0, 0xFF, 0xFF, 4, 0, 10, 0, 0, 0, 0, 0, 11, 0, 0, 0, 0, 0, //
+    12, 0, 0, 0, 0, 0, 13, 0, 0, 0, 0, 0, // Data Mask
+    10, 0, 12, 9, 0, 9, 0, 0, 0xFF, 0xFF, 0, 0xFF, 0xFF, 0xD3, 4, 0, 0, 0, 0, 0, //
+    0, 111, 18, 131, 58, 2, 0, 0, 0, // Output Number
+    11, 0, 12, 9, 0, 9, 0, 0, 0xFF, 0xFF, 0, 0xFF, 0xFF, 0, 0, 0, 0, 0x2D, 0xFB, 0xFF, //
+    0xFF, 111, 18, 131, 58, 2, 0, 0, 0, // Output Number
+    12, 0, 12, 9, 0, 9, 0, 0, 0xFF, 0xFF, 0, 0xFF, 0xFF, 0, 0, 0, 0, 0xFC, 0xFF, 0xFF, //
+    0xFF, 111, 18, 131, 58, 2, 0, 0, 0, // Output Number
+    13, 0, 12, 9, 0, 9, 0, 0, 0xFF, 0xFF, 0, 0xFF, 0xFF, 0, 0, 0, 0, 0, 0, 0, //
+    128, 0, 0, 128, 63, 7, 0, 0, 0, // Output Number
+];
+
+const NUMBERS_SHOWN: &str = "screen 80 mask 1000
+value 10 0 0 1.24
+value 11 0 0 -1.24
+value 12 0 0 0.00
+value 13 0 0 -2147483648.0000000
 ";
 
 /// Texts with bytes that are escaped, and longer ones than are shown.
@@ -202,8 +224,9 @@ input 13 0 0 \"\\x0Adddddddddddddddddddddddddddddddddddddddddddddddddddddddddddd
 const NONE: &[u8] = &[
     0, 0, 0, 1, 1, 0xFF, 0xFF, 0, 0, 0, // Working Set
 ];
+
 /// A mask that shows nothing.
-const NO_KEYS: &[u8] = &[
+const EMPTY: &[u8] = &[
     0, 0, 0, 1, 1, 0xE8, 3, 0, 0, 0, // Working Set
     0xE8, 3, 1, 0, 0xFF, 0xFF, 0, 0, // Data Mask
 ];
@@ -215,9 +238,10 @@ const ROWS: &[Row<'_>] = &[
     (KINDS, 0x0A, KINDS_SHOWN),
     (LISTS, 0xFF, LISTS_SHOWN),
     (PATHS, 0x80, PATHS_SHOWN),
+    (NUMBERS, 0x80, NUMBERS_SHOWN),
     (TEXTS, 0, TEXTS_SHOWN),
     (NONE, 0x9B, "screen 9B mask none\n"),
-    (NO_KEYS, 0xFD, "screen FD mask 1000\n"),
+    (EMPTY, 0xFD, "screen FD mask 1000\n"),
 ];
 
 #[test]
