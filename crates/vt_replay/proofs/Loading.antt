@@ -1,11 +1,11 @@
 -- From a pool's file to the terminal that a replay begins with, and from its log to what is written.
-use Rattle.std.proofs.Common.{◌≡◌, ◌∙◌, ℕ, false, List, [], Option, Some, None, IfSome, sym, ap, subst}
+use Rattle.std.proofs.Common.{◌≡◌, ◌∙◌, ℕ, nat_cmp, false, List, [], Option, Some, None, IfSome, sym, ap, subst}
 use Rattle.std.specs.Io.KnownBytes.{Appends, Keeps}
 use Rattle.vt_pool.specs.Pools.{Entry, AreRecords, IsInForce, contents, joined}
 use Rattle.std.specs.FinMap as finite
 use Rattle.std.specs.FinMap.{nat_cmp-IsAntisymmetric}
 use Rattle.std.proofs.lemmas.Cmp.{nat_cmp_total}
-use Rattle.vt_objects.specs.Stores.{Contents, by_rising_id}
+use Rattle.vt_objects.specs.Stores.{Contents, by_rising_id, map_of}
 use Rattle.vt_verify.specs.Rules.{IsAcceptable, IsRefused, IsWantOfMemory, terminal}
 use Rattle.vt_verify.specs.declared.refusal.Refusal.{Refusal}
 use Rattle.vt_verify.specs.Reports.{report_text}
@@ -28,6 +28,13 @@ pub entries_again : (m : Contents) → contents (finite.entries m) ≡ m
 entries_again m =
     finite.same_map nat_cmp_total nat_cmp-IsAntisymmetric (contents (finite.entries m)) m
     (λ q. finite.get-from_entries nat_cmp_total (finite.entries m) q ∙ sym (finite.get-entries m q))
+
+-- a list of the entries of a map is sorted, and is that map
+pub map_is : (pool : List Entry) → pool ≡ finite.entries (contents pool) → map_of pool ≡ contents pool
+map_is pool is =
+    ap map_of is
+    ∙ finite.same_map nat_cmp_total nat_cmp-IsAntisymmetric (map_of (finite.entries (contents pool))) (contents pool)
+    (λ q. finite.get-from_sorted nat_cmp (finite.entries (contents pool)) q (finite.entries_sorted (contents pool)) ∙ sym (finite.get-entries (contents pool) q))
 
 -- what is accepted of a pool has its objects
 pub same_objects : (pool accepted : List Entry) → accepted ≡ by_rising_id pool → contents accepted ≡ contents pool

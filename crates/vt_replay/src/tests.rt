@@ -103,7 +103,7 @@ const COMMANDS: [(&[u8], &str); 12] = [
     (b"(1.000000) can0 14E6FF80#A0640000FFFFFFFF\n", NO_REPLY),
     (b"(1.000000) can0 15E72680#A0640000FFFFFFFF\n", NO_REPLY),
     (b"(1.000000) can0 14E72680#A0640000FFFFFF\n", NO_REPLY),
-    (b"(1.000000) can0 14E72680#A1640000FFFFFFFF\n", NO_REPLY),
+    (b"(1.000000) can0 14E72680#A2640000FFFFFFFF\n", NO_REPLY),
 ];
 
 const NO_REPLY: &str = "lines 1 frames 1 operator 0 skipped 0 comments 0 faults 0\n";

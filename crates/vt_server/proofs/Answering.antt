@@ -1,27 +1,57 @@
 -- What a message from the master of a set leaves, and its reply.
-use Rattle.std.proofs.Common.{◌≡◌, ℕ, true, false, List, [], ◌∷◌, Option, Some, None, Result, Ok, Err, is_some, true≢false, refl, sym, ap, ◌∙◌}
+use Rattle.std.proofs.Common.{◌≡◌, ℕ, true, false, cond, List, [], ◌∷◌, Option, Some, None, is_some, true≢false, refl, sym, ap, ◌∙◌}
 use Rattle.std.specs.Option.{option_map, option_to_list}
 use Rattle.vt_can.specs.declared.frames.frame.Frame.{Frame}
 use Rattle.vt_names.specs.Registry.{Set, set_at}
+use Rattle.vt_objects.specs.declared.command.Command.{Command}
 use Rattle.vt_objects.specs.Commands.{command_at}
 use Rattle.vt_objects.specs.Stores.{Contents}
+use Rattle.vt_machine.specs.declared.live.Outcome.{Outcome}
+use Rattle.vt_machine.specs.declared.live.Outcome.TheVariants as outcomes
+use Rattle.vt_machine.specs.Effects.{effect}
+use Rattle.vt_machine.specs.Lives.{SetState, Applied, with_objects}
+use Rattle.vt_machine.specs.Machines.{events_of}
 use Rattle.vt_server.specs.declared.bus.Notice.TheVariants.{Message}
-use Rattle.vt_server.specs.declared.hiding.HideRefusal.{HideRefusal}
-use Rattle.vt_server.specs.Hiding.{hide_effect, after_effect, error_of, error_byte, reply_bytes, DoneAs}
+use Rattle.vt_server.specs.Commands.{store_of, after_done, error_in, objects_after, state_after, error_of, bits_of, deletes, pool_after, error_after}
 use Rattle.vt_server.specs.Messages.{message_to, technical_reply}
-use Rattle.vt_server.specs.Parts.{Part, Outcome, Hears, unchanged, outcome, hide_show_in, after_command, after_message, after_reply}
+use Rattle.vt_server.specs.Parts as parts
+use Rattle.vt_server.specs.Parts.{Part, Hears, unchanged, outcome, answered, after_command, after_message, after_reply}
+use Rattle.vt_server.specs.Replies.{reply_to}
 use Rattle.vt_server.specs.Terminals.{State, part, put, after_act, with_pool_at}
-use Rattle.vt_server.proofs.Puts.{put-kept, sets-same, pools-twice, act-is}
+use Rattle.vt_server.proofs.Puts.{put-kept, sets-same, act-is}
 
-pub done_error : {X : Type 0} (r : Result (Unit {0}) HideRefusal) (e : Result X HideRefusal) → DoneAs r e → error_of r ≡ error_of e
-done_error (Ok done) (Ok x) is = refl
-done_error (Ok done) (Err other) is = absurd is
-done_error (Err refusal) (Ok x) is = absurd is
-done_error (Err refusal) (Err other) is = ap error_byte is
+-- ---- what a command makes of the objects
+
+-- the error byte of what a command came to
+pub applied-error : (old new : Contents) (command : Command) (outcome : Outcome) → Applied old command outcome new → bits_of outcome ≡ error_in (effect old command)
+applied-error old new command (outcomes.Done steps) is = sym (ap error_in is.done)
+applied-error old new command (outcomes.Refused bits) is = sym (ap error_in is.refused)
+
+pub applied-objects : (old new : Contents) (command : Command) (outcome : Outcome) → Applied old command outcome new → new ≡ objects_after command old
+applied-objects old new command (outcomes.Done steps) is =
+    sym (ap (after_done old (events_of old command)) is.done ∙ ap store_of is.has_run.ended)
+applied-objects old new command (outcomes.Refused bits) is = is.same ∙ sym (ap (after_done old (events_of old command)) is.refused)
+
+-- the pool after a command that does not delete it
+pub applied-state : (old new : SetState) (command : Command) (outcome : Outcome) → Applied old.objects command outcome new.objects → new ≡ with_objects old new.objects
+    → new ≡ state_after command old
+applied-state old new command outcome is kept = kept ∙ ap (with_objects old) (applied-objects old.objects new.objects command outcome is)
+
+pub pool-deleted : (command : Command) (o : Option SetState) → true ≡ deletes command → None ≡ pool_after command o
+pool-deleted command o is = ap (λ b. cond b None (option_map (state_after command) o)) is
+
+pub error-deleted : (command : Command) (o : Option SetState) → true ≡ deletes command → Some 0 ≡ error_after command o
+error-deleted command o is = ap (λ b. cond b (Some 0) (option_map (error_of command) o)) is
+
+pub pool-changed : (command : Command) (o p : Option SetState) → false ≡ deletes command → p ≡ option_map (state_after command) o → p ≡ pool_after command o
+pool-changed command o p is changed = changed ∙ ap (λ b. cond b None (option_map (state_after command) o)) is
+
+pub error-changed : (command : Command) (o : Option SetState) (e : Option ℕ) → false ≡ deletes command → e ≡ option_map (error_of command) o → e ≡ error_after command o
+error-changed command o e is changed = changed ∙ ap (λ b. cond b (Some 0) (option_map (error_of command) o)) is
 
 -- ---- what is answered
 
-abbrev pub reply : State → ℕ → List ℕ → Outcome
+abbrev pub reply : State → ℕ → List ℕ → parts.Outcome
 reply s a bytes = outcome a (part a s) (Hears Message bytes)
 
 no_set : (s : State) (a : ℕ) (bytes : List ℕ) (o : Option Set) → false ≡ is_some o → after_message a (part a s) bytes o ≡ unchanged (part a s)
@@ -31,10 +61,6 @@ no_set s a bytes (Some set) none = absurd (true≢false (sym none))
 a_set : (s : State) (a : ℕ) (bytes : List ℕ) (o : Option Set) → true ≡ is_some o → after_message a (part a s) bytes o ≡ after_reply a (part a s) bytes (technical_reply bytes)
 a_set s a bytes None some = absurd (true≢false some)
 a_set s a bytes (Some set) some = refl
-
-no_asked : (s : State) (a : ℕ) (o : Option Contents) → after_command a (part a s) None o ≡ unchanged (part a s)
-no_asked s a None = refl
-no_asked s a (Some contents) = refl
 
 -- a set isn't there
 pub reply-unregistered : (s : State) (a : ℕ) (bytes : List ℕ) → false ≡ is_some (set_at a s.sets) → reply s a bytes ≡ unchanged (part a s)
@@ -46,61 +72,34 @@ module _ (s : State) (a : ℕ) (bytes : List ℕ) (some : true ≡ is_some (set_
       → reply s a bytes ≡ record { set = set_at a s.sets; pool = s.pools a; frames = message_to s.claims.own a r ∷ [] }
   reply-technical r is = a_set s a bytes (set_at a s.sets) some ∙ ap (after_reply a (part a s) bytes) (sym is)
 
-  -- another message
-  pub reply-commanded : (asked : Option (ℕ × ℕ)) → None ≡ technical_reply bytes → asked ≡ hide_show_in (command_at bytes)
-      → reply s a bytes ≡ after_command a (part a s) asked (s.pools a)
-  reply-commanded asked none is =
-      a_set s a bytes (set_at a s.sets) some ∙ ap (after_reply a (part a s) bytes) (sym none)
-      ∙ ap (λ (o : Option (ℕ × ℕ)). after_command a (part a s) o (s.pools a)) (sym is)
+  -- it is a command
+  pub reply-commanded : (o : Option Command) → None ≡ technical_reply bytes → o ≡ command_at bytes
+      → reply s a bytes ≡ after_command a (part a s) o
+  reply-commanded o none is =
+      a_set s a bytes (set_at a s.sets) some ∙ ap (after_reply a (part a s) bytes) (sym none) ∙ ap (after_command a (part a s)) (sym is)
 
-  pub reply-other : None ≡ technical_reply bytes → None ≡ hide_show_in (command_at bytes) → reply s a bytes ≡ unchanged (part a s)
-  reply-other none other = reply-commanded None none other ∙ no_asked s a (s.pools a)
-
--- ---- Hide/Show
-
-abbrev pub shown_pool : ℕ → ℕ → Option Contents → Option Contents
-shown_pool id state o = option_map (λ (m : Contents). after_effect m (hide_effect m id state)) o
-
-abbrev pub shown_error : ℕ → ℕ → Option Contents → Option ℕ
-shown_error id state o = option_map (λ (m : Contents). error_of (hide_effect m id state)) o
-
-commanded-is : (p : Part) (a id state : ℕ) (o : Option Contents) → p.pool ≡ o
-    → after_command a p (Some (id, state)) o
-    ≡ record { set = p.set; pool = shown_pool id state o; frames = option_to_list (option_map (λ (e : ℕ). message_to p.terminal a (reply_bytes id state e)) (shown_error id state o)) }
-commanded-is p a id state None e = ap (λ (o : Option Contents). record { set = p.set; pool = o; frames = [] }) e
-commanded-is p a id state (Some contents) e = refl
-
-put-pool : (s : State) (a : ℕ) (o : Option Contents) (frames : List Frame) (pools : ℕ → Option Contents) → pools ≡ with_pool_at a o s.pools
+put-pool : (s : State) (a : ℕ) (o : Option SetState) (frames : List Frame) (pools : ℕ → Option SetState) → pools ≡ with_pool_at a o s.pools
     → record s { pools = pools } ≡ put a (record { set = set_at a s.sets; pool = o; frames = frames }) s
 put-pool s a o frames pools e = λ i. record s { sets = sym (sets-same a s.sets (set_at a s.sets) refl) i; pools = e i }
 
-module _ (s : State) (a : ℕ) (bytes : List ℕ) (id state : ℕ) (some : true ≡ is_some (set_at a s.sets)) (none : None ≡ technical_reply bytes)
-    (is : Some (id, state) ≡ hide_show_in (command_at bytes)) where
-  shown-is : reply s a bytes
-      ≡ record { set = set_at a s.sets; pool = shown_pool id state (s.pools a); frames = option_to_list (option_map (λ (e : ℕ). message_to s.claims.own a (reply_bytes id state e)) (shown_error id state (s.pools a))) }
-  shown-is = reply-commanded s a bytes some (Some (id, state)) none is ∙ commanded-is (part a s) a id state (s.pools a) refl
+module _ (s : State) (a : ℕ) (bytes : List ℕ) (command : Command) (some : true ≡ is_some (set_at a s.sets)) (none : None ≡ technical_reply bytes)
+    (is : Some command ≡ command_at bytes) where
+  commanded-is : reply s a bytes ≡ answered a (part a s) command (pool_after command (s.pools a)) (error_after command (s.pools a))
+  commanded-is = reply-commanded s a bytes some (Some command) none is
 
-  pub shown-state : (pools : ℕ → Option Contents) → pools ≡ with_pool_at a (shown_pool id state (s.pools a)) s.pools
+  pub commanded-state : (pools : ℕ → Option SetState) → pools ≡ with_pool_at a (pool_after command (s.pools a)) s.pools
       → record s { pools = pools } ≡ after_act s a (Hears Message bytes)
-  shown-state pools e =
-      put-pool s a (shown_pool id state (s.pools a)) (reply s a bytes).frames pools e
-      ∙ (λ i. put a (record { set = (sym shown-is i).set; pool = (sym shown-is i).pool; frames = (reply s a bytes).frames }) s)
+  commanded-state pools e =
+      put-pool s a (pool_after command (s.pools a)) (answered a (part a s) command (pool_after command (s.pools a)) (error_after command (s.pools a))).frames pools e
+      ∙ ap (λ (t : parts.Outcome). put a t s) (sym commanded-is)
       ∙ sym (act-is s a (Hears Message bytes))
 
-  pub shown-frames : (error : Option ℕ) → error ≡ shown_error id state (s.pools a)
-      → option_to_list (option_map (λ (e : ℕ). message_to s.claims.own a (reply_bytes id state e)) error) ≡ (reply s a bytes).frames
-  shown-frames error e =
-      ap (λ (o : Option ℕ). option_to_list (option_map (λ (x : ℕ). message_to s.claims.own a (reply_bytes id state x)) o)) e
-      ∙ sym (ap (λ (t : Outcome). t.frames) shown-is)
+  pub commanded-frames : (error : Option ℕ) → error ≡ error_after command (s.pools a)
+      → option_to_list (option_map (λ (e : ℕ). message_to s.claims.own a (reply_to command e)) error) ≡ (reply s a bytes).frames
+  commanded-frames error e =
+      ap (λ (o : Option ℕ). option_to_list (option_map (λ (x : ℕ). message_to s.claims.own a (reply_to command x)) o)) e
+      ∙ sym (ap (λ (t : parts.Outcome). t.frames) commanded-is)
 
 -- what a message leaves that doesn't change the part
 pub kept-state : (s : State) (a : ℕ) (bytes : List ℕ) → (reply s a bytes).set ≡ set_at a s.sets → (reply s a bytes).pool ≡ s.pools a → s ≡ after_act s a (Hears Message bytes)
 kept-state s a bytes e f = sym (act-is s a (Hears Message bytes) ∙ put-kept a s (reply s a bytes) e f)
-
--- a pool that was taken out and put again
-pub pool-again : (pools taken put_again : ℕ → Option Contents) (a id state : ℕ) (old new : Contents) → Some old ≡ pools a → taken ≡ with_pool_at a None pools
-    → put_again ≡ with_pool_at a (Some new) taken → new ≡ after_effect old (hide_effect old id state) → put_again ≡ with_pool_at a (shown_pool id state (pools a)) pools
-pool-again pools taken put_again a id state old new there left again is =
-    again ∙ ap (with_pool_at a (Some new)) left ∙ pools-twice a pools (Some new) None
-    ∙ ap (λ (x : Contents). with_pool_at a (Some x) pools) is
-    ∙ ap (λ (o : Option Contents). with_pool_at a (shown_pool id state o) pools) there

@@ -3,10 +3,10 @@ use Rattle.std.proofs.Common.{ap, ◌∙◌, ◌≡◌, ℕ, Bool, true, false, 
 use Rattle.std.specs.Option.{option_eq}
 use Rattle.vt_names.specs.Claims.{OtherHoldersStay}
 use Rattle.vt_names.specs.Registry.{Set, set_at, has_place, joined}
-use Rattle.vt_objects.specs.Stores.{Contents}
+use Rattle.vt_objects.specs.declared.command.Command.{Command}
 use Rattle.vt_objects.specs.Commands.{command_at}
 use Rattle.vt_server.specs.Messages.{technical_reply}
-use Rattle.vt_server.specs.Parts.{Part, Preloads, unchanged, without_set, outcome_of_notice, after_change, with_holder_name, after_claim_heard, after_master, after_member, hide_show_in, after_command, after_reply, after_message}
+use Rattle.vt_server.specs.Parts.{Part, Preloads, unchanged, without_set, outcome_of_notice, after_change, with_holder_name, after_claim_heard, after_master, after_member, after_command, after_reply, after_message}
 use Rattle.vt_server.specs.Terminals.{State, holder, part, after_act}
 use Rattle.vt_server.specs.Happenings.{Happening, FrameHeard, HolderIs, Lost, Preloaded, Response, without_effect, with_holder, response, response_while, part_after_all, happenings, NameIsHeld, SetIsHeld, SetsHoldTheirAddress}
 use Rattle.vt_server.specs.declared.bus.Notice.{Notice}
@@ -40,14 +40,12 @@ member-held : (p : Part) (o : Option Set) (name : ℕ) → SetIsHeld p.set p.hol
 member-held p None name has its = has
 member-held p (Some set) name has its = join-held (has_place set) set name p.holder its
 
-commanded-held : (a : ℕ) (p : Part) (asked : Option (ℕ × ℕ)) (o : Option Contents) → SetIsHeld p.set p.holder → SetIsHeld (after_command a p asked o).set p.holder
-commanded-held a p None None has = has
-commanded-held a p None (Some c) has = has
-commanded-held a p (Some x) None has = has
-commanded-held a p (Some x) (Some c) has = has
+commanded-held : (a : ℕ) (p : Part) (o : Option Command) → SetIsHeld p.set p.holder → SetIsHeld (after_command a p o).set p.holder
+commanded-held a p None has = has
+commanded-held a p (Some command) has = has
 
 technical-held : (a : ℕ) (p : Part) (bytes : List ℕ) (o : Option (List ℕ)) → SetIsHeld p.set p.holder → SetIsHeld (after_reply a p bytes o).set p.holder
-technical-held a p bytes None has = commanded-held a p (hide_show_in (command_at bytes)) p.pool has
+technical-held a p bytes None has = commanded-held a p (command_at bytes) has
 technical-held a p bytes (Some reply) has = has
 
 message-held : (a : ℕ) (p : Part) (bytes : List ℕ) (o : Option Set) → SetIsHeld p.set p.holder → SetIsHeld (after_message a p bytes o).set p.holder

@@ -1,6 +1,5 @@
 mod Answering
 mod ClaimsHeard
-mod Effects
 mod Happened
 mod Held
 mod Own

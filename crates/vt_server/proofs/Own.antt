@@ -3,10 +3,10 @@ use Rattle.std.proofs.Common.{◌≡◌, ◌≢◌, ℕ, Bool, true, false, cond
 use Rattle.std.specs.Option.{option_eq}
 use Rattle.vt_can.specs.declared.frames.frame.Frame.{Frame}
 use Rattle.vt_names.specs.Registry.{Set, set_at, with_set, without, has_place, joined}
-use Rattle.vt_objects.specs.Stores.{Contents}
+use Rattle.vt_objects.specs.declared.command.Command.{Command}
 use Rattle.vt_objects.specs.Commands.{command_at}
 use Rattle.vt_server.specs.Messages.{technical_reply}
-use Rattle.vt_server.specs.Parts.{Part, Act, Hears, Rebinds, Preloads, unchanged, without_set, outcome, outcome_of_notice, after_change, with_holder_name, after_claim_heard, after_master, after_member, hide_show_in, after_command, after_reply, after_message}
+use Rattle.vt_server.specs.Parts.{Part, Act, Hears, Rebinds, Preloads, unchanged, without_set, outcome, outcome_of_notice, after_change, with_holder_name, after_claim_heard, after_master, after_member, after_command, after_reply, after_message}
 use Rattle.vt_server.specs.Terminals.{State, Sent, part, after_act, after_acts, sent_by_act, sent_by_acts, to_one, with_set_at}
 use Rattle.vt_server.specs.Happenings.{response_of, frames_to}
 use Rattle.vt_server.specs.declared.bus.Notice.{Notice}
@@ -56,14 +56,12 @@ member-address : (a : ℕ) (p : Part) (o : Option Set) (name : ℕ) → HasAddre
 member-address a p None name has its = has
 member-address a p (Some set) name has its = join-address (has_place set) set name ∙ its
 
-commanded-address : (a : ℕ) (p : Part) (asked : Option (ℕ × ℕ)) (o : Option Contents) → HasAddress a p.set → HasAddress a (after_command a p asked o).set
-commanded-address a p None None has = has
-commanded-address a p None (Some c) has = has
-commanded-address a p (Some x) None has = has
-commanded-address a p (Some x) (Some c) has = has
+commanded-address : (a : ℕ) (p : Part) (o : Option Command) → HasAddress a p.set → HasAddress a (after_command a p o).set
+commanded-address a p None has = has
+commanded-address a p (Some command) has = has
 
 technical-address : (a : ℕ) (p : Part) (bytes : List ℕ) (o : Option (List ℕ)) → HasAddress a p.set → HasAddress a (after_reply a p bytes o).set
-technical-address a p bytes None has = commanded-address a p (hide_show_in (command_at bytes)) p.pool has
+technical-address a p bytes None has = commanded-address a p (command_at bytes) has
 technical-address a p bytes (Some reply) has = has
 
 message-address : (a : ℕ) (p : Part) (bytes : List ℕ) (o : Option Set) → HasAddress a p.set → HasAddress a (after_message a p bytes o).set

@@ -1,10 +1,10 @@
 -- What is written at one address.
 use Rattle.std.proofs.Common.{◌≡◌, ◌≢◌, ℕ, Bool, true, false, cond, not, eqb, List, [], ◌∷◌, ◌++◌, map, length, get_or, ◌<◌, inl, inr, Option, Some, None, true≢false, is_some, unwrap_or, refl, sym, ap, subst, ◌∙◌, eq-eqb, ne_eqb}
 use Rattle.std.proofs.lemmas.Bool.{eqb-true, false≢true, cases_lt}
-use Rattle.std.specs.Option.{option_map}
 use Rattle.std.proofs.Math.ListN.{get_or-eq_default}
-use Rattle.vt_objects.specs.declared.sorted_store.SortedStore.{SortedStore}
-use Rattle.vt_objects.specs.Stores.{Contents, map_of}
+use Rattle.std.proofs.lemmas.List.{get_or-set_same, get_or-set_other}
+use Rattle.std.specs.Prelude.{slice_set}
+use Rattle.vt_machine.specs.Lives.{SetState}
 use Rattle.vt_names.specs.Registry.{Set, set_at, with_set, without}
 use Rattle.vt_server.specs.Parts.{Outcome, Act, unchanged, outcome}
 use Rattle.vt_server.specs.Terminals.{State, to_one, part, put, after_act, after_acts, sent_by_act, with_set_at, with_pool_at}
@@ -82,7 +82,7 @@ sets-same a sets (Some s) e = set-same a s sets e
 
 -- ---- pools
 
-pub pools-same : (a : ℕ) (pools : ℕ → Option Contents) (o : Option Contents) → pools a ≡ o → with_pool_at a o pools ≡ pools
+pub pools-same : (a : ℕ) (pools : ℕ → Option SetState) (o : Option SetState) → pools a ≡ o → with_pool_at a o pools ≡ pools
 pools-same a pools o e = λ i b. at b i
   where
     cases : (b : ℕ) (same : Bool) → eqb b a ≡ same → cond same o (pools b) ≡ pools b
@@ -92,7 +92,7 @@ pools-same a pools o e = λ i b. at b i
     at : (b : ℕ) → with_pool_at a o pools b ≡ pools b
     at b = cases b (eqb b a) refl
 
-pub pools-twice : (a : ℕ) (pools : ℕ → Option Contents) (x y : Option Contents) → with_pool_at a x (with_pool_at a y pools) ≡ with_pool_at a x pools
+pub pools-twice : (a : ℕ) (pools : ℕ → Option SetState) (x y : Option SetState) → with_pool_at a x (with_pool_at a y pools) ≡ with_pool_at a x pools
 pools-twice a pools x y = λ i b. at b i
   where
     cases : (b : ℕ) (same : Bool) → cond same x (cond same y (pools b)) ≡ cond same x (pools b)
@@ -103,16 +103,29 @@ pools-twice a pools x y = λ i b. at b i
     at b = cases b (eqb b a)
 
 -- places that are all empty hold no pool
-pub no-pools : (places : List (Option SortedStore)) → length places ≡ 256 → ((q : ℕ) → q < 256 → get_or places q None ≡ None)
-    → (address : ℕ) → option_map map_of (get_or places address None) ≡ None
-no-pools places long empty address = elim (cases_lt address (length places)) as (λ _. option_map map_of (get_or places address None) ≡ None) [
-  | inl h ↦ ap (option_map map_of) (empty address (subst (λ n. address < n) long h))
-  | inr h ↦ ap (option_map map_of) (get_or-eq_default places None h)
+pub no-pools : (places : List (Option SetState)) → length places ≡ 256 → ((q : ℕ) → q < 256 → get_or places q None ≡ None)
+    → (address : ℕ) → get_or places address None ≡ None
+no-pools places long empty address = elim (cases_lt address (length places)) as (λ _. get_or places address None ≡ None) [
+  | inl h ↦ empty address (subst (λ n. address < n) long h)
+  | inr h ↦ get_or-eq_default places None h
 ]
+
+-- what stands at each address after a write
+pub place-written : (places : List (Option SetState)) (a n : ℕ) (o : Option SetState) → n ≡ a → a < length places
+    → (λ (q : ℕ). get_or (slice_set places n o) q None) ≡ with_pool_at a o (λ q. get_or places q None)
+place-written places a n o is within = ap (λ k. λ (q : ℕ). get_or (slice_set places k o) q None) is ∙ (λ i q. at q i)
+  where
+    at : (q : ℕ) → get_or (slice_set places a o) q None ≡ with_pool_at a o (λ r. get_or places r None) q
+    at q =
+        by_eq q a
+        (λ is.
+        ap (λ r. get_or (slice_set places a o) r None) is ∙ get_or-set_same places a o None within
+        ∙ sym (ap (λ b. cond b o (get_or places q None)) (eq-eqb q a is)))
+        (λ ne. get_or-set_other places a q o None ne ∙ sym (ap (λ b. cond b o (get_or places q None)) (ne_eqb q a ne)))
 
 -- ---- states
 
-pub state_is : (s : State) (sets : List Set) (pools : ℕ → Option Contents) → sets ≡ s.sets → pools ≡ s.pools → record s { sets = sets; pools = pools } ≡ s
+pub state_is : (s : State) (sets : List Set) (pools : ℕ → Option SetState) → sets ≡ s.sets → pools ≡ s.pools → record s { sets = sets; pools = pools } ≡ s
 state_is s sets pools e f = λ i. record s { sets = e i; pools = f i }
 
 pub put-kept : (a : ℕ) (s : State) (after : Outcome) → after.set ≡ set_at a s.sets → after.pool ≡ s.pools a → put a after s ≡ s

@@ -2,7 +2,7 @@
 use Rattle.std.proofs.Common.{◌≡◌, ℕ, true, false, cond, ◌||◌, List, [], ◌∷◌, Option, Some, None, refl, sym, ap, ◌∙◌, nat_eq}
 use Rattle.std.specs.Option.{option_eq}
 use Rattle.vt_names.specs.Registry.{Set, set_at, without, registering, binding, mastered, bound}
-use Rattle.vt_objects.specs.Stores.{Contents}
+use Rattle.vt_machine.specs.Lives.{SetState}
 use Rattle.vt_server.specs.Parts.{Part, Outcome, Act, Hears, Rebinds, Preloads, unchanged, without_set, outcome, after_master, with_holder_name, after_change, after_claim_heard, after_member}
 use Rattle.vt_server.specs.Parts as parts
 use Rattle.vt_server.specs.Terminals.{State, holder, part, put, after_act, after_acts, changed, with_set_at, with_pool_at}
@@ -11,7 +11,7 @@ use Rattle.vt_server.proofs.Puts.{put-kept, pools-same, act-is}
 
 -- where the set alone is another
 pub put-set : (a : ℕ) (s : State) (set : Option Set) → record s { sets = with_set_at a set s.sets } ≡ put a (parts.with_other_set (part a s) set) s
-put-set a s set = ap (λ (pools : ℕ → Option Contents). record s { sets = with_set_at a set s.sets; pools = pools }) (sym (pools-same a s.pools (s.pools a) refl))
+put-set a s set = ap (λ (pools : ℕ → Option SetState). record s { sets = with_set_at a set s.sets; pools = pools }) (sym (pools-same a s.pools (s.pools a) refl))
 
 -- ---- a master message
 
@@ -78,7 +78,7 @@ rebind-kept s a was set other there keeps =
     sym (acts-changed s a was other ∙ ap (λ o. put a (after_change (part a s) o) s) (sym there)
     ∙ ap (λ b. put a (cond b (unchanged (part a s)) without_set) s) keeps ∙ put-kept a s (unchanged (part a s)) refl refl)
 
-pub rebind-closed : (s : State) (a : ℕ) (was : Option ℕ) (set : Set) (sets : List Set) (pools : ℕ → Option Contents)
+pub rebind-closed : (s : State) (a : ℕ) (was : Option ℕ) (set : Set) (sets : List Set) (pools : ℕ → Option SetState)
     → option_eq nat_eq was (holder s a) ≡ false → Some set ≡ set_at a s.sets
     → (option_eq nat_eq set.name None || option_eq nat_eq set.name (holder s a)) ≡ false
     → sets ≡ without a s.sets → pools ≡ with_pool_at a None s.pools → record s { sets = sets; pools = pools } ≡ after_acts s (changed was s a)

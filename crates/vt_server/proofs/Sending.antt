@@ -5,12 +5,14 @@ use Rattle.vt_can.specs.frames.Identifier.{PartsAreIdentifiers, parts_of, pgn_of
 use Rattle.vt_can.specs.frames.Frame.{source_of}
 use Rattle.vt_names.specs.Claims.{answer}
 use Rattle.vt_names.specs.Registry.{Set, set_at}
+use Rattle.vt_objects.specs.declared.command.Command.{Command}
 use Rattle.vt_objects.specs.Commands.{command_at}
-use Rattle.vt_objects.specs.Stores.{Contents}
+use Rattle.vt_machine.specs.Lives.{SetState}
 use Rattle.vt_server.specs.Bus.{notice_of}
-use Rattle.vt_server.specs.Hiding.{hide_effect, error_of, reply_bytes}
+use Rattle.vt_server.specs.Commands.{pool_after, error_after}
+use Rattle.vt_server.specs.Replies.{reply_to}
 use Rattle.vt_server.specs.Messages.{message_to, claim_from, technical_reply}
-use Rattle.vt_server.specs.Parts.{Part, Hears, outcome, hide_show_in, after_command, after_message, after_reply}
+use Rattle.vt_server.specs.Parts.{Part, Hears, outcome, answered, after_command, after_message, after_reply}
 use Rattle.vt_server.specs.Terminals.{State, Sent, part, to_one, to_all, no_step, losing, acting, is_lost_by, is_defended, answer_to}
 use Rattle.vt_server.specs.States.{step}
 use Rattle.vt_server.specs.Sending.{IsAddressed, AreAddressed, SentAreAddressed}
@@ -25,16 +27,19 @@ AreReplies : ℕ → ℕ → List Frame → Type 0
 AreReplies own address [] = Unit {0}
 AreReplies own address (f ∷ frames) = (bytes : List ℕ) × (f ≡ message_to own address bytes) × (frames ≡ [])
 
-commanded-replies : (a : ℕ) (p : Part) (asked : Option (ℕ × ℕ)) (o : Option Contents) → AreReplies p.terminal a (after_command a p asked o).frames
+answered-replies : (a : ℕ) (p : Part) (command : Command) (pool : Option SetState) (error : Option ℕ) → AreReplies p.terminal a (answered a p command pool error).frames
 unfolding AreReplies
-commanded-replies a p None None = tt
-commanded-replies a p None (Some c) = tt
-commanded-replies a p (Some x) None = tt
-commanded-replies a p (Some x) (Some c) = (reply_bytes x.0 x.1 (error_of (hide_effect c x.0 x.1)), refl, refl)
+answered-replies a p command pool None = tt
+answered-replies a p command pool (Some error) = (reply_to command error, refl, refl)
+
+commanded-replies : (a : ℕ) (p : Part) (o : Option Command) → AreReplies p.terminal a (after_command a p o).frames
+unfolding AreReplies
+commanded-replies a p None = tt
+commanded-replies a p (Some command) = answered-replies a p command (pool_after command p.pool) (error_after command p.pool)
 
 technical-replies : (a : ℕ) (p : Part) (bytes : List ℕ) (o : Option (List ℕ)) → AreReplies p.terminal a (after_reply a p bytes o).frames
 unfolding AreReplies
-technical-replies a p bytes None = commanded-replies a p (hide_show_in (command_at bytes)) p.pool
+technical-replies a p bytes None = commanded-replies a p (command_at bytes)
 technical-replies a p bytes (Some reply) = (reply, refl, refl)
 
 replies : (a : ℕ) (p : Part) (bytes : List ℕ) (o : Option Set) → AreReplies p.terminal a (after_message a p bytes o).frames

@@ -4,11 +4,11 @@ use Rattle.vt_can.specs.declared.frames.frame.Frame.{Frame}
 use Rattle.vt_can.specs.frames.Frame.{source_of}
 use Rattle.vt_names.specs.Claims.{Claimed, OtherHoldersStay, holder_of}
 use Rattle.vt_names.specs.Registry.{Set, set_at, with_set, registering, joining, mastered, joined, has_place, preloaded}
+use Rattle.vt_objects.specs.declared.command.Command.{Command}
 use Rattle.vt_objects.specs.Commands.{command_at}
-use Rattle.vt_objects.specs.Stores.{Contents}
 use Rattle.vt_server.specs.Bus.{notice_of, frame_notice, unless_echo}
 use Rattle.vt_server.specs.Messages.{technical_reply}
-use Rattle.vt_server.specs.Parts.{Part, Hears, Preloads, hide_show_in, after_command, after_reply, after_message}
+use Rattle.vt_server.specs.Parts.{Part, Hears, Preloads, after_command, after_reply, after_message}
 use Rattle.vt_server.specs.Terminals.{State, holder, part, acts, no_step, losing, acting, is_lost_by, answer_to, with_set_at}
 use Rattle.vt_server.specs.States.{step}
 use Rattle.vt_server.specs.Happenings.{IsOrderly, SetIsHeld}
@@ -27,14 +27,12 @@ use Rattle.vt_server.proofs.Steps.{claims-acts, member-state}
 
 -- ---- a message leaves the set
 
-commanded-set : (a : ℕ) (p : Part) (asked : Option (ℕ × ℕ)) (o : Option Contents) → (after_command a p asked o).set ≡ p.set
-commanded-set a p None None = refl
-commanded-set a p None (Some c) = refl
-commanded-set a p (Some x) None = refl
-commanded-set a p (Some x) (Some c) = refl
+commanded-set : (a : ℕ) (p : Part) (o : Option Command) → (after_command a p o).set ≡ p.set
+commanded-set a p None = refl
+commanded-set a p (Some command) = refl
 
 technical-set : (a : ℕ) (p : Part) (bytes : List ℕ) (o : Option (List ℕ)) → (after_reply a p bytes o).set ≡ p.set
-technical-set a p bytes None = commanded-set a p (hide_show_in (command_at bytes)) p.pool
+technical-set a p bytes None = commanded-set a p (command_at bytes)
 technical-set a p bytes (Some reply) = refl
 
 message-set : (a : ℕ) (p : Part) (bytes : List ℕ) (o : Option Set) → (after_message a p bytes o).set ≡ p.set

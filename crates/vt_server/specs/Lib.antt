@@ -1,10 +1,11 @@
 -- What the contracts of this crate cite.
 pub mod Bus
 pub mod ClaimsHeard
+pub mod Commands
 pub mod Happenings
-pub mod Hiding
 pub mod Messages
 pub mod Parts
+pub mod Replies
 pub mod Sending
 pub mod SetLists
 pub mod States

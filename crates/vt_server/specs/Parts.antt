@@ -1,14 +1,15 @@
 -- What happens at one address: its set, its pool, and the frames to it.
 use Rattle.std.specs.Prelude.{ℕ, ◌||◌, Bool, if◌then◌else◌, List, [], ◌∷◌, Option, Some, None, nat_eq}
-use Rattle.std.specs.Option.{option_eq}
+use Rattle.std.specs.Option.{option_eq, option_map, option_to_list}
 use Rattle.vt_can.specs.declared.frames.frame.Frame.{Frame}
 use Rattle.vt_names.specs.Registry.{Set, mastered, has_place, joined, preloaded, bound}
 use Rattle.vt_objects.specs.declared.command.Command.{Command}
-use Rattle.vt_objects.specs.declared.command.Command.TheVariants.{HideShow}
 use Rattle.vt_objects.specs.Commands.{command_at}
 use Rattle.vt_objects.specs.Stores.{Contents}
-use Rattle.vt_server.specs.Hiding.{hide_effect, after_effect, error_of, reply_bytes}
+use Rattle.vt_machine.specs.Lives.{SetState}
+use Rattle.vt_server.specs.Commands.{fresh, pool_after, error_after}
 use Rattle.vt_server.specs.Messages.{message_to, technical_reply}
+use Rattle.vt_server.specs.Replies.{reply_to}
 use Rattle.vt_server.specs.declared.bus.Notice.{Notice}
 use Rattle.vt_server.specs.declared.bus.Notice.TheVariants.{Claim, Master, Member, Message}
 
@@ -19,12 +20,12 @@ pub record Part : Type 0 where
   pub lost : Bool
   pub holder : Option ℕ
   pub set : Option Set
-  pub pool : Option Contents
+  pub pool : Option SetState
 
 -- what comes of it, and the frames to the address
 pub record Outcome : Type 0 where
   pub set : Option Set
-  pub pool : Option Contents
+  pub pool : Option SetState
   pub frames : List Frame
 
 -- What happens there: a frame from the address says something, with its bytes; the address has another
@@ -73,24 +74,21 @@ after_member p (Some set) name = with_other_set p (Some (if has_place set then j
 
 -- ---- messages of a set
 
--- the object and the state of a Hide/Show command
-abbrev pub hide_show_in : Option Command → Option (ℕ × ℕ)
-hide_show_in (Some (HideShow id state)) = Some (id, state)
-hide_show_in _ = None
+-- the pool that a command leaves, and its reply, if it has one
+abbrev pub answered : ℕ → Part → Command → Option SetState → Option ℕ → Outcome
+answered address p command pool error = record {
+  set = p.set;
+  pool = pool;
+  frames = option_to_list (option_map (λ e. message_to p.terminal address (reply_to command e)) error);
+}
 
--- a command, where there is a pool
-abbrev pub after_command : ℕ → Part → Option (ℕ × ℕ) → Option Contents → Outcome
-after_command address p (Some asked) (Some contents) =
-    let effect = hide_effect contents asked.0 asked.1 in record {
-      set = p.set;
-      pool = Some (after_effect contents effect);
-      frames = message_to p.terminal address (reply_bytes asked.0 asked.1 (error_of effect)) ∷ [];
-    }
-after_command address p _ _ = unchanged p
+abbrev pub after_command : ℕ → Part → Option Command → Outcome
+after_command address p None = unchanged p
+after_command address p (Some command) = answered address p command (pool_after command p.pool) (error_after command p.pool)
 
 abbrev pub after_reply : ℕ → Part → List ℕ → Option (List ℕ) → Outcome
 after_reply address p bytes (Some reply) = record { set = p.set; pool = p.pool; frames = message_to p.terminal address reply ∷ [] }
-after_reply address p bytes None = after_command address p (hide_show_in (command_at bytes)) p.pool
+after_reply address p bytes None = after_command address p (command_at bytes)
 
 -- Only the master of a set is answered.
 abbrev pub after_message : ℕ → Part → List ℕ → Option Set → Outcome
@@ -109,4 +107,4 @@ outcome_of_notice address p _ bytes = unchanged p
 abbrev pub outcome : ℕ → Part → Act → Outcome
 outcome address p (Hears notice bytes) = outcome_of_notice address p notice bytes
 outcome address p Rebinds = after_change p p.set
-outcome address p (Preloads contents) = record { set = Some (preloaded address); pool = Some contents; frames = [] }
+outcome address p (Preloads contents) = record { set = Some (preloaded address); pool = Some (fresh contents); frames = [] }

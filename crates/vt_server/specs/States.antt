@@ -1,7 +1,6 @@
 -- What a terminal is seen as.
 use Rattle.std.specs.Prelude.{ℕ, List, [], ◌∷◌, ◌++◌, map, Option, None, get_or}
-use Rattle.std.specs.Option.{option_map}
-use Rattle.vt_objects.specs.Stores.{Contents, map_of}
+use Rattle.vt_machine.specs.Lives.{SetState}
 use Rattle.vt_server.specs.declared.pools.Pools.{Pools}
 use Rattle.vt_server.specs.declared.terminal.Terminal.{Terminal}
 use Rattle.vt_server.specs.declared.output.Output.{Output}
@@ -11,8 +10,8 @@ use Rattle.vt_server.specs.declared.input.Input.{Input}
 use Rattle.vt_server.specs.declared.input.Input.TheVariants as inputs
 
 -- the pool of each address
-abbrev pub pools_of : Pools → ℕ → Option Contents
-pools_of pools address = option_map map_of (get_or pools.places address None)
+abbrev pub pools_of : Pools → ℕ → Option SetState
+pools_of pools address = get_or pools.places address None
 
 abbrev pub state_of : Terminal → State
 state_of t = record { claims = t.claims; sets = t.registry.sets; pools = pools_of t.pools; lost = t.lost }

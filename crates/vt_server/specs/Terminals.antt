@@ -8,7 +8,7 @@ use Rattle.vt_names.specs.Claims.{Claimed, heard, address_of, holder_of, answer}
 use Rattle.vt_names.specs.declared.claims.Heard.{Heard}
 use Rattle.vt_names.specs.declared.claims.Heard.TheVariants as claims
 use Rattle.vt_names.specs.Registry.{Set, set_at, with_set, without}
-use Rattle.vt_objects.specs.Stores.{Contents}
+use Rattle.vt_machine.specs.Lives.{SetState}
 use Rattle.vt_server.specs.Bus.{notice_of}
 use Rattle.vt_server.specs.Messages.{claim_from}
 use Rattle.vt_server.specs.Parts.{Part, Outcome, Act, Hears, Rebinds, outcome}
@@ -20,7 +20,7 @@ use Rattle.vt_server.specs.declared.bus.Notice.TheVariants.{Claim, ClaimRequest}
 pub record State : Type 0 where
   pub claims : Claimed
   pub sets : List Set
-  pub pools : ℕ → Option Contents
+  pub pools : ℕ → Option SetState
   pub lost : Bool
 
 -- a frame that is sent, to one address or to all
@@ -46,7 +46,7 @@ abbrev pub with_set_at : ℕ → Option Set → List Set → List Set
 with_set_at address None sets = without address sets
 with_set_at address (Some set) sets = with_set set sets
 
-abbrev pub with_pool_at : ℕ → Option Contents → (ℕ → Option Contents) → ℕ → Option Contents
+abbrev pub with_pool_at : ℕ → Option SetState → (ℕ → Option SetState) → ℕ → Option SetState
 with_pool_at address pool pools other = if other == address then pool else pools other
 
 abbrev pub put : ℕ → Outcome → State → State

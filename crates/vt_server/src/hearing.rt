@@ -6,16 +6,15 @@ ghost use Rattle.vt_server.specs.Parts.{Hears, outcome};
 ghost use Rattle.vt_server.specs.States.{state_of, outputs_of};
 ghost use Rattle.vt_server.specs.Terminals as spec;
 ghost use Rattle.vt_server.specs.declared.bus.Notice.TheVariants as notices;
-ghost use Rattle.vt_objects.specs.Commands.{command_at};
-ghost use Rattle.vt_server.specs.Parts.{hide_show_in};
 
 use crate::OutOfMemory;
 use crate::bus::{Notice, notice_of};
-use crate::messages::{hide_show_reply, message_to, technical_reply};
+use crate::commands::reply_to;
+use crate::messages::{message_to, technical_reply};
 use crate::output::{Output, send};
 use crate::terminal::Terminal;
 use vt_can::Frame;
-use vt_objects::{Command, ObjectId};
+use vt_objects::Command;
 
 /// At most so many outputs come of one input.
 const MOST_OUTPUTS: usize = 1024;
@@ -98,18 +97,8 @@ impl Terminal {
         if let Some(reply) = technical_reply(bytes) {
             return Some(message_to(own, source, reply));
         }
-        let (id, state) = hide_show_asked(bytes)?;
-        let error = self.pools.hide_show(source, id, state)?;
-        Some(message_to(own, source, hide_show_reply(id, state, error)))
-    }
-}
-
-/// The object and the state of a Hide/Show command, if the bytes are one.
-fn hide_show_asked(bytes: &[u8]) -> Option<(ObjectId, u8)>
-    ensures { result ≡ hide_show_in (command_at bytes.now) }
-{
-    match Command::read(bytes)? {
-        Command::HideShow { id, state } => Some((id, state)),
-        _ => None,
+        let command = Command::read(bytes)?;
+        let error = self.pools.apply(source, &command)?;
+        Some(message_to(own, source, reply_to(&command, error)))
     }
 }

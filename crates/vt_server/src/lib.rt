@@ -5,8 +5,8 @@
 
 mod bus;
 mod claiming;
+mod commands;
 mod hearing;
-mod hiding;
 mod input;
 mod law;
 mod messages;

@@ -1,7 +1,6 @@
 //! Messages from the terminal.
 
 ghost use Rattle.std.specs.Prelude.{◌≡◌, [], ◌∷◌};
-ghost use Rattle.vt_server.specs.Hiding.{reply_bytes};
 ghost use Rattle.vt_server.specs.Messages.{message_to, claim_from, memory_status, technical_reply};
 
 use arrayvec::ArrayVec;
@@ -9,7 +8,6 @@ use byteorder::{ByteOrder, LittleEndian};
 use vt_can::assigned::{ADDRESS_CLAIMED, GLOBAL_ADDRESS, VT_TO_ECU};
 use vt_can::{CanId, Frame};
 use vt_names::Name;
-use vt_objects::ObjectId;
 
 /// The priority of the terminal's messages.
 const MESSAGE_PRIORITY: u8 = 5;
@@ -64,13 +62,4 @@ fn memory_reply(asked: u32) -> [u8; 8]
 {
     let status = if asked <= MEMORY { 0 } else { 1 };
     [0xC0, VERSION, status, 0xFF, 0xFF, 0xFF, 0xFF, 0xFF]
-}
-
-/// The bytes of the reply to Hide/Show Object.
-pub(crate) fn hide_show_reply(id: ObjectId, state: u8, error: u8) -> [u8; 8]
-    ensures { result ≡ reply_bytes id state error }
-{
-    let mut bytes = [0xA0, 0, 0, state, error, 0xFF, 0xFF, 0xFF];
-    LittleEndian::write_u16(&mut bytes[1..3], id.raw());
-    bytes
 }

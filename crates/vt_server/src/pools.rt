@@ -2,18 +2,18 @@
 
 ghost use Rattle.std.specs.Prelude.{◌≡◌, ℕ, None, Some};
 ghost use Rattle.std.specs.Option.{option_map};
-ghost use Rattle.vt_objects.specs.Stores.{map_of};
-ghost use Rattle.vt_server.specs.Hiding.{hide_effect, after_effect, error_of};
+ghost use Rattle.vt_server.specs.Commands.{pool_after, error_after};
 ghost use Rattle.vt_server.specs.States.{pools_of};
 ghost use Rattle.vt_server.specs.Terminals.{with_pool_at};
 
-use crate::hiding::{HideRefusal, hide_show};
-use vt_objects::{ObjectId, SortedStore};
+use crate::commands::{deletes, error_byte};
+use vt_machine::Live;
+use vt_objects::{Command, SortedStore};
 
 /// At most one pool for each of the 256 addresses.
 #[derive(Drop)]
 pub(crate) struct Pools {
-    places: [Option<SortedStore>; 256],
+    places: [Option<Live<SortedStore>>; 256],
 }
 
 impl Pools {
@@ -25,16 +25,14 @@ impl Pools {
         }
     }
 
-    /// Takes the pool of an address out.
-    pub(crate) fn take(&mut self, address: u8) -> Option<SortedStore>
-        ensures found { option_map map_of result ≡ pools_of self.old address }
-        ensures left { pools_of self.new ≡ with_pool_at address None (pools_of self.old) }
+    pub(crate) fn get(&self, address: u8) -> Option<&Live<SortedStore>>
+        ensures { option_map (λ live. live.now) result ≡ pools_of self.now address }
     {
-        self.places[usize::from(address)].take()
+        self.places[usize::from(address)].as_ref()
     }
 
-    pub(crate) fn put(&mut self, address: u8, pool: SortedStore)
-        ensures { pools_of self.new ≡ with_pool_at address (Some (map_of pool)) (pools_of self.old) }
+    pub(crate) fn put(&mut self, address: u8, pool: Live<SortedStore>)
+        ensures { pools_of self.new ≡ with_pool_at address (Some pool) (pools_of self.old) }
     {
         self.places[usize::from(address)] = Some(pool);
     }
@@ -45,25 +43,18 @@ impl Pools {
         self.places[usize::from(address)] = None;
     }
 
-    /// Hides or shows an object of the pool of an address, and tells the error byte, if there is a pool.
-    pub(crate) fn hide_show(&mut self, address: u8, id: ObjectId, state: u8) -> Option<u8>
-        ensures pools { pools_of self.new ≡ with_pool_at address
-            (option_map (λ m. after_effect m (hide_effect m id state)) (pools_of self.old address)) (pools_of self.old) }
-        ensures error { result ≡ option_map (λ m. error_of (hide_effect m id state)) (pools_of self.old address) }
+    /// Does a command on the pool of an address, and tells the error byte of its reply, if it has one: none where there
+    /// is no pool. To delete the pool is done there too.
+    pub(crate) fn apply(&mut self, address: u8, command: &Command<'_>) -> Option<u8>
+        ensures pools { pools_of self.new
+            ≡ with_pool_at address (pool_after command.now (pools_of self.old address)) (pools_of self.old) }
+        ensures error { result ≡ error_after command.now (pools_of self.old address) }
     {
-        let mut pool = self.take(address)?;
-        let done = hide_show(&mut pool, id, state);
-        self.put(address, pool);
-        Some(error_of(done))
-    }
-}
-
-/// The error byte of a reply.
-fn error_of(done: Result<(), HideRefusal>) -> u8
-    ensures { result ≡ error_of done }
-{
-    match done {
-        Ok(()) => 0,
-        Err(refusal) => refusal.error_byte(),
+        if deletes(command) {
+            self.remove(address);
+            return Some(0);
+        }
+        let pool = self.places[usize::from(address)].as_mut()?;
+        Some(error_byte(pool.apply(command)))
     }
 }

@@ -1,8 +1,9 @@
 //! The terminal.
 
 ghost use Rattle.std.specs.Prelude.{◌≡◌, ◌≢◌, ◌≤◌, ◌++◌, ◌<◌, ℕ, [], ◌∷◌, None, Some, true, false, is_some, IsOk, IfOk, IfErr, OnOk, OnErr, length, take};
+ghost use Rattle.std.specs.Option.{option_map};
 ghost use Rattle.vt_names.specs.Registry.{set_at};
-ghost use Rattle.vt_pool.specs.Pools.{contents};
+ghost use Rattle.vt_objects.specs.Stores.{map_of};
 ghost use Rattle.vt_server.specs.Parts.{Preloads};
 ghost use Rattle.vt_server.specs.States.{IsOperator, state_of, outputs_of, step, after_all, sent_by_all};
 ghost use Rattle.vt_server.specs.Terminals as spec;
@@ -13,8 +14,9 @@ use crate::output::Output;
 use crate::pools::Pools;
 use std::alloc::Global;
 use thiserror::Error;
+use vt_machine::Live;
 use vt_names::{Claims, Name, Registry};
-use vt_objects::{SortedStore, Store};
+use vt_objects::SortedStore;
 use vt_verify::Accepted;
 
 /// A terminal at an address of its own: its working sets, their pools, and what it has heard of the
@@ -62,6 +64,13 @@ impl Terminal {
         self.registry.get(address).is_some()
     }
 
+    /// The object pool of the working set of an address, if it has one.
+    pub fn set(&self, address: u8) -> Option<&Live<SortedStore>>
+        ensures { option_map (λ live. live.now) result ≡ (state_of self.now).pools address }
+    {
+        self.pools.get(address)
+    }
+
     /// Adds a working set without a NAME, with the objects of an accepted pool. There is none of that address yet, and
     /// the address is at most 253 and not the terminal's own. Nothing is sent. After `OutOfMemory` the
     /// terminal is as it was. docs/PROFILE.md, "Preloaded sets".
@@ -69,12 +78,12 @@ impl Terminal {
         requires none { set_at address (state_of self.old).sets ≡ None }
         requires claimed { address ≤ 253 }
         requires other { address ≢ (state_of self.old).claims.own }
-        ensures ok { OnOk result (state_of self.new ≡ spec.after_act (state_of self.old) address (Preloads (contents pool.now))) }
+        ensures ok { OnOk result (state_of self.new ≡ spec.after_act (state_of self.old) address (Preloads (map_of pool.now))) }
         ensures err { OnErr result (state_of self.new ≡ state_of self.old) }
     {
-        let objects = SortedStore::from_objects(self.alloc, pool.objects())?;
+        let live = Live::new(self.alloc, pool)?;
         self.registry.preload(address)?;
-        self.pools.put(address, objects);
+        self.pools.put(address, live);
         Ok(())
     }
 

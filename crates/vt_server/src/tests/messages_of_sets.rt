@@ -1,6 +1,7 @@
 //! Messages of the masters of sets to the terminal.
 
 use super::*;
+use vt_objects::{Object, ObjectId};
 
 const CLAIM_80: &str = "18EEFF80#0100000000800020";
 
@@ -16,7 +17,7 @@ const KEYS: &str = "14E68026#C2FFFFFF40404006";
 type Said = (&'static [&'static str], &'static [&'static str]);
 
 // The messages of a set with a pool, and of others.
-const CASES: [Said; 13] = [
+const CASES: [Said; 16] = [
     // Hide and show, an absent object, one that is no container, and another state.
     (
         &["14E72680#A0640000FFFFFFFF"],
@@ -77,6 +78,83 @@ const CASES: [Said; 13] = [
         ],
         &[],
     ),
+    // The reply to each command of eight bytes, of some done and refused.
+    (
+        &[
+            "14E72680#A1640000FFFFFFFF",
+            "14E72680#A301E80364006400",
+            "14E72680#A464FFFFFFFFFFFF",
+            "14E72680#A465FFFFFFFFFFFF",
+            "14E72680#A5E80364007F80FF",
+            "14E72680#A664000A001400FF",
+            "14E72680#A7E80305FFFFFFFF",
+            "14E72680#A86400FF01020304",
+            "14E72680#A964000100010000",
+            "14E72680#AA640001020300FF",
+            "14E72680#AB640001020300FF",
+            "14E72680#AC640001020500FF",
+            "14E72680#AD0000E803FFFFFF",
+            "14E72680#AD00006400FFFFFF",
+            "14E72680#AE01E803FFFFFFFF",
+            "14E72680#AFE8030105000000",
+            "14E72680#AFE8036305000000",
+            "14E72680#B0640001FFFFFFFF",
+            "14E72680#B16400020500FFFF",
+            "14E72680#B36400010041",
+            "14E72680#BE6400FFFFFFFFFF",
+        ],
+        &[
+            "14E68026#A164000002FFFFFF",
+            "14E68026#A300FFFFFFFFFFFF",
+            "14E68026#A400FFFFFFFFFFFF",
+            "14E68026#A410FFFFFFFFFFFF",
+            "14E68026#A5E803640000FFFF",
+            "14E68026#A6640000FFFFFFFF",
+            "14E68026#A7E8030500FFFFFF",
+            "14E68026#A864000101020304",
+            "14E68026#A9640001FFFFFFFF",
+            "14E68026#AA640001FFFFFFFF",
+            "14E68026#AB640001FFFFFFFF",
+            "14E68026#AC640001FFFFFFFF",
+            "14E68026#ADE80300FFFFFFFF",
+            "14E68026#AD640002FFFFFFFF",
+            "14E68026#AEE803FFFF00FFFF",
+            "14E68026#AFE8030100FFFFFF",
+            "14E68026#AFE8036302FFFFFF",
+            "14E68026#B064000101FFFFFF",
+            "14E68026#B1640002050001FF",
+            "14E68026#B3FFFF640002FFFF",
+            "14E68026#BE640002FFFFFFFF",
+        ],
+    ),
+    // Commands that are too short, and functions between them that are none.
+    (
+        &[
+            "14E72680#A46400",
+            "14E72680#B2FFFFFFFFFFFF",
+            "14E72680#B3640000",
+            "14E72680#B4E80364000A0005",
+            "14E72680#A2FFFFFFFFFFFFFF",
+            "14E72680#B5FFFFFFFFFFFFFF",
+            "14E72680#BDFFFFFFFFFFFFFF",
+            "14E72680#BFFFFFFFFFFFFFFF",
+        ],
+        &[],
+    ),
+    // Delete Object Pool, and then without a pool: other commands have no reply.
+    (
+        &[
+            "14E72680#B2FFFFFFFFFFFFFF",
+            "14E72680#A0640000FFFFFFFF",
+            "14E72680#B2FFFFFFFFFFFFFF",
+            "14E72680#C2",
+        ],
+        &[
+            "14E68026#B200FFFFFFFFFFFF",
+            "14E68026#B200FFFFFFFFFFFF",
+            KEYS,
+        ],
+    ),
     // Of an address without a set nothing is heard, nor of the terminal's own.
     (
         &["14E72681#C2", "14E72681#A0640000FFFFFFFF", "14E72626#C2"],
@@ -127,4 +205,30 @@ const WITHOUT_A_POOL: [Case; 2] = [
 #[test]
 fn sets_without_a_pool(rt: HostRuntime) -> Result<(), Fail> {
     expect_cases(&rt, &WITHOUT_A_POOL)
+}
+
+// The pool of a set after its commands.
+#[test]
+fn pools_of_sets(rt: HostRuntime) -> Result<(), Fail> {
+    let mut terminal = started(&rt, true)?;
+    assert!(rt; terminal.set(0x81).is_none());
+    let hides = inputs_of(&rt, &["14E72680#A0640000FFFFFFFF"])?;
+    let mut outputs = Vec::new(rt.alloc());
+    run_all(&rt, &mut terminal, &hides, &mut outputs);
+    assert!(rt; is_hidden(&terminal));
+    let deletes = inputs_of(&rt, &["14E72680#B2FFFFFFFFFFFFFF"])?;
+    run_all(&rt, &mut terminal, &deletes, &mut outputs);
+    assert!(rt; terminal.set(0x80).is_none());
+    Ok(())
+}
+
+// Whether container 100 is hidden.
+fn is_hidden(terminal: &Terminal) -> bool {
+    let Some(live) = terminal.set(0x80) else {
+        return false;
+    };
+    match live.get(ObjectId::from_raw(100)) {
+        Some(Object::Container(container)) => container.hidden == 1,
+        _ => false,
+    }
 }

@@ -1,0 +1,57 @@
+-- What a command makes of the pool of its working set (docs/PROFILE.md, "Commands: form, tests, error byte and events", "Runs").
+use Rattle.std.specs.Prelude.{ℕ, Bool, true, false, if◌then◌else◌, List, Option, Some, None, Result, Ok, Err}
+use Rattle.std.specs.Option.{option_map}
+use Rattle.vt_objects.specs.declared.command.Command.{Command}
+use Rattle.vt_objects.specs.declared.command.Command.TheVariants.{DeletePool}
+use Rattle.vt_objects.specs.declared.raising.Raised.{Raised}
+use Rattle.vt_objects.specs.Stores.{Contents}
+use Rattle.vt_machine.specs.declared.live.Outcome.{Outcome}
+use Rattle.vt_machine.specs.declared.live.Outcome.TheVariants.{Done, Refused}
+use Rattle.vt_machine.specs.Effects.{effect}
+use Rattle.vt_machine.specs.Lives.{SetState, with_objects}
+use Rattle.vt_machine.specs.Machines.{End, Ended, Sticks, run_of, events_of}
+
+-- a pool in whose set no key is held and no input is selected
+abbrev pub fresh : Contents → SetState
+fresh objects = record { objects = objects; key = None; input = None }
+
+-- the objects that a run leaves; runs on the objects of an accepted pool never stick
+abbrev pub store_of : End → Contents
+store_of (Ended store left) = store
+store_of (Sticks why store) = store
+
+-- A command that is done leaves what the macros leave of the events that it raises, and a refused one changes nothing.
+abbrev pub after_done : Contents → List Raised → Result Contents ℕ → Contents
+after_done old raised (Ok middle) = store_of (run_of middle raised)
+after_done old raised (Err bits) = old
+
+abbrev pub objects_after : Command → Contents → Contents
+objects_after command old = after_done old (events_of old command) (effect old command)
+
+-- the error byte
+abbrev pub error_in : Result Contents ℕ → ℕ
+error_in (Ok middle) = 0
+error_in (Err bits) = bits
+
+abbrev pub error_of : Command → SetState → ℕ
+error_of command state = error_in (effect state.objects command)
+
+abbrev pub state_after : Command → SetState → SetState
+state_after command state = with_objects state (objects_after command state.objects)
+
+-- the error byte of what a command came to
+abbrev pub bits_of : Outcome → ℕ
+bits_of (Done steps) = 0
+bits_of (Refused bits) = bits
+
+-- Delete Object Pool, which is done without a pool too
+abbrev pub deletes : Command → Bool
+deletes DeletePool = true
+deletes _ = false
+
+-- the pool of a set after a command, and the error byte of its reply, if it has one
+abbrev pub pool_after : Command → Option SetState → Option SetState
+pool_after command pool = if deletes command then None else option_map (state_after command) pool
+
+abbrev pub error_after : Command → Option SetState → Option ℕ
+error_after command pool = if deletes command then Some 0 else option_map (error_of command) pool
