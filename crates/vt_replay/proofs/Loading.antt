@@ -14,6 +14,7 @@ use Rattle.vt_replay.specs.declared.options.Options.{Options}
 use Rattle.vt_replay.specs.declared.options.Preload.{Preload}
 use Rattle.vt_replay.specs.Replays.{IsReplay}
 use Rattle.vt_replay.specs.Runs.{Files, IsLoaded, IsPoolOf, IsAcceptedPoolOf, IsRefusedPool, IsReportOf, IsStart, WritesReplay, new_state}
+use Rattle.vt_server.specs.Places.{empty}
 use Rattle.vt_server.specs.Terminals.{State}
 
 -- what is written is still there after a flush
@@ -72,9 +73,9 @@ report_of_file (Some bytes) pool text is rising same =
     record { objects = contents pool; accepted = is; text_is = same ∙ ap report_text rising }
 
 pub new_is : (s : State) (own name : ℕ) → s.claims ≡ record { own = own; name = name; addresses = [] } → s.sets ≡ []
-    → ((address : ℕ) → s.pools address ≡ None) → s.lost ≡ false → s ≡ new_state own name
-new_is s own name claims sets pools lost =
-    λ i. record { claims = claims i; sets = sets i; pools = λ address. pools address i; lost = lost i }
+    → ((address : ℕ) → s.places address ≡ empty) → s.lost ≡ false → s.now ≡ 0 → s ≡ new_state own name
+new_is s own name claims sets places lost now =
+    λ i. record { claims = claims i; sets = sets i; places = λ address. places address i; lost = lost i; now = now i }
 
 pub start_alone : (files : Files) (options : Options) (s : State) → options.preload ≡ None
     → s ≡ new_state options.own options.name → IsStart files options s

@@ -28,6 +28,7 @@ use Rattle.vt_replay.specs.Replays.{IsReplay, HasLongLine}
 use Rattle.vt_replay.specs.Texts.{newline}
 use Rattle.vt_replay.specs.Words.{IsRefusalOf, WordsGive}
 use Rattle.vt_server.specs.Parts.{Preloads}
+use Rattle.vt_server.specs.Places.{empty}
 use Rattle.vt_server.specs.Terminals.{State, after_act}
 
 -- the bytes of the file under each path, where they are known
@@ -64,8 +65,9 @@ abbrev pub new_state : ℕ → ℕ → State
 new_state own name = record {
   claims = record { own = own; name = name; addresses = [] };
   sets = [];
-  pools = λ address. None;
+  places = λ address. empty;
   lost = false;
+  now = 0;
 }
 
 -- A set with the pool of the file is preloaded at the owner.

@@ -11,14 +11,14 @@ use Rattle.vt_machine.specs.declared.live.Outcome.TheVariants as outcomes
 use Rattle.vt_machine.specs.Effects.{effect}
 use Rattle.vt_machine.specs.Lives.{SetState, Applied, with_objects}
 use Rattle.vt_machine.specs.Machines.{events_of}
-use Rattle.vt_server.specs.declared.bus.Notice.TheVariants.{Message}
 use Rattle.vt_server.specs.Commands.{store_of, after_done, error_in, objects_after, state_after, error_of, bits_of, deletes, pool_after, error_after}
 use Rattle.vt_server.specs.Messages.{message_to, technical_reply}
 use Rattle.vt_server.specs.Parts as parts
-use Rattle.vt_server.specs.Parts.{Part, Hears, unchanged, outcome, answered, after_command, after_message, after_reply}
+use Rattle.vt_server.specs.Parts.{Part, unchanged, answered, after_command, after_message, after_reply}
 use Rattle.vt_server.specs.Replies.{reply_to}
-use Rattle.vt_server.specs.Terminals.{State, part, put, after_act, with_pool_at}
-use Rattle.vt_server.proofs.Puts.{put-kept, sets-same, act-is}
+use Rattle.vt_server.specs.Terminals.{State, part, put, with_at}
+use Rattle.vt_server.specs.Places.{Place, with_pool}
+use Rattle.vt_server.proofs.Puts.{put-kept, sets-same}
 
 -- ---- what a command makes of the objects
 
@@ -52,7 +52,11 @@ error-changed command o e is changed = changed ∙ ap (λ b. cond b (Some 0) (op
 -- ---- what is answered
 
 abbrev pub reply : State → ℕ → List ℕ → parts.Outcome
-reply s a bytes = outcome a (part a s) (Hears Message bytes)
+reply s a bytes = after_message a (part a s) bytes (set_at a s.sets)
+
+-- what it leaves
+abbrev pub replied : State → ℕ → List ℕ → State
+replied s a bytes = put a (reply s a bytes) s
 
 no_set : (s : State) (a : ℕ) (bytes : List ℕ) (o : Option Set) → false ≡ is_some o → after_message a (part a s) bytes o ≡ unchanged (part a s)
 no_set s a bytes None none = refl
@@ -69,7 +73,7 @@ reply-unregistered s a bytes none = no_set s a bytes (set_at a s.sets) none
 module _ (s : State) (a : ℕ) (bytes : List ℕ) (some : true ≡ is_some (set_at a s.sets)) where
   -- the message asks what the terminal is
   pub reply-technical : (r : List ℕ) → Some r ≡ technical_reply bytes
-      → reply s a bytes ≡ record { set = set_at a s.sets; pool = s.pools a; frames = message_to s.claims.own a r ∷ [] }
+      → reply s a bytes ≡ record { set = set_at a s.sets; place = s.places a; frames = message_to s.claims.own a r ∷ [] }
   reply-technical r is = a_set s a bytes (set_at a s.sets) some ∙ ap (after_reply a (part a s) bytes) (sym is)
 
   -- it is a command
@@ -78,28 +82,32 @@ module _ (s : State) (a : ℕ) (bytes : List ℕ) (some : true ≡ is_some (set_
   reply-commanded o none is =
       a_set s a bytes (set_at a s.sets) some ∙ ap (after_reply a (part a s) bytes) (sym none) ∙ ap (after_command a (part a s)) (sym is)
 
-put-pool : (s : State) (a : ℕ) (o : Option SetState) (frames : List Frame) (pools : ℕ → Option SetState) → pools ≡ with_pool_at a o s.pools
-    → record s { pools = pools } ≡ put a (record { set = set_at a s.sets; pool = o; frames = frames }) s
-put-pool s a o frames pools e = λ i. record s { sets = sym (sets-same a s.sets (set_at a s.sets) refl) i; pools = e i }
+put-place : (s : State) (a : ℕ) (place : Place) (frames : List Frame) (places : ℕ → Place) → places ≡ with_at a place s.places
+    → record s { places = places } ≡ put a (record { set = set_at a s.sets; place = place; frames = frames }) s
+put-place s a place frames places e = λ i. record s { sets = sym (sets-same a s.sets (set_at a s.sets) refl) i; places = e i }
 
 module _ (s : State) (a : ℕ) (bytes : List ℕ) (command : Command) (some : true ≡ is_some (set_at a s.sets)) (none : None ≡ technical_reply bytes)
     (is : Some command ≡ command_at bytes) where
-  commanded-is : reply s a bytes ≡ answered a (part a s) command (pool_after command (s.pools a)) (error_after command (s.pools a))
+  abbrev left : Option SetState
+  left = pool_after command (s.places a).pool
+
+  abbrev error : Option ℕ
+  error = error_after command (s.places a).pool
+
+  commanded-is : reply s a bytes ≡ answered a (part a s) command left error
   commanded-is = reply-commanded s a bytes some (Some command) none is
 
-  pub commanded-state : (pools : ℕ → Option SetState) → pools ≡ with_pool_at a (pool_after command (s.pools a)) s.pools
-      → record s { pools = pools } ≡ after_act s a (Hears Message bytes)
-  commanded-state pools e =
-      put-pool s a (pool_after command (s.pools a)) (answered a (part a s) command (pool_after command (s.pools a)) (error_after command (s.pools a))).frames pools e
+  pub commanded-state : (places : ℕ → Place) → places ≡ with_at a (with_pool (s.places a) left) s.places → record s { places = places } ≡ replied s a bytes
+  commanded-state places e =
+      put-place s a (with_pool (s.places a) left) (answered a (part a s) command left error).frames places e
       ∙ ap (λ (t : parts.Outcome). put a t s) (sym commanded-is)
-      ∙ sym (act-is s a (Hears Message bytes))
 
-  pub commanded-frames : (error : Option ℕ) → error ≡ error_after command (s.pools a)
-      → option_to_list (option_map (λ (e : ℕ). message_to s.claims.own a (reply_to command e)) error) ≡ (reply s a bytes).frames
-  commanded-frames error e =
+  pub commanded-frames : (found : Option ℕ) → found ≡ error
+      → option_to_list (option_map (λ (e : ℕ). message_to s.claims.own a (reply_to command e)) found) ≡ (reply s a bytes).frames
+  commanded-frames found e =
       ap (λ (o : Option ℕ). option_to_list (option_map (λ (x : ℕ). message_to s.claims.own a (reply_to command x)) o)) e
       ∙ sym (ap (λ (t : parts.Outcome). t.frames) commanded-is)
 
 -- what a message leaves that doesn't change the part
-pub kept-state : (s : State) (a : ℕ) (bytes : List ℕ) → (reply s a bytes).set ≡ set_at a s.sets → (reply s a bytes).pool ≡ s.pools a → s ≡ after_act s a (Hears Message bytes)
-kept-state s a bytes e f = sym (act-is s a (Hears Message bytes) ∙ put-kept a s (reply s a bytes) e f)
+pub kept-state : (s : State) (a : ℕ) (bytes : List ℕ) → (reply s a bytes).set ≡ set_at a s.sets → (reply s a bytes).place ≡ s.places a → s ≡ replied s a bytes
+kept-state s a bytes e f = sym (put-kept a s (reply s a bytes) e f)

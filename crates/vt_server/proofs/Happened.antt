@@ -8,16 +8,17 @@ use Rattle.vt_names.specs.Claims.{Claimed, IsRising, OtherHoldersStay, address_o
 use Rattle.vt_server.specs.Bus.{notice_of, frame_notice, unless_echo}
 use Rattle.vt_server.specs.Messages.{claim_from}
 use Rattle.vt_server.specs.Parts.{Part, Act, Hears, Rebinds, Preloads, outcome}
-use Rattle.vt_server.specs.Terminals.{State, Step, holder, part, after_acts, sent_by_acts, to_all, before, hear_claim, changed, left_by, changes, changes_by, acts, no_step, losing, acting, step_frame, is_lost_by, is_defended, answer_to, defence}
+use Rattle.vt_server.specs.Terminals.{State, Step, holder, after_acts, sent_by_acts, to_all, before, hear_claim, changed, left_by, changes, changes_by, acts, no_step, losing, acting, step_now, at_time, is_lost_by, is_defended, answer_to, defence}
 use Rattle.vt_server.specs.States.{step, after_all, sent_by_all}
-use Rattle.vt_server.specs.Happenings.{Happening, FrameHeard, HolderIs, Lost, Preloaded, Response, without_effect, response_of, with_holder, response, response_while, part_after_all, frames_of_all, loses, holder_change, heard_from, happenings, happenings_all, frames_to, IsOrderly, EachTakesItsOwn, OwnHappeningsDecide}
+use Rattle.vt_server.specs.Happenings.{Happening, FrameHeard, HolderIs, Lost, Preloaded, Response, without_effect, response_of, with_holder, response, response_while, part_after_all, frames_of_all, loses, holder_change, heard_from, happenings, happenings_all, frames_to, own_part, IsOrderly, EachTakesItsOwn, OwnHappeningsDecide}
 use Rattle.vt_server.specs.declared.bus.Notice.{Notice}
-use Rattle.vt_server.specs.declared.bus.Notice.TheVariants.{Claim, ClaimRequest, Master, Member, Message, Nothing}
+use Rattle.vt_server.specs.declared.bus.Notice.TheVariants.{Claim, ClaimRequest, Master, Member, Message, Tp, Etp, Nothing}
 use Rattle.vt_server.specs.declared.input.Input.{Input}
 use Rattle.vt_server.specs.declared.input.Input.TheVariants as inputs
 use Rattle.vt_server.proofs.Puts.{by_eq, some-is, none-some}
 use Rattle.vt_server.proofs.Steps.{claims-acts}
-use Rattle.vt_server.proofs.Own.{of, turns, turns_frames, of-append, part-act, part-take_other, part-acts, frames-sent_by, frames-append}
+use Rattle.vt_server.proofs.Own.{of, turns, turns_frames, of-append, own-act, own-take_other, part-acts, frames-sent_by, frames-append}
+use Rattle.vt_server.proofs.Timeless.{Laws}
 
 option-same : (o : Option ℕ) → option_eq eqb o o ≡ true
 option-same None = refl
@@ -114,12 +115,9 @@ defended false a frame = refl
 
 -- ---- one frame, for an address that isn't the terminal's own
 
-module _ (law : OtherHoldersStay) (a : ℕ) (s : State) (f : Frame) (orderly : IsOrderly s) (apart : a ≢ s.claims.own) where
+module _ (laws : Laws) (a : ℕ) (s : State) (f : Frame) (orderly : IsOrderly s) (apart : a ≢ s.claims.own) where
   abbrev m : Notice
   m = notice_of s.claims.own s.claims.name f
-
-  abbrev bytes : List ℕ
-  bytes = f.bytes.items
 
   abbrev source : ℕ
   source = source_of f
@@ -130,40 +128,40 @@ module _ (law : OtherHoldersStay) (a : ℕ) (s : State) (f : Frame) (orderly : I
   -- the frame alone, from the address or from another
 
   module _ (p : Part) (has : p.lost ≡ false) (own-is : p.terminal ≡ s.claims.own) where
-    heard-response : source ≡ a → response a p (FrameHeard f) ≡ response_of p (outcome a p (Hears m bytes))
-    heard-response is = response-has a p (FrameHeard f) has ∙ ap (λ (n : Notice). response_of p (outcome a p (Hears n bytes))) (ap (λ o. frame_notice o f) own-is ∙ sym (notice-there is))
+    heard-response : source ≡ a → response a p (FrameHeard f) ≡ response_of p (outcome 0 a p (Hears m f))
+    heard-response is = response-has a p (FrameHeard f) has ∙ ap (λ (n : Notice). response_of p (outcome 0 a p (Hears n f))) (ap (λ o. frame_notice o f) own-is ∙ sym (notice-there is))
 
-    heard-part : (b : Bool) → eqb source a ≡ b → turns a p (cond b (Hears m bytes ∷ []) []) ≡ part_after_all a p (cond b (FrameHeard f ∷ []) [])
+    heard-part : (b : Bool) → eqb source a ≡ b → turns a p (cond b (Hears m f ∷ []) []) ≡ part_after_all a p (cond b (FrameHeard f ∷ []) [])
     heard-part true e = sym (ap (λ (o : Response). o.part) (heard-response (eqb-true source a e)))
     heard-part false e = refl
 
-    heard-frames : (b : Bool) → eqb source a ≡ b → turns_frames a p (cond b (Hears m bytes ∷ []) []) ≡ frames_of_all a p (cond b (FrameHeard f ∷ []) [])
+    heard-frames : (b : Bool) → eqb source a ≡ b → turns_frames a p (cond b (Hears m f ∷ []) []) ≡ frames_of_all a p (cond b (FrameHeard f ∷ []) [])
     heard-frames true e = sym (ap (λ (o : Response). o.frames ++ []) (heard-response (eqb-true source a e)))
     heard-frames false e = refl
 
   module _ (has : s.lost ≡ false) where
     -- a change of the holder before it
 
-    changed-part : (same : Bool) (name : Option ℕ) → (same ≡ true → with_holder (part a s) name ≡ part a s)
-        → turns a (with_holder (part a s) name) (cond same [] (Rebinds ∷ []) ++ cond (eqb source a) (Hears m bytes ∷ []) [])
-        ≡ part_after_all a (part a s) (cond same [] (HolderIs name ∷ []) ++ heard_from a f)
+    changed-part : (same : Bool) (name : Option ℕ) → (same ≡ true → with_holder (own_part a s) name ≡ own_part a s)
+        → turns a (with_holder (own_part a s) name) (cond same [] (Rebinds ∷ []) ++ cond (eqb source a) (Hears m f ∷ []) [])
+        ≡ part_after_all a (own_part a s) (cond same [] (HolderIs name ∷ []) ++ heard_from a f)
     changed-part true name stays =
-        ap (λ q. turns a q (cond (eqb source a) (Hears m bytes ∷ []) [])) (stays refl) ∙ heard-part (part a s) has refl (eqb source a) refl
+        ap (λ q. turns a q (cond (eqb source a) (Hears m f ∷ []) [])) (stays refl) ∙ heard-part (own_part a s) has refl (eqb source a) refl
     changed-part false name stays =
-        heard-part (response_while a (part a s) (HolderIs name)).part has refl (eqb source a) refl
-        ∙ sym (ap (λ (o : Response). part_after_all a o.part (heard_from a f)) (response-has a (part a s) (HolderIs name) has))
+        heard-part (response_while a (own_part a s) (HolderIs name)).part has refl (eqb source a) refl
+        ∙ sym (ap (λ (o : Response). part_after_all a o.part (heard_from a f)) (response-has a (own_part a s) (HolderIs name) has))
 
-    changed-frames : (same : Bool) (name : Option ℕ) → (same ≡ true → with_holder (part a s) name ≡ part a s)
-        → turns_frames a (with_holder (part a s) name) (cond same [] (Rebinds ∷ []) ++ cond (eqb source a) (Hears m bytes ∷ []) [])
-        ≡ frames_of_all a (part a s) (cond same [] (HolderIs name ∷ []) ++ heard_from a f)
+    changed-frames : (same : Bool) (name : Option ℕ) → (same ≡ true → with_holder (own_part a s) name ≡ own_part a s)
+        → turns_frames a (with_holder (own_part a s) name) (cond same [] (Rebinds ∷ []) ++ cond (eqb source a) (Hears m f ∷ []) [])
+        ≡ frames_of_all a (own_part a s) (cond same [] (HolderIs name ∷ []) ++ heard_from a f)
     changed-frames true name stays =
-        ap (λ q. turns_frames a q (cond (eqb source a) (Hears m bytes ∷ []) [])) (stays refl) ∙ heard-frames (part a s) has refl (eqb source a) refl
+        ap (λ q. turns_frames a q (cond (eqb source a) (Hears m f ∷ []) [])) (stays refl) ∙ heard-frames (own_part a s) has refl (eqb source a) refl
     changed-frames false name stays =
-        ap (λ l. (response_while a (part a s) (HolderIs name)).frames ++ l) (heard-frames (response_while a (part a s) (HolderIs name)).part has refl (eqb source a) refl)
-        ∙ sym (ap (λ (o : Response). o.frames ++ frames_of_all a o.part (heard_from a f)) (response-has a (part a s) (HolderIs name) has))
+        ap (λ l. (response_while a (own_part a s) (HolderIs name)).frames ++ l) (heard-frames (response_while a (own_part a s) (HolderIs name)).part has refl (eqb source a) refl)
+        ∙ sym (ap (λ (o : Response). o.frames ++ frames_of_all a o.part (heard_from a f)) (response-has a (own_part a s) (HolderIs name) has))
 
-    stays-held : (t : State) → option_eq nat_eq (holder s a) (holder t a) ≡ true → with_holder (part a s) (holder t a) ≡ part a s
-    stays-held t same = ap (with_holder (part a s)) (sym (option-true (holder s a) (holder t a) same))
+    stays-held : (t : State) → option_eq nat_eq (holder s a) (holder t a) ≡ true → with_holder (own_part a s) (holder t a) ≡ own_part a s
+    stays-held t same = ap (with_holder (own_part a s)) (sym (option-true (holder s a) (holder t a) same))
 
     -- what happens by a notice, a claim or not
 
@@ -171,57 +169,59 @@ module _ (law : OtherHoldersStay) (a : ℕ) (s : State) (f : Frame) (orderly : I
     by_notice n = holder_change a s.claims (hear_claim s source n) ++ heard_from a f
 
     of-claim : (name : ℕ) → m ≡ Claim name → let t = before s source (Claim name) in
-        of a (acts s source (Claim name) bytes) ≡ change (holder s a) (holder t a) ++ cond (eqb source a) (Hears m bytes ∷ []) []
+        of a (acts s source (Claim name) f) ≡ change (holder s a) (holder t a) ++ cond (eqb source a) (Hears m f ∷ []) []
     of-claim name is =
-        of-append a (changes s source (Claim name)) ((source, Hears (Claim name) bytes) ∷ [])
-        ∙ (λ i. of-changes law s orderly a source name i ++ cond (eqb source a) (Hears (sym is i) bytes ∷ []) [])
+        of-append a (changes s source (Claim name)) ((source, Hears (Claim name) f) ∷ [])
+        ∙ (λ i. of-changes laws.holders s orderly a source name i ++ cond (eqb source a) (Hears (sym is i) f ∷ []) [])
 
     acting-claim : (name : ℕ) → m ≡ Claim name
-        → (part a (acting s source (Claim name) bytes).after ≡ part_after_all a (part a s) (by_notice (Claim name)))
-        × (frames_to a (acting s source (Claim name) bytes).sent ≡ frames_of_all a (part a s) (by_notice (Claim name)))
+        → (own_part a (acting s source (Claim name) f).after ≡ part_after_all a (own_part a s) (by_notice (Claim name)))
+        × (frames_to a (acting s source (Claim name) f).sent ≡ frames_of_all a (own_part a s) (by_notice (Claim name)))
     acting-claim name is =
         let t = before s source (Claim name) in
         let happened = of-claim name is in (
-          part-acts a t (acts s source (Claim name) bytes) ∙ ap (turns a (part a t)) happened
+          part-acts laws a t (acts s source (Claim name) f) ∙ ap (turns a (own_part a t)) happened
               ∙ changed-part (option_eq nat_eq (holder s a) (holder t a)) (holder t a) (stays-held t),
-          frames-append a (defence s source (Claim name)) (sent_by_acts t (acts s source (Claim name) bytes))
-              ∙ ap (λ l. l ++ frames_to a (sent_by_acts t (acts s source (Claim name) bytes))) (defended (is_defended (Claim name) (answer_to s source (Claim name))) a (claim_from s.claims.own s.claims.name))
-              ∙ frames-sent_by a t (acts s source (Claim name) bytes) ∙ ap (turns_frames a (part a t)) happened
+          frames-append a (defence s source (Claim name)) (sent_by_acts t (acts s source (Claim name) f))
+              ∙ ap (λ l. l ++ frames_to a (sent_by_acts t (acts s source (Claim name) f))) (defended (is_defended (Claim name) (answer_to s source (Claim name))) a (claim_from s.claims.own s.claims.name))
+              ∙ frames-sent_by laws a t (acts s source (Claim name) f) ∙ ap (turns_frames a (own_part a t)) happened
               ∙ changed-frames (option_eq nat_eq (holder s a) (holder t a)) (holder t a) (stays-held t),
         )
 
     quiet : (n : Notice) → m ≡ n → before s source n ≡ s → changes s source n ≡ []
-        → (part a (acting s source n bytes).after ≡ part_after_all a (part a s) (by_notice n))
-        × (frames_to a (acting s source n bytes).sent ≡ frames_of_all a (part a s) (by_notice n))
+        → (own_part a (acting s source n f).after ≡ part_after_all a (own_part a s) (by_notice n))
+        × (frames_to a (acting s source n f).sent ≡ frames_of_all a (own_part a s) (by_notice n))
     quiet n is same none =
         let happened : by_notice n ≡ heard_from a f =
         ap (λ (t : State). holder_change a s.claims t.claims ++ heard_from a f) same
         ∙ ap (λ b. cond b [] (HolderIs (holder s a) ∷ []) ++ heard_from a f) (option-same (holder s a)) in
-        let happens : List (ℕ × Act) = (source, Hears n bytes) ∷ [] in
-        let alike : of a happens ≡ cond (eqb source a) (Hears m bytes ∷ []) [] = (λ i. cond (eqb source a) (Hears (sym is i) bytes ∷ []) []) in (
-          (λ i. part a (after_acts (same i) (none i ++ happens))) ∙ part-acts a s happens ∙ ap (turns a (part a s)) alike
-              ∙ heard-part (part a s) has refl (eqb source a) refl ∙ sym (ap (part_after_all a (part a s)) happened),
+        let happens : List (ℕ × Act) = (source, Hears n f) ∷ [] in
+        let alike : of a happens ≡ cond (eqb source a) (Hears m f ∷ []) [] = (λ i. cond (eqb source a) (Hears (sym is i) f ∷ []) []) in (
+          (λ i. own_part a (after_acts (same i) (none i ++ happens))) ∙ part-acts laws a s happens ∙ ap (turns a (own_part a s)) alike
+              ∙ heard-part (own_part a s) has refl (eqb source a) refl ∙ sym (ap (part_after_all a (own_part a s)) happened),
           (λ i. frames_to a (defence s source n ++ sent_by_acts (same i) (none i ++ happens)))
               ∙ frames-append a (defence s source n) (sent_by_acts s happens)
               ∙ ap (λ l. l ++ frames_to a (sent_by_acts s happens)) (defended (is_defended n (answer_to s source n)) a (claim_from s.claims.own s.claims.name))
-              ∙ frames-sent_by a s happens ∙ ap (turns_frames a (part a s)) alike
-              ∙ heard-frames (part a s) has refl (eqb source a) refl ∙ sym (ap (frames_of_all a (part a s)) happened),
+              ∙ frames-sent_by laws a s happens ∙ ap (turns_frames a (own_part a s)) alike
+              ∙ heard-frames (own_part a s) has refl (eqb source a) refl ∙ sym (ap (frames_of_all a (own_part a s)) happened),
         )
 
     acting-notice : (n : Notice) → m ≡ n
-        → (part a (acting s source n bytes).after ≡ part_after_all a (part a s) (by_notice n))
-        × (frames_to a (acting s source n bytes).sent ≡ frames_of_all a (part a s) (by_notice n))
+        → (own_part a (acting s source n f).after ≡ part_after_all a (own_part a s) (by_notice n))
+        × (frames_to a (acting s source n f).sent ≡ frames_of_all a (own_part a s) (by_notice n))
     acting-notice (Claim name) is = acting-claim name is
     acting-notice ClaimRequest is = quiet ClaimRequest is refl refl
     acting-notice (Master count) is = quiet (Master count) is refl refl
     acting-notice (Member name) is = quiet (Member name) is refl refl
     acting-notice Message is = quiet Message is refl refl
+    acting-notice Tp is = quiet Tp is refl refl
+    acting-notice Etp is = quiet Etp is refl refl
     acting-notice Nothing is = quiet Nothing is refl refl
 
   -- the loss, before it and after it
 
   abbrev result : Bool → Bool → Step
-  result lost gone = cond lost (no_step s) (cond gone (losing s) (acting s source m bytes))
+  result lost gone = cond lost (no_step s) (cond gone (losing s) (acting s source m f))
 
   abbrev later : Bool → Bool → List Happening
   later lost gone = holder_change a s.claims (cond lost s.claims (cond gone s.claims (hear_claim s source m)))
@@ -229,47 +229,57 @@ module _ (law : OtherHoldersStay) (a : ℕ) (s : State) (f : Frame) (orderly : I
   abbrev happened : Bool → Bool → List Happening
   happened lost gone = cond lost [] (cond gone (Lost ∷ []) []) ++ later lost gone ++ heard_from a f
 
-  gone-part : s.lost ≡ false → part_after_all a (part a s) (happened false true) ≡ record (part a s) { lost = true }
+  gone-part : s.lost ≡ false → part_after_all a (own_part a s) (happened false true) ≡ record (own_part a s) { lost = true }
   gone-part has =
-      ap (λ (o : Response). part_after_all a o.part (later false true ++ heard_from a f)) (response-has a (part a s) Lost has)
-      ∙ lost-part a (record (part a s) { lost = true }) (later false true ++ heard_from a f) refl
+      ap (λ (o : Response). part_after_all a o.part (later false true ++ heard_from a f)) (response-has a (own_part a s) Lost has)
+      ∙ lost-part a (record (own_part a s) { lost = true }) (later false true ++ heard_from a f) refl
 
-  gone-frames : s.lost ≡ false → frames_of_all a (part a s) (happened false true) ≡ []
+  gone-frames : s.lost ≡ false → frames_of_all a (own_part a s) (happened false true) ≡ []
   gone-frames has =
-      ap (λ (o : Response). o.frames ++ frames_of_all a o.part (later false true ++ heard_from a f)) (response-has a (part a s) Lost has)
-      ∙ lost-frames a (record (part a s) { lost = true }) (later false true ++ heard_from a f) refl
+      ap (λ (o : Response). o.frames ++ frames_of_all a o.part (later false true ++ heard_from a f)) (response-has a (own_part a s) Lost has)
+      ∙ lost-frames a (record (own_part a s) { lost = true }) (later false true ++ heard_from a f) refl
 
-  part-cases : (lost gone : Bool) → s.lost ≡ lost → part a (result lost gone).after ≡ part_after_all a (part a s) (happened lost gone)
-  part-cases true gone is = sym (lost-part a (part a s) (happened true gone) is)
+  part-cases : (lost gone : Bool) → s.lost ≡ lost → own_part a (result lost gone).after ≡ part_after_all a (own_part a s) (happened lost gone)
+  part-cases true gone is = sym (lost-part a (own_part a s) (happened true gone) is)
   part-cases false true is = sym (gone-part is)
   part-cases false false is = (acting-notice is m refl).0
 
-  frames-cases : (lost gone : Bool) → s.lost ≡ lost → frames_to a (result lost gone).sent ≡ frames_of_all a (part a s) (happened lost gone)
-  frames-cases true gone is = sym (lost-frames a (part a s) (happened true gone) is)
+  frames-cases : (lost gone : Bool) → s.lost ≡ lost → frames_to a (result lost gone).sent ≡ frames_of_all a (own_part a s) (happened lost gone)
+  frames-cases true gone is = sym (lost-frames a (own_part a s) (happened true gone) is)
   frames-cases false true is = sym (gone-frames is)
   frames-cases false false is = (acting-notice is m refl).1
 
-  pub part-frame : part a (step_frame s f).after ≡ part_after_all a (part a s) (happened s.lost (loses s f))
+  pub part-frame : own_part a (step_now s f).after ≡ part_after_all a (own_part a s) (happened s.lost (loses s f))
   part-frame = part-cases s.lost (loses s f) refl
 
-  pub frames-frame : frames_to a (step_frame s f).sent ≡ frames_of_all a (part a s) (happened s.lost (loses s f))
+  pub frames-frame : frames_to a (step_now s f).sent ≡ frames_of_all a (own_part a s) (happened s.lost (loses s f))
   frames-frame = frames-cases s.lost (loses s f) refl
 
-pub part-step : OtherHoldersStay → (a : ℕ) (s : State) (i : Input) → IsOrderly s → a ≢ s.claims.own → part a (step s i).after ≡ part_after_all a (part a s) (happenings a s i)
-part-step law a s (inputs.Frame time f) orderly apart = part-frame law a s f orderly apart
-part-step law a s (inputs.Operator action) orderly apart = refl
+pub part-step : Laws → (a : ℕ) (s : State) (i : Input) → IsOrderly s → a ≢ s.claims.own → own_part a (step s i).after ≡ part_after_all a (own_part a s) (happenings a s i)
+part-step laws a s (inputs.Frame time f) orderly apart = cases s.lost refl
+  where
+    cases : (lost : Bool) → s.lost ≡ lost
+        → own_part a (cond lost (no_step s) (step_now (at_time s time) f)).after ≡ part_after_all a (own_part a s) (happenings a s (inputs.Frame time f))
+    cases true is = sym (lost-part a (own_part a s) (happenings a s (inputs.Frame time f)) is)
+    cases false is = part-frame laws a (at_time s time) f orderly apart
+part-step laws a s (inputs.Operator action) orderly apart = refl
 
-pub frames-step : OtherHoldersStay → (a : ℕ) (s : State) (i : Input) → IsOrderly s → a ≢ s.claims.own
-    → frames_to a (step s i).sent ≡ frames_of_all a (part a s) (happenings a s i)
-frames-step law a s (inputs.Frame time f) orderly apart = frames-frame law a s f orderly apart
-frames-step law a s (inputs.Operator action) orderly apart = refl
+pub frames-step : Laws → (a : ℕ) (s : State) (i : Input) → IsOrderly s → a ≢ s.claims.own
+    → frames_to a (step s i).sent ≡ frames_of_all a (own_part a s) (happenings a s i)
+frames-step laws a s (inputs.Frame time f) orderly apart = cases s.lost refl
+  where
+    cases : (lost : Bool) → s.lost ≡ lost
+        → frames_to a (cond lost (no_step s) (step_now (at_time s time) f)).sent ≡ frames_of_all a (own_part a s) (happenings a s (inputs.Frame time f))
+    cases true is = sym (lost-frames a (own_part a s) (happenings a s (inputs.Frame time f)) is)
+    cases false is = frames-frame laws a (at_time s time) f orderly apart
+frames-step laws a s (inputs.Operator action) orderly apart = refl
 
-pub each : OtherHoldersStay → EachTakesItsOwn
-each law = record {
-  part_after = part-step law;
-  frames_after = frames-step law;
-  preloaded = λ a s contents has. part-act a s (Preloads contents) ∙ sym (ap (λ (o : Response). o.part) (response-has a (part a s) (Preloaded contents) has));
-  preloaded_elsewhere = λ a b s contents ne. part-take_other b a s (Preloads contents) ne;
+pub each : Laws → EachTakesItsOwn
+each laws = record {
+  part_after = part-step laws;
+  frames_after = frames-step laws;
+  preloaded = λ a s contents has. own-act laws a s (Preloads contents) ∙ sym (ap (λ (o : Response). o.part) (response-has a (own_part a s) (Preloaded contents) has));
+  preloaded_elsewhere = λ a b s contents ne. own-take_other b a s (Preloads contents) ne;
 }
 
 -- ---- runs
@@ -280,9 +290,11 @@ orderly-before law s from ClaimRequest orderly = orderly
 orderly-before law s from (Master count) orderly = orderly
 orderly-before law s from (Member name) orderly = orderly
 orderly-before law s from Message orderly = orderly
+orderly-before law s from Tp orderly = orderly
+orderly-before law s from Etp orderly = orderly
 orderly-before law s from Nothing orderly = orderly
 
-orderly-cases : OtherHoldersStay → (s : State) (from : ℕ) (notice : Notice) (carried : List ℕ) (lost gone : Bool) → IsOrderly s
+orderly-cases : OtherHoldersStay → (s : State) (from : ℕ) (notice : Notice) (carried : Frame) (lost gone : Bool) → IsOrderly s
     → IsOrderly (cond lost (no_step s) (cond gone (losing s) (acting s from notice carried))).after
 orderly-cases law s from notice carried true gone orderly = orderly
 orderly-cases law s from notice carried false true orderly = orderly
@@ -292,7 +304,12 @@ orderly-cases law s from notice carried false false orderly =
 pub orderly-step : OtherHoldersStay → (s : State) (i : Input) → IsOrderly s → IsOrderly (step s i).after
 orderly-step law s (inputs.Frame time f) orderly =
     let m = notice_of s.claims.own s.claims.name f in
-    orderly-cases law s (source_of f) m f.bytes.items s.lost (is_lost_by (answer_to s (source_of f) m)) orderly
+    let t = at_time s time in
+    by-lost s.lost (orderly-cases law t (source_of f) m f s.lost (is_lost_by (answer_to s (source_of f) m)) orderly)
+  where
+    by-lost : (lost : Bool) → IsOrderly (step_now (at_time s time) f).after → IsOrderly (cond lost (no_step s) (step_now (at_time s time) f)).after
+    by-lost true is = orderly
+    by-lost false is = is
 orderly-step law s (inputs.Operator action) orderly = orderly
 
 -- the own address stays
@@ -302,9 +319,11 @@ own-before s from ClaimRequest = refl
 own-before s from (Master count) = refl
 own-before s from (Member name) = refl
 own-before s from Message = refl
+own-before s from Tp = refl
+own-before s from Etp = refl
 own-before s from Nothing = refl
 
-own-cases : (s : State) (from : ℕ) (n : Notice) (carried : List ℕ) (lost gone : Bool)
+own-cases : (s : State) (from : ℕ) (n : Notice) (carried : Frame) (lost gone : Bool)
     → (cond lost (no_step s) (cond gone (losing s) (acting s from n carried))).after.claims.own ≡ s.claims.own
 own-cases s from n carried true gone = refl
 own-cases s from n carried false true = refl
@@ -313,7 +332,12 @@ own-cases s from n carried false false = ap (λ (c : Claimed). c.own) (claims-ac
 pub own-step : (s : State) (i : Input) → (step s i).after.claims.own ≡ s.claims.own
 own-step s (inputs.Frame time f) =
     let m = notice_of s.claims.own s.claims.name f in
-    own-cases s (source_of f) m f.bytes.items s.lost (is_lost_by (answer_to s (source_of f) m))
+    by-lost s.lost (own-cases (at_time s time) (source_of f) m f s.lost (is_lost_by (answer_to s (source_of f) m)))
+  where
+    by-lost : (lost : Bool) → (step_now (at_time s time) f).after.claims.own ≡ s.claims.own
+        → (cond lost (no_step s) (step_now (at_time s time) f)).after.claims.own ≡ s.claims.own
+    by-lost true is = refl
+    by-lost false is = is
 own-step s (inputs.Operator action) = refl
 
 responses-append : (a : ℕ) (p : Part) (xs ys : List Happening) → part_after_all a p (xs ++ ys) ≡ part_after_all a (part_after_all a p xs) ys
@@ -326,25 +350,25 @@ frames-responses a p (x ∷ xs) ys =
     ap (λ l. (response a p x).frames ++ l) (frames-responses a (response a p x).part xs ys)
     ∙ sym (append_assoc (response a p x).frames (frames_of_all a (response a p x).part xs) (frames_of_all a (part_after_all a (response a p x).part xs) ys))
 
-part-all : OtherHoldersStay → (a : ℕ) (s : State) (xs : List Input) → IsOrderly s → a ≢ s.claims.own → part a (after_all s xs) ≡ part_after_all a (part a s) (happenings_all a s xs)
-part-all law a s [] orderly apart = refl
-part-all law a s (i ∷ xs) orderly apart =
-    part-all law a (step s i).after xs (orderly-step law s i orderly) (λ h. apart (h ∙ own-step s i))
-    ∙ ap (λ p. part_after_all a p (happenings_all a (step s i).after xs)) (part-step law a s i orderly apart)
-    ∙ sym (responses-append a (part a s) (happenings a s i) (happenings_all a (step s i).after xs))
+part-all : Laws → (a : ℕ) (s : State) (xs : List Input) → IsOrderly s → a ≢ s.claims.own → own_part a (after_all s xs) ≡ part_after_all a (own_part a s) (happenings_all a s xs)
+part-all laws a s [] orderly apart = refl
+part-all laws a s (i ∷ xs) orderly apart =
+    part-all laws a (step s i).after xs (orderly-step laws.holders s i orderly) (λ h. apart (h ∙ own-step s i))
+    ∙ ap (λ p. part_after_all a p (happenings_all a (step s i).after xs)) (part-step laws a s i orderly apart)
+    ∙ sym (responses-append a (own_part a s) (happenings a s i) (happenings_all a (step s i).after xs))
 
-frames-all : OtherHoldersStay → (a : ℕ) (s : State) (xs : List Input) → IsOrderly s → a ≢ s.claims.own
-    → frames_to a (sent_by_all s xs) ≡ frames_of_all a (part a s) (happenings_all a s xs)
-frames-all law a s [] orderly apart = refl
-frames-all law a s (i ∷ xs) orderly apart =
+frames-all : Laws → (a : ℕ) (s : State) (xs : List Input) → IsOrderly s → a ≢ s.claims.own
+    → frames_to a (sent_by_all s xs) ≡ frames_of_all a (own_part a s) (happenings_all a s xs)
+frames-all laws a s [] orderly apart = refl
+frames-all laws a s (i ∷ xs) orderly apart =
     let later = happenings_all a (step s i).after xs in
     frames-append a (step s i).sent (sent_by_all (step s i).after xs)
-    ∙ (λ j. frames-step law a s i orderly apart j ++ frames-all law a (step s i).after xs (orderly-step law s i orderly) (λ h. apart (h ∙ own-step s i)) j)
-    ∙ ap (λ p. frames_of_all a (part a s) (happenings a s i) ++ frames_of_all a p later) (part-step law a s i orderly apart)
-    ∙ sym (frames-responses a (part a s) (happenings a s i) later)
+    ∙ (λ j. frames-step laws a s i orderly apart j ++ frames-all laws a (step s i).after xs (orderly-step laws.holders s i orderly) (λ h. apart (h ∙ own-step s i)) j)
+    ∙ ap (λ p. frames_of_all a (own_part a s) (happenings a s i) ++ frames_of_all a p later) (part-step laws a s i orderly apart)
+    ∙ sym (frames-responses a (own_part a s) (happenings a s i) later)
 
-pub decide : OtherHoldersStay → OwnHappeningsDecide
-decide law a s t xs ys here there apart other same happened = (
-  part-all law a s xs here apart ∙ (λ i. part_after_all a (same i) (happened i)) ∙ sym (part-all law a t ys there other),
-  frames-all law a s xs here apart ∙ (λ i. frames_of_all a (same i) (happened i)) ∙ sym (frames-all law a t ys there other),
+pub decide : Laws → OwnHappeningsDecide
+decide laws a s t xs ys here there apart other same happened = (
+  part-all laws a s xs here apart ∙ (λ i. part_after_all a (same i) (happened i)) ∙ sym (part-all laws a t ys there other),
+  frames-all laws a s xs here apart ∙ (λ i. frames_of_all a (same i) (happened i)) ∙ sym (frames-all laws a t ys there other),
 )

@@ -1,18 +1,23 @@
 -- A set with a NAME keeps that of its address's holder.
 use Rattle.std.proofs.Common.{ap, ◌∙◌, ◌≡◌, ℕ, Bool, true, false, cond, ◌||◌, List, [], ◌∷◌, Option, Some, None, refl, sym, subst, nat_eq}
 use Rattle.std.specs.Option.{option_eq}
-use Rattle.vt_names.specs.Claims.{OtherHoldersStay}
+use Rattle.vt_can.specs.declared.frames.frame.Frame.{Frame}
+use Rattle.vt_can.specs.transport.Messages as transport
+use Rattle.vt_transport.specs.Protocol as tp
+use Rattle.vt_extended.specs.Protocol as etp
+use Rattle.vt_server.specs.Receiving.{taken}
 use Rattle.vt_names.specs.Registry.{Set, set_at, has_place, joined}
 use Rattle.vt_objects.specs.declared.command.Command.{Command}
 use Rattle.vt_objects.specs.Commands.{command_at}
 use Rattle.vt_server.specs.Messages.{technical_reply}
-use Rattle.vt_server.specs.Parts.{Part, Preloads, unchanged, without_set, outcome_of_notice, after_change, with_holder_name, after_claim_heard, after_master, after_member, after_command, after_reply, after_message}
+use Rattle.vt_server.specs.Parts.{Part, Preloads, unchanged, without_set, outcome_of_notice, after_change, with_holder_name, after_claim_heard, after_master, after_member, after_command, after_reply, after_message, after_whole}
 use Rattle.vt_server.specs.Terminals.{State, holder, part, after_act}
-use Rattle.vt_server.specs.Happenings.{Happening, FrameHeard, HolderIs, Lost, Preloaded, Response, without_effect, with_holder, response, response_while, part_after_all, happenings, NameIsHeld, SetIsHeld, SetsHoldTheirAddress}
+use Rattle.vt_server.specs.Happenings.{Happening, FrameHeard, HolderIs, Lost, Preloaded, Response, without_effect, with_holder, response, response_while, part_after_all, happenings, own_part, NameIsHeld, SetIsHeld, SetsHoldTheirAddress}
 use Rattle.vt_server.specs.declared.bus.Notice.{Notice}
-use Rattle.vt_server.specs.declared.bus.Notice.TheVariants.{Claim, ClaimRequest, Master, Member, Message, Nothing}
+use Rattle.vt_server.specs.declared.bus.Notice.TheVariants.{Claim, ClaimRequest, Master, Member, Message, Tp, Etp, Nothing}
 use Rattle.vt_server.proofs.Happened.{option-true, part-step, orderly-step, own-step}
-use Rattle.vt_server.proofs.Own.{part-act, part-take_other}
+use Rattle.vt_server.proofs.Own.{own-act, part-take_other}
+use Rattle.vt_server.proofs.Timeless.{Laws}
 use Rattle.vt_server.proofs.Puts.{by_eq, act-is}
 use Rattle.vt_server.specs.Bus.{frame_notice}
 
@@ -52,13 +57,27 @@ message-held : (a : ℕ) (p : Part) (bytes : List ℕ) (o : Option Set) → SetI
 message-held a p bytes None has = has
 message-held a p bytes (Some set) has = technical-held a p bytes (technical_reply bytes) has
 
-notice-held : (a : ℕ) (p : Part) (notice : Notice) (bytes : List ℕ) → SetIsHeld p.set p.holder → SetIsHeld (outcome_of_notice a p notice bytes).set p.holder
-notice-held a p (Claim name) bytes has = claim-held p p.set has has
-notice-held a p ClaimRequest bytes has = has
-notice-held a p (Master count) bytes has = master-held a p p.holder count refl has
-notice-held a p (Member name) bytes has = member-held p p.set name has has
-notice-held a p Message bytes has = message-held a p bytes p.set has
-notice-held a p Nothing bytes has = has
+whole-held : (a : ℕ) (p : Part) (o : Option transport.Message) → SetIsHeld p.set p.holder → SetIsHeld (after_whole a p o).set p.holder
+whole-held a p None has = has
+whole-held a p (Some message) has = cases (nat_eq message.pgn 0xE700)
+  where
+    cases : (b : Bool) → SetIsHeld (cond b (after_message a p message.bytes p.set) (unchanged p)).set p.holder
+    cases true = message-held a p message.bytes p.set has
+    cases false = has
+
+notice-held : (now a : ℕ) (p : Part) (notice : Notice) (frame : Frame) → SetIsHeld p.set p.holder → SetIsHeld (outcome_of_notice now a p notice frame).set p.holder
+notice-held now a p (Claim name) frame has = claim-held p p.set has has
+notice-held now a p ClaimRequest frame has = has
+notice-held now a p (Master count) frame has = master-held a p p.holder count refl has
+notice-held now a p (Member name) frame has = member-held p p.set name has has
+notice-held now a p Message frame has = message-held a p frame.bytes.items p.set has
+notice-held now a p Tp frame has =
+    let t = taken tp.protocol now p.terminal a p.place.tp frame in
+    whole-held a (record p { place = record p.place { tp = t.session } }) t.message has
+notice-held now a p Etp frame has =
+    let t = taken etp.protocol now p.terminal a p.place.etp frame in
+    whole-held a (record p { place = record p.place { etp = t.session } }) t.message has
+notice-held now a p Nothing frame has = has
 
 -- ---- another holder
 
@@ -67,7 +86,7 @@ same-name None h e = tt
 same-name (Some n) h e = sym (option-true (Some n) h e)
 
 kept-held : (p : Part) (set : Set) (b : Bool) → (option_eq nat_eq set.name None || option_eq nat_eq set.name p.holder) ≡ b → p.set ≡ Some set
-    → SetIsHeld (cond b (unchanged p) without_set).set p.holder
+    → SetIsHeld (cond b (unchanged p) (without_set p)).set p.holder
 kept-held p set true e is = subst (λ o. SetIsHeld o p.holder) (sym is) (same-name set.name p.holder e)
 kept-held p set false e is = tt
 
@@ -78,7 +97,7 @@ rebound-held p (Some set) is = kept-held p set (option_eq nat_eq set.name None |
 -- ---- every happening, and every step
 
 while-held : (a : ℕ) (p : Part) (h : Happening) → SetIsHeld p.set p.holder → SetIsHeld (response_while a p h).part.set (response_while a p h).part.holder
-while-held a p (FrameHeard f) has = notice-held a p (frame_notice p.terminal f) f.bytes.items has
+while-held a p (FrameHeard f) has = notice-held 0 a p (frame_notice p.terminal f) f has
 while-held a p (HolderIs name) has = rebound-held (with_holder p name) p.set refl
 while-held a p Lost has = has
 while-held a p (Preloaded contents) has = tt
@@ -98,16 +117,16 @@ responses-held a p (h ∷ hs) has = responses-held a (response a p h).part hs (r
 none-held : (o : Option Set) (holder : Option ℕ) → o ≡ None → SetIsHeld o holder
 none-held o holder none = subst (λ p. SetIsHeld p holder) (sym none) tt
 
-pub held : OtherHoldersStay → SetsHoldTheirAddress
-held law = record {
+pub held : Laws → SetsHoldTheirAddress
+held laws = record {
   first = λ s none a _. none-held (set_at a s.sets) (holder s a) (ap (set_at a) none);
   preloaded = λ a s contents has b apart. by_eq b a
       (λ is. subst (λ x. SetIsHeld (part x (after_act s a (Preloads contents))).set (part x (after_act s a (Preloads contents))).holder) (sym is)
-      (subst (λ (p : Part). SetIsHeld p.set p.holder) (sym (part-act a s (Preloads contents))) tt))
+      (subst (λ (p : Part). SetIsHeld p.set p.holder) (sym (own-act laws a s (Preloads contents))) tt))
       (λ ne. subst (λ (p : Part). SetIsHeld p.set p.holder) (sym (part-take_other b a s (Preloads contents) ne))
       (has b (λ h. apart (h ∙ sym (ap (λ (x : State). x.claims.own) (act-is s a (Preloads contents)))))));
   kept = λ s i orderly has a apart.
       let there = λ (h : a ≡ s.claims.own). apart (h ∙ sym (own-step s i)) in
-      subst (λ (p : Part). SetIsHeld p.set p.holder) (sym (part-step law a s i orderly there)) (responses-held a (part a s) (happenings a s i) (has a there));
-  orderly = orderly-step law;
+      subst (λ (p : Part). SetIsHeld p.set p.holder) (sym (part-step laws a s i orderly there)) (responses-held a (own_part a s) (happenings a s i) (has a there));
+  orderly = orderly-step laws.holders;
 }

@@ -4,9 +4,11 @@ mod Happened
 mod Held
 mod Own
 mod Puts
+mod Packets
 mod Registering
 mod Running
 mod Sending
 mod Steps
+mod Timeless
 mod Listing
 mod Settling

@@ -2,6 +2,7 @@
 use Rattle.std.proofs.Common.{◌≡◌, ◌≢◌, ℕ, Bool, true, false, cond, not, ◌||◌, ◌&&◌, eqb, List, [], ◌∷◌, ◌++◌, map, Option, Some, None, refl, sym, ap, subst, ◌∙◌, eq-eqb, ne_eqb, nat_eq}
 use Rattle.std.specs.List.{filter, AllByRecursion}
 use Rattle.std.specs.Option.{option_eq}
+use Rattle.vt_can.specs.declared.frames.frame.Frame.{Frame}
 use Rattle.vt_names.specs.Claims.{Claimed, OtherHoldersStay, address_of}
 use Rattle.vt_names.specs.Registry.{Set, set_at, with_set, without}
 use Rattle.vt_server.specs.Parts.{Act, Hears, Rebinds, unchanged, without_set, with_holder_name, after_change, after_claim_heard}
@@ -167,7 +168,7 @@ module _ (u : State) (a : ℕ) (apart : AreApart u.sets) where
       ∙ ap (λ q. cond (option_eq nat_eq x.name None || option_eq nat_eq x.name (holder u q)) u.sets (without a u.sets)) (sym (set_at-address a x u.sets e))
       ∙ sym (filter-some a (stays u) u.sets x e apart)
     where
-      closed-is : (b : Bool) → with_set_at a (cond b (unchanged (part a u)) without_set).set u.sets ≡ cond b u.sets (without a u.sets)
+      closed-is : (b : Bool) → with_set_at a (cond b (unchanged (part a u)) (without_set (part a u))).set u.sets ≡ cond b u.sets (without a u.sets)
       closed-is true = sets-same a u.sets (set_at a u.sets) refl
       closed-is false = refl
 
@@ -189,8 +190,8 @@ module _ (u : State) (a : ℕ) (apart : AreApart u.sets) where
   bound-is None e = sets-same a u.sets (set_at a u.sets) refl ∙ sym (map-none a (λ x. with_holder_name x x.name (holder u a)) u.sets e)
   bound-is (Some x) e = sym (map-some a (λ x. with_holder_name x x.name (holder u a)) u.sets x (λ y. named-address y y.name (holder u a)) e apart)
 
-  claim-list : (name : ℕ) (bytes : List ℕ) → (after_act u a (Hears (Claim name) bytes)).sets ≡ map (named_at u a) u.sets
-  claim-list name bytes = ap (λ (s : State). s.sets) (act-is u a (Hears (Claim name) bytes)) ∙ bound-is (set_at a u.sets) refl
+  claim-list : (name : ℕ) (frame : Frame) → (after_act u a (Hears (Claim name) frame)).sets ≡ map (named_at u a) u.sets
+  claim-list name frame = ap (λ (s : State). s.sets) (act-is u a (Hears (Claim name) frame)) ∙ bound-is (set_at a u.sets) refl
 
 -- ---- a claim
 
@@ -290,35 +291,35 @@ module _ (law : OtherHoldersStay) (s : State) (orderly : IsOrderly s) (source na
     whole-list : v.sets ≡ filter (stays t) s.sets
     whole-list = v-list ∙ filter-twice (left_test left) (only_at source (stays t)) (stays t) s.sets (all s.sets apart held)
 
-    claimed-list : (bytes : List ℕ) → (after_acts t (changes_by s t left source ++ (source, Hears (Claim name) bytes) ∷ [])).sets
+    claimed-list : (frame : Frame) → (after_acts t (changes_by s t left source ++ (source, Hears (Claim name) frame) ∷ [])).sets
         ≡ map (named_at t source) (filter (stays t) s.sets)
-    claimed-list bytes =
-        ap (λ (x : State). x.sets) (acts-append t (changes_by s t left source) ((source, Hears (Claim name) bytes) ∷ []))
-        ∙ ap (λ (x : State). (after_act x source (Hears (Claim name) bytes)).sets)
+    claimed-list frame =
+        ap (λ (x : State). x.sets) (acts-append t (changes_by s t left source) ((source, Hears (Claim name) frame) ∷ []))
+        ∙ ap (λ (x : State). (after_act x source (Hears (Claim name) frame)).sets)
         (acts-append t (changed_left (left_holder s left) t left) (changed (holder s source) t source))
-        ∙ claim-list v source (subst AreApart (sym whole-list) (apart-filter (stays t) s.sets apart)) name bytes
+        ∙ claim-list v source (subst AreApart (sym whole-list) (apart-filter (stays t) s.sets apart)) name frame
         ∙ ap (λ (c : Claimed). map (named_at (record t { claims = c }) source) v.sets) v-claims
         ∙ ap (map (named_at t source)) whole-list
 
-  by-left : (o : Option ℕ) → address_of s.claims.addresses name ≡ o → (bytes : List ℕ)
-      → (after_acts t (changes_by s t (left_by source o) source ++ (source, Hears (Claim name) bytes) ∷ [])).sets
+  by-left : (o : Option ℕ) → address_of s.claims.addresses name ≡ o → (frame : Frame)
+      → (after_acts t (changes_by s t (left_by source o) source ++ (source, Hears (Claim name) frame) ∷ [])).sets
       ≡ map (named_at t source) (filter (stays t) s.sets)
-  by-left None e bytes = claimed-list None (λ l h. none-some h) (λ q ne _. λ h. none-some (sym e ∙ h)) bytes
-  by-left (Some l) e bytes =
+  by-left None e frame = claimed-list None (λ l h. none-some h) (λ q ne _. λ h. none-some (sym e ∙ h)) frame
+  by-left (Some l) e frame =
       by_eq l source
       (λ is.
-      ap (λ b. (after_acts t (changes_by s t (cond b None (Some l)) source ++ (source, Hears (Claim name) bytes) ∷ [])).sets) (eq-eqb l source is)
-      ∙ claimed-list None (λ k h. none-some h) (λ q ne _. λ h. ne (sym (some-is l q (sym e ∙ h)) ∙ is)) bytes)
+      ap (λ b. (after_acts t (changes_by s t (cond b None (Some l)) source ++ (source, Hears (Claim name) frame) ∷ [])).sets) (eq-eqb l source is)
+      ∙ claimed-list None (λ k h. none-some h) (λ q ne _. λ h. ne (sym (some-is l q (sym e ∙ h)) ∙ is)) frame)
       (λ ne.
-      ap (λ b. (after_acts t (changes_by s t (cond b None (Some l)) source ++ (source, Hears (Claim name) bytes) ∷ [])).sets) (ne_eqb l source ne)
-      ∙ claimed-list (Some l) (λ k h. λ at. ne (some-is l k h ∙ at)) (λ q _ other. λ h. other (sym e ∙ h)) bytes)
+      ap (λ b. (after_acts t (changes_by s t (cond b None (Some l)) source ++ (source, Hears (Claim name) frame) ∷ [])).sets) (ne_eqb l source ne)
+      ∙ claimed-list (Some l) (λ k h. λ at. ne (some-is l k h ∙ at)) (λ q _ other. λ h. other (sym e ∙ h)) frame)
 
-  pub claim-closes : (bytes : List ℕ) → let after = (acting s source (Claim name) bytes).after in
+  pub claim-closes : (frame : Frame) → let after = (acting s source (Claim name) frame).after in
       after.sets ≡ map (named_at after source) (filter (stays after) s.sets)
-  claim-closes bytes =
-      by-left (address_of s.claims.addresses name) refl bytes
+  claim-closes frame =
+      by-left (address_of s.claims.addresses name) refl frame
       ∙ ap (λ (c : Claimed). map (named_at (record t { claims = c }) source) (filter (stays (record t { claims = c })) s.sets))
-      (sym (claims-acts t (acts s source (Claim name) bytes)))
+      (sym (claims-acts t (acts s source (Claim name) frame)))
 
 -- ---- nothing is found where nothing was, and sets stay apart
 

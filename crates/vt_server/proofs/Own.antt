@@ -6,12 +6,17 @@ use Rattle.vt_names.specs.Registry.{Set, set_at, with_set, without, has_place, j
 use Rattle.vt_objects.specs.declared.command.Command.{Command}
 use Rattle.vt_objects.specs.Commands.{command_at}
 use Rattle.vt_server.specs.Messages.{technical_reply}
-use Rattle.vt_server.specs.Parts.{Part, Act, Hears, Rebinds, Preloads, unchanged, without_set, outcome, outcome_of_notice, after_change, with_holder_name, after_claim_heard, after_master, after_member, after_command, after_reply, after_message}
+use Rattle.vt_server.specs.Parts.{Part, Outcome, Act, Hears, Rebinds, Preloads, unchanged, without_set, outcome, outcome_of_notice, after_change, with_holder_name, after_claim_heard, after_master, after_member, after_command, after_reply, after_message, after_whole, untimed_part}
 use Rattle.vt_server.specs.Terminals.{State, Sent, part, after_act, after_acts, sent_by_act, sent_by_acts, to_one, with_set_at}
-use Rattle.vt_server.specs.Happenings.{response_of, frames_to}
+use Rattle.vt_server.specs.Happenings.{response_of, own_part, frames_to}
 use Rattle.vt_server.specs.declared.bus.Notice.{Notice}
-use Rattle.vt_server.specs.declared.bus.Notice.TheVariants.{Claim, ClaimRequest, Master, Member, Message, Nothing}
-use Rattle.vt_server.proofs.Puts.{by_eq, set_at-first, set_at-later, set_at-address, with_set-first, with_set-later, without-first, without-later, act-is, sent_by_one-is}
+use Rattle.vt_server.specs.declared.bus.Notice.TheVariants.{Claim, ClaimRequest, Master, Member, Message, Tp, Etp, Nothing}
+use Rattle.vt_server.proofs.Puts.{by_eq, set_at-first, set_at-later, set_at-address, with_set-first, with_set-later, without-first, without-later, at-own, act-is, sent_by_one-is}
+use Rattle.vt_server.proofs.Timeless.{Laws, outcome-timeless}
+use Rattle.vt_server.specs.Receiving.{taken}
+use Rattle.vt_can.specs.transport.Messages as transport
+use Rattle.vt_transport.specs.Protocol as tp
+use Rattle.vt_extended.specs.Protocol as etp
 
 -- ---- the address of the set stays
 
@@ -26,7 +31,7 @@ part-address a s = cases (set_at a s.sets) refl
     cases None e = tt
     cases (Some x) e = set_at-address a x s.sets e
 
-kept-address : (a : ℕ) (p : Part) (b : Bool) → HasAddress a p.set → HasAddress a (cond b (unchanged p) without_set).set
+kept-address : (a : ℕ) (p : Part) (b : Bool) → HasAddress a p.set → HasAddress a (cond b (unchanged p) (without_set p)).set
 kept-address a p true has = has
 kept-address a p false has = tt
 
@@ -68,18 +73,32 @@ message-address : (a : ℕ) (p : Part) (bytes : List ℕ) (o : Option Set) → H
 message-address a p bytes None has = has
 message-address a p bytes (Some set) has = technical-address a p bytes (technical_reply bytes) has
 
-notice-address : (a : ℕ) (p : Part) (notice : Notice) (bytes : List ℕ) → HasAddress a p.set → HasAddress a (outcome_of_notice a p notice bytes).set
-notice-address a p (Claim name) bytes has = claim-address a p p.set has has
-notice-address a p ClaimRequest bytes has = has
-notice-address a p (Master count) bytes has = master-address a p p.holder count has
-notice-address a p (Member name) bytes has = member-address a p p.set name has has
-notice-address a p Message bytes has = message-address a p bytes p.set has
-notice-address a p Nothing bytes has = has
+whole-address : (a : ℕ) (p : Part) (o : Option transport.Message) → HasAddress a p.set → HasAddress a (after_whole a p o).set
+whole-address a p None has = has
+whole-address a p (Some message) has = cases (eqb message.pgn 0xE700)
+  where
+    cases : (b : Bool) → HasAddress a (cond b (after_message a p message.bytes p.set) (unchanged p)).set
+    cases true = message-address a p message.bytes p.set has
+    cases false = has
 
-pub outcome-address : (a : ℕ) (p : Part) (h : Act) → HasAddress a p.set → HasAddress a (outcome a p h).set
-outcome-address a p (Hears notice bytes) has = notice-address a p notice bytes has
-outcome-address a p Rebinds has = rebound-address a p p.set has
-outcome-address a p (Preloads contents) has = refl
+notice-address : (now a : ℕ) (p : Part) (notice : Notice) (frame : Frame) → HasAddress a p.set → HasAddress a (outcome_of_notice now a p notice frame).set
+notice-address now a p (Claim name) frame has = claim-address a p p.set has has
+notice-address now a p ClaimRequest frame has = has
+notice-address now a p (Master count) frame has = master-address a p p.holder count has
+notice-address now a p (Member name) frame has = member-address a p p.set name has has
+notice-address now a p Message frame has = message-address a p frame.bytes.items p.set has
+notice-address now a p Tp frame has =
+    let t = taken tp.protocol now p.terminal a p.place.tp frame in
+    whole-address a (record p { place = record p.place { tp = t.session } }) t.message has
+notice-address now a p Etp frame has =
+    let t = taken etp.protocol now p.terminal a p.place.etp frame in
+    whole-address a (record p { place = record p.place { etp = t.session } }) t.message has
+notice-address now a p Nothing frame has = has
+
+pub outcome-address : (now a : ℕ) (p : Part) (h : Act) → HasAddress a p.set → HasAddress a (outcome now a p h).set
+outcome-address now a p (Hears notice frame) has = notice-address now a p notice frame has
+outcome-address now a p Rebinds has = rebound-address a p p.set has
+outcome-address now a p (Preloads contents) has = refl
 
 -- ---- a set that was written, there and elsewhere
 
@@ -129,23 +148,33 @@ at-put_other a b (Some x) sets has ne = at-with_other a x sets (λ h. ne (sym h 
 
 -- ---- the part
 
-pub part-act : (a : ℕ) (s : State) (h : Act) → part a (after_act s a h) ≡ (response_of (part a s) (outcome a (part a s) h)).part
+part-act : (a : ℕ) (s : State) (h : Act) → let after = outcome s.now a (part a s) h in
+    part a (after_act s a h) ≡ record (part a s) { set = after.set; place = after.place }
 part-act a s h =
-    let after = outcome a (part a s) h in
+    let after = outcome s.now a (part a s) h in
     ap (part a) (act-is s a h)
     ∙ (λ i. record (part a s) {
-      set = at-put a after.set s.sets (outcome-address a (part a s) h (part-address a s)) i;
-      pool = ap (λ b. cond b after.pool (s.pools a)) (eq-eqb a a refl) i;
+      set = at-put a after.set s.sets (outcome-address s.now a (part a s) h (part-address a s)) i;
+      place = at-own a s.places after.place i;
     })
+
+-- without times, by what happens on a part without times
+pub own-act : (laws : Laws) (a : ℕ) (s : State) (h : Act) → own_part a (after_act s a h) ≡ (response_of (own_part a s) (outcome 0 a (own_part a s) h)).part
+own-act laws a s h =
+    ap untimed_part (part-act a s h)
+    ∙ ap (λ (o : Outcome). record (part a s) { set = o.set; place = o.place }) (outcome-timeless laws s.now a (part a s) h)
 
 pub part-take_other : (a b : ℕ) (s : State) (h : Act) → a ≢ b → part a (after_act s b h) ≡ part a s
 part-take_other a b s h ne =
-    let after = outcome b (part b s) h in
+    let after = outcome s.now b (part b s) h in
     ap (part a) (act-is s b h)
     ∙ (λ i. record (part a s) {
-      set = at-put_other a b after.set s.sets (outcome-address b (part b s) h (part-address b s)) ne i;
-      pool = ap (λ c. cond c after.pool (s.pools a)) (ne_eqb a b ne) i;
+      set = at-put_other a b after.set s.sets (outcome-address s.now b (part b s) h (part-address b s)) ne i;
+      place = ap (λ c. cond c after.place (s.places a)) (ne_eqb a b ne) i;
     })
+
+pub own-take_other : (a b : ℕ) (s : State) (h : Act) → a ≢ b → own_part a (after_act s b h) ≡ own_part a s
+own-take_other a b s h ne = ap untimed_part (part-take_other a b s h ne)
 
 -- ---- frames
 
@@ -178,11 +207,11 @@ of a (h ∷ hs) = cond (eqb h.0 a) (h.1 ∷ of a hs) (of a hs)
 
 abbrev pub turns : ℕ → Part → List Act → Part
 turns a p [] = p
-turns a p (h ∷ hs) = turns a (response_of p (outcome a p h)).part hs
+turns a p (h ∷ hs) = turns a (response_of p (outcome 0 a p h)).part hs
 
 abbrev pub turns_frames : ℕ → Part → List Act → List Frame
 turns_frames a p [] = []
-turns_frames a p (h ∷ hs) = (outcome a p h).frames ++ turns_frames a (response_of p (outcome a p h)).part hs
+turns_frames a p (h ∷ hs) = (outcome 0 a p h).frames ++ turns_frames a (response_of p (outcome 0 a p h)).part hs
 
 pub of-append : (a : ℕ) (xs ys : List (ℕ × Act)) → of a (xs ++ ys) ≡ of a xs ++ of a ys
 of-append a [] ys = refl
@@ -192,32 +221,35 @@ of-append a (x ∷ xs) ys = cases (eqb x.0 a) (of-append a xs ys)
     cases true rest = ap (λ l. x.1 ∷ l) rest
     cases false rest = rest
 
-pub part-acts : (a : ℕ) (s : State) (hs : List (ℕ × Act)) → part a (after_acts s hs) ≡ turns a (part a s) (of a hs)
-part-acts a s [] = refl
-part-acts a s (h ∷ hs) =
-    let rest = part-acts a (after_act s h.0 h.1) hs in
-    by_eq h.0 a
-    (λ is.
-    rest ∙ ap (λ p. turns a p (of a hs)) (ap (λ b. part a (after_act s b h.1)) is ∙ part-act a s h.1)
-    ∙ sym (ap (λ b. turns a (part a s) (cond b (h.1 ∷ of a hs) (of a hs))) (eq-eqb h.0 a is)))
-    (λ ne.
-    rest ∙ ap (λ p. turns a p (of a hs)) (part-take_other a h.0 s h.1 (λ e. ne (sym e)))
-    ∙ sym (ap (λ b. turns a (part a s) (cond b (h.1 ∷ of a hs) (of a hs))) (ne_eqb h.0 a ne)))
+module _ (laws : Laws) where
+  pub part-acts : (a : ℕ) (s : State) (hs : List (ℕ × Act)) → own_part a (after_acts s hs) ≡ turns a (own_part a s) (of a hs)
+  part-acts a s [] = refl
+  part-acts a s (h ∷ hs) =
+      let rest = part-acts a (after_act s h.0 h.1) hs in
+      by_eq h.0 a
+      (λ is.
+      rest ∙ ap (λ p. turns a p (of a hs)) (ap (λ b. own_part a (after_act s b h.1)) is ∙ own-act laws a s h.1)
+      ∙ sym (ap (λ b. turns a (own_part a s) (cond b (h.1 ∷ of a hs) (of a hs))) (eq-eqb h.0 a is)))
+      (λ ne.
+      rest ∙ ap (λ p. turns a p (of a hs)) (own-take_other a h.0 s h.1 (λ e. ne (sym e)))
+      ∙ sym (ap (λ b. turns a (own_part a s) (cond b (h.1 ∷ of a hs) (of a hs))) (ne_eqb h.0 a ne)))
 
-pub frames-sent_by : (a : ℕ) (s : State) (hs : List (ℕ × Act)) → frames_to a (sent_by_acts s hs) ≡ turns_frames a (part a s) (of a hs)
-frames-sent_by a s [] = refl
-frames-sent_by a s (h ∷ hs) =
-    let rest = frames-sent_by a (after_act s h.0 h.1) hs in
-    let first = outcome h.0 (part h.0 s) h.1 in
-    frames-append a (sent_by_act s h.0 h.1) (sent_by_acts (after_act s h.0 h.1) hs)
-    ∙ by_eq h.0 a
-    (λ is.
-    (λ i. frames_to a (sent_by_act s (is i) h.1) ++ frames_to a (sent_by_acts (after_act s h.0 h.1) hs))
-    ∙ ap (λ l. l ++ frames_to a (sent_by_acts (after_act s h.0 h.1) hs)) (ap (frames_to a) (sent_by_one-is s a h.1) ∙ frames-own a (outcome a (part a s) h.1).frames)
-    ∙ ap (λ l. (outcome a (part a s) h.1).frames ++ l)
-    (rest ∙ ap (λ p. turns_frames a p (of a hs)) (ap (λ b. part a (after_act s b h.1)) is ∙ part-act a s h.1))
-    ∙ sym (ap (λ b. turns_frames a (part a s) (cond b (h.1 ∷ of a hs) (of a hs))) (eq-eqb h.0 a is)))
-    (λ ne.
-    ap (λ l. l ++ frames_to a (sent_by_acts (after_act s h.0 h.1) hs)) (ap (frames_to a) (sent_by_one-is s h.0 h.1) ∙ frames-other a h.0 first.frames (λ e. ne (sym e)))
-    ∙ rest ∙ ap (λ p. turns_frames a p (of a hs)) (part-take_other a h.0 s h.1 (λ e. ne (sym e)))
-    ∙ sym (ap (λ b. turns_frames a (part a s) (cond b (h.1 ∷ of a hs) (of a hs))) (ne_eqb h.0 a ne)))
+  pub frames-sent_by : (a : ℕ) (s : State) (hs : List (ℕ × Act)) → frames_to a (sent_by_acts s hs) ≡ turns_frames a (own_part a s) (of a hs)
+  frames-sent_by a s [] = refl
+  frames-sent_by a s (h ∷ hs) =
+      let rest = frames-sent_by a (after_act s h.0 h.1) hs in
+      let first = outcome s.now h.0 (part h.0 s) h.1 in
+      frames-append a (sent_by_act s h.0 h.1) (sent_by_acts (after_act s h.0 h.1) hs)
+      ∙ by_eq h.0 a
+      (λ is.
+      (λ i. frames_to a (sent_by_act s (is i) h.1) ++ frames_to a (sent_by_acts (after_act s h.0 h.1) hs))
+      ∙ ap (λ l. l ++ frames_to a (sent_by_acts (after_act s h.0 h.1) hs))
+      (ap (frames_to a) (sent_by_one-is s a h.1) ∙ frames-own a (outcome s.now a (part a s) h.1).frames
+      ∙ ap (λ (o : Outcome). o.frames) (outcome-timeless laws s.now a (part a s) h.1))
+      ∙ ap (λ l. (outcome 0 a (own_part a s) h.1).frames ++ l)
+      (rest ∙ ap (λ p. turns_frames a p (of a hs)) (ap (λ b. own_part a (after_act s b h.1)) is ∙ own-act laws a s h.1))
+      ∙ sym (ap (λ b. turns_frames a (own_part a s) (cond b (h.1 ∷ of a hs) (of a hs))) (eq-eqb h.0 a is)))
+      (λ ne.
+      ap (λ l. l ++ frames_to a (sent_by_acts (after_act s h.0 h.1) hs)) (ap (frames_to a) (sent_by_one-is s h.0 h.1) ∙ frames-other a h.0 first.frames (λ e. ne (sym e)))
+      ∙ rest ∙ ap (λ p. turns_frames a p (of a hs)) (own-take_other a h.0 s h.1 (λ e. ne (sym e)))
+      ∙ sym (ap (λ b. turns_frames a (own_part a s) (cond b (h.1 ∷ of a hs) (of a hs))) (ne_eqb h.0 a ne)))

@@ -6,8 +6,11 @@ use Rattle.std.proofs.lemmas.List.{get_or-set_same, get_or-set_other}
 use Rattle.std.specs.Prelude.{slice_set}
 use Rattle.vt_machine.specs.Lives.{SetState}
 use Rattle.vt_names.specs.Registry.{Set, set_at, with_set, without}
+use Rattle.vt_server.specs.Nodes.{NodeState}
 use Rattle.vt_server.specs.Parts.{Outcome, Act, unchanged, outcome}
-use Rattle.vt_server.specs.Terminals.{State, to_one, part, put, after_act, after_acts, sent_by_act, with_set_at, with_pool_at}
+use Rattle.vt_server.specs.Places.{Place, with_pool}
+use Rattle.vt_server.specs.States.{places_by}
+use Rattle.vt_server.specs.Terminals.{State, to_one, part, put, after_act, after_acts, sent_by_act, with_set_at, with_at}
 
 pub by_eq : {P : Type 0} (x y : ℕ) → (x ≡ y → P) → (x ≢ y → P) → P
 by_eq {P} x y same other = cases (eqb x y) refl
@@ -80,27 +83,41 @@ pub sets-same : (a : ℕ) (sets : List Set) (o : Option Set) → set_at a sets �
 sets-same a sets None e = none-same a sets e
 sets-same a sets (Some s) e = set-same a s sets e
 
--- ---- pools
+-- ---- what stands at addresses
 
-pub pools-same : (a : ℕ) (pools : ℕ → Option SetState) (o : Option SetState) → pools a ≡ o → with_pool_at a o pools ≡ pools
-pools-same a pools o e = λ i b. at b i
+pub places-same : {X : Type 0} (a : ℕ) (places : ℕ → X) (x : X) → places a ≡ x → with_at a x places ≡ places
+places-same a places x e = λ i b. at b i
   where
-    cases : (b : ℕ) (same : Bool) → eqb b a ≡ same → cond same o (pools b) ≡ pools b
-    cases b true h = sym (ap pools (eqb-true b a h) ∙ e)
+    cases : (b : ℕ) (same : Bool) → eqb b a ≡ same → cond same x (places b) ≡ places b
+    cases b true h = sym (ap places (eqb-true b a h) ∙ e)
     cases b false h = refl
 
-    at : (b : ℕ) → with_pool_at a o pools b ≡ pools b
+    at : (b : ℕ) → with_at a x places b ≡ places b
     at b = cases b (eqb b a) refl
 
-pub pools-twice : (a : ℕ) (pools : ℕ → Option SetState) (x y : Option SetState) → with_pool_at a x (with_pool_at a y pools) ≡ with_pool_at a x pools
-pools-twice a pools x y = λ i b. at b i
+pub places-twice : {X : Type 0} (a : ℕ) (places : ℕ → X) (x y : X) → with_at a x (with_at a y places) ≡ with_at a x places
+places-twice a places x y = λ i b. at b i
   where
-    cases : (b : ℕ) (same : Bool) → cond same x (cond same y (pools b)) ≡ cond same x (pools b)
+    cases : (b : ℕ) (same : Bool) → cond same x (cond same y (places b)) ≡ cond same x (places b)
     cases b true = refl
     cases b false = refl
 
-    at : (b : ℕ) → with_pool_at a x (with_pool_at a y pools) b ≡ with_pool_at a x pools b
+    at : (b : ℕ) → with_at a x (with_at a y places) b ≡ with_at a x places b
     at b = cases b (eqb b a)
+
+-- what stands at the address, and what at another
+pub at-own : {X : Type 0} (a : ℕ) (places : ℕ → X) (x : X) → with_at a x places a ≡ x
+at-own a places x = ap (λ b. cond b x (places a)) (eq-eqb a a refl)
+
+-- where one address has another value, and the others keep theirs
+pub places-written : {X : Type 0} (a : ℕ) (old new : ℕ → X) (x : X) → new a ≡ x → ((b : ℕ) → b ≢ a → new b ≡ old b) → new ≡ with_at a x old
+places-written a old new x here others = λ i b. at b i
+  where
+    at : (b : ℕ) → new b ≡ with_at a x old b
+    at b =
+        by_eq b a
+        (λ is. ap new is ∙ here ∙ sym (ap (λ c. cond c x (old b)) (eq-eqb b a is)))
+        (λ ne. others b ne ∙ sym (ap (λ c. cond c x (old b)) (ne_eqb b a ne)))
 
 -- places that are all empty hold no pool
 pub no-pools : (places : List (Option SetState)) → length places ≡ 256 → ((q : ℕ) → q < 256 → get_or places q None ≡ None)
@@ -112,10 +129,10 @@ no-pools places long empty address = elim (cases_lt address (length places)) as 
 
 -- what stands at each address after a write
 pub place-written : (places : List (Option SetState)) (a n : ℕ) (o : Option SetState) → n ≡ a → a < length places
-    → (λ (q : ℕ). get_or (slice_set places n o) q None) ≡ with_pool_at a o (λ q. get_or places q None)
+    → (λ (q : ℕ). get_or (slice_set places n o) q None) ≡ with_at a o (λ q. get_or places q None)
 place-written places a n o is within = ap (λ k. λ (q : ℕ). get_or (slice_set places k o) q None) is ∙ (λ i q. at q i)
   where
-    at : (q : ℕ) → get_or (slice_set places a o) q None ≡ with_pool_at a o (λ r. get_or places r None) q
+    at : (q : ℕ) → get_or (slice_set places a o) q None ≡ with_at a o (λ r. get_or places r None) q
     at q =
         by_eq q a
         (λ is.
@@ -125,24 +142,32 @@ place-written places a n o is within = ap (λ k. λ (q : ℕ). get_or (slice_set
 
 -- ---- states
 
-pub state_is : (s : State) (sets : List Set) (pools : ℕ → Option SetState) → sets ≡ s.sets → pools ≡ s.pools → record s { sets = sets; pools = pools } ≡ s
-state_is s sets pools e f = λ i. record s { sets = e i; pools = f i }
+-- what is kept of an address where its pool is another
+pub pool-placed : (pools : ℕ → Option SetState) (node : NodeState) (a : ℕ) (x : Option SetState)
+    → places_by (with_at a x pools) node ≡ with_at a (with_pool (places_by pools node a) x) (places_by pools node)
+pool-placed pools node a x =
+    places-written a (places_by pools node) (places_by (with_at a x pools) node) (with_pool (places_by pools node a) x)
+    (ap (with_pool (places_by pools node a)) (at-own a pools x))
+    (λ b ne. ap (with_pool (places_by pools node b)) (ap (λ c. cond c x (pools b)) (ne_eqb b a ne)))
 
-pub put-kept : (a : ℕ) (s : State) (after : Outcome) → after.set ≡ set_at a s.sets → after.pool ≡ s.pools a → put a after s ≡ s
+pub state_is : (s : State) (sets : List Set) (places : ℕ → Place) → sets ≡ s.sets → places ≡ s.places → record s { sets = sets; places = places } ≡ s
+state_is s sets places e f = λ i. record s { sets = e i; places = f i }
+
+pub put-kept : (a : ℕ) (s : State) (after : Outcome) → after.set ≡ set_at a s.sets → after.place ≡ s.places a → put a after s ≡ s
 put-kept a s after e f =
-    state_is s (with_set_at a after.set s.sets) (with_pool_at a after.pool s.pools)
-    (sets-same a s.sets after.set (sym e)) (pools-same a s.pools after.pool (sym f))
+    state_is s (with_set_at a after.set s.sets) (with_at a after.place s.places)
+    (sets-same a s.sets after.set (sym e)) (places-same a s.places after.place (sym f))
 
-pub act-is : (s : State) (a : ℕ) (h : Act) → after_act s a h ≡ put a (outcome a (part a s) h) s
+pub act-is : (s : State) (a : ℕ) (h : Act) → after_act s a h ≡ put a (outcome s.now a (part a s) h) s
 unfolding after_act
 act-is s a h = refl
 
-pub sent_by_one-is : (s : State) (a : ℕ) (h : Act) → sent_by_act s a h ≡ map (to_one a) (outcome a (part a s) h).frames
+pub sent_by_one-is : (s : State) (a : ℕ) (h : Act) → sent_by_act s a h ≡ map (to_one a) (outcome s.now a (part a s) h).frames
 unfolding sent_by_act
 sent_by_one-is s a h = refl
 
 -- nothing comes of what leaves the part as it was
-pub idle : (s : State) (a : ℕ) (h : Act) → outcome a (part a s) h ≡ unchanged (part a s) → after_act s a h ≡ s
+pub idle : (s : State) (a : ℕ) (h : Act) → outcome s.now a (part a s) h ≡ unchanged (part a s) → after_act s a h ≡ s
 idle s a h e = act-is s a h ∙ ap (λ after. put a after s) e ∙ put-kept a s (unchanged (part a s)) refl refl
 
 pub acts-append : (s : State) (hs ks : List (ℕ × Act)) → after_acts s (hs ++ ks) ≡ after_acts (after_acts s hs) ks

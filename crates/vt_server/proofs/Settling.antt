@@ -8,19 +8,24 @@ use Rattle.vt_objects.specs.declared.command.Command.{Command}
 use Rattle.vt_objects.specs.Commands.{command_at}
 use Rattle.vt_server.specs.Bus.{notice_of, frame_notice, unless_echo}
 use Rattle.vt_server.specs.Messages.{technical_reply}
-use Rattle.vt_server.specs.Parts.{Part, Hears, Preloads, after_command, after_reply, after_message}
-use Rattle.vt_server.specs.Terminals.{State, holder, part, acts, no_step, losing, acting, is_lost_by, answer_to, with_set_at}
+use Rattle.vt_server.specs.Parts.{Part, Act, Hears, Preloads, unchanged, outcome, after_command, after_reply, after_message, after_whole}
+use Rattle.vt_server.specs.Terminals.{State, holder, part, after_act, acts, no_step, losing, acting, step_now, at_time, is_lost_by, answer_to, with_set_at}
 use Rattle.vt_server.specs.States.{step}
 use Rattle.vt_server.specs.Happenings.{IsOrderly, SetIsHeld}
 use Rattle.vt_server.specs.SetLists.{AreApart, IsSettled, SetsAfterSteps, sets_after, sets_by}
 use Rattle.vt_server.specs.declared.bus.Notice.{Notice}
-use Rattle.vt_server.specs.declared.bus.Notice.TheVariants.{Claim, ClaimRequest, Master, Member, Message, Nothing}
+use Rattle.vt_server.specs.declared.bus.Notice.TheVariants.{Claim, ClaimRequest, Master, Member, Message, Tp, Etp, Nothing}
 use Rattle.vt_server.specs.declared.input.Input.{Input}
 use Rattle.vt_server.specs.declared.input.Input.TheVariants as inputs
 use Rattle.vt_server.proofs.Happened.{own-step}
 use Rattle.vt_server.proofs.Held.{held}
 use Rattle.vt_server.proofs.Listing.{claim-closes, none-closed, apart-closed}
 use Rattle.vt_server.proofs.Own.{at-with_other}
+use Rattle.vt_server.proofs.Timeless.{Laws}
+use Rattle.vt_server.specs.Receiving.{taken}
+use Rattle.vt_can.specs.transport.Messages as transport
+use Rattle.vt_transport.specs.Protocol as tp
+use Rattle.vt_extended.specs.Protocol as etp
 use Rattle.vt_server.proofs.Puts.{by_eq, set_at-address, with_set-first, with_set-later, sets-same, act-is, idle}
 use Rattle.vt_server.proofs.Registering.{master-state}
 use Rattle.vt_server.proofs.Steps.{claims-acts, member-state}
@@ -39,6 +44,19 @@ message-set : (a : ℕ) (p : Part) (bytes : List ℕ) (o : Option Set) → (afte
 message-set a p bytes None = refl
 message-set a p bytes (Some set) = technical-set a p bytes (technical_reply bytes)
 
+whole-set : (a : ℕ) (p : Part) (o : Option transport.Message) → (after_whole a p o).set ≡ p.set
+whole-set a p None = refl
+whole-set a p (Some message) = cases (eqb message.pgn 0xE700)
+  where
+    cases : (b : Bool) → (cond b (after_message a p message.bytes p.set) (unchanged p)).set ≡ p.set
+    cases true = message-set a p message.bytes p.set
+    cases false = refl
+
+-- what is put at an address with the set that it has
+kept-sets : (s : State) (a : ℕ) (h : Act) → (outcome s.now a (part a s) h).set ≡ set_at a s.sets → (after_act s a h).sets ≡ s.sets
+kept-sets s a h is =
+    ap (λ (x : State). x.sets) (act-is s a h) ∙ ap (λ o. with_set_at a o s.sets) is ∙ sets-same a s.sets (set_at a s.sets) refl
+
 -- ---- a frame
 
 module _ (law : OtherHoldersStay) (s : State) (orderly : IsOrderly s) (settled : IsSettled s) where
@@ -48,34 +66,54 @@ module _ (law : OtherHoldersStay) (s : State) (orderly : IsOrderly s) (settled :
       (λ is. subst (λ o. SetIsHeld o (holder s a)) (sym (ap (λ b. set_at b s.sets) is ∙ settled.elsewhere)) tt)
       (settled.held a)
 
-  acting-list : (source : ℕ) (n : Notice) (bytes : List ℕ) → (acting s source n bytes).after.sets ≡ sets_after (acting s source n bytes).after source n s.sets
-  acting-list source (Claim name) bytes = claim-closes law s orderly source name settled.apart everywhere bytes
-  acting-list source ClaimRequest bytes = ap (λ (x : State). x.sets) (idle s source (Hears ClaimRequest bytes) refl)
-  acting-list source (Master count) bytes =
+  acting-list : (source : ℕ) (n : Notice) (frame : Frame) → (acting s source n frame).after.sets ≡ sets_after (acting s source n frame).after source n s.sets
+  acting-list source (Claim name) frame = claim-closes law s orderly source name settled.apart everywhere frame
+  acting-list source ClaimRequest frame = ap (λ (x : State). x.sets) (idle s source (Hears ClaimRequest frame) refl)
+  acting-list source (Master count) frame =
       ap (λ (x : State). x.sets)
-      (sym (master-state s source count bytes (holder s source) (registering source (holder s source) count s.sets) refl refl))
+      (sym (master-state s source count frame (holder s source) (registering source (holder s source) count s.sets) refl refl))
       ∙ ap (λ (c : Claimed). registering source (holder_of c.addresses source) count s.sets)
-      (sym (claims-acts s (acts s source (Master count) bytes)))
-  acting-list source (Member name) bytes =
-      ap (λ (x : State). x.sets) (sym (member-state s source name bytes (joining (set_at source s.sets) name s.sets) refl))
-  acting-list source Message bytes =
-      ap (λ (x : State). x.sets) (act-is s source (Hears Message bytes))
-      ∙ ap (λ o. with_set_at source o s.sets) (message-set source (part source s) bytes (set_at source s.sets))
-      ∙ sets-same source s.sets (set_at source s.sets) refl
-  acting-list source Nothing bytes = ap (λ (x : State). x.sets) (idle s source (Hears Nothing bytes) refl)
+      (sym (claims-acts s (acts s source (Master count) frame)))
+  acting-list source (Member name) frame =
+      ap (λ (x : State). x.sets) (sym (member-state s source name frame (joining (set_at source s.sets) name s.sets) refl))
+  acting-list source Message frame = kept-sets s source (Hears Message frame) (message-set source (part source s) frame.bytes.items (set_at source s.sets))
+  acting-list source Tp frame =
+      let t = taken tp.protocol s.now s.claims.own source (s.places source).tp frame in
+      kept-sets s source (Hears Tp frame) (whole-set source (record (part source s) { place = record (s.places source) { tp = t.session } }) t.message)
+  acting-list source Etp frame =
+      let t = taken etp.protocol s.now s.claims.own source (s.places source).etp frame in
+      kept-sets s source (Hears Etp frame) (whole-set source (record (part source s) { place = record (s.places source) { etp = t.session } }) t.message)
+  acting-list source Nothing frame = ap (λ (x : State). x.sets) (idle s source (Hears Nothing frame) refl)
 
-  step-list : (i : Input) → (step s i).after.sets ≡ sets_by s (step s i).after i
-  step-list (inputs.Frame time f) =
+  now-list : (f : Frame) → let m = notice_of s.claims.own s.claims.name f in let source = source_of f in
+      (step_now s f).after.sets ≡ cond s.lost s.sets (cond (is_lost_by (answer_to s source m)) s.sets (sets_after (step_now s f).after source m s.sets))
+  now-list f =
       let m = notice_of s.claims.own s.claims.name f in
-      cases (source_of f) m f.bytes.items s.lost (is_lost_by (answer_to s (source_of f) m))
+      cases (source_of f) m s.lost (is_lost_by (answer_to s (source_of f) m))
     where
-      cases : (source : ℕ) (m : Notice) (bytes : List ℕ) (lost gone : Bool)
-          → (cond lost (no_step s) (cond gone (losing s) (acting s source m bytes))).after.sets
-          ≡ cond lost s.sets (cond gone s.sets (sets_after (cond lost (no_step s) (cond gone (losing s) (acting s source m bytes))).after source m s.sets))
-      cases source m bytes true gone = refl
-      cases source m bytes false true = refl
-      cases source m bytes false false = acting-list source m bytes
-  step-list (inputs.Operator action) = refl
+      cases : (source : ℕ) (m : Notice) (lost gone : Bool)
+          → (cond lost (no_step s) (cond gone (losing s) (acting s source m f))).after.sets
+          ≡ cond lost s.sets (cond gone s.sets (sets_after (cond lost (no_step s) (cond gone (losing s) (acting s source m f))).after source m s.sets))
+      cases source m true gone = refl
+      cases source m false true = refl
+      cases source m false false = acting-list source m f
+
+-- the time says nothing of it
+step-list : OtherHoldersStay → (s : State) → IsOrderly s → IsSettled s → (i : Input) → (step s i).after.sets ≡ sets_by s (step s i).after i
+step-list law s orderly settled (inputs.Frame time f) = cases s.lost refl
+  where
+    t : State
+    t = at_time s time
+
+    m : Notice
+    m = notice_of s.claims.own s.claims.name f
+
+    cases : (lost : Bool) → s.lost ≡ lost
+        → (cond lost (no_step s) (step_now t f)).after.sets
+        ≡ cond s.lost s.sets (cond (is_lost_by (answer_to s (source_of f) m)) s.sets (sets_after (cond lost (no_step s) (step_now t f)).after (source_of f) m s.sets))
+    cases true is = sym (ap (λ b. cond b s.sets (cond (is_lost_by (answer_to s (source_of f) m)) s.sets (sets_after s (source_of f) m s.sets))) is)
+    cases false is = now-list law t orderly (record { apart = settled.apart; elsewhere = settled.elsewhere; held = settled.held }) f
+step-list law s orderly settled (inputs.Operator action) = refl
 
 -- ---- no two at one address
 
@@ -105,6 +143,8 @@ apart-after t source ClaimRequest sets apart = apart
 apart-after t source (Master count) sets apart = apart-registering source (holder t source) count sets apart
 apart-after t source (Member name) sets apart = apart-joining (set_at source sets) name sets apart
 apart-after t source Message sets apart = apart
+apart-after t source Tp sets apart = apart
+apart-after t source Etp sets apart = apart
 apart-after t source Nothing sets apart = apart
 
 -- ---- none at the terminal's own
@@ -130,6 +170,8 @@ none-after q t source ClaimRequest sets ne none = none
 none-after q t source (Master count) sets ne none = none-registering q source (holder t source) count sets ne none
 none-after q t source (Member name) sets ne none = none-joining q source (set_at source sets) name sets refl ne none
 none-after q t source Message sets ne none = none
+none-after q t source Tp sets ne none = none
+none-after q t source Etp sets ne none = none
 none-after q t source Nothing sets ne none = none
 
 none-claim : (b : Bool) (q : ℕ) (t : State) (source name : ℕ) (sets : List Set) → set_at q sets ≡ None
@@ -144,6 +186,8 @@ none-echo q t source name ClaimRequest sets none = none
 none-echo q t source name (Master count) sets none = none
 none-echo q t source name (Member other) sets none = none
 none-echo q t source name Message sets none = none
+none-echo q t source name Tp sets none = none
+none-echo q t source name Etp sets none = none
 none-echo q t source name Nothing sets none = none
 
 none-notice : (own name : ℕ) (t : State) (f : Frame) (sets : List Set) → set_at own sets ≡ None
@@ -182,26 +226,26 @@ none-by s t (inputs.Frame time f) none =
     cases false false sets its = its
 none-by s t (inputs.Operator action) none = none
 
-pub after-steps : OtherHoldersStay → SetsAfterSteps
-after-steps law = record {
-  listed = λ s i orderly is. step-list law s orderly is i;
+pub after-steps : Laws → SetsAfterSteps
+after-steps laws = record {
+  listed = λ s i orderly is. step-list laws.holders s orderly is i;
   first = λ s none. record {
     apart = subst AreApart (sym none) tt;
     elsewhere = ap (set_at s.claims.own) none;
-    held = (held law).first s none;
+    held = (held laws).first s none;
   };
   preloaded = λ a s contents apart is. record {
     apart = subst AreApart (sym (ap (λ (x : State). x.sets) (act-is s a (Preloads contents)))) (apart-with (preloaded a) s.sets is.apart);
     elsewhere =
         (λ i. set_at (act-is s a (Preloads contents) i).claims.own (act-is s a (Preloads contents) i).sets)
         ∙ at-with_other s.claims.own (preloaded a) s.sets apart ∙ is.elsewhere;
-    held = (held law).preloaded a s contents is.held;
+    held = (held laws).preloaded a s contents is.held;
   };
   settled = λ s i orderly is. record {
-    apart = subst AreApart (sym (step-list law s orderly is i)) (apart-by s (step s i).after i is.apart);
+    apart = subst AreApart (sym (step-list laws.holders s orderly is i)) (apart-by s (step s i).after i is.apart);
     elsewhere =
         ap (λ q. set_at q (step s i).after.sets) (own-step s i)
-        ∙ ap (set_at s.claims.own) (step-list law s orderly is i) ∙ none-by s (step s i).after i is.elsewhere;
-    held = (held law).kept s i orderly is.held;
+        ∙ ap (set_at s.claims.own) (step-list laws.holders s orderly is i) ∙ none-by s (step s i).after i is.elsewhere;
+    held = (held laws).kept s i orderly is.held;
   };
 }

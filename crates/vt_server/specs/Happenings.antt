@@ -7,7 +7,7 @@ use Rattle.vt_names.specs.Claims.{Claimed, IsRising, holder_of}
 use Rattle.vt_names.specs.Registry.{Set, set_at}
 use Rattle.vt_objects.specs.Stores.{Contents}
 use Rattle.vt_server.specs.Bus.{notice_of, frame_notice}
-use Rattle.vt_server.specs.Parts.{Part, Outcome, Hears, Rebinds, Preloads, outcome}
+use Rattle.vt_server.specs.Parts.{Part, Outcome, Hears, Rebinds, Preloads, outcome, untimed_part}
 use Rattle.vt_server.specs.Terminals.{State, Sent, holder, part, after_act, hear_claim, answer_to, is_lost_by}
 use Rattle.vt_server.specs.States.{step, after_all, sent_by_all}
 use Rattle.vt_server.specs.declared.input.Input.{Input}
@@ -23,7 +23,7 @@ pub data Happening : Type 0 where
 
 -- ---- what the address makes of it, by its own part alone
 
--- the part after it, and the frames to the address
+-- the part after it, without times, and the frames to the address
 pub record Response : Type 0 where
   pub part : Part
   pub frames : List Frame
@@ -32,17 +32,17 @@ abbrev pub without_effect : Part → Response
 without_effect p = record { part = p; frames = [] }
 
 abbrev pub response_of : Part → Outcome → Response
-response_of p after = record { part = record p { set = after.set; pool = after.pool }; frames = after.frames }
+response_of p after = record { part = untimed_part (record p { set = after.set; place = after.place }); frames = after.frames }
 
 abbrev pub with_holder : Part → Option ℕ → Part
 with_holder p name = record p { holder = name }
 
--- while the terminal has its own address
+-- while the terminal has its own address; no time is looked at
 abbrev pub response_while : ℕ → Part → Happening → Response
-response_while address p (FrameHeard frame) = response_of p (outcome address p (Hears (frame_notice p.terminal frame) frame.bytes.items))
-response_while address p (HolderIs name) = response_of (with_holder p name) (outcome address (with_holder p name) Rebinds)
+response_while address p (FrameHeard frame) = response_of p (outcome 0 address p (Hears (frame_notice p.terminal frame) frame))
+response_while address p (HolderIs name) = response_of (with_holder p name) (outcome 0 address (with_holder p name) Rebinds)
 response_while address p Lost = without_effect (record p { lost = true })
-response_while address p (Preloaded contents) = response_of p (outcome address p (Preloads contents))
+response_while address p (Preloaded contents) = response_of p (outcome 0 address p (Preloads contents))
 
 -- After the loss nothing has effect.
 abbrev pub response : ℕ → Part → Happening → Response
@@ -55,6 +55,10 @@ part_after_all address p (h ∷ happenings) = part_after_all address (response a
 abbrev pub frames_of_all : ℕ → Part → List Happening → List Frame
 frames_of_all address p [] = []
 frames_of_all address p (h ∷ happenings) = (response address p h).frames ++ frames_of_all address (response address p h).part happenings
+
+-- the part of an address in a state, without times
+abbrev pub own_part : ℕ → State → Part
+own_part address s = untimed_part (part address s)
 
 -- ---- the happenings of an address, which is not the terminal's own
 
@@ -104,14 +108,14 @@ IsOrderly s = IsRising s.claims.addresses
 pub record EachTakesItsOwn : Type 0 where
   -- a step, and the sets and pools that it leaves at an address, with the frames to it
   pub part_after : (address : ℕ) (s : State) (i : Input) → IsOrderly s → address ≢ s.claims.own
-      → part address (step s i).after ≡ part_after_all address (part address s) (happenings address s i)
+      → own_part address (step s i).after ≡ part_after_all address (own_part address s) (happenings address s i)
   pub frames_after : (address : ℕ) (s : State) (i : Input) → IsOrderly s → address ≢ s.claims.own
-      → frames_to address (step s i).sent ≡ frames_of_all address (part address s) (happenings address s i)
+      → frames_to address (step s i).sent ≡ frames_of_all address (own_part address s) (happenings address s i)
   -- a pool that is preloaded, at its address and elsewhere
   pub preloaded : (address : ℕ) (s : State) (contents : Contents) → s.lost ≡ false
-      → part address (after_act s address (Preloads contents)) ≡ part_after_all address (part address s) (Preloaded contents ∷ [])
+      → own_part address (after_act s address (Preloads contents)) ≡ part_after_all address (own_part address s) (Preloaded contents ∷ [])
   pub preloaded_elsewhere : (address other : ℕ) (s : State) (contents : Contents) → other ≢ address
-      → part other (after_act s address (Preloads contents)) ≡ part other s
+      → own_part other (after_act s address (Preloads contents)) ≡ own_part other s
 
 -- Two runs with the same happenings of an address, from the same part of it, leave the same part and send it
 -- the same frames, whatever else they hear.
@@ -119,8 +123,8 @@ abbrev pub OwnHappeningsDecide : Type 0
 OwnHappeningsDecide =
     (address : ℕ) (s t : State) (xs ys : List Input) → IsOrderly s → IsOrderly t
     → address ≢ s.claims.own → address ≢ t.claims.own
-    → part address s ≡ part address t → happenings_all address s xs ≡ happenings_all address t ys
-    → (part address (after_all s xs) ≡ part address (after_all t ys))
+    → own_part address s ≡ own_part address t → happenings_all address s xs ≡ happenings_all address t ys
+    → (own_part address (after_all s xs) ≡ own_part address (after_all t ys))
     × (frames_to address (sent_by_all s xs) ≡ frames_to address (sent_by_all t ys))
 
 -- ---- A set with a NAME has that of its address's holder, after every input. (None stands at the own address.)

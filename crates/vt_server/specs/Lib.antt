@@ -4,7 +4,10 @@ pub mod ClaimsHeard
 pub mod Commands
 pub mod Happenings
 pub mod Messages
+pub mod Nodes
 pub mod Parts
+pub mod Places
+pub mod Receiving
 pub mod Replies
 pub mod Sending
 pub mod SetLists

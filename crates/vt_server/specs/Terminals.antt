@@ -1,5 +1,5 @@
 -- The terminal as one step for each input (docs/PROFILE.md, "The step").
-use Rattle.std.specs.Prelude.{ℕ, ◌==◌, Bool, true, false, if◌then◌else◌, List, [], ◌∷◌, ◌++◌, map, Option, Some, None, nat_eq}
+use Rattle.std.specs.Prelude.{ℕ, max, ◌==◌, Bool, true, false, if◌then◌else◌, List, [], ◌∷◌, ◌++◌, map, Option, Some, None, nat_eq}
 use Rattle.std.specs.Option.{option_eq}
 use Rattle.vt_can.specs.declared.frames.frame.Frame.{Frame}
 use Rattle.vt_can.specs.Assigned.{NULL_ADDRESS}
@@ -8,20 +8,21 @@ use Rattle.vt_names.specs.Claims.{Claimed, heard, address_of, holder_of, answer}
 use Rattle.vt_names.specs.declared.claims.Heard.{Heard}
 use Rattle.vt_names.specs.declared.claims.Heard.TheVariants as claims
 use Rattle.vt_names.specs.Registry.{Set, set_at, with_set, without}
-use Rattle.vt_machine.specs.Lives.{SetState}
 use Rattle.vt_server.specs.Bus.{notice_of}
 use Rattle.vt_server.specs.Messages.{claim_from}
+use Rattle.vt_server.specs.Places.{Place}
 use Rattle.vt_server.specs.Parts.{Part, Outcome, Act, Hears, Rebinds, outcome}
 use Rattle.vt_server.specs.declared.bus.Notice.{Notice}
 use Rattle.vt_server.specs.declared.bus.Notice.TheVariants.{Claim, ClaimRequest}
 
--- what was heard of the addresses, the sets in order of registration, the pool of each address, and whether
--- the own address was lost
+-- what was heard of the addresses, the sets in order of registration, what is kept of each address, whether the
+-- own address was lost, and the latest time so far in microseconds
 pub record State : Type 0 where
   pub claims : Claimed
   pub sets : List Set
-  pub pools : ℕ → Option SetState
+  pub places : ℕ → Place
   pub lost : Bool
+  pub now : ℕ
 
 -- a frame that is sent, to one address or to all
 pub record Sent : Type 0 where
@@ -39,18 +40,18 @@ part address s = record {
   lost = s.lost;
   holder = holder s address;
   set = set_at address s.sets;
-  pool = s.pools address;
+  place = s.places address;
 }
 
 abbrev pub with_set_at : ℕ → Option Set → List Set → List Set
 with_set_at address None sets = without address sets
 with_set_at address (Some set) sets = with_set set sets
 
-abbrev pub with_pool_at : ℕ → Option SetState → (ℕ → Option SetState) → ℕ → Option SetState
-with_pool_at address pool pools other = if other == address then pool else pools other
+abbrev pub with_at : {X : Type 0} → ℕ → X → (ℕ → X) → ℕ → X
+with_at address x places other = if other == address then x else places other
 
 abbrev pub put : ℕ → Outcome → State → State
-put address after s = record s { sets = with_set_at address after.set s.sets; pools = with_pool_at address after.pool s.pools }
+put address after s = record s { sets = with_set_at address after.set s.sets; places = with_at address after.place s.places }
 
 abbrev pub to_one : ℕ → Frame → Sent
 to_one address frame = record { to = Some address; frame = frame }
@@ -61,10 +62,10 @@ to_all frame = record { to = None; frame = frame }
 -- ---- what happens at addresses, in turn
 
 unfoldable pub after_act : State → ℕ → Act → State
-after_act s address act = put address (outcome address (part address s) act) s
+after_act s address act = put address (outcome s.now address (part address s) act) s
 
 unfoldable pub sent_by_act : State → ℕ → Act → List Sent
-sent_by_act s address act = map (to_one address) (outcome address (part address s) act).frames
+sent_by_act s address act = map (to_one address) (outcome s.now address (part address s) act).frames
 
 abbrev pub after_acts : State → List (ℕ × Act) → State
 after_acts s [] = s
@@ -111,8 +112,8 @@ changes s source (Claim name) =
 changes s source _ = []
 
 -- in order: each change of a holder, and the frame at its source
-abbrev pub acts : State → ℕ → Notice → List ℕ → List (ℕ × Act)
-acts s source notice bytes = changes s source notice ++ (source, Hears notice bytes) ∷ []
+abbrev pub acts : State → ℕ → Notice → Frame → List (ℕ × Act)
+acts s source notice frame = changes s source notice ++ (source, Hears notice frame) ∷ []
 
 abbrev pub answer_to : State → ℕ → Notice → Heard
 answer_to s source (Claim name) = answer s.claims source name
@@ -146,17 +147,25 @@ no_step s = record { after = s; sent = [] }
 abbrev pub losing : State → Step
 losing s = record { after = record s { lost = true }; sent = to_all (claim_from NULL_ADDRESS s.claims.name) ∷ [] }
 
-abbrev pub acting : State → ℕ → Notice → List ℕ → Step
-acting s source notice bytes = let all = acts s source notice bytes in record {
+abbrev pub acting : State → ℕ → Notice → Frame → Step
+acting s source notice frame = let all = acts s source notice frame in record {
   after = after_acts (before s source notice) all;
   sent = defence s source notice ++ sent_by_acts (before s source notice) all;
 }
 
-abbrev pub step_notice : State → ℕ → Notice → List ℕ → Step
-step_notice s source notice bytes =
+abbrev pub step_notice : State → ℕ → Notice → Frame → Step
+step_notice s source notice frame =
     if s.lost then no_step s
     else if is_lost_by (answer_to s source notice) then losing s
-    else acting s source notice bytes
+    else acting s source notice frame
 
-abbrev pub step_frame : State → Frame → Step
-step_frame s frame = step_notice s (source_of frame) (notice_of s.claims.own s.claims.name frame) frame.bytes.items
+-- a frame that is heard at the latest time so far
+abbrev pub step_now : State → Frame → Step
+step_now s frame = step_notice s (source_of frame) (notice_of s.claims.own s.claims.name frame) frame
+
+-- Time never goes back.
+abbrev pub at_time : State → ℕ → State
+at_time s time = record s { now = max s.now time }
+
+abbrev pub step_frame : State → ℕ → Frame → Step
+step_frame s time frame = if s.lost then no_step s else step_now (at_time s time) frame

@@ -8,7 +8,8 @@ ghost use Rattle.vt_server.specs.Bus.{frame_notice, notice_of, unless_echo};
 use byteorder::{ByteOrder, LittleEndian};
 use vt_can::Frame;
 use vt_can::assigned::{
-    ADDRESS_CLAIMED, ECU_TO_VT, GLOBAL_ADDRESS, REQUEST, WORKING_SET_MASTER, WORKING_SET_MEMBER,
+    ADDRESS_CLAIMED, ECU_TO_VT, ETP_CM, ETP_DT, GLOBAL_ADDRESS, REQUEST, TP_CM, TP_DT,
+    WORKING_SET_MASTER, WORKING_SET_MEMBER,
 };
 use vt_names::Name;
 
@@ -25,6 +26,10 @@ pub(crate) enum Notice {
     Member(Name),
     /// The bytes are a message to the terminal.
     Message,
+    /// A frame of the transport protocol.
+    Tp,
+    /// A frame of the extended transport protocol.
+    Etp,
     /// Nothing that the terminal looks at.
     Nothing,
 }
@@ -74,6 +79,8 @@ fn frame_notice(own: u8, frame: &Frame) -> Notice
         WORKING_SET_MASTER if !bytes.is_empty() => Notice::Master { count: bytes[0] },
         WORKING_SET_MEMBER if bytes.len() >= 8 => Notice::Member(name_in(bytes)),
         ECU_TO_VT if to_terminal => Notice::Message,
+        TP_CM | TP_DT => Notice::Tp,
+        ETP_CM | ETP_DT => Notice::Etp,
         _ => Notice::Nothing,
     }
 }

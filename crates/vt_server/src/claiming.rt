@@ -39,17 +39,17 @@ impl Terminal {
     ) -> Result<(), OutOfMemory>
         requires has { (state_of self.old).lost ≡ false }
         requires room { vec_len outputs.old < vec_capacity outputs.old }
-        ensures ok { OnOk result ((bytes : List ℕ) → state_of self.new
-            ≡ (spec.step_notice (state_of self.old) source (notices.Claim name) bytes).after) }
-        ensures sent { OnOk result ((bytes : List ℕ) → outputs.new.items
-            ≡ outputs.old.items ++ outputs_of (spec.step_notice (state_of self.old) source (notices.Claim name) bytes).sent) }
+        ensures ok { OnOk result ((frame : Frame) → state_of self.new
+            ≡ (spec.step_notice (state_of self.old) source (notices.Claim name) frame).after) }
+        ensures sent { OnOk result ((frame : Frame) → outputs.new.items
+            ≡ outputs.old.items ++ outputs_of (spec.step_notice (state_of self.old) source (notices.Claim name) frame).sent) }
         ensures err { OnErr result (state_of self.new ≡ state_of self.old) }
         ensures err_sent { OnErr result (outputs.new.items ≡ outputs.old.items) }
     {
         let own_claim = self.own_claim();
-        match self.claims.answer(source, name) {
+        match self.node.answer(source, name) {
             Heard::Lost => {
-                send(outputs, claim_from(NULL_ADDRESS, self.claims.name()));
+                send(outputs, claim_from(NULL_ADDRESS, self.node.name()));
                 self.lost = true;
                 Ok(())
             }
@@ -69,9 +69,9 @@ impl Terminal {
 
     /// The terminal's Address Claimed.
     pub(crate) fn own_claim(&self) -> Frame
-        ensures { result ≡ messages.claim_from self.now.claims.own self.now.claims.name }
+        ensures { result ≡ messages.claim_from (state_of self.now).claims.own (state_of self.now).claims.name }
     {
-        claim_from(self.claims.own(), self.claims.name())
+        claim_from(self.node.own(), self.node.name())
     }
 
     /// Records a claim, which is all that may want memory. The sets stay.
@@ -84,18 +84,18 @@ impl Terminal {
         let former = FormerHolders {
             left,
             left_holder: self.left_holder(left),
-            holder: self.claims.holder(source),
+            holder: self.node.holder(source),
         };
-        self.claims.hear(source, name)?;
+        self.node.hear_claim(source, name)?;
         Ok(former)
     }
 
     /// Closes the sets of addresses that have another holder since a claim, and gives a set of its source without a
     /// NAME the holder's.
     fn act_on_holders(&mut self, source: u8, former: &FormerHolders)
-        ensures { (s : State) (name : ℕ) (bytes : List ℕ) → AreFormer s source name former.now
+        ensures { (s : State) (name : ℕ) (frame : Frame) → AreFormer s source name former.now
             → state_of self.old ≡ spec.before s source (notices.Claim name)
-            → state_of self.new ≡ (spec.acting s source (notices.Claim name) bytes).after }
+            → state_of self.new ≡ (spec.acting s source (notices.Claim name) frame).after }
     {
         self.rebind_left(former.left, former.left_holder);
         self.rebind(source, former.holder);
@@ -104,9 +104,9 @@ impl Terminal {
 
     // The address that a NAME leaves by claiming another.
     fn left_by(&self, source: u8, name: Name) -> Option<u8>
-        ensures { result ≡ spec.left_by source (address_of self.now.claims.addresses name) }
+        ensures { result ≡ spec.left_by source (address_of (state_of self.now).claims.addresses name) }
     {
-        match self.claims.address_of(name) {
+        match self.node.address_of(name) {
             Some(left) if left != source => Some(left),
             _ => None,
         }
@@ -115,7 +115,7 @@ impl Terminal {
     fn left_holder(&self, left: Option<u8>) -> Option<Name>
         ensures { result ≡ spec.left_holder (state_of self.now) left }
     {
-        self.claims.holder(left?)
+        self.node.holder(left?)
     }
 
     fn rebind_left(&mut self, left: Option<u8>, was: Option<Name>)
@@ -130,7 +130,7 @@ impl Terminal {
     fn rebind(&mut self, address: u8, was: Option<Name>)
         ensures { state_of self.new ≡ spec.after_acts (state_of self.old) (spec.changed was (state_of self.old) address) }
     {
-        let holder = self.claims.holder(address);
+        let holder = self.node.holder(address);
         if was == holder {
             return;
         }
@@ -146,8 +146,8 @@ impl Terminal {
 
     // A set without a NAME takes the holder's.
     fn bind(&mut self, address: u8)
-        ensures { (name : ℕ) (bytes : List ℕ) → state_of self.new
-            ≡ spec.after_act (state_of self.old) address (Hears (notices.Claim name) bytes) }
+        ensures { (name : ℕ) (frame : Frame) → state_of self.new
+            ≡ spec.after_act (state_of self.old) address (Hears (notices.Claim name) frame) }
     {
         let Some(set) = self.registry.get(address) else {
             return;
@@ -155,7 +155,7 @@ impl Terminal {
         if set.name().is_some() {
             return;
         }
-        if let Some(holder) = self.claims.holder(address) {
+        if let Some(holder) = self.node.holder(address) {
             self.registry.bind(address, holder);
         }
     }

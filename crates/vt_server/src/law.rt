@@ -15,6 +15,8 @@ pub fn each_takes_its_own()
     ensures { EachTakesItsOwn }
 {
     vt_names::other_holders_stay();
+    vt_transport::laws::steps_are_timeless();
+    vt_extended::laws::steps_are_timeless();
 }
 
 /// The law that two runs with the same happenings of an address, from the same part of it, leave the same part
@@ -23,6 +25,8 @@ pub fn own_happenings_decide()
     ensures { OwnHappeningsDecide }
 {
     vt_names::other_holders_stay();
+    vt_transport::laws::steps_are_timeless();
+    vt_extended::laws::steps_are_timeless();
 }
 
 /// The law that a step leaves each set with a NAME under an address whose holder has that NAME. So to close the
@@ -31,6 +35,8 @@ pub fn sets_hold_their_address()
     ensures { SetsHoldTheirAddress }
 {
     vt_names::other_holders_stay();
+    vt_transport::laws::steps_are_timeless();
+    vt_extended::laws::steps_are_timeless();
 }
 
 /// The law that a claim closes each set with a NAME that isn't its address's holder, that the others keep their
@@ -40,6 +46,8 @@ pub fn sets_after_steps()
     ensures { SetsAfterSteps }
 {
     vt_names::other_holders_stay();
+    vt_transport::laws::steps_are_timeless();
+    vt_extended::laws::steps_are_timeless();
 }
 
 /// The law that the holder of each address after a run is the least NAME among those whose last claim in it was of
@@ -50,7 +58,8 @@ pub fn holders_are_of_runs()
     vt_names::holders_are_least();
 }
 
-/// The law that a step sends at most one frame: a message to one address, or a claim to all.
+/// The law that a step sends at most two frames: to one address, messages and what manages its sessions, or a claim
+/// to all.
 pub fn sent_are_addressed()
     ensures { SentAreAddressed }
 {
@@ -61,5 +70,5 @@ pub fn sent_are_addressed()
 pub fn terminals_are_orderly(terminal: &Terminal)
     ensures { IsOrderly (state_of terminal.now) }
 {
-    let _address = terminal.claims.address_of(Name::default());
+    let _address = terminal.node.address_of(Name::default());
 }

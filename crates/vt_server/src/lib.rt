@@ -10,8 +10,10 @@ mod hearing;
 mod input;
 mod law;
 mod messages;
+mod node;
 mod output;
 mod pools;
+mod receiving;
 mod terminal;
 
 pub use input::Input;

@@ -1,6 +1,6 @@
 //! What the terminal sends.
 
-ghost use Rattle.std.specs.Prelude.{◌≡◌, ◌++◌, ◌<◌, [], ◌∷◌, vec_len, vec_capacity};
+ghost use Rattle.std.specs.Prelude.{◌≡◌, ◌++◌, ◌<◌, ◌≤◌, [], ◌∷◌, vec_len, vec_capacity};
 ghost use Rattle.vt_server.specs.declared.output.Output.TheVariants as declared;
 
 use vt_can::Frame;
@@ -15,7 +15,8 @@ pub enum Output {
 /// Appends a frame for which there is room.
 pub(crate) fn send(outputs: &mut Vec<Output>, frame: Frame)
     requires room { vec_len outputs.old < vec_capacity outputs.old }
-    ensures { outputs.new.items ≡ outputs.old.items ++ declared.Frame frame ∷ [] }
+    ensures items { outputs.new.items ≡ outputs.old.items ++ declared.Frame frame ∷ [] }
+    ensures room { vec_capacity outputs.old ≤ vec_capacity outputs.new }
 {
     let _done = outputs.push(Output::Frame(frame));
 }

@@ -4,7 +4,7 @@ ghost use Rattle.std.specs.Prelude.{◌≡◌, ℕ, None, Some};
 ghost use Rattle.std.specs.Option.{option_map};
 ghost use Rattle.vt_server.specs.Commands.{pool_after, error_after};
 ghost use Rattle.vt_server.specs.States.{pools_of};
-ghost use Rattle.vt_server.specs.Terminals.{with_pool_at};
+ghost use Rattle.vt_server.specs.Terminals.{with_at};
 
 use crate::commands::{deletes, error_byte};
 use vt_machine::Live;
@@ -32,13 +32,13 @@ impl Pools {
     }
 
     pub(crate) fn put(&mut self, address: u8, pool: Live<SortedStore>)
-        ensures { pools_of self.new ≡ with_pool_at address (Some pool) (pools_of self.old) }
+        ensures { pools_of self.new ≡ with_at address (Some pool) (pools_of self.old) }
     {
         self.places[usize::from(address)] = Some(pool);
     }
 
     pub(crate) fn remove(&mut self, address: u8)
-        ensures { pools_of self.new ≡ with_pool_at address None (pools_of self.old) }
+        ensures { pools_of self.new ≡ with_at address None (pools_of self.old) }
     {
         self.places[usize::from(address)] = None;
     }
@@ -47,7 +47,7 @@ impl Pools {
     /// is no pool. To delete the pool is done there too.
     pub(crate) fn apply(&mut self, address: u8, command: &Command<'_>) -> Option<u8>
         ensures pools { pools_of self.new
-            ≡ with_pool_at address (pool_after command.now (pools_of self.old address)) (pools_of self.old) }
+            ≡ with_at address (pool_after command.now (pools_of self.old address)) (pools_of self.old) }
         ensures error { result ≡ error_after command.now (pools_of self.old address) }
     {
         if deletes(command) {

@@ -5,17 +5,19 @@ ghost use Rattle.std.specs.Option.{option_map};
 ghost use Rattle.vt_names.specs.Registry.{set_at};
 ghost use Rattle.vt_objects.specs.Stores.{map_of};
 ghost use Rattle.vt_server.specs.Parts.{Preloads};
+ghost use Rattle.vt_server.specs.Places.{empty};
 ghost use Rattle.vt_server.specs.States.{IsOperator, state_of, outputs_of, step, after_all, sent_by_all};
 ghost use Rattle.vt_server.specs.Terminals as spec;
 
 use crate::OutOfMemory;
 use crate::input::Input;
+use crate::node::Node;
 use crate::output::Output;
 use crate::pools::Pools;
 use std::alloc::Global;
 use thiserror::Error;
 use vt_machine::Live;
-use vt_names::{Claims, Name, Registry};
+use vt_names::{Name, Registry};
 use vt_objects::SortedStore;
 use vt_verify::Accepted;
 
@@ -24,11 +26,13 @@ use vt_verify::Accepted;
 #[derive(Drop)]
 pub struct Terminal {
     pub(crate) alloc: Global,
-    pub(crate) claims: Claims,
+    pub(crate) node: Node,
     pub(crate) registry: Registry,
     pub(crate) pools: Pools,
     // Whether a lower NAME has claimed the own address.
     pub(crate) lost: bool,
+    // The latest time so far, in microseconds.
+    pub(crate) time: u64,
 }
 
 /// The memory for an input of a run was refused. The inputs before it were taken, and no other.
@@ -45,15 +49,17 @@ impl Terminal {
         requires { own ≤ 253 }
         ensures claims { (state_of result).claims ≡ record { own = own; name = name; addresses = [] } }
         ensures sets { (state_of result).sets ≡ [] }
-        ensures pools { (address : ℕ) → (state_of result).pools address ≡ None }
+        ensures places { (address : ℕ) → (state_of result).places address ≡ empty }
         ensures lost { (state_of result).lost ≡ false }
+        ensures now { (state_of result).now ≡ 0 }
     {
         Terminal {
             alloc,
-            claims: Claims::new(alloc, own, name),
+            node: Node::new(alloc, own, name),
             registry: Registry::new(alloc),
             pools: Pools::new(),
             lost: false,
+            time: 0,
         }
     }
 
@@ -66,7 +72,7 @@ impl Terminal {
 
     /// The object pool of the working set of an address, if it has one.
     pub fn set(&self, address: u8) -> Option<&Live<SortedStore>>
-        ensures { option_map (λ live. live.now) result ≡ (state_of self.now).pools address }
+        ensures { option_map (λ live. live.now) result ≡ ((state_of self.now).places address).pool }
     {
         self.pools.get(address)
     }
@@ -99,8 +105,8 @@ impl Terminal {
         ensures lost { (state_of self.old).lost ≡ true → IsOk result }
     {
         match input {
-            Input::Frame { frame, .. } => {
-                self.hear(frame, outputs)?;
+            Input::Frame { time, frame } => {
+                self.hear(*time, frame, outputs)?;
                 Ok(())
             }
             Input::Operator(_) => Ok(()),

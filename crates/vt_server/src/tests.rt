@@ -1,6 +1,7 @@
 mod addresses;
 mod messages_of_sets;
 mod sets;
+mod transport;
 
 use super::*;
 use std::alloc::Global;

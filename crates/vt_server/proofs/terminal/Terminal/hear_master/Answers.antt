@@ -7,6 +7,6 @@ use Rattle.vt_server.specs.declared.bus.Notice.TheVariants.{Master}
 use Rattle.vt_server.proofs.terminal.Terminal.hear_master.Goals as goal
 
 pub returns-clause-ok : goal.returns-clause-ok
-returns-clause-ok c bytes =
-    c.register.ensures bytes
-    ∙ ap (λ (l : List Set). after_act (record (state_of c.args.self.now) { sets = l }) c.args.source (Hears (Master c.args.count) bytes)) c.reserve.ensures.sets
+returns-clause-ok c frame =
+    c.register.ensures frame
+    ∙ ap (λ (l : List Set). after_act (record (state_of c.args.self.now) { sets = l }) c.args.source (Hears (Master c.args.count) frame)) c.reserve.ensures.sets

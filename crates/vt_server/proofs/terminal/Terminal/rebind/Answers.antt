@@ -1,6 +1,7 @@
-use Rattle.std.proofs.Common.{sym, ap, ◌∙◌, nat_eq}
+use Rattle.std.proofs.Common.{None, sym, ap, ◌∙◌, nat_eq}
 use Rattle.std.specs.Option.{option_eq}
-use Rattle.vt_server.specs.States.{state_of, pools_of}
+use Rattle.vt_server.specs.States.{state_of, pools_of, places_by}
+use Rattle.vt_server.proofs.Puts.{pool-placed}
 use Rattle.vt_server.specs.Parts.{stays_under}
 use Rattle.vt_server.proofs.Registering.{rebind-none, rebind-kept, rebind-closed}
 use Rattle.vt_server.proofs.terminal.Terminal.rebind.Goals as goal
@@ -18,7 +19,8 @@ returns-then-stays_under c =
 
 pub returns : goal.returns
 returns c =
-    rebind-closed (state_of c.args.self.now) c.args.address c.args.was c.in-Some.set.now c.close.new.self.sets (pools_of c.remove.new.self)
+    rebind-closed (state_of c.args.self.now) c.args.address c.args.was c.in-Some.set.now c.close.new.self.sets (places_by (pools_of c.remove.new.self) c.args.self.now.node)
     (ap (option_eq nat_eq c.args.was) (sym c.holder-holder.ensures) ∙ sym c.if-eq.ensures) c.in-Some.ensures
     (sym (λ i. stays_under (c.name.ensures i) (c.holder-holder.ensures i)) ∙ sym c.if-stays_under.ensures)
-    c.close.ensures.sets c.remove.ensures
+    c.close.ensures.sets
+    (ap (λ pools. places_by pools c.args.self.now.node) c.remove.ensures ∙ pool-placed (pools_of c.args.self.now.pools) c.args.self.now.node c.args.address None)

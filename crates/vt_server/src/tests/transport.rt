@@ -1,0 +1,120 @@
+//! Messages that come in packets.
+
+use super::*;
+
+// What is heard, and what is sent.
+type Said = (&'static [&'static str], &'static [&'static str]);
+
+const TP_RTS: &str = "1CEC2680#10090002FF00E700";
+
+const TP_FIRST: &str = "1CEB2680#01B4E8036400FFFF";
+
+const TP_LAST: &str = "1CEB2680#020500FFFFFFFFFF";
+
+const TP_CTS: &str = "1CEC8026#110201FFFF00E700";
+
+const TP_END: &str = "1CEC8026#13090002FF00E700";
+
+const REPLY: &str = "14E68026#B4E803640000FFFF";
+
+// Sessions with a set that has a pool, at 80, and with a node that is no master, at 81.
+const CASES: [Said; 8] = [
+    // Change Child Position by TP: its end goes out before its reply.
+    (&[TP_RTS, TP_FIRST, TP_LAST], &[TP_CTS, TP_END, REPLY]),
+    // By ETP.
+    (
+        &[
+            "1CC82680#140900000000E700",
+            "1CC82680#160200000000E700",
+            "1CC72680#01B4E8036400FFFF",
+            "1CC72680#020500FFFFFFFFFF",
+        ],
+        &[
+            "1CC88026#150201000000E700",
+            "1CC88026#170900000000E700",
+            REPLY,
+        ],
+    ),
+    // A packet out of its turn, and then one without a session.
+    (
+        &[TP_RTS, TP_LAST, TP_FIRST],
+        &[TP_CTS, "1CEC8026#FF07FFFFFF00E700"],
+    ),
+    // An abort from the implement, and one of the terminal's own group, which is a sender's.
+    (&[TP_RTS, "1CEC2680#FF01FFFFFF00E700", TP_FIRST], &[TP_CTS]),
+    (
+        &[TP_RTS, "1CEC2680#FF01FFFFFF00E600", TP_FIRST, TP_LAST],
+        &[TP_CTS, TP_END, REPLY],
+    ),
+    // A message of another group is dropped.
+    (
+        &["1CEC2680#10090002FF00E800", TP_FIRST, TP_LAST],
+        &["1CEC8026#110201FFFF00E800", "1CEC8026#13090002FF00E800"],
+    ),
+    // So is one of a node that is no master, beside the session of another.
+    (
+        &[
+            TP_RTS,
+            "1CEC2681#10090002FF00E700",
+            TP_FIRST,
+            "1CEB2681#01B4E8036400FFFF",
+            "1CEB2681#020500FFFFFFFFFF",
+            TP_LAST,
+        ],
+        &[
+            TP_CTS,
+            "1CEC8126#110201FFFF00E700",
+            "1CEC8126#13090002FF00E700",
+            TP_END,
+            REPLY,
+        ],
+    ),
+    // Nothing comes of what is short, of what another node is to hear, and of echoes.
+    (
+        &[
+            "1CEC2680#10090002FF00E7",
+            "1CEC2780#10090002FF00E700",
+            "1CEC2626#10090002FF00E700",
+            "1CC82626#140900000000E700",
+            TP_FIRST,
+        ],
+        &[],
+    ),
+];
+
+fn expect_said(rt: &(impl Abort + AllocGlobal), cases: &[Said]) -> Result<(), Fail> {
+    for &(heard, sent) in cases {
+        let case = Case {
+            preloaded: true,
+            heard,
+            sent,
+            sets: &[0x80],
+        };
+        expect_case(rt, &case)?;
+    }
+    Ok(())
+}
+
+#[test]
+fn messages_in_packets(rt: HostRuntime) -> Result<(), Fail> {
+    expect_said(&rt, &CASES)
+}
+
+// A claim between the packets takes the address of the set: the session stays, and its message has no reply.
+const CLAIMED: [Case; 1] = [Case {
+    preloaded: true,
+    heard: &[
+        "18EEFF80#0100000000800020",
+        TP_RTS,
+        TP_FIRST,
+        "18EEFF80#0000000000800020",
+        TP_LAST,
+    ],
+    sent: &[TP_CTS, TP_END],
+    sets: &[],
+}];
+
+#[test]
+fn a_set_that_is_closed_between_packets(rt: HostRuntime) -> Result<(), Fail> {
+    expect_cases(&rt, &CLAIMED)
+}
