@@ -106,7 +106,7 @@ record_stops (a ∷ b ∷ c ∷ rest) stop fits e =
 
 -- ---- where there is a cause, no record begins
 
-kind_there : (rest : List ℕ) (id : ℕ) (o : Seen) (tail : List ℕ) → rest ≡ record_of id o ++ tail → kind_at (type_at rest) ≡ Some (kind_of o)
+pub kind_there : (rest : List ℕ) (id : ℕ) (o : Seen) (tail : List ℕ) → rest ≡ record_of id o ++ tail → kind_at (type_at rest) ≡ Some (kind_of o)
 kind_there rest id o tail parts = ap (λ (r : List ℕ). kind_at (type_at r)) parts ∙ kind_at-kind_number (kind_of o)
 
 pub truncated_none : (rest : List ℕ) → IsTruncated rest → NoRecordBegins rest

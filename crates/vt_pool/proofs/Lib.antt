@@ -14,3 +14,12 @@ pub mod Joins
 pub mod Progress
 pub mod Writing
 pub mod Again
+pub mod Typed
+pub mod EntriesAgain
+pub mod Objects
+pub mod Lasting
+pub mod Fronts
+pub mod PartsPassed
+pub mod RecordsPassed
+pub mod ReadTo
+pub mod NoFaultYet

@@ -139,7 +139,7 @@ signed_again w z rest fits =
 
 -- ---- bytes that are too few
 
-number_short : (size : ℕ) (all : List ℕ) → length all < size → number_at size all ≡ None
+pub number_short : (size : ℕ) (all : List ℕ) → length all < size → number_at size all ≡ None
 unfolding number_at bytes_at
 number_short size all lt = rw (lt-ltb (length all) size lt) refl
 

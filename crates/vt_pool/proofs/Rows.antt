@@ -1,11 +1,12 @@
 -- Reading rows one after the other, as a loop does.
 use Rattle.std.proofs.Common.{◌≡◌, ◌⊎◌, ℕ, suc, ◌-◌, ◌+◌, ◌≤◌, ◌<◌, List, [], ◌∷◌, ◌++◌, length, Option, Some, None, refl, sym, ap, ◌∙◌, append_assoc, inr, arith}
 use Rattle.std.proofs.lemmas.List.{append-nil}
-use Rattle.vt_objects.specs.Layout.{Size, Unsigned, Signed, Numeral, natural, integer, bytes_in}
+use Rattle.vt_objects.specs.Layout.{Size, Unsigned, Signed, Numeral, natural, integer}
 use Rattle.vt_pool.specs.declared.stop.Stop.{Stop}
 use Rattle.vt_pool.specs.declared.stop.Stop.TheVariants as stops
 use Rattle.vt_pool.proofs.Numbers.{number_then_short, signed_then_short}
 use Rattle.vt_pool.specs.Reading.{◌>>=◌, row_at, rows_at}
+use Rattle.vt_pool.specs.Parts.{row_size}
 
 -- the rows that were read before, and those that are still read
 abbrev pub with_front : List (List Numeral) → Option (List (List Numeral) × List ℕ) → Option (List (List Numeral) × List ℕ)
@@ -38,12 +39,6 @@ is_done sizes front count i all total le so_far =
     let k : count - i ≡ 0 = omega arith in
     let one : with_front front (rows_at sizes (count - i) all) ≡ Some (front, all) = rw k (ap (λ (rows : List (List Numeral)). Some (rows, all)) (append-nil front)) in
     sym so_far ∙ one
-
--- how many bytes the numbers of a row take
-abbrev pub row_size : List Size → ℕ
-row_size [] = 0
-row_size (Unsigned size ∷ sizes) = size + row_size sizes
-row_size (Signed width ∷ sizes) = bytes_in width + row_size sizes
 
 pub row_short : (sizes : List Size) (all : List ℕ) → length all < row_size sizes → row_at sizes all ≡ None
 unfolding row_at

@@ -72,7 +72,7 @@ ids_back xs = entries_back id_numbers id_from (λ x. refl) xs
 points_back : (xs : List Point) → map point_from (map point_numbers xs) ≡ xs
 points_back xs = entries_back point_numbers point_from (λ x. refl) xs
 
-scale_back : (s : Scale) → scale_from (scale_number s) ≡ s
+pub scale_back : (s : Scale) → scale_from (scale_number s) ≡ s
 scale_back One = refl
 scale_back Tenth = refl
 scale_back Hundredth = refl

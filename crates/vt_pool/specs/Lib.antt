@@ -4,3 +4,5 @@ pub mod Heads
 pub mod Writing
 pub mod Stops
 pub mod Places
+pub mod Arriving
+pub mod Parts

@@ -3,8 +3,12 @@
 //! docs/PROFILE.md, "Pools and faults", has the rules, and "Records" the layout of each kind.
 #![tactic(auto)]
 
+mod arriving;
 mod entry;
 mod fault;
+mod layouts;
+mod parts;
+mod passing;
 mod pool;
 mod reader;
 mod record;
@@ -12,9 +16,11 @@ mod records;
 mod stop;
 mod write;
 
+pub use arriving::{Reading, faults_last};
 pub use fault::PoolFault;
 pub use pool::{Pool, read_pool};
 pub use record::{records_are_whole, written_is_read};
+pub use std::alloc::AllocError as OutOfMemory;
 pub use write::write_object;
 
 #[cfg(test)]

@@ -53,7 +53,7 @@ fn parse_record<'a>(alloc: Global, bytes: &'a [u8]) -> Result<Record<'a>, Stop>
 }
 
 /// The kind of a type, or why it has none.
-fn kind_with(number: u8) -> Result<Kind, Stop>
+pub fn kind_with(number: u8) -> Result<Kind, Stop>
     ensures { result ≡ or_stop (other_type number) (kind_at number) }
 {
     match Kind::from_number(number) {

@@ -1,3 +1,4 @@
+mod arriving;
 mod each_kind;
 
 use super::*;

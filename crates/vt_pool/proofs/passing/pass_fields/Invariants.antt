@@ -1,0 +1,6 @@
+use Rattle.vt_objects.specs.Records.{fields_of}
+use Rattle.vt_pool.proofs.PartsPassed.{IsPassed}
+use Rattle.vt_pool.proofs.passing.pass_fields.Given as goal
+
+abbrev pub invariant-loop-part : goal.invariant-loop-part
+invariant-loop-part l = IsPassed (fields_of l.fn.kind) l.bytes l.at l.part-index l.met l.counts l.rest

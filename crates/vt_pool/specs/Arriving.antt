@@ -1,0 +1,58 @@
+-- A pool that is read as its pieces arrive (docs/PROFILE.md, "Object Pool Transfer (11)").
+use Rattle.std.specs.Prelude.{◌≡◌, ◌⊎◌, ℕ, List, [], ◌++◌, length, drop, Option, Some, None, refl}
+use Rattle.std.specs.Coded.{Coded, code_by, coded×, coded_ℕ, coded_list}
+use Rattle.vt_pool.specs.declared.fault.PoolFault.{PoolFault}
+use Rattle.vt_pool.specs.declared.fault.PoolFault.TheVariants.{Truncated, OutOfMemory}
+use Rattle.vt_pool.specs.Pools.{Entry, AreRecords, joined, IsTruncated, IsFault}
+
+-- the bytes that have arrived, and how many more may come that take no memory
+pub record Arrived : Type 0 where
+  pub bytes : List ℕ
+  pub room : ℕ
+
+abbrev pub arrived_code : Coded Arrived
+arrived_code =
+    code_by (List ℕ × ℕ) (coded× (coded_list coded_ℕ) coded_ℕ)
+    (λ a. (a.bytes, a.room)) (λ p. record { bytes = p.0; room = p.1 }) (λ _. refl)
+
+-- neither more bytes nor more memory cure the fault
+abbrev pub IsLasting : PoolFault → Type 0
+IsLasting (Truncated at) = ⊥
+IsLasting (OutOfMemory at) = ⊥
+IsLasting _ = Unit {0}
+
+abbrev pub lasting_of : PoolFault → Option PoolFault
+lasting_of (Truncated at) = None
+lasting_of (OutOfMemory at) = None
+lasting_of fault = Some fault
+
+-- The fault of a pool's first bytes is the fault of the pool.
+abbrev pub FaultsLast : Type 0
+FaultsLast = (bytes more : List ℕ) (fault : PoolFault) → IsFault bytes fault → IsLasting fault → IsFault (bytes ++ more) fault
+
+-- No such fault can be named yet.
+abbrev pub HasNoFaultYet : List ℕ → Type 0
+HasNoFaultYet bytes = (fault : PoolFault) → IsFault bytes fault → IsLasting fault → ⊥
+
+-- Whole records stand before a place.
+pub record AreWholeTo (bytes : List ℕ) (place : ℕ) : Type 0 where
+  pub records : List Entry
+  pub whole : AreRecords records
+  pub parts : bytes ≡ joined records ++ drop place bytes
+  pub place_is : place ≡ length (joined records)
+
+-- What follows whole records is the front of one more, if anything.
+abbrev pub IsUnfinished : List ℕ → Type 0
+IsUnfinished rest = (rest ≡ []) ⊎ IsTruncated rest
+
+-- The bytes are read up to a place, where whole records end, or have a lasting fault.
+abbrev pub IsReadTo : List ℕ → ℕ → Option PoolFault → Type 0
+IsReadTo bytes place None = AreWholeTo bytes place × IsUnfinished (drop place bytes)
+IsReadTo bytes place (Some fault) = IsFault bytes fault × IsLasting fault
+
+-- The bytes were read so before the last of them came.
+pub record WereReadTo (bytes : List ℕ) (place : ℕ) (fault : Option PoolFault) : Type 0 where
+  pub before : List ℕ
+  pub more : List ℕ
+  pub parts : bytes ≡ before ++ more
+  pub read : IsReadTo before place fault

@@ -1,0 +1,148 @@
+//! Pools that are read as their pieces arrive.
+
+ghost use Rattle.std.specs.Prelude.{◌≡◌, ◌≤◌, ◌+◌, ◌-◌, [], ◌++◌, length, drop, List, vec_len, vec_capacity, IfOk, IfErr, OnOk, OnErr, IsOk, IfSome, IfNone};
+ghost use Rattle.vt_pool.specs.Arriving.{FaultsLast, IsLasting, HasNoFaultYet, IsReadTo, WereReadTo};
+ghost use Rattle.vt_pool.specs.Pools.{Entry, AreRecords, joined, IsInForce, IsFault, IsWantOfMemory};
+
+use crate::OutOfMemory;
+use crate::fault::PoolFault;
+use crate::passing::pass_records;
+use crate::pool::{Pool, read_pool};
+use std::alloc::Global;
+use std::marker::Model;
+
+/// A pool that is read as its pieces arrive: its bytes so far, and how many more it has room for. However
+/// the pool was cut, it is read as a whole one. ISO 11783-6; docs/PROFILE.md, "Object Pool Transfer (11)".
+#[derive(Drop)]
+pub struct Reading {
+    bytes: Vec<u8>,
+    // Where the pool begins in them.
+    start: usize,
+    // How many bytes of the pool are known to be whole records, and its fault, if more bytes do not cure it.
+    whole: usize,
+    fault: Option<PoolFault>,
+    alloc: Global,
+}
+
+impl Model for Reading {
+    ghost use Rattle.std.specs.Prelude.{◌≤◌, ◌-◌, drop, vec_len, vec_capacity};
+    ghost use Rattle.vt_pool.specs.Arriving.{Arrived, arrived_code, IsReadTo};
+
+    ghost Value = { Arrived };
+
+    ghost coded = { arrived_code };
+
+    ghost view = { λ r. record { bytes = drop r.start r.bytes.items; room = vec_capacity r.bytes - vec_len r.bytes } };
+
+    ghost invariant = { λ r. (r.start ≤ vec_len r.bytes) × IsReadTo (drop r.start r.bytes.items) r.whole r.fault };
+}
+
+impl Reading {
+    /// A pool of no bytes. It takes no memory.
+    pub fn new(alloc: Global) -> Reading
+        ensures bytes { result.bytes ≡ [] }
+        ensures room { result.room ≡ 0 }
+    {
+        Reading {
+            bytes: Vec::new(alloc),
+            start: 0,
+            whole: 0,
+            fault: None,
+            alloc,
+        }
+    }
+
+    /// Adds the bytes of a piece from a place on, and reads the records that they complete. It takes no memory
+    /// where `reserve` has set it aside. A pool of no bytes takes the piece over as it is. Refused, it answers
+    /// the piece, and nothing has changed. docs/PROFILE.md, "Object Pool Transfer (11)".
+    pub fn feed(&mut self, piece: Vec<u8>, from: usize) -> Result<(), (Vec<u8>, OutOfMemory)>
+        requires { from ≤ length piece.items }
+        ensures ok { OnOk result (self.new.bytes ≡ self.old.bytes ++ drop from piece.items) }
+        ensures err { OnErr result (self.new ≡ self.old) }
+        ensures back { IfErr result (λ refused. refused.0.items ≡ piece.items) }
+        ensures empty { self.old.bytes ≡ [] → IsOk result }
+        ensures ready { length piece.items ≤ from + self.old.room → IsOk result }
+    {
+        append(&mut self.bytes, &mut self.start, piece, from)?;
+        let (whole, fault) = read_on(&self.bytes[self.start..], self.whole, self.fault);
+        self.whole = whole;
+        self.fault = fault;
+        Ok(())
+    }
+
+    /// Sets memory aside for so many more bytes. Refused, it leaves everything as it was.
+    pub fn reserve(&mut self, count: usize) -> Result<(), OutOfMemory>
+        ensures bytes { self.new.bytes ≡ self.old.bytes }
+        ensures ok { OnOk result (count ≤ self.new.room) }
+        ensures room { self.old.room ≤ self.new.room }
+        ensures err { OnErr result (self.new ≡ self.old) }
+        ensures ready { count ≤ self.old.room → IsOk result }
+    {
+        self.bytes.reserve(count)
+    }
+
+    /// The fault of the pool, if the bytes so far have one that more bytes do not cure: not that they end
+    /// inside a record. It takes no memory.
+    pub fn fault(&self) -> Option<PoolFault>
+        ensures some { IfSome result (λ fault. IsFault self.now.bytes fault × IsLasting fault) }
+        ensures none { IfNone result (HasNoFaultYet self.now.bytes) }
+    {
+        self.fault
+    }
+
+    /// The pool of the bytes so far, as `read_pool` reads them: whatever the pieces were. An error names the
+    /// first faulty record.
+    pub fn pool(&self) -> Result<Pool<'_>, PoolFault>
+        ensures pool { IfOk result (λ pool. (records : List Entry) × AreRecords records × (self.now.bytes ≡ joined records) × IsInForce records pool) }
+        ensures only { (records : List Entry) → AreRecords records → self.now.bytes ≡ joined records → IfErr result IsWantOfMemory }
+        ensures fault { IfErr result (IsFault self.now.bytes) }
+    {
+        read_pool(self.alloc, &self.bytes[self.start..])
+    }
+}
+
+// Where nothing stands from the start on, the piece takes the place of the bytes.
+fn append(
+    bytes: &mut Vec<u8>,
+    start: &mut usize,
+    piece: Vec<u8>,
+    from: usize,
+) -> Result<(), (Vec<u8>, OutOfMemory)>
+    requires start { start.old ≤ vec_len bytes.old }
+    requires from { from ≤ length piece.items }
+    ensures start { start.new ≤ vec_len bytes.new }
+    ensures ok { OnOk result (drop start.new bytes.new.items ≡ drop start.old bytes.old.items ++ drop from piece.items) }
+    ensures err { OnErr result ((start.new ≡ start.old) × (bytes.new.items ≡ bytes.old.items)) }
+    ensures room { OnErr result ((vec_len bytes.new ≡ vec_len bytes.old) × (vec_capacity bytes.new ≡ vec_capacity bytes.old)) }
+    ensures back { IfErr result (λ refused. refused.0.items ≡ piece.items) }
+    ensures empty { drop start.old bytes.old.items ≡ [] → IsOk result }
+    ensures ready { length piece.items ≤ from + (vec_capacity bytes.old - vec_len bytes.old) → IsOk result }
+{
+    if bytes.len() == *start {
+        *bytes = piece;
+        *start = from;
+        return Ok(());
+    }
+    if let Err(error) = bytes.reserve(piece.len() - from) {
+        return Err((piece, error));
+    }
+    // It has that room, so it is not refused.
+    let _ = bytes.extend_from_slice(&piece[from..]);
+    Ok(())
+}
+
+// Reads the records that the last bytes complete. A fault that was found stays.
+fn read_on(pool: &[u8], whole: usize, fault: Option<PoolFault>) -> (usize, Option<PoolFault>)
+    requires { WereReadTo pool.now whole fault }
+    ensures { IsReadTo pool.now result.0 result.1 }
+{
+    match fault {
+        Some(_) => (whole, fault),
+        None => pass_records(pool, whole),
+    }
+}
+
+/// The law that a fault which more bytes do not cure is the fault of the pool, whatever bytes follow.
+pub fn faults_last()
+    ensures { FaultsLast }
+{}

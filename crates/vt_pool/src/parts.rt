@@ -1,0 +1,142 @@
+//! The parts of a record, as far as its length and its faults go.
+
+ghost use Rattle.std.specs.Prelude.{◌≡◌, ◌<◌, ◌≤◌, ◌^◌, length, take, drop, IfSome, IfNone};
+ghost use Rattle.vt_pool.specs.Parts.{count_in, with_count, part_size, counts_behind, part_fault, IsLongEnough};
+
+use crate::fault::PoolFault;
+use byteorder::{ByteOrder, LittleEndian};
+use vt_objects::{Decimals, Scale};
+
+/// What a count counts.
+#[derive(Clone, Copy)]
+pub enum Counted {
+    Objects,
+    Macros,
+    Others,
+}
+
+/// A field of a record.
+#[derive(Clone, Copy)]
+pub enum Part {
+    /// A number of so many bytes.
+    Number(usize),
+    /// How many entries a later list has, a number of so many bytes.
+    Count(Counted, usize),
+    /// As many entries as were counted, each of so many bytes.
+    List(Counted, usize),
+    /// The four bytes of a scale.
+    Scale,
+    /// The byte of decimals.
+    Decimals,
+}
+
+/// The counts of a record that were met so far.
+#[derive(Clone, Copy)]
+pub struct Counts {
+    objects: usize,
+    macros: usize,
+    others: usize,
+}
+
+impl Counts {
+    pub fn none() -> Counts
+        ensures { result ≡ record { objects = 0; macros = 0; others = 0 } }
+    {
+        Counts {
+            objects: 0,
+            macros: 0,
+            others: 0,
+        }
+    }
+
+    fn get(self, of: Counted) -> usize
+        ensures { result ≡ count_in self of }
+    {
+        match of {
+            Counted::Objects => self.objects,
+            Counted::Macros => self.macros,
+            Counted::Others => self.others,
+        }
+    }
+
+    fn with(self, of: Counted, count: usize) -> Counts
+        ensures { result ≡ with_count self of count }
+    {
+        match of {
+            Counted::Objects => Counts {
+                objects: count,
+                ..self
+            },
+            Counted::Macros => Counts {
+                macros: count,
+                ..self
+            },
+            Counted::Others => Counts {
+                others: count,
+                ..self
+            },
+        }
+    }
+}
+
+impl Part {
+    /// The bytes of the part, which stands behind these counts, and those after it, or `None` where they end before.
+    pub fn split<'a>(self, counts: Counts, bytes: &'a [u8]) -> Option<(&'a [u8], &'a [u8])>
+        ensures there { IfSome result (λ split. part_size self counts ≤ length bytes.now) }
+        ensures front { IfSome result (λ split. split.0.now ≡ take (part_size self counts) bytes.now) }
+        ensures rest { IfSome result (λ split. split.1.now ≡ drop (part_size self counts) bytes.now) }
+        ensures none { IfNone result (length bytes.now < part_size self counts) }
+    {
+        let size = self.size(counts)?;
+        if bytes.len() < size {
+            return None;
+        }
+        Some(bytes.split_at(size))
+    }
+
+    /// How many bytes the part takes, unless that is no `usize`.
+    fn size(self, counts: Counts) -> Option<usize>
+        ensures some { IfSome result (λ size. size ≡ part_size self counts) }
+        ensures none { IfNone result (2 ^ 64 ≤ part_size self counts) }
+    {
+        match self {
+            Part::Number(size) | Part::Count(_, size) => Some(size),
+            Part::List(of, size) => counts.get(of).checked_mul(size),
+            Part::Scale => Some(4),
+            Part::Decimals => Some(1),
+        }
+    }
+
+    /// The counts behind the part, which has these bytes.
+    pub fn count(self, bytes: &[u8], counts: Counts) -> Counts
+        requires { IsLongEnough self bytes.now }
+        ensures { result ≡ counts_behind self bytes.now counts }
+    {
+        match self {
+            Part::Count(of, size) => {
+                counts.with(of, LittleEndian::read_uint(bytes, size) as usize)
+            }
+            _ => counts,
+        }
+    }
+
+    /// The fault of the part, which has these bytes and stands at a place of the pool.
+    pub fn fault(self, bytes: &[u8], at: usize) -> Option<PoolFault>
+        requires { IsLongEnough self bytes.now }
+        ensures { result ≡ part_fault self bytes.now at }
+    {
+        match self {
+            Part::Scale => {
+                match Scale::from_bytes([bytes[0], bytes[1], bytes[2], bytes[3]]) {
+                    Some(_) => None,
+                    None => Some(PoolFault::Scale { at }),
+                }
+            }
+            Part::Decimals => match Decimals::new(bytes[0]) {
+                Some(_) => None,
+                None => Some(PoolFault::Decimals { at }),
+            },
+            _ => None,
+        }
+    }
+}

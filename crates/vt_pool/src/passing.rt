@@ -1,0 +1,98 @@
+//! Passing over records without reading them: where they end, and which is faulty. It takes no memory.
+
+ghost use Rattle.std.specs.Prelude.{◌≡◌, ◌<◌, ◌≤◌, ◌+◌, ◌^◌, length, drop, IfOk};
+ghost use Rattle.vt_objects.specs.Records.{fields_of};
+ghost use Rattle.vt_pool.specs.Heads.{fields_at, record_at};
+ghost use Rattle.vt_pool.specs.Arriving.{AreWholeTo, IsReadTo, lasting_of};
+ghost use Rattle.vt_pool.specs.Parts.{HeadGives, PassesFields, PassesRecord};
+
+use crate::fault::PoolFault;
+use crate::layouts::parts;
+use crate::parts::Counts;
+use crate::reader::Reader;
+use crate::record::kind_with;
+use crate::stop::Stop;
+use vt_objects::Kind;
+
+/// Passes over the whole records from a place on, at which others end. Answers the end of the last, and the
+/// fault of what follows it, if the fault lasts.
+pub fn pass_records(pool: &[u8], from: usize) -> (usize, Option<PoolFault>)
+    requires { AreWholeTo pool.now from }
+    ensures { IsReadTo pool.now result.0 result.1 }
+{
+    let mut at = from;
+    while at < pool.len() {
+        match record_end(pool, at) {
+            Err(fault) => return (at, lasting(fault)),
+            Ok(place) => at = place,
+        }
+    }
+    (at, None)
+}
+
+/// The fault, if neither more bytes nor more memory cure it.
+fn lasting(fault: PoolFault) -> Option<PoolFault>
+    ensures { result ≡ lasting_of fault }
+{
+    match fault {
+        PoolFault::Truncated { at: _ } | PoolFault::OutOfMemory { at: _ } => None,
+        _ => Some(fault),
+    }
+}
+
+/// The end of the record that begins at a place of a pool, or its fault.
+pub fn record_end(pool: &[u8], at: usize) -> Result<usize, PoolFault>
+    requires { at < length pool.now }
+    ensures passes { PassesRecord (length pool.now) at result (record_at (drop at pool.now)) }
+    ensures further { IfOk result (λ place. (at < place) × (place ≤ length pool.now)) }
+{
+    let bytes = &pool[at..];
+    match kind_of_record(bytes) {
+        Err(stop) => Err(stop.at(at)),
+        Ok(kind) => {
+            let rest = pass_fields(kind, bytes, at)?;
+            Ok(pool.len() - rest.len())
+        }
+    }
+}
+
+/// The kind of the record at the front.
+fn kind_of_record(bytes: &[u8]) -> Result<Kind, Stop>
+    ensures head { HeadGives result bytes.now }
+    ensures long { IfOk result (λ kind. 3 ≤ length bytes.now) }
+{
+    let mut reader = Reader::new(bytes);
+    reader.need(3)?;
+    let id = reader.id();
+    let number = reader.u8();
+    if id.is_null() {
+        return Err(Stop::NullId);
+    }
+    kind_with(number)
+}
+
+/// The bytes behind the fields of a record, which begins at a place of its pool, or its fault.
+fn pass_fields<'a>(kind: Kind, bytes: &'a [u8], at: usize) -> Result<&'a [u8], PoolFault>
+    requires head { 3 ≤ length bytes.now }
+    requires place { at + length bytes.now < 2 ^ 63 }
+    ensures passes { PassesFields (λ rest. rest.now) at result (fields_at (fields_of kind) (drop 3 bytes.now)) }
+    ensures shorter { IfOk result (λ rest. length rest.now < length bytes.now) }
+{
+    let mut counts = Counts::none();
+    let mut rest = &bytes[3..];
+    let mut met = None;
+    for part in parts(kind) {
+        match part.split(counts, rest) {
+            None => return Err(PoolFault::Truncated { at }),
+            Some((front, behind)) => {
+                met = met.or(part.fault(front, at + (bytes.len() - rest.len())));
+                counts = part.count(front, counts);
+                rest = behind;
+            }
+        }
+    }
+    match met {
+        Some(fault) => Err(fault),
+        None => Ok(rest),
+    }
+}
