@@ -1,5 +1,5 @@
 -- Where there is one working set, two IDs of working sets are one.
-use Rattle.std.proofs.Common.{◌≡◌, ℕ, suc, Bool, true, false, cond, [], ◌∷◌, filter, length, Some, refl, sym, ap, subst, ◌∙◌, arith}
+use Rattle.std.proofs.Common.{◌≡◌, ℕ, suc, Bool, true, false, cond, [], ◌∷◌, filter, length, slice_get, Some, refl, sym, ap, subst, ◌∙◌, arith}
 use Rattle.std.proofs.lemmas.Bool.{eqb-true}
 use Rattle.std.specs.Cmp.{unsigned_tied}
 use Rattle.std.specs.Option.{option_map}
@@ -11,7 +11,9 @@ use Rattle.vt_objects.specs.Records.{Seen, kind_of}
 use Rattle.vt_objects.specs.Stores.{Contents, Objects, object_at}
 use Rattle.vt_verify.specs.Shapes.{fixed, shape_of}
 use Rattle.vt_verify.specs.Rules.{is_working_set, working_sets}
-use Rattle.vt_machine.specs.Lives.{IsActive}
+use Rattle.vt_verify.proofs.Places.{get_placed}
+use Rattle.vt_machine.specs.Effects.{kind_in}
+use Rattle.vt_machine.specs.Lives.{ActiveMasksAreOne, IsActive, first_set, working_set_in, active_in}
 use Rattle.vt_machine.specs.Machines.{shape_in, mask_of}
 
 abbrev IsSet : Objects → ℕ → Type 0
@@ -80,3 +82,61 @@ masks_are_one m mask other one first second =
     (sym (ap (option_map kind_of) (finite.get-entries m first.0)) ∙ first.1)
     (sym (ap (option_map kind_of) (finite.get-entries m second.0)) ∙ second.1) in
     sym first.2 ∙ ap (λ (k : ℕ). mask_of (finite.get m k)) same ∙ second.2
+
+-- ---- the one that is found
+
+found_by : (e : ℕ × Seen) (es : Objects) (q : ℕ) (b : Bool) → is_working_set (kind_of e.1) ≡ b → cond b (suc (working_sets (shape_of es))) (working_sets (shape_of es)) ≡ 1
+    → IsSet (e ∷ es) q → (working_sets (shape_of es) ≡ 1 → IsSet es q → q ≡ first_set es) → q ≡ cond b e.0 (first_set es)
+found_by e es q true set one is rest =
+    let none : working_sets (shape_of es) ≡ 0 = omega (arith, one) in
+    entry_case (q ≡ e.0) e es q (eq_by_cmp nat_cmp q e.0) refl is (λ same set_q. same) (λ later. absurd (none_left es q none later))
+found_by e es q false other one is rest =
+    entry_case (q ≡ first_set es) e es q (eq_by_cmp nat_cmp q e.0) refl is (λ same set_q. absurd (never set_q)) (λ later. rest one later)
+  where
+    never : is_working_set (kind_of e.1) ≡ true → ⊥
+    never set = let both : false ≡ true = sym other ∙ set in absurd cc
+
+is_first : (es : Objects) (q : ℕ) → working_sets (shape_of es) ≡ 1 → IsSet es q → q ≡ first_set es
+is_first [] q one is = absurd cc
+is_first (e ∷ es) q one is =
+    found_by e es q (is_working_set (kind_of e.1)) refl (sym (count_more e es) ∙ one) is (λ left later. is_first es q left later)
+
+pub set_is : (m : Contents) (set : ℕ) → working_sets (shape_in m) ≡ 1 → kind_in m set ≡ Some kinds.WorkingSet → set ≡ working_set_in m
+unfolding working_set_in
+set_is m set one is =
+    is_first (finite.entries m) set (entries_count m one) (sym (ap (option_map kind_of) (finite.get-entries m set)) ∙ is)
+
+pub active_is : (m : Contents) (set mask : ℕ) → working_sets (shape_in m) ≡ 1 → kind_in m set ≡ Some kinds.WorkingSet → mask ≡ mask_of (finite.get m set) → mask ≡ active_in m
+active_is m set mask one is active = active ∙ ap (λ (k : ℕ). mask_of (finite.get m k)) (set_is m set one is)
+
+-- where there is one, there is an ID of it
+set_kind : (k : Kind) → is_working_set k ≡ true → k ≡ kinds.WorkingSet
+set_kind kinds.WorkingSet is = refl
+set_kind _ is = absurd cc
+
+some_by : (P : Type 0) (m : Contents) (e : ℕ × Seen) (es : Objects) (b : Bool) → is_working_set (kind_of e.1) ≡ b → finite.get m e.0 ≡ Some e.1
+    → cond b (suc (working_sets (shape_of es))) (working_sets (shape_of es)) ≡ 1 → ((q : ℕ) → kind_in m q ≡ Some kinds.WorkingSet → P)
+    → (working_sets (shape_of es) ≡ 1 → P) → P
+some_by P m e es true set here one then rest = then e.0 (ap (option_map kind_of) here ∙ ap (λ (k : Kind). Some k) (set_kind (kind_of e.1) set))
+some_by P m e es false other here one then rest = rest one
+
+some_set : (P : Type 0) (m : Contents) (es : Objects) → ((place q : ℕ) (o : Seen) → slice_get es place ≡ Some (q, o) → finite.get m q ≡ Some o) → working_sets (shape_of es) ≡ 1
+    → ((q : ℕ) → kind_in m q ≡ Some kinds.WorkingSet → P) → P
+some_set P m [] there one then = absurd cc
+some_set P m (e ∷ es) there one then =
+    some_by P m e es (is_working_set (kind_of e.1)) refl (there 0 e.0 e.1 refl) (sym (count_more e es) ∙ one) then
+    (λ left. some_set P m es (λ place q o at. there (suc place) q o at) left then)
+
+pub set_there : (m : Contents) → working_sets (shape_in m) ≡ 1 → kind_in m (working_set_in m) ≡ Some kinds.WorkingSet
+set_there m one =
+    some_set (kind_in m (working_set_in m) ≡ Some kinds.WorkingSet) m (finite.entries m) (λ place q o at. get_placed m place q o at) (entries_count m one)
+    (λ q is. subst (λ (k : ℕ). kind_in m k ≡ Some kinds.WorkingSet) (set_is m q one is) is)
+
+pub active_masks_are_one : ActiveMasksAreOne
+active_masks_are_one = record {
+  one = masks_are_one;
+  set = set_is;
+  set_there = set_there;
+  mask = λ m mask one active. active_is m active.0 mask one active.1 (sym active.2);
+  active = λ m one. (working_set_in m, set_there m one, refl);
+}

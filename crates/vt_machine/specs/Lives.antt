@@ -1,7 +1,7 @@
 -- A working set with its object pool: its objects, the key that is held, and the input that is selected, and what calls on it do
 -- (docs/PROFILE.md, "Runs", "Steps").
 use denote.RattleType.{RattleType}
-use Rattle.std.specs.Prelude.{◌≡◌, ◌≤◌, ◌+◌, ◌-◌, ℕ, Bool, true, false, ◌==◌, if◌then◌else◌, List, Option, Some, None, Result, Ok, Err, refl}
+use Rattle.std.specs.Prelude.{◌≡◌, ◌≤◌, ◌+◌, ◌-◌, ℕ, Bool, true, false, ◌==◌, if◌then◌else◌, List, [], ◌∷◌, Option, Some, None, Result, Ok, Err, refl}
 use Rattle.std.specs.Coded.{Coded, code_by, coded×, coded_option, coded_ℕ}
 use Rattle.std.specs.FinMap as map
 use Rattle.vt_objects.specs.contracts.macro_bytes.MacroBytes as macro_bytes
@@ -11,8 +11,9 @@ use Rattle.vt_objects.specs.declared.kind.Kind.{Kind}
 use Rattle.vt_objects.specs.declared.kind.Kind.TheVariants as kinds
 use Rattle.vt_objects.specs.Kinds.{kind_number}
 use Rattle.vt_objects.specs.Rows.{bytes_row}
-use Rattle.vt_objects.specs.Stores.{Contents}
-use Rattle.vt_verify.specs.Rules.{working_sets}
+use Rattle.vt_objects.specs.Records.{kind_of}
+use Rattle.vt_objects.specs.Stores.{Contents, Objects}
+use Rattle.vt_verify.specs.Rules.{is_working_set, working_sets}
 use Rattle.vt_machine.specs.contracts.live.HeldKey as held_key
 use Rattle.vt_machine.specs.declared.live.HeldKey.{HeldKey}
 use Rattle.vt_machine.specs.declared.live.Outcome.{Outcome}
@@ -52,13 +53,31 @@ abbrev pub holds_key : Contents → Option HeldKey → Bool
 holds_key store None = true
 holds_key store (Some key) = is_key (kind_in store key.id)
 
+-- ---- the working set and its active mask
+
+-- the first that is a Working Set, and NULL where none is
+abbrev pub first_set : Objects → ℕ
+first_set [] = 0xFFFF
+first_set (e ∷ entries) = if is_working_set (kind_of e.1) then e.0 else first_set entries
+
+unfoldable pub working_set_in : Contents → ℕ
+working_set_in store = first_set (map.entries store)
+
+-- its active mask, and NULL where there is no working set
+abbrev pub active_in : Contents → ℕ
+active_in store = mask_of (map.get store (working_set_in store))
+
 -- the active mask of the working set
 abbrev pub IsActive : Contents → ℕ → Type 0
 IsActive store mask = (set : ℕ) × (kind_in store set ≡ Some kinds.WorkingSet) × (mask_of (map.get store set) ≡ mask)
 
--- Where there is one working set, there is one active mask.
-abbrev pub ActiveMasksAreOne : Type 0
-ActiveMasksAreOne = (store : Contents) (mask other : ℕ) → working_sets (shape_in store) ≡ 1 → IsActive store mask → IsActive store other → mask ≡ other
+-- Where there is one working set, it is the one that is found, and there is one active mask.
+pub record ActiveMasksAreOne : Type 0 where
+  pub one : (store : Contents) (mask other : ℕ) → working_sets (shape_in store) ≡ 1 → IsActive store mask → IsActive store other → mask ≡ other
+  pub set : (store : Contents) (set : ℕ) → working_sets (shape_in store) ≡ 1 → kind_in store set ≡ Some kinds.WorkingSet → set ≡ working_set_in store
+  pub set_there : (store : Contents) → working_sets (shape_in store) ≡ 1 → kind_in store (working_set_in store) ≡ Some kinds.WorkingSet
+  pub mask : (store : Contents) (mask : ℕ) → working_sets (shape_in store) ≡ 1 → IsActive store mask → mask ≡ active_in store
+  pub active : (store : Contents) → working_sets (shape_in store) ≡ 1 → IsActive store (active_in store)
 
 -- ---- what runs leave
 

@@ -12,7 +12,7 @@ use Rattle.vt_machine.specs.declared.live.HeldKey.{HeldKey}
 use Rattle.vt_machine.specs.declared.operator.Acted.{Acted}
 use Rattle.vt_machine.specs.declared.operator.OperatorRefusal.{OperatorRefusal}
 use Rattle.vt_machine.specs.declared.operator.OperatorRefusal.TheVariants as refusals
-use Rattle.vt_machine.specs.Lives.{SetState, HasRun, IsActive}
+use Rattle.vt_machine.specs.Lives.{SetState, HasRun, active_in}
 use Rattle.vt_machine.specs.Machines.{shape_in, joined_all, total_budget}
 use Rattle.vt_machine.specs.Showing.{IsShown}
 
@@ -108,7 +108,7 @@ ComesTo old (Acts message start raised) (Err answered) new = ⊥
 -- an action on an object that has to be shown by the active mask
 abbrev pub ComesToShown : SetState → ℕ → (Bool → ℕ → Action) → Result Acted OperatorRefusal → SetState → Type 0
 ComesToShown old id action result new =
-    (mask : ℕ) × (shown : Bool) × IsActive old.objects mask × Decides shown (IsShown old.objects mask id) × ComesTo old (action shown mask) result new
+    (shown : Bool) × Decides shown (IsShown old.objects (active_in old.objects) id) × ComesTo old (action shown (active_in old.objects)) result new
 
 -- the refusal of an action, if it is refused
 abbrev pub refusal_of : Action → Option OperatorRefusal
@@ -117,4 +117,4 @@ refusal_of (Acts message state raised) = None
 
 abbrev pub WouldRefuse : SetState → ℕ → (Bool → ℕ → Action) → Option OperatorRefusal → Type 0
 WouldRefuse old id action result =
-    (mask : ℕ) × (shown : Bool) × IsActive old.objects mask × Decides shown (IsShown old.objects mask id) × (result ≡ refusal_of (action shown mask))
+    (shown : Bool) × Decides shown (IsShown old.objects (active_in old.objects) id) × (result ≡ refusal_of (action shown (active_in old.objects)))

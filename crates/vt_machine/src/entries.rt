@@ -25,8 +25,7 @@ impl<S: Store> Live<S> {
     pub fn enter_number(&mut self, id: ObjectId, number: u32) -> Result<Acted, OperatorRefusal>
         ensures { ComesToShown self.old id (λ shown mask. entering.enter_number shown self.old id number) result self.new }
     {
-        let mask = self.active_mask();
-        if !self.shows(mask, id) {
+        if !self.shows(id) {
             return Err(OperatorRefusal::NotShown);
         }
         match number_place(self.store(), id, number) {
@@ -55,8 +54,7 @@ impl<S: Store> Live<S> {
     pub fn enter_text(&mut self, id: ObjectId, text: &[u8]) -> Result<Acted, OperatorRefusal>
         ensures { ComesToShown self.old id (λ shown mask. entering.enter_text shown self.old id text.now) result self.new }
     {
-        let mask = self.active_mask();
-        if !self.shows(mask, id) {
+        if !self.shows(id) {
             return Err(OperatorRefusal::NotShown);
         }
         match text_place(self.store(), id, text) {
@@ -70,8 +68,7 @@ impl<S: Store> Live<S> {
         ensures fault { WouldRefuse self.old id (λ shown mask. entering.enter_text shown self.old id text.now) result }
         ensures same { self.new ≡ self.old }
     {
-        let mask = self.active_mask();
-        if !self.shows(mask, id) {
+        if !self.shows(id) {
             return Some(OperatorRefusal::NotShown);
         }
         match text_place(self.store(), id, text) {

@@ -1,18 +1,20 @@
 //! A working set with its object pool, and the event machine that runs on it.
 
-ghost use Rattle.std.specs.Prelude.{◌≡◌, ◌≤◌, ℕ, None, IfOk, true, false, length};
+ghost use Rattle.std.specs.Prelude.{◌≡◌, ◌≤◌, ℕ, Some, None, IfOk, true, false, length};
 ghost use Rattle.std.specs.Option.{option_map};
 ghost use Rattle.std.specs.FinMap as finite;
+ghost use Rattle.vt_objects.specs.declared.kind.Kind.TheVariants as kinds;
 ghost use Rattle.vt_objects.specs.Records.{seen};
 ghost use Rattle.vt_objects.specs.Stores.{map_of};
 ghost use Rattle.vt_verify.specs.Budgets.{budget};
 ghost use Rattle.vt_verify.specs.Rules.{working_sets};
 ghost use Rattle.vt_verify.specs.Triggers.{listing};
+ghost use Rattle.vt_machine.specs.Effects.{kind_in};
 ghost use Rattle.vt_machine.specs.Machines.{shape_in, joined};
 ghost use Rattle.vt_machine.specs.Operating.{HasActed};
 ghost use Rattle.vt_machine.specs.Showing.{IsShown, soft_key_mask_of};
 ghost use Rattle.vt_machine.specs.Soundness.{IsSound};
-ghost use Rattle.vt_machine.specs.Lives.{HasRun, Applied, IsActive, is_kept, kept_key, kept_input, with_objects, renewed};
+ghost use Rattle.vt_machine.specs.Lives.{HasRun, Applied, IsActive, working_set_in, active_in, is_kept, kept_key, kept_input, with_objects, renewed};
 
 use crate::execution::{execute, kind_in};
 use crate::index::Index;
@@ -133,9 +135,18 @@ impl<S: Store> Live<S> {
         self.store.get(id)
     }
 
+    /// The Working Set object, on which the events of its activation are raised.
+    pub fn working_set(&self) -> ObjectId
+        ensures set { result ≡ working_set_in self.now.objects }
+        ensures kind { kind_in self.now.objects result ≡ Some kinds.WorkingSet }
+    {
+        self.working_set
+    }
+
     /// The active mask of the working set, or NULL.
     pub fn active_mask(&self) -> ObjectId
         ensures mask { IsActive self.now.objects result }
+        ensures active { result ≡ active_in self.now.objects }
         // There is no other working set.
         ensures one { working_sets (shape_in self.now.objects) ≡ 1 }
     {
@@ -144,7 +155,8 @@ impl<S: Store> Live<S> {
 
     /// The soft key mask of the active mask, or NULL.
     pub fn soft_key_mask(&self) -> ObjectId
-        ensures { (mask : ℕ) × IsActive self.now.objects mask × (result ≡ soft_key_mask_of (finite.get self.now.objects mask)) }
+        ensures mask { (mask : ℕ) × IsActive self.now.objects mask × (result ≡ soft_key_mask_of (finite.get self.now.objects mask)) }
+        ensures active { result ≡ soft_key_mask_of (finite.get self.now.objects (active_in self.now.objects)) }
     {
         soft_key_mask(&self.store, self.active_mask())
     }
@@ -167,12 +179,13 @@ impl<S: Store> Live<S> {
         raise_all(&self.index, &mut self.store, &mut self.levels, raised)
     }
 
-    /// Whether a mask shows an object.
-    pub(crate) fn shows(&mut self, mask: ObjectId, id: ObjectId) -> bool
-        ensures shown { result ≡ true → IsShown self.old.objects mask id }
-        ensures not_shown { result ≡ false → IsShown self.old.objects mask id → ⊥ }
+    /// Whether the active mask shows an object.
+    pub(crate) fn shows(&mut self, id: ObjectId) -> bool
+        ensures shown { result ≡ true → IsShown self.old.objects (active_in self.old.objects) id }
+        ensures not_shown { result ≡ false → IsShown self.old.objects (active_in self.old.objects) id → ⊥ }
         ensures same { self.new ≡ self.old }
     {
+        let mask = self.active_mask();
         is_shown(&self.store, &self.levels.levels, &mut self.marks, mask, id)
     }
 

@@ -57,7 +57,7 @@ impl<S: Store> Live<S> {
         ensures { ComesToShown self.old id (λ shown mask. operating.press shown self.old mask id) result self.new }
     {
         let mask = self.active_mask();
-        if !self.shows(mask, id) {
+        if !self.shows(id) {
             return Err(OperatorRefusal::NotShown);
         }
         let Some(message) = key_message(self.store(), 1, id, mask) else {
@@ -100,8 +100,7 @@ impl<S: Store> Live<S> {
     pub fn select(&mut self, id: ObjectId) -> Result<Acted, OperatorRefusal>
         ensures { ComesToShown self.old id (λ shown mask. operating.select shown self.old id) result self.new }
     {
-        let mask = self.active_mask();
-        if !self.shows(mask, id) {
+        if !self.shows(id) {
             return Err(OperatorRefusal::NotShown);
         }
         match is_enabled(self.store(), id) {

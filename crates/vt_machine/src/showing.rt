@@ -10,6 +10,7 @@ ghost use Rattle.vt_machine.specs.Marks.{Marks, AreMarked};
 ghost use Rattle.vt_machine.specs.Showing as showing;
 ghost use Rattle.vt_machine.specs.Showing.{IsShown};
 
+use crate::working_set::soft_key_mask;
 use vt_objects::{Child, Entries, InputList, Object, ObjectId, Store};
 
 /// Whether a mask shows an object: in its drawing, however long, or on its soft keys. Neither a pointer nor a hidden
@@ -229,16 +230,5 @@ fn number_shown<S: Store>(store: &S, variable: ObjectId, own: u32) -> Option<u32
     match store.get(variable) {
         Some(Object::NumberVariable(o)) => Some(o.value),
         _ => None,
-    }
-}
-
-/// The soft key mask of a mask, NULL of what is none.
-fn soft_key_mask<S: Store>(store: &S, mask: ObjectId) -> ObjectId
-    ensures { result ≡ showing.soft_key_mask_of (finite.get (S.contents store.now) mask) }
-{
-    match store.get(mask) {
-        Some(Object::DataMask(o)) => o.soft_key_mask,
-        Some(Object::AlarmMask(o)) => o.soft_key_mask,
-        _ => ObjectId::from_raw(0xFFFF),
     }
 }

@@ -100,6 +100,13 @@ const ONE_MASK: &[u8] = &[
     1, 0, 28, 8, 0, 0xA4, 50, 0xFF, 0xFF, 0xFF, 0xFF, 0xFF, 0xFF, // Macro
 ];
 
+/// The Working Set 1200, which runs macro 1 where it is activated and twice where it is deactivated, behind the Data Mask 1000.
+const LATE_SET: &[u8] = &[
+    0xE8, 3, 1, 0, 0xFF, 0xFF, 0, 0, // Data Mask
+    0xB0, 4, 0, 0, 1, 0xE8, 3, 0, 3, 0, 1, 1, 2, 1, 2, 1, // Working Set
+    1, 0, 28, 8, 0, 0xA4, 50, 0xFF, 0xFF, 0xFF, 0xFF, 0xFF, 0xFF, // Macro
+];
+
 /// Whether each command comes to what its row says.
 fn come_to<S: Store>(live: &mut Live<S>, rows: &[Row]) -> bool {
     for (bytes, steps, bits) in rows {
@@ -140,6 +147,17 @@ fn masks_shown_and_hidden(rt: HostRuntime) -> Result<(), Fail> {
     assert!(rt; come_to(&mut live, MASKS_ROWS));
     assert!(rt; live.active_mask() == ObjectId::from_raw(1001));
     assert!(rt; live.soft_key_mask().is_null());
+    Ok(())
+}
+
+#[test]
+fn the_working_set_is_activated_and_deactivated(rt: HostRuntime) -> Result<(), Fail> {
+    let alloc = rt.alloc();
+    let mut live = Live::<SortedStore>::new(alloc, &accepted_of(alloc, LATE_SET)?)?;
+    assert!(rt; live.working_set() == ObjectId::from_raw(1200));
+    assert!(rt; live.active_mask() == ObjectId::from_raw(1000));
+    assert!(rt; live.raise(live.working_set(), 1) == 1);
+    assert!(rt; live.raise(live.working_set(), 2) == 2);
     Ok(())
 }
 

@@ -76,7 +76,7 @@ fn id(number: u16) -> ObjectId {
 
 /// The Data Mask 1000 with the Input Number 600 of 0 to 10, which runs macro 1 where a number is entered and twice where that is a
 /// new one, the Input List 601 of two items, the Input Boolean 602, the Input String 603 of 8 bytes with the same macros, and the
-/// Input Number 604 and the Input String 605, which have variables.
+/// Input Number 604 and the Input String 605, which have variables; the string has these macros too.
 const INPUTS: &[u8] = &[
     0, 0, 0, 0, 1, 0xE8, 3, 0, 0, 0, // Working Set
     0xE8, 3, 1, 0, 0xFF, 0xFF, 6, 0, // Data Mask
@@ -91,7 +91,7 @@ const INPUTS: &[u8] = &[
     0x5C, 2, 9, 50, 0, 20, 0, 0, 50, 0, 0, 0xBC, 2, 5, 0, 0, 0, 0, 0, 0, 0, 10, 0, 0, 0, //
     0, 0, 0, 0, 0, 0, 0x80, 0x3F, 0, 0, 0, 1, 0, // Input Number
     0x5D, 2, 8, 50, 0, 20, 0, 0, 50, 0, 0xFF, 0xFF, 0, 0xBD, 2, 0, 8, //
-    32, 32, 32, 32, 32, 32, 32, 32, 1, 0, // Input String
+    32, 32, 32, 32, 32, 32, 32, 32, 1, 3, 22, 1, 23, 1, 16, 1, // Input String
     0xBC, 2, 21, 9, 0, 0, 0, // Number Variable
     0xBD, 2, 22, 3, 0, 65, 32, 32, // String Variable
     50, 0, 23, 0, 0, 0, 0, 0, // Font
@@ -178,8 +178,10 @@ fn texts(rt: HostRuntime) -> Result<(), Fail> {
     assert!(rt; live.text_fault(id(605), b"ABC") == None);
     assert!(rt; sent(&live.enter_text(id(603), b"C"), &[8, 0x5B, 2, 1, 67], 3));
     assert!(rt; is_text(&live, 603, b"C       "));
-    assert!(rt; sent(&live.enter_text(id(605), b""), &[8, 0x5D, 2, 0], 0));
+    // A new text is another one than that of the variable.
+    assert!(rt; sent(&live.enter_text(id(605), b""), &[8, 0x5D, 2, 0], 3));
     assert!(rt; is_text(&live, 701, b"   ") && is_text(&live, 605, b"        "));
+    assert!(rt; sent(&live.enter_text(id(605), b" "), &[8, 0x5D, 2, 1, 32], 1));
     Ok(())
 }
 
