@@ -1,5 +1,6 @@
 pub mod Appending
 pub mod Taking
+pub mod Stepping
 pub mod Midway
 pub mod LongLines
 pub mod Begun

@@ -1,6 +1,7 @@
 -- From a pool's file to the terminal that a replay begins with, and from its log to what is written.
 use Rattle.std.proofs.Common.{◌≡◌, ◌∙◌, ℕ, nat_cmp, false, List, [], Option, Some, None, IfSome, sym, ap, subst}
 use Rattle.std.specs.Io.KnownBytes.{Appends, Keeps}
+use Rattle.std.proofs.KnownBytes.{Appends-kept}
 use Rattle.vt_pool.specs.Pools.{Entry, AreRecords, IsInForce, contents, joined}
 use Rattle.std.specs.FinMap as finite
 use Rattle.std.specs.FinMap.{nat_cmp-IsAntisymmetric}
@@ -16,13 +17,6 @@ use Rattle.vt_replay.specs.Replays.{IsReplay}
 use Rattle.vt_replay.specs.Runs.{Files, IsLoaded, IsPoolOf, IsAcceptedPoolOf, IsRefusedPool, IsReportOf, IsStart, WritesReplay, new_state}
 use Rattle.vt_server.specs.Places.{empty}
 use Rattle.vt_server.specs.Terminals.{State}
-
--- what is written is still there after a flush
-kept : (old mid new : Option (List ℕ)) (text : List ℕ) → Appends old mid text → Keeps mid new → Appends old new text
-kept None mid new text appends keeps = tt
-kept (Some xs) None new text appends keeps = absurd appends
-kept (Some xs) (Some ys) None text appends keeps = absurd keeps
-kept (Some xs) (Some ys) (Some zs) text appends keeps = keeps ∙ appends
 
 -- a map is that of its entries
 pub entries_again : (m : Contents) → contents (finite.entries m) ≡ m
@@ -73,9 +67,9 @@ report_of_file (Some bytes) pool text is rising same =
     record { objects = contents pool; accepted = is; text_is = same ∙ ap report_text rising }
 
 pub new_is : (s : State) (own name : ℕ) → s.claims ≡ record { own = own; name = name; addresses = [] } → s.sets ≡ []
-    → ((address : ℕ) → s.places address ≡ empty) → s.lost ≡ false → s.now ≡ 0 → s ≡ new_state own name
-new_is s own name claims sets places lost now =
-    λ i. record { claims = claims i; sets = sets i; places = λ address. places address i; lost = lost i; now = now i }
+    → ((address : ℕ) → s.places address ≡ empty) → s.selected ≡ None → s.shown ≡ None → s.lost ≡ false → s.now ≡ 0 → s ≡ new_state own name
+new_is s own name claims sets places selected shown lost now =
+    λ i. record { claims = claims i; sets = sets i; places = λ address. places address i; selected = selected i; shown = shown i; lost = lost i; now = now i }
 
 pub start_alone : (files : Files) (options : Options) (s : State) → options.preload ≡ None
     → s ≡ new_state options.own options.name → IsStart files options s
@@ -93,4 +87,4 @@ pub replay_written : (file remaining old mid new : Option (List ℕ)) (start end
 replay_written None remaining old mid new start end counts same replay keeps = tt
 replay_written (Some bytes) remaining old mid new start end counts same replay keeps =
     let r = rw same at replay in
-    record { text = r.0; counts = counts; end = end; replay = r.2; written = kept old mid new r.0 r.1 keeps }
+    record { text = r.0; counts = counts; end = end; replay = r.2; written = Appends-kept old mid new r.0 r.1 keeps }

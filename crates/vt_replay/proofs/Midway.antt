@@ -3,16 +3,17 @@ use Rattle.std.proofs.Common.{◌≡◌, ℕ, zero, suc, false, eqb, ◌+◌, �
 use Rattle.std.specs.Prelude.{IfSome}
 use Rattle.std.proofs.lemmas.List.{append-nil, take_at}
 use Rattle.std.specs.List.{AllZip, AllByRecursion}
-use Rattle.std.specs.Io.KnownBytes.{Appends, Consumes, IsAtEnd}
-use Rattle.std.proofs.KnownBytes.{Appends-trans, Consumes-nil, Consumes-trans, Consumes-whole}
+use Rattle.std.specs.Io.KnownBytes.{Appends, Consumes, IsAtEnd, Keeps}
+use Rattle.std.proofs.KnownBytes.{Appends-kept, Appends-trans, Consumes-nil, Consumes-trans, Consumes-whole}
 use Rattle.vt_can.specs.lines.Line.{Reads}
 use Rattle.vt_replay.specs.declared.counts.Counts.{Counts}
 use Rattle.vt_replay.specs.Lines.{lines_of}
-use Rattle.vt_replay.specs.Texts.{no_counts, lines_text, with_lines, counts_text}
+use Rattle.vt_replay.specs.Taken.{Scene, TakesReadings}
+use Rattle.vt_replay.specs.Texts.{no_counts, with_lines, counts_text}
 use Rattle.vt_replay.specs.Replays.{IsReplay}
 use Rattle.vt_replay.specs.Progress.{AtMost, Stand, Takes, HasNoNewline, TakesBytes}
-use Rattle.vt_replay.proofs.Taking.{bytes_none, bytes_kept, bytes_line, bytes_more, bytes-AtMost, lines_of-last, HasNoNewline-append, AtMost-more, takes_more}
-use Rattle.vt_server.specs.Terminals.{State}
+use Rattle.vt_replay.proofs.Taking.{bytes_none, bytes_kept, bytes_line, bytes_more, bytes-AtMost, lines_of-last, HasNoNewline-append, AtMost-more, takes_drawn, takes_more}
+use Rattle.vt_server.specs.Screens.{IsScreenOf}
 
 -- ---- between two lines of a chunk
 
@@ -30,6 +31,9 @@ pub midway_few : (a b : Stand) (before chunk pending rest : List ℕ) → IsMidw
 midway_few a b before chunk pending rest mid few short =
     let front : length mid.front ≤ 65536 = omega (arith, ap length mid.parts, length-append mid.front rest) in
     AtMost-more (2 ^ 61 + 65536) (2 ^ 62) b.counts (omega arith) (bytes-AtMost (2 ^ 61) 65536 a b before mid.front pending mid.taken few front)
+
+pub midway_drawn : (a b : Stand) (before chunk pending rest : List ℕ) → IsMidway a before chunk b pending rest → IsScreenOf a.scene.state a.scene.screen → IsScreenOf b.scene.state b.scene.screen
+midway_drawn a b before chunk pending rest mid drawn = takes_drawn a b mid.taken.lines mid.taken.takes drawn
 
 pub midway_line : (a b c : Stand) (before chunk pending rest line after left : List ℕ) → IsMidway a before chunk b pending rest → HasNoNewline line → rest ≡ line ++ 10 ∷ after
     → Takes b ((pending ++ line) ∷ []) c → left ≡ [] → IsMidway a before chunk c left after
@@ -60,10 +64,10 @@ pub record IsUnderWay (start : Stand) (given left : Option (List ℕ)) (now : St
   pub whole : HasNoNewline pending
   pub few : AtMost (reads * 65536) now.counts
 
-pub way_start : (s : State) (held given : Option (List ℕ)) (counts : Counts) (pending : List ℕ) → counts ≡ no_counts → pending ≡ []
-    → IsUnderWay (record { state = s; counts = no_counts; held = held }) given given (record { state = s; counts = counts; held = held }) pending 0
+pub way_start : (s : Scene) (held given : Option (List ℕ)) (counts : Counts) (pending : List ℕ) → counts ≡ no_counts → pending ≡ []
+    → IsUnderWay (record { scene = s; counts = no_counts; held = held }) given given (record { scene = s; counts = counts; held = held }) pending 0
 way_start s held given counts pending none empty =
-    let start : Stand = record { state = s; counts = no_counts; held = held } in
+    let start : Stand = record { scene = s; counts = no_counts; held = held } in
     let begun : IsUnderWay start given given start [] 0 = record {
       input = [];
       consumed = Consumes-nil given;
@@ -71,8 +75,38 @@ way_start s held given counts pending none empty =
       whole = λ k d lt. absurd (omega arith);
       few = record { lines = omega arith; frames = omega arith; operator = omega arith; skipped = omega arith; comments = omega arith; faults = omega arith };
     } in
-    subst (λ (c : Counts). IsUnderWay start given given (record { state = s; counts = c; held = held }) pending 0) (sym none)
+    subst (λ (c : Counts). IsUnderWay start given given (record { scene = s; counts = c; held = held }) pending 0) (sym none)
     (subst (λ (p : List ℕ). IsUnderWay start given given start p 0) (sym empty) begun)
+
+pub way_drawn : (a b : Stand) (given left : Option (List ℕ)) (pending : List ℕ) (reads : ℕ) → IsUnderWay a given left b pending reads
+    → IsScreenOf a.scene.state a.scene.screen → IsScreenOf b.scene.state b.scene.screen
+way_drawn a b given left pending reads way drawn = takes_drawn a b way.taken.lines way.taken.takes drawn
+
+-- what was printed is written out
+pub way_flushed : (a : Stand) (s : Scene) (counts : Counts) (held written given left : Option (List ℕ)) (pending : List ℕ) (reads : ℕ)
+    → IsUnderWay a given left (record { scene = s; counts = counts; held = held }) pending reads → Keeps held written
+    → IsUnderWay a given left (record { scene = s; counts = counts; held = written }) pending reads
+way_flushed a s counts held written given left pending reads way keeps =
+    let takes = way.taken.takes in record {
+      input = way.input;
+      consumed = way.consumed;
+      taken = record {
+        lines = way.taken.lines;
+        takes = record {
+          readings = takes.readings;
+          read = takes.read;
+          short = takes.short;
+          printed = takes.printed;
+          takes = takes.takes;
+          counts = takes.counts;
+          text = Appends-kept a.held held written takes.printed takes.text keeps;
+        };
+        few = way.taken.few;
+        split = way.taken.split;
+      };
+      whole = way.whole;
+      few = way.few;
+    }
 
 pub way_more : (a b c : Stand) (given left after : Option (List ℕ)) (pending kept chunk : List ℕ) (reads : ℕ) → IsUnderWay a given left b pending reads → Consumes left after chunk → length chunk ≤ 65536
     → TakesBytes b pending chunk c kept → HasNoNewline kept → IsUnderWay a given after c kept (reads + 1)
@@ -94,36 +128,44 @@ above_zero (suc n) e = omega arith
 pub last_line : (pending : List ℕ) → HasNoNewline pending → false ≡ eqb (length pending) 0 → (pending ++ []) ∷ [] ≡ lines_of pending
 last_line pending lacks some = ap (λ (t : List ℕ). t ∷ []) (append-nil pending) ∙ sym (lines_of-last pending lacks (above_zero (length pending) some))
 
--- all that the reader gave is replayed
-pub replayed : (a b c : Stand) (pending input : List ℕ) → a.counts ≡ no_counts → TakesBytes a [] input b pending → Takes b (lines_of pending) c
-    → (text : List ℕ) × Appends a.held c.held text × ((last : List ℕ) → last ≡ counts_text c.counts → IsReplay a.state input (text ++ last) c.counts c.state)
-replayed a b c pending input none taken at_end =
+-- all that the reader gave is replayed, after the first screen
+pub replayed : (a b c : Stand) (pending input : List ℕ) → a.counts ≡ no_counts → IsScreenOf a.scene.state a.scene.screen → TakesBytes a [] input b pending → Takes b (lines_of pending) c
+    → (text : List ℕ) × Appends a.held c.held text × ((last : List ℕ) → last ≡ counts_text c.counts → IsReplay a.scene.state input (a.scene.screen ++ text ++ last) c.counts c.scene.state)
+replayed a b c pending input none drawn taken at_end =
     let all = takes_more a b c taken.lines (lines_of pending) taken.takes at_end in
     let lines : lines_of input ≡ taken.lines ++ lines_of pending =
     ap lines_of (sym (append-nil input)) ∙ taken.split [] ∙ ap (λ (t : List ℕ). taken.lines ++ lines_of t) (append-nil pending) in
     let n : a.counts.lines ≡ 0 = ap (λ (k : Counts). k.lines) none in (
-      lines_text a.state a.counts.lines all.readings,
+      all.printed,
       all.text,
       λ last is. record {
         readings = all.readings;
         read = subst (λ (ls : List (List ℕ)). AllZip Reads ls all.readings) (sym lines) all.read;
         short = subst (AllByRecursion (λ line. length line ≤ 4096)) (sym lines) all.short;
-        text_is = ap (λ (k : ℕ). lines_text a.state k all.readings ++ last) n ∙ ap (λ (t : List ℕ). lines_text a.state 0 all.readings ++ t) is;
+        first = a.scene;
+        last = c.scene;
+        printed = all.printed;
+        starts = refl;
+        shown = drawn;
+        takes = subst (λ (k : ℕ). TakesReadings a.scene k all.readings c.scene all.printed) n all.takes;
+        text_is = ap (λ (t : List ℕ). a.scene.screen ++ all.printed ++ t) is;
         counts_are = all.counts ∙ ap (λ (k : Counts). with_lines k all.readings) none;
-        now_is = all.state;
+        now_is = refl;
       },
     )
 
--- the reader is at its end, the last line is taken, and the counts are written
-pub way_end : (a b c : Stand) (given left after written : Option (List ℕ)) (pending chunk : List ℕ) (reads : ℕ) → a.counts ≡ no_counts → IsUnderWay a given left b pending reads
+-- the reader is at its end, the last line is taken, and the counts are written, after the first screen
+pub way_end : (a b c : Stand) (given left after old written : Option (List ℕ)) (pending chunk : List ℕ) (reads : ℕ) → a.counts ≡ no_counts → IsScreenOf a.scene.state a.scene.screen
+    → Appends old a.held a.scene.screen → IsUnderWay a given left b pending reads
     → Consumes left after chunk → chunk ≡ [] → IsAtEnd after → Takes b (lines_of pending) c → Appends c.held written (counts_text c.counts)
-    → IfSome given (λ input. (text : List ℕ) × Appends a.held written text × IsReplay a.state input text c.counts c.state)
-way_end a b c given left after written pending chunk reads none way consumed empty end last_taken counted =
-    let done = replayed a b c pending way.input none way.taken last_taken in
+    → IfSome given (λ input. (text : List ℕ) × Appends old written text × IsReplay a.scene.state input text c.counts c.scene.state)
+way_end a b c given left after old written pending chunk reads none drawn first way consumed empty end last_taken counted =
+    let done = replayed a b c pending way.input none drawn way.taken last_taken in
     let joined : way.input ≡ way.input ++ chunk = sym (append-nil way.input) ∙ ap (λ (t : List ℕ). way.input ++ t) (sym empty) in
-    let P : List ℕ → Type 0 = λ input. (text : List ℕ) × Appends a.held written text × IsReplay a.state input text c.counts c.state in
+    let P : List ℕ → Type 0 = λ input. (text : List ℕ) × Appends old written text × IsReplay a.scene.state input text c.counts c.scene.state in
+    let lines = Appends-trans old a.held c.held a.scene.screen done.0 first done.1 in
     Consumes-whole given after (way.input ++ chunk) P (Consumes-trans given left after way.input chunk way.consumed consumed) end
-    (subst P joined (done.0 ++ counts_text c.counts, Appends-trans a.held c.held written done.0 (counts_text c.counts) done.1 counted, done.2 (counts_text c.counts) refl))
+    (subst P joined (a.scene.screen ++ done.0 ++ counts_text c.counts, Appends-trans old c.held written (a.scene.screen ++ done.0) (counts_text c.counts) lines counted, done.2 (counts_text c.counts) refl))
 
 -- a buffer's front is what was read into it
 pub read_front : (n len : ℕ) (buffer items got : List ℕ) → got ≡ take len (buffer ++ drop (length buffer) items) → length buffer ≡ len → take n buffer ≡ take n got

@@ -4,15 +4,15 @@ use Rattle.std.specs.Prelude.{Ok, Err, not}
 use Rattle.std.proofs.lemmas.List.Elements.{All-head, All-tail, All-append}
 use Rattle.std.proofs.lemmas.List.{append-nil}
 use Rattle.std.specs.List.{AllZip, AllByRecursion, onto_first}
-use Rattle.std.specs.Io.KnownBytes.{Appends}
 use Rattle.std.proofs.KnownBytes.{Appends-trans, Appends-nil}
 use Rattle.vt_can.specs.lines.Line.{Reads}
 use Rattle.vt_can.specs.lines.Readings.{FrameAt, OperatorAction, SkippedFrame, CommentLine}
 use Rattle.vt_replay.specs.declared.counts.Counts.{Counts}
 use Rattle.vt_replay.specs.Lines.{lines_of}
-use Rattle.vt_replay.specs.Texts.{Reading, after_line, line_text, with_line, after_lines, lines_text, with_lines}
-use Rattle.vt_replay.specs.Progress.{AtMost, Stand, Takes, HasNoNewline, TakesBytes}
-use Rattle.vt_server.specs.Terminals.{State}
+use Rattle.vt_replay.specs.Taken.{Scene, TakesReading, TakesReadings}
+use Rattle.vt_replay.specs.Texts.{Reading, with_line, with_lines}
+use Rattle.vt_replay.specs.Progress.{AtMost, Stand, Takes, TakesOne, HasNoNewline, TakesBytes}
+use Rattle.vt_server.specs.Screens.{IsScreenOf}
 
 -- ---- readings, one list after another
 
@@ -25,10 +25,6 @@ AllZip-append R (a ∷ xs) (b ∷ bs) cs ds p q = (p.0, AllZip-append R xs bs cs
 All-joined : {A : Type 0} (P : A → Type 0) (xs bs : List A) → AllByRecursion P xs → AllByRecursion P bs → AllByRecursion P (xs ++ bs)
 All-joined P [] bs p q = q
 All-joined P (a ∷ xs) bs p q = (p.0, All-joined P xs bs p.1 q)
-
-pub after_lines-append : (s : State) (rs qs : List Reading) → after_lines s (rs ++ qs) ≡ after_lines (after_lines s rs) qs
-after_lines-append s [] qs = refl
-after_lines-append s (r ∷ rs) qs = after_lines-append (after_line s r) rs qs
 
 with_lines-append : (c : Counts) (rs qs : List Reading) → with_lines c (rs ++ qs) ≡ with_lines (with_lines c rs) qs
 with_lines-append c [] qs = refl
@@ -48,44 +44,66 @@ with_lines-lines c (r ∷ rs) =
     let first = with_line-lines c r in
     omega arith
 
-lines_text-append : (s : State) (n : ℕ) (rs qs : List Reading) → lines_text s n (rs ++ qs) ≡ lines_text s n rs ++ lines_text (after_lines s rs) (n + length rs) qs
-lines_text-append s n [] qs = ap (λ (k : ℕ). lines_text s k qs) (sym (add-zero n))
-lines_text-append s n (r ∷ rs) qs =
-    let place : n + 1 + length rs ≡ n + suc (length rs) = omega arith in
-    ap (λ (t : List ℕ). line_text s (n + 1) r ++ t) (lines_text-append (after_line s r) (n + 1) rs qs ∙ ap (λ (k : ℕ). lines_text (after_line s r) (n + 1) rs ++ lines_text (after_lines (after_line s r) rs) k qs) place)
-    ∙ sym (append_assoc (line_text s (n + 1) r) (lines_text (after_line s r) (n + 1) rs) (lines_text (after_lines (after_line s r) rs) (n + suc (length rs)) qs))
+-- the next line is line n + 1, after n others
+readings-append : (a b c : Scene) (n m : ℕ) (rs qs : List Reading) (t u : List ℕ) → TakesReadings a n rs b t → m ≡ n + length rs → TakesReadings b m qs c u
+    → TakesReadings a n (rs ++ qs) c (t ++ u)
+readings-append a b c n m [] qs t u p place q =
+    let here : m ≡ n = place ∙ add-zero n in
+    let from : TakesReadings a m qs c u = subst (λ (s : Scene). TakesReadings s m qs c u) p.0 q in
+    subst (λ (text : List ℕ). TakesReadings a n qs c (text ++ u)) (sym p.1) (subst (λ (k : ℕ). TakesReadings a k qs c u) here from)
+readings-append a b c n m (r ∷ rs) qs t u p place q = record {
+  middle = p.middle;
+  first = p.first;
+  rest = p.rest ++ u;
+  takes = p.takes;
+  next = readings-append p.middle b c (n + 1) m rs qs p.rest u p.next (omega (arith, place)) q;
+  whole = ap (λ (text : List ℕ). text ++ u) p.whole ∙ append_assoc p.first p.rest u;
+}
+
+-- ---- the screen that was printed last is the terminal's
+
+reading_drawn : (a b : Scene) (n : ℕ) (r : Reading) (t : List ℕ) → TakesReading a n r b t → IsScreenOf a.state a.screen → IsScreenOf b.state b.screen
+reading_drawn a b n (Ok (FrameAt time frame)) t p drawn = p.takes.screen
+reading_drawn a b n (Ok (OperatorAction action)) t p drawn = p.takes.screen
+reading_drawn a b n (Ok (SkippedFrame why)) t p drawn = subst (λ (s : Scene). IsScreenOf s.state s.screen) (sym p.0) drawn
+reading_drawn a b n (Ok CommentLine) t p drawn = subst (λ (s : Scene). IsScreenOf s.state s.screen) (sym p.0) drawn
+reading_drawn a b n (Err fault) t p drawn = subst (λ (s : Scene). IsScreenOf s.state s.screen) (sym p.0) drawn
+
+readings_drawn : (a b : Scene) (n : ℕ) (rs : List Reading) (t : List ℕ) → TakesReadings a n rs b t → IsScreenOf a.state a.screen → IsScreenOf b.state b.screen
+readings_drawn a b n [] t p drawn = subst (λ (s : Scene). IsScreenOf s.state s.screen) (sym p.0) drawn
+readings_drawn a b n (r ∷ rs) t p drawn =
+    readings_drawn p.middle b (n + 1) rs p.rest p.next (reading_drawn a p.middle (n + 1) r p.first p.takes drawn)
+
+pub takes_drawn : (a b : Stand) (lines : List (List ℕ)) → Takes a lines b → IsScreenOf a.scene.state a.scene.screen → IsScreenOf b.scene.state b.scene.screen
+takes_drawn a b lines p drawn = readings_drawn a.scene b.scene a.counts.lines p.readings p.printed p.takes drawn
 
 -- ---- lines taken
 
 pub takes_none : (a : Stand) → Takes a [] a
-takes_none a = record { readings = []; read = tt; short = tt; state = refl; counts = refl; text = Appends-nil a.held }
+takes_none a = record { readings = []; read = tt; short = tt; printed = []; takes = (refl, refl); counts = refl; text = Appends-nil a.held }
 
-pub takes_one : (a b : Stand) (line : List ℕ) (r : Reading) → Reads line r → length line ≤ 4096 → b.state ≡ after_line a.state r → b.counts ≡ with_line a.counts r
-    → Appends a.held b.held (line_text a.state (a.counts.lines + 1) r) → Takes a (line ∷ []) b
-takes_one a b line r reads short state counts text = record {
+pub takes_one : (a b : Stand) (line : List ℕ) (r : Reading) → Reads line r → length line ≤ 4096 → TakesOne a r b → Takes a (line ∷ []) b
+takes_one a b line r reads short one = record {
   readings = r ∷ [];
   read = (reads, tt);
   short = (short, tt);
-  state = state;
-  counts = counts;
-  text = subst (Appends a.held b.held) (sym (append-nil (line_text a.state (a.counts.lines + 1) r))) text;
+  printed = one.printed;
+  takes = record { middle = b.scene; first = one.printed; rest = []; takes = one.takes; next = (refl, refl); whole = sym (append-nil one.printed) };
+  counts = one.counts;
+  text = one.text;
 }
 
 pub takes_more : (a b c : Stand) (xs ys : List (List ℕ)) → Takes a xs b → Takes b ys c → Takes a (xs ++ ys) c
-takes_more a b c xs ys p q = record {
-  readings = p.readings ++ q.readings;
-  read = AllZip-append Reads xs p.readings ys q.readings p.read q.read;
-  short = All-joined (λ line. length line ≤ 4096) xs ys p.short q.short;
-  state = q.state ∙ ap (λ (s : State). after_lines s q.readings) p.state ∙ sym (after_lines-append a.state p.readings q.readings);
-  counts = q.counts ∙ ap (λ (n : Counts). with_lines n q.readings) p.counts ∙ sym (with_lines-append a.counts p.readings q.readings);
-  text =
-      let n : b.counts.lines ≡ a.counts.lines + length p.readings = ap (λ (k : Counts). k.lines) p.counts ∙ with_lines-lines a.counts p.readings in
-      let later : lines_text b.state b.counts.lines q.readings ≡ lines_text (after_lines a.state p.readings) (a.counts.lines + length p.readings) q.readings =
-      ap (λ (s : State). lines_text s b.counts.lines q.readings) p.state ∙ ap (λ (k : ℕ). lines_text (after_lines a.state p.readings) k q.readings) n in
-      subst (Appends a.held c.held)
-      (ap (λ (t : List ℕ). lines_text a.state a.counts.lines p.readings ++ t) later ∙ sym (lines_text-append a.state a.counts.lines p.readings q.readings))
-      (Appends-trans a.held b.held c.held _ _ p.text q.text);
-}
+takes_more a b c xs ys p q =
+    let n : b.counts.lines ≡ a.counts.lines + length p.readings = ap (λ (k : Counts). k.lines) p.counts ∙ with_lines-lines a.counts p.readings in record {
+      readings = p.readings ++ q.readings;
+      read = AllZip-append Reads xs p.readings ys q.readings p.read q.read;
+      short = All-joined (λ line. length line ≤ 4096) xs ys p.short q.short;
+      printed = p.printed ++ q.printed;
+      takes = readings-append a.scene b.scene c.scene a.counts.lines b.counts.lines p.readings q.readings p.printed q.printed p.takes n q.takes;
+      counts = q.counts ∙ ap (λ (k : Counts). with_lines k q.readings) p.counts ∙ sym (with_lines-append a.counts p.readings q.readings);
+      text = Appends-trans a.held b.held c.held p.printed q.printed p.text q.text;
+    }
 
 -- ---- bytes cut into lines
 

@@ -1,5 +1,6 @@
 pub mod Lines
 pub mod Texts
+pub mod Taken
 pub mod Replays
 pub mod Progress
 pub mod Words

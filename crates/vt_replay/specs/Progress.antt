@@ -1,5 +1,5 @@
 -- How far a replay has come.
-use Rattle.std.specs.Prelude.{◌≡◌, ◌⊎◌, ◌≤◌, ◌==◌, ℕ, not, List, ◌++◌, length, Option}
+use Rattle.std.specs.Prelude.{◌≡◌, ◌⊎◌, ◌≤◌, ◌==◌, ◌+◌, ℕ, not, List, ◌++◌, length, Option}
 use Rattle.std.specs.List.{AllZip, AllByRecursion, AllPass}
 use Rattle.std.specs.Io.KnownBytes.{Appends}
 use Rattle.vt_can.specs.lines.Line.{Reads}
@@ -7,10 +7,10 @@ use Rattle.vt_replay.specs.declared.counts.Counts.{Counts}
 use Rattle.vt_replay.specs.declared.fault.ReplayFault.{ReplayFault}
 use Rattle.vt_replay.specs.declared.fault.ReplayFault.TheVariants.{Memory, TooLong, Write}
 use Rattle.vt_replay.specs.Lines.{lines_of}
-use Rattle.vt_replay.specs.Texts.{Reading, after_lines, lines_text, with_lines}
+use Rattle.vt_replay.specs.Taken.{Scene, TakesReading, TakesReadings}
+use Rattle.vt_replay.specs.Texts.{Reading, with_line, with_lines}
 use Rattle.vt_server.specs.declared.terminal.Terminal.{Terminal}
 use Rattle.vt_server.specs.States.{state_of}
-use Rattle.vt_server.specs.Terminals.{State}
 
 -- no count is above this number
 pub record AtMost (most : ℕ) (c : Counts) : Type 0 where
@@ -21,23 +21,40 @@ pub record AtMost (most : ℕ) (c : Counts) : Type 0 where
   pub comments : c.comments ≤ most
   pub faults : c.faults ≤ most
 
--- where a replay stands: the terminal, the counts, and what the writer holds
+-- where a replay stands: the terminal with the screen that was printed last, the counts, and what the writer holds
 pub record Stand : Type 0 where
-  pub state : State
+  pub scene : Scene
   pub counts : Counts
   pub held : Option (List ℕ)
 
-abbrev pub stand : Terminal → Counts → Option (List ℕ) → Stand
-stand terminal counts held = record { state = state_of terminal; counts = counts; held = held }
+abbrev pub scene : Terminal → List ℕ → Scene
+scene terminal screen = record { state = state_of terminal; screen = screen }
+
+abbrev pub stand : Terminal → List ℕ → Counts → Option (List ℕ) → Stand
+stand terminal screen counts held = record { scene = scene terminal screen; counts = counts; held = held }
+
+-- A text of this kind is written.
+pub record Writes (Is : List ℕ → Type 0) (old new : Option (List ℕ)) : Type 0 where
+  pub text : List ℕ
+  pub text_is : Is text
+  pub written : Appends old new text
+
+-- a line is taken, as it was read
+pub record TakesOne (from : Stand) (reading : Reading) (to : Stand) : Type 0 where
+  pub printed : List ℕ
+  pub takes : TakesReading from.scene (from.counts.lines + 1) reading to.scene printed
+  pub counts : to.counts ≡ with_line from.counts reading
+  pub text : Appends from.held to.held printed
 
 -- the lines are taken one after the other
 pub record Takes (from : Stand) (lines : List (List ℕ)) (to : Stand) : Type 0 where
   pub readings : List Reading
   pub read : AllZip Reads lines readings
   pub short : AllByRecursion (λ line. length line ≤ 4096) lines
-  pub state : to.state ≡ after_lines from.state readings
+  pub printed : List ℕ
+  pub takes : TakesReadings from.scene from.counts.lines readings to.scene printed
   pub counts : to.counts ≡ with_lines from.counts readings
-  pub text : Appends from.held to.held (lines_text from.state from.counts.lines readings)
+  pub text : Appends from.held to.held printed
 
 -- why what a line says is not taken to its end
 abbrev pub IsStepFault : ReplayFault → Type 0

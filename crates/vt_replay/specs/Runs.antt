@@ -27,9 +27,9 @@ use Rattle.vt_replay.specs.declared.program.Status.TheVariants as status
 use Rattle.vt_replay.specs.Replays.{IsReplay, HasLongLine}
 use Rattle.vt_replay.specs.Texts.{newline}
 use Rattle.vt_replay.specs.Words.{IsRefusalOf, WordsGive}
-use Rattle.vt_server.specs.Parts.{Preloads}
 use Rattle.vt_server.specs.Places.{empty}
-use Rattle.vt_server.specs.Terminals.{State, after_act}
+use Rattle.vt_server.specs.Steps.{preloading}
+use Rattle.vt_server.specs.Terminals.{State}
 
 -- the bytes of the file under each path, where they are known
 abbrev pub Files : Type 0
@@ -66,6 +66,8 @@ new_state own name = record {
   claims = record { own = own; name = name; addresses = [] };
   sets = [];
   places = λ address. empty;
+  selected = None;
+  shown = None;
   lost = false;
   now = 0;
 }
@@ -74,7 +76,7 @@ new_state own name = record {
 pub record IsLoaded (files : Files) (p : Preload) (before after : State) : Type 0 where
   pub objects : Contents
   pub pool : IfSome (files p.pool.now) (λ bytes. IsAcceptedPoolOf bytes objects)
-  pub state : after ≡ after_act before p.owner (Preloads objects)
+  pub state : after ≡ preloading before p.owner objects
 
 abbrev pub IsPreloaded : Files → Option Preload → State → State → Type 0
 IsPreloaded files None before after = after ≡ before

@@ -14,7 +14,7 @@ mod replay;
 
 use program::{Open, Status, run};
 use std::fs::{self, File};
-use std::io::{self, BufWriter, ErrorKind, Write};
+use std::io::{self, BufWriter, Error, ErrorKind, Write};
 use std::process::ExitCode;
 
 /// The files of the system.
@@ -26,8 +26,13 @@ struct Files<'a> {
 impl Open for Files<'_> {
     type Reader = File;
 
+    // The system opens a directory too, and refuses to read it.
     fn open(&mut self, path: &str) -> io::Result<File> {
-        fs::open(self.rt, path)
+        let file = fs::open(self.rt, path)?;
+        if file.metadata()?.is_dir() {
+            return Err(Error::from(ErrorKind::IsADirectory));
+        }
+        Ok(file)
     }
 }
 

@@ -3,14 +3,14 @@
 ghost use Rattle.std.specs.Prelude.{◌≡◌, ◌++◌, OnOk, IfErr};
 ghost use Rattle.std.specs.Fmt.{decimal};
 ghost use Rattle.std.specs.List.{flat_map};
-ghost use Rattle.std.specs.Io.KnownBytes.{Appends};
-ghost use Rattle.vt_replay.specs.Texts.{output_text, fault_text, fault_name, counts_text};
+ghost use Rattle.std.specs.Io.KnownBytes.{Appends, Keeps};
+ghost use Rattle.vt_replay.specs.Texts.{output_text, refusal_name, fault_text, fault_name, counts_text};
 
 use crate::counts::Counts;
 use crate::fault::ReplayFault;
 use std::io::Write;
 use vt_can::{LineFault, write_frame};
-use vt_server::Output;
+use vt_server::{OperatorFault, Output};
 
 /// Writes what the terminal sends, in its order.
 pub fn put_outputs<W: Write>(outputs: &[Output], writer: &mut W) -> Result<(), ReplayFault>
@@ -23,7 +23,7 @@ pub fn put_outputs<W: Write>(outputs: &[Output], writer: &mut W) -> Result<(), R
     Ok(())
 }
 
-/// Writes a frame on a line of its own.
+/// Writes a frame, or a refusal to the operator, on a line of its own.
 fn put_output<W: Write>(output: &Output, writer: &mut W) -> Result<(), ReplayFault>
     ensures text { OnOk result (Appends (W.contents writer.old) (W.contents writer.new) (output_text output.now)) }
     ensures fault { IfErr result (λ fault. fault ≡ ReplayFault.Write) }
@@ -33,6 +33,27 @@ fn put_output<W: Write>(output: &Output, writer: &mut W) -> Result<(), ReplayFau
             put(&write_frame(frame), writer)?;
             put(b"\n", writer)
         }
+        Output::Refused(fault) => {
+            let name = refusal_name(*fault);
+            writeln!(writer, "operator {name}").map_err(|_| ReplayFault::Write)
+        }
+    }
+}
+
+/// The number and the name of a refusal to the operator.
+fn refusal_name(fault: OperatorFault) -> &'static str
+    ensures { result.now ≡ refusal_name fault }
+{
+    match fault {
+        OperatorFault::NotShown => "1 NotShown",
+        OperatorFault::Disabled => "2 Disabled",
+        OperatorFault::Range => "3 Range",
+        OperatorFault::TooLong => "4 TooLong",
+        OperatorFault::WrongKind => "5 WrongKind",
+        OperatorFault::NotPressed => "6 NotPressed",
+        OperatorFault::Held => "7 Held",
+        OperatorFault::Busy => "8 Busy",
+        OperatorFault::NoSet => "9 NoSet",
     }
 }
 
@@ -66,11 +87,20 @@ fn put_count<W: Write>(label: &str, count: u64, writer: &mut W) -> Result<(), Re
     write!(writer, "{label}{count}").map_err(|_| ReplayFault::Write)
 }
 
-fn put<W: Write>(bytes: &[u8], writer: &mut W) -> Result<(), ReplayFault>
+/// Writes bytes as they are.
+pub fn put<W: Write>(bytes: &[u8], writer: &mut W) -> Result<(), ReplayFault>
     ensures text { OnOk result (Appends (W.contents writer.old) (W.contents writer.new) bytes.now) }
     ensures fault { IfErr result (λ fault. fault ≡ ReplayFault.Write) }
 {
     writer.write_all(bytes).map_err(|_| ReplayFault::Write)
+}
+
+/// Writes out what the writer holds back.
+pub fn flush<W: Write>(writer: &mut W) -> Result<(), ReplayFault>
+    ensures kept { Keeps (W.contents writer.old) (W.contents writer.new) }
+    ensures fault { IfErr result (λ fault. fault ≡ ReplayFault.Write) }
+{
+    writer.flush().map_err(|_| ReplayFault::Write)
 }
 
 /// The name of a fault.

@@ -1,18 +1,19 @@
 //! How far a replay has come, and the lines that it takes.
 
-ghost use Rattle.std.specs.Prelude.{◌≡◌, ◌^◌, ◌+◌, ◌++◌, ◌⊎◌, [], ◌∷◌, ◌≤◌, ◌<◌, length, List, ℕ, OnOk, OnErr, IfErr, IsErrOf, MatchOption};
-ghost use Rattle.std.specs.List.{flat_map};
+ghost use Rattle.std.specs.Prelude.{◌≡◌, ◌^◌, ◌+◌, ◌++◌, ◌⊎◌, [], ◌∷◌, ◌≤◌, ◌<◌, length, false, List, ℕ, OnOk, OnErr, IfErr, IsErrOf, MatchOption};
 ghost use Rattle.std.specs.Io.KnownBytes.{Appends};
 ghost use Rattle.vt_can.specs.lines.Readings.{reading_of};
 ghost use Rattle.vt_replay.specs.Lines.{lines_of};
-ghost use Rattle.vt_replay.specs.Texts.{after_line, with_line, line_text, no_counts, output_text};
-ghost use Rattle.vt_replay.specs.Progress.{AtMost, IsLineFault, IsStepFault, Takes, TakesBytes, HasNoNewline, stand};
+ghost use Rattle.vt_replay.specs.Taken.{Follows, FollowsEvent, TakesInputLine, input_line};
+ghost use Rattle.vt_replay.specs.Texts.{with_line, no_counts, new_screen};
+ghost use Rattle.vt_replay.specs.Progress.{AtMost, HasNoNewline, IsLineFault, IsStepFault, Takes, TakesBytes, TakesOne, Writes, scene, stand};
 ghost use Rattle.vt_replay.specs.Replays.{TakesSome, HasLongLine};
-ghost use Rattle.vt_server.specs.States.{outputs_of, state_of, step};
+ghost use Rattle.vt_server.specs.Screens.{IsScreenOf};
+ghost use Rattle.vt_server.specs.States.{state_of};
 
 use crate::counts::Counts;
 use crate::fault::ReplayFault;
-use crate::output::{put_fault, put_outputs};
+use crate::output::{put, put_fault, put_outputs};
 use arrayvec::ArrayVec;
 use std::alloc::Global;
 use std::io::Write;
@@ -30,8 +31,12 @@ pub struct Progress {
     pub counts: Counts,
     /// What has come of a line whose end has not.
     pub pending: ArrayVec<u8, 4096>,
-    /// What the terminal sent at the last frame.
+    /// What the terminal sent at the last input.
     pub outputs: Vec<Output>,
+    /// The screen that was printed last.
+    pub screen: Vec<u8>,
+    /// Room for the next one.
+    pub drawn: Vec<u8>,
 }
 
 impl Progress {
@@ -39,12 +44,32 @@ impl Progress {
     pub fn new(alloc: Global) -> Progress
         ensures counts { result.counts ≡ no_counts }
         ensures pending { result.pending.items ≡ [] }
+        ensures screen { result.screen.items ≡ [] }
     {
         Progress {
             counts: Counts::new(),
             pending: ArrayVec::new(),
             outputs: Vec::new(alloc),
+            screen: Vec::new(alloc),
+            drawn: Vec::new(alloc),
         }
+    }
+
+    /// Prints the first screen.
+    pub fn begin<W: Write>(
+        &mut self,
+        terminal: &Terminal,
+        writer: &mut W,
+    ) -> Result<(), ReplayFault>
+        requires first { self.old.screen.items ≡ [] }
+        ensures drawn { OnOk result (IsScreenOf (state_of terminal.now) self.new.screen.items) }
+        ensures text { OnOk result (Appends (W.contents writer.old) (W.contents writer.new) self.new.screen.items) }
+        ensures counts { self.new.counts ≡ self.old.counts }
+        ensures pending { self.new.pending ≡ self.old.pending }
+        ensures fault { IfErr result IsStepFault }
+    {
+        terminal.screen(&mut self.screen)?;
+        put(&self.screen, writer)
     }
 
     /// Takes the lines that end in a chunk, and keeps what has come of the next.
@@ -54,12 +79,13 @@ impl Progress {
         terminal: &mut Terminal,
         writer: &mut W,
     ) -> Result<(), ReplayFault>
+        requires drawn { IsScreenOf (state_of terminal.old) self.old.screen.items }
         requires few { AtMost (2 ^ 61) self.old.counts }
         requires short { length chunk.now ≤ 65536 }
         requires whole { HasNoNewline self.old.pending.items }
-        ensures taken { OnOk result (TakesBytes (stand terminal.old self.old.counts (W.contents writer.old))
+        ensures taken { OnOk result (TakesBytes (stand terminal.old self.old.screen.items self.old.counts (W.contents writer.old))
             self.old.pending.items chunk.now
-            (stand terminal.new self.new.counts (W.contents writer.new)) self.new.pending.items) }
+            (stand terminal.new self.new.screen.items self.new.counts (W.contents writer.new)) self.new.pending.items) }
         ensures whole { OnOk result (HasNoNewline self.new.pending.items) }
         ensures stopped { OnErr result ((rest : List ℕ) → TakesSome (state_of terminal.old) (lines_of (self.old.pending.items ++ chunk.now ++ rest)) (state_of terminal.new)) }
         ensures too_long { IsErrOf result ReplayFault.TooLong → (rest : List ℕ) → HasLongLine (self.old.pending.items ++ chunk.now ++ rest) }
@@ -79,11 +105,12 @@ impl Progress {
         terminal: &mut Terminal,
         writer: &mut W,
     ) -> Result<(), ReplayFault>
+        requires drawn { IsScreenOf (state_of terminal.old) self.old.screen.items }
         requires few { AtMost (2 ^ 62) self.old.counts }
         requires whole { HasNoNewline self.old.pending.items }
-        ensures takes { OnOk result (Takes (stand terminal.old self.old.counts (W.contents writer.old))
+        ensures takes { OnOk result (Takes (stand terminal.old self.old.screen.items self.old.counts (W.contents writer.old))
             (lines_of self.old.pending.items)
-            (stand terminal.new self.new.counts (W.contents writer.new))) }
+            (stand terminal.new self.new.screen.items self.new.counts (W.contents writer.new))) }
         ensures stopped { OnErr result (TakesSome (state_of terminal.old) (lines_of self.old.pending.items) (state_of terminal.new)) }
         ensures too_long { IsErrOf result ReplayFault.TooLong → 4096 < length self.old.pending.items }
         ensures fault { IfErr result IsLineFault }
@@ -99,6 +126,7 @@ impl Progress {
         ensures kept { OnOk result (self.new.pending.items ≡ self.old.pending.items ++ part.now) }
         ensures short { OnOk result (length self.new.pending.items ≤ 4096) }
         ensures counts { self.new.counts ≡ self.old.counts }
+        ensures screen { self.new.screen ≡ self.old.screen }
         ensures too_long { OnErr result (4096 < length (self.old.pending.items ++ part.now)) }
         ensures fault { IfErr result (λ fault. fault ≡ ReplayFault.TooLong) }
     {
@@ -114,10 +142,11 @@ impl Progress {
         terminal: &mut Terminal,
         writer: &mut W,
     ) -> Result<(), ReplayFault>
+        requires drawn { IsScreenOf (state_of terminal.old) self.old.screen.items }
         requires few { AtMost (2 ^ 62) self.old.counts }
-        ensures takes { OnOk result (Takes (stand terminal.old self.old.counts (W.contents writer.old))
+        ensures takes { OnOk result (Takes (stand terminal.old self.old.screen.items self.old.counts (W.contents writer.old))
             ((self.old.pending.items ++ part.now) ∷ [])
-            (stand terminal.new self.new.counts (W.contents writer.new))) }
+            (stand terminal.new self.new.screen.items self.new.counts (W.contents writer.new))) }
         ensures empty { OnOk result (self.new.pending.items ≡ []) }
         ensures stopped { OnErr result (TakesSome (state_of terminal.old) ((self.old.pending.items ++ part.now) ∷ []) (state_of terminal.new)) }
         ensures too_long { IsErrOf result ReplayFault.TooLong → 4096 < length (self.old.pending.items ++ part.now) }
@@ -140,11 +169,12 @@ impl Progress {
         terminal: &mut Terminal,
         writer: &mut W,
     ) -> Result<(), ReplayFault>
+        requires drawn { IsScreenOf (state_of terminal.old) self.old.screen.items }
         requires few { AtMost (2 ^ 62) self.old.counts }
         requires short { length line.now ≤ 4096 }
-        ensures takes { OnOk result (Takes (stand terminal.old self.old.counts (W.contents writer.old))
+        ensures takes { OnOk result (Takes (stand terminal.old self.old.screen.items self.old.counts (W.contents writer.old))
             (line.now ∷ [])
-            (stand terminal.new self.new.counts (W.contents writer.new))) }
+            (stand terminal.new self.new.screen.items self.new.counts (W.contents writer.new))) }
         ensures pending { self.new.pending ≡ self.old.pending }
         ensures stopped { OnErr result (TakesSome (state_of terminal.old) (line.now ∷ []) (state_of terminal.new)) }
         ensures fault { IfErr result IsStepFault }
@@ -153,21 +183,23 @@ impl Progress {
         self.take_reading(reading, terminal, writer)
     }
 
-    /// What a line does: the terminal takes a frame and what it sends is written, a fault is written, and other
-    /// lines are counted.
+    /// What a line does: the terminal takes a frame or an action of the operator, a fault is written, and all lines
+    /// are counted.
     fn take_reading<W: Write>(
         &mut self,
         reading: Result<Line<'_>, LineFault>,
         terminal: &mut Terminal,
         writer: &mut W,
     ) -> Result<(), ReplayFault>
+        requires drawn { IsScreenOf (state_of terminal.old) self.old.screen.items }
         requires few { AtMost (2 ^ 62) self.old.counts }
-        ensures state { OnOk result (state_of terminal.new ≡ after_line (state_of terminal.old) (reading_of reading.entry)) }
+        ensures takes { OnOk result (TakesOne (stand terminal.old self.old.screen.items self.old.counts (W.contents writer.old))
+            (reading_of reading.entry)
+            (stand terminal.new self.new.screen.items self.new.counts (W.contents writer.new))) }
         ensures stopped { OnErr result ((state_of terminal.new ≡ state_of terminal.old)
-            ⊎ (state_of terminal.new ≡ after_line (state_of terminal.old) (reading_of reading.entry))) }
+            ⊎ Follows (state_of terminal.old) (reading_of reading.entry) (state_of terminal.new)) }
         ensures counts { self.new.counts ≡ with_line self.old.counts (reading_of reading.entry) }
         ensures pending { self.new.pending ≡ self.old.pending }
-        ensures text { OnOk result (Appends (W.contents writer.old) (W.contents writer.new) (line_text (state_of terminal.old) (self.old.counts.lines + 1) (reading_of reading.entry))) }
         ensures fault { IfErr result IsStepFault }
     {
         self.counts.lines += 1;
@@ -176,9 +208,9 @@ impl Progress {
                 self.counts.frames += 1;
                 self.take_input(&Input::Frame { time, frame }, terminal, writer)
             }
-            Ok(Line::Operator(_)) => {
+            Ok(Line::Operator(action)) => {
                 self.counts.operator += 1;
-                Ok(())
+                self.take_input(&Input::Operator(action), terminal, writer)
             }
             Ok(Line::Skipped(_)) => {
                 self.counts.skipped += 1;
@@ -195,25 +227,57 @@ impl Progress {
         }
     }
 
-    /// The terminal takes an input, and what it sends is written.
+    /// The terminal takes an input, and what it sends is written, and its screen, where that is new.
     fn take_input<W: Write>(
         &mut self,
         input: &Input<'_>,
         terminal: &mut Terminal,
         writer: &mut W,
     ) -> Result<(), ReplayFault>
-        ensures state { OnOk result (state_of terminal.new ≡ (step (state_of terminal.old) input.now).after) }
+        requires drawn { IsScreenOf (state_of terminal.old) self.old.screen.items }
+        ensures takes { OnOk result (Writes (TakesInputLine (scene terminal.old self.old.screen.items) (input_line input.now) (scene terminal.new self.new.screen.items))
+            (W.contents writer.old) (W.contents writer.new)) }
         ensures stopped { OnErr result ((state_of terminal.new ≡ state_of terminal.old)
-            ⊎ (state_of terminal.new ≡ (step (state_of terminal.old) input.now).after)) }
+            ⊎ FollowsEvent (state_of terminal.old) (input_line input.now) (state_of terminal.new)) }
         ensures counts { self.new.counts ≡ self.old.counts }
         ensures pending { self.new.pending ≡ self.old.pending }
-        ensures text { OnOk result (Appends (W.contents writer.old) (W.contents writer.new)
-            (flat_map output_text (outputs_of (step (state_of terminal.old) input.now).sent))) }
         ensures fault { IfErr result IsStepFault }
     {
         self.outputs.clear();
         terminal.step(input, &mut self.outputs)?;
-        put_outputs(&self.outputs, writer)
+        put_outputs(&self.outputs, writer)?;
+        self.put_screen(terminal, writer)
+    }
+
+    /// Prints the screen of the terminal, where it is another than the one that was printed last.
+    fn put_screen<W: Write>(
+        &mut self,
+        terminal: &Terminal,
+        writer: &mut W,
+    ) -> Result<(), ReplayFault>
+        ensures drawn { OnOk result (IsScreenOf (state_of terminal.now) self.new.screen.items) }
+        ensures text { OnOk result (Appends (W.contents writer.old) (W.contents writer.new) (new_screen self.old.screen.items self.new.screen.items)) }
+        ensures counts { self.new.counts ≡ self.old.counts }
+        ensures pending { self.new.pending ≡ self.old.pending }
+        ensures fault { IfErr result IsStepFault }
+    {
+        if !self.has_to_draw(terminal) {
+            return Ok(());
+        }
+        self.drawn.clear();
+        terminal.screen(&mut self.drawn)?;
+        if self.drawn == self.screen {
+            return Ok(());
+        }
+        mem::swap(&mut self.screen, &mut self.drawn);
+        put(&self.screen, writer)
+    }
+
+    /// Whether the screen has to be drawn. Where it has not, the one that was printed last is still the terminal's.
+    fn has_to_draw(&self, _terminal: &Terminal) -> bool
+        ensures { result ≡ false → IsScreenOf (state_of _terminal.now) self.now.screen.items }
+    {
+        true
     }
 }
 

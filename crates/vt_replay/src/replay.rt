@@ -8,7 +8,7 @@ ghost use Rattle.vt_server.specs.States.{state_of};
 
 use crate::counts::Counts;
 use crate::fault::ReplayFault;
-use crate::output::put_counts;
+use crate::output::{flush, put_counts};
 use crate::progress::Progress;
 use std::alloc::{AllocError, Global};
 use std::io::{Read, Write};
@@ -20,9 +20,10 @@ const CHUNK: usize = 65_536;
 /// After how many reads a reader that has not ended is given up.
 const READS: u32 = 1_000_000_000;
 
-/// Replays a log: reads it to its end, line by line, and writes what the terminal sends, the faulty lines and
-/// at last the counts. After an error the terminal has taken the lines before, and the reader and the writer
-/// are where they stopped.
+/// Replays a log: reads it to its end, line by line, and writes the first screen, what the terminal sends, the
+/// screens that are new, the faulty lines and at last the counts. What the lines read so far print is written
+/// out before the next read. After an error the terminal has taken the lines before, and the reader and the
+/// writer are where they stopped.
 pub fn replay<R: Read, W: Write>(
     alloc: Global,
     reader: &mut R,
@@ -40,7 +41,9 @@ pub fn replay<R: Read, W: Write>(
 {
     let mut progress = Progress::new(alloc);
     let mut chunk = zeros(alloc, CHUNK)?;
+    progress.begin(terminal, writer)?;
     for _ in 0..READS {
+        flush(writer)?;
         let Ok(count) = reader.read(&mut chunk) else {
             return Err(ReplayFault::Read);
         };

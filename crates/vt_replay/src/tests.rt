@@ -3,6 +3,7 @@ ghost use Rattle.std.specs.Str.{bytes_eq};
 
 mod messages;
 mod reports;
+mod screens;
 mod streams;
 
 use crate::program::{Open, Status, run};
@@ -70,32 +71,40 @@ const WITH_POOL: [&str; 6] = ["vt_replay", "log", "--pool", "pool", "--owner", "
 const COMMANDS: [(&[u8], &str); 12] = [
     (
         HIDE,
-        "14E68026#A064000000FFFFFF\n\
+        "screen 80 mask 1000\ncontainer 100 10 5 50x20\n\
+        14E68026#A064000000FFFFFF\n\
+        screen 80 mask 1000\n\
         lines 1 frames 1 operator 0 skipped 0 comments 0 faults 0\n",
     ),
     (
         b"(1.000000) can0 14E72680#A0650000FFFFFFFF\n",
-        "14E68026#A065000002FFFFFF\n\
+        "screen 80 mask 1000\ncontainer 100 10 5 50x20\n\
+        14E68026#A065000002FFFFFF\n\
         lines 1 frames 1 operator 0 skipped 0 comments 0 faults 0\n",
     ),
     (
         b"(1.000000) can0 14E72680#A0640001FFFFFFFF\n",
-        "14E68026#A064000100FFFFFF\n\
+        "screen 80 mask 1000\ncontainer 100 10 5 50x20\n\
+        14E68026#A064000100FFFFFF\n\
         lines 1 frames 1 operator 0 skipped 0 comments 0 faults 0\n",
     ),
     (
         b"(1.000000) can0 14E72680#A0640002FFFFFFFF\n",
-        "14E68026#A064000204FFFFFF\n\
+        "screen 80 mask 1000\ncontainer 100 10 5 50x20\n\
+        14E68026#A064000204FFFFFF\n\
         lines 1 frames 1 operator 0 skipped 0 comments 0 faults 0\n",
     ),
     (
         b"(1.000000) can0 14E72680#A0E80300FFFFFFFF\n",
-        "14E68026#A0E8030002FFFFFF\n\
+        "screen 80 mask 1000\ncontainer 100 10 5 50x20\n\
+        14E68026#A0E8030002FFFFFF\n\
         lines 1 frames 1 operator 0 skipped 0 comments 0 faults 0\n",
     ),
     (
         b"(1.000000) can0 18E72680#A0640000FFFFFFFF\n",
-        "14E68026#A064000000FFFFFF\n\
+        "screen 80 mask 1000\ncontainer 100 10 5 50x20\n\
+        14E68026#A064000000FFFFFF\n\
+        screen 80 mask 1000\n\
         lines 1 frames 1 operator 0 skipped 0 comments 0 faults 0\n",
     ),
     (b"(1.000000) can0 14E72681#A0640000FFFFFFFF\n", NO_REPLY),
@@ -106,7 +115,9 @@ const COMMANDS: [(&[u8], &str); 12] = [
     (b"(1.000000) can0 14E72680#A2640000FFFFFFFF\n", NO_REPLY),
 ];
 
-const NO_REPLY: &str = "lines 1 frames 1 operator 0 skipped 0 comments 0 faults 0\n";
+const NO_REPLY: &str = "screen 80 mask 1000\n\
+    container 100 10 5 50x20\n\
+    lines 1 frames 1 operator 0 skipped 0 comments 0 faults 0\n";
 
 fn expect_replies(rt: &(impl Abort + AllocGlobal), commands: &[(&[u8], &str)]) -> Result<(), Fail> {
     for (log, text) in commands {
@@ -139,7 +150,9 @@ const ADDRESSES_AND_NAMES: [Run<'static>; 4] = [
         (b"(1.000000) can0 14E7FD0A#A0640000FFFFFFFF", POOL),
         (
             Status::Done,
-            "14E60AFD#A064000000FFFFFF\n\
+            "screen 0A mask 1000\ncontainer 100 10 5 50x20\n\
+            14E60AFD#A064000000FFFFFF\n\
+            screen 0A mask 1000\n\
             lines 1 frames 1 operator 0 skipped 0 comments 0 faults 0\n",
             false,
         ),
@@ -149,7 +162,8 @@ const ADDRESSES_AND_NAMES: [Run<'static>; 4] = [
         (CLAIMED, POOL),
         (
             Status::Done,
-            "18EEFF26#01000000001D0020\n18EEFFFE#01000000001D0020\n\
+            "screen 80 mask 1000\ncontainer 100 10 5 50x20\n\
+            18EEFF26#01000000001D0020\n18EEFFFE#01000000001D0020\n\
             lines 3 frames 3 operator 0 skipped 0 comments 0 faults 0\n",
             false,
         ),
@@ -159,7 +173,8 @@ const ADDRESSES_AND_NAMES: [Run<'static>; 4] = [
         (CLAIMED, POOL),
         (
             Status::Done,
-            "18EEFF26#98BADCFEFF8400A0\n18EEFFFE#98BADCFEFF8400A0\n\
+            "screen none\n\
+            18EEFF26#98BADCFEFF8400A0\n18EEFFFE#98BADCFEFF8400A0\n\
             lines 3 frames 3 operator 0 skipped 0 comments 0 faults 0\n",
             false,
         ),
@@ -169,7 +184,8 @@ const ADDRESSES_AND_NAMES: [Run<'static>; 4] = [
         (CLAIMED, POOL),
         (
             Status::Done,
-            "18EEFF26#0000000000000000\n\
+            "screen none\n\
+            18EEFF26#0000000000000000\n\
             lines 3 frames 3 operator 0 skipped 0 comments 0 faults 0\n",
             false,
         ),
@@ -193,7 +209,8 @@ const REGISTRATIONS: [Run<'static>; 2] = [
         ),
         (
             Status::Done,
-            "14E68026#C00300FFFFFFFFFF\n\
+            "screen none\n\
+            14E68026#C00300FFFFFFFFFF\n\
             lines 3 frames 3 operator 0 skipped 0 comments 0 faults 0\n",
             false,
         ),
@@ -207,7 +224,8 @@ const REGISTRATIONS: [Run<'static>; 2] = [
         ),
         (
             Status::Done,
-            "lines 2 frames 2 operator 0 skipped 0 comments 0 faults 0\n",
+            "screen none\n\
+            lines 2 frames 2 operator 0 skipped 0 comments 0 faults 0\n",
             false,
         ),
     ),
@@ -222,12 +240,13 @@ fn a_set_registers(rt: HostRuntime) -> Result<(), Fail> {
 const LINES: [(&[u8], &str); 4] = [
     (
         b"",
-        "lines 0 frames 0 operator 0 skipped 0 comments 0 faults 0\n",
+        "screen none\n\
+        lines 0 frames 0 operator 0 skipped 0 comments 0 faults 0\n",
     ),
     (
         b"# a log\n\n(1.000000) can0 14E7\r\n(1.000000) can0 123#\n\
         (2.000000) can0 14E72680#\r\nx",
-        "line 3 Shape\nline 6 Time\n\
+        "screen none\nline 3 Shape\nline 6 Time\n\
         lines 6 frames 1 operator 0 skipped 1 comments 2 faults 2\n",
     ),
     (
@@ -236,7 +255,7 @@ const LINES: [(&[u8], &str); 4] = [
         (1.000000) can0 14E72680##0A0\n\
         (1.000000000) can0 14E72680#FFFFFFFFFFFFFFFF T\n\
         (1.000000) can0 14E7",
-        "line 1 Hex\nline 5 Shape\n\
+        "screen none\nline 1 Hex\nline 5 Shape\n\
         lines 5 frames 1 operator 0 skipped 2 comments 0 faults 2\n",
     ),
     (
@@ -245,7 +264,8 @@ const LINES: [(&[u8], &str); 4] = [
         (1.000000) can0 14E72680#000102030405060708\n\
         (1.000000) can0 20000080#0102030405060708\n\
         (1.000000) can0 14E72680#R8\n#! press 1\n",
-        "line 3 Operator\nline 5 Time\nline 6 Length\n\
+        "screen none\noperator 9 NoSet\noperator 9 NoSet\n\
+        line 3 Operator\noperator 9 NoSet\nline 5 Time\nline 6 Length\n\
         lines 9 frames 0 operator 3 skipped 2 comments 1 faults 3\n",
     ),
 ];
@@ -276,10 +296,13 @@ fn commented(alloc: Global, front: &[u8], count: u16, back: &[u8]) -> Result<Vec
 #[test]
 fn the_longest_line(rt: HostRuntime) -> Result<(), Fail> {
     let log = commented(rt.alloc(), b"", 4095, b"\r\n#")?;
-    let text = "lines 2 frames 0 operator 0 skipped 0 comments 2 faults 0\n";
+    let text = "screen none\nlines 2 frames 0 operator 0 skipped 0 comments 2 faults 0\n";
     expect_run(&rt, &(&LOG, (&log, POOL), (Status::Done, text, false)))?;
     let log = commented(rt.alloc(), b"", 4096, b"\r\n#")?;
-    expect_run(&rt, &(&LOG, (&log, POOL), (Status::Fault, "", true)))
+    expect_run(
+        &rt,
+        &(&LOG, (&log, POOL), (Status::Fault, "screen none\n", true)),
+    )
 }
 
 const NEXT_HIDE: &[u8] = b"\n(1.000000) can0 14E72680#A0640000FFFFFFFF\n";
@@ -287,9 +310,11 @@ const NEXT_HIDE: &[u8] = b"\n(1.000000) can0 14E72680#A0640000FFFFFFFF\n";
 #[test]
 fn a_long_line_after_a_command(rt: HostRuntime) -> Result<(), Fail> {
     let log = commented(rt.alloc(), HIDE, 4097, NEXT_HIDE)?;
-    let reply = "14E68026#A064000000FFFFFF\n";
+    let text = "screen 80 mask 1000\ncontainer 100 10 5 50x20\n\
+        14E68026#A064000000FFFFFF\n\
+        screen 80 mask 1000\n";
     expect_run(
         &rt,
-        &(&WITH_POOL, (&log, POOL), (Status::Fault, reply, true)),
+        &(&WITH_POOL, (&log, POOL), (Status::Fault, text, true)),
     )
 }

@@ -5,25 +5,43 @@ use Rattle.vt_can.specs.declared.frames.frame.Frame.{Frame}
 use Rattle.vt_names.specs.Claims.{Claim, Claimed, HoldersAreLeast, IsHolder, after_claims, heard, holder_of}
 use Rattle.vt_names.specs.declared.claims.Heard.TheVariants as claims
 use Rattle.vt_server.specs.Bus.{notice_of}
-use Rattle.vt_server.specs.Terminals.{State, before, hear_claim, acts, no_step, losing, acting, step_notice, step_now, at_time, is_lost_by, answer_to}
-use Rattle.vt_server.specs.States.{step, after_all}
+use Rattle.vt_server.specs.Choosing.{choosing, shown_now, events_of_change}
 use Rattle.vt_server.specs.ClaimsHeard.{claim_of, takes_address, claims_heard, HoldersOfRuns}
+use Rattle.vt_server.specs.Lapses.{at_time, lapsed}
+use Rattle.vt_server.specs.Parts.{Act, Operates}
+use Rattle.vt_server.specs.Steps.{Event, FrameAt, ActionAt, step, after_all, before, hear_claim, acts, no_step, losing, acted, acting, hearing, settled, is_lost_by, answer_to, selecting, at_shown, step_frame, step_action}
+use Rattle.vt_server.specs.Terminals.{State, after_acts}
+use Rattle.vt_server.specs.Transfers.{Verdict}
 use Rattle.vt_server.specs.declared.bus.Notice.{Notice}
 use Rattle.vt_server.specs.declared.bus.Notice.TheVariants.{ClaimRequest, Master, Member, Message, Tp, Etp, Nothing}
 use Rattle.vt_server.specs.declared.bus.Notice.TheVariants as notices
-use Rattle.vt_server.specs.declared.input.Input.{Input}
-use Rattle.vt_server.specs.declared.input.Input.TheVariants as inputs
-use Rattle.vt_server.proofs.Steps.{claims-acts, lost-acts}
+use Rattle.vt_server.proofs.Changes.{claims-acts}
+use Rattle.vt_server.proofs.Keeping.{lapsed-keeps, claims-lapsed}
+use Rattle.vt_server.proofs.Puts.{beside, beside-act}
+use Rattle.vt_server.proofs.Settling.{settled-claims}
+use Rattle.vt_server.proofs.Stepping.{selecting-same}
 
 -- ---- after the loss nothing changes
 
-lost-step : (s : State) (i : Input) → s.lost ≡ true → (step s i).after ≡ s
-lost-step s (inputs.Frame time f) lost = ap (λ b. (cond b (no_step s) (step_now (at_time s time) f)).after) lost
-lost-step s (inputs.Operator action) lost = refl
+lost-step : (s : State) (e : Event) → s.lost ≡ true → (step s e).after ≡ s
+lost-step s (FrameAt time f verdict) lost = ap (λ b. (cond b (no_step s) (step_frame s time f verdict)).after) lost
+lost-step s (ActionAt action shown) lost = ap (λ b. (cond b (no_step s) (step_action s action shown)).after) lost
 
-lost-all : (s : State) (xs : List Input) → s.lost ≡ true → after_all s xs ≡ s
+lost-all : (s : State) (xs : List Event) → s.lost ≡ true → after_all s xs ≡ s
 lost-all s [] lost = refl
-lost-all s (i ∷ xs) lost = ap (λ t. after_all t xs) (lost-step s i lost) ∙ lost-all s xs lost
+lost-all s (e ∷ xs) lost = ap (λ t. after_all t xs) (lost-step s e lost) ∙ lost-all s xs lost
+
+-- ---- and before it, no act is one
+
+lost-acts : (s : State) (hs : List (ℕ × Act)) → (after_acts s hs).lost ≡ s.lost
+lost-acts s hs = beside (λ (t : State). t.lost) (λ a o t. refl) s hs
+
+lost-lapsed : (s : State) → (lapsed s).lost ≡ s.lost
+lost-lapsed s = lapsed-keeps (λ t. t.lost ≡ s.lost) (λ t a h is. beside-act (λ (u : State). u.lost) (λ b o u. refl) t a h ∙ is) s refl
+
+settled-lost : (s : State) → (settled s).lost ≡ s.lost
+unfolding settled
+settled-lost s = lost-acts (choosing s) (events_of_change s.shown (shown_now s))
 
 -- ---- which claim is the loss
 
@@ -61,39 +79,48 @@ heard-is own name earlier s source Tp is = is
 heard-is own name earlier s source Etp is = is
 heard-is own name earlier s source Nothing is = is
 
-run-frame : (own name : ℕ) (earlier : List Claim) (s : State) (f : Frame) (xs : List Input) (m : Notice) (gone : Bool)
+-- a frame that is heard at a state with those claims
+run-frame : (own name : ℕ) (earlier : List Claim) (old s : State) (f : Frame) (verdict : Verdict) (xs : List Event) (m : Notice) (gone : Bool)
     → s.claims ≡ kept-by own name earlier → s.lost ≡ false
     → ((t : State) → t.claims ≡ kept-by own name (claim_of (source_of f) m ++ earlier) → t.lost ≡ false
     → (after_all t xs).claims.addresses ≡ after_claims (claims_heard own name (claim_of (source_of f) m ++ earlier) xs))
-    → (after_all (cond gone (losing s) (acting s (source_of f) m f)).after xs).claims.addresses
+    → (after_all (cond gone (losing s) (acting old s (source_of f) m f verdict)).after xs).claims.addresses
     ≡ after_claims (cond gone earlier (claims_heard own name (claim_of (source_of f) m ++ earlier) xs))
 unfolding kept-by
-run-frame own name earlier s f xs m true is has rest =
-    ap (λ (t : State). t.claims.addresses) (lost-all (record s { lost = true }) xs refl) ∙ ap (λ (c : Claimed). c.addresses) is
-run-frame own name earlier s f xs m false is has rest =
+run-frame own name earlier old s f verdict xs m true is has rest =
+    ap (λ (t : State). t.claims.addresses) (lost-all (losing s).after xs refl) ∙ ap (λ (c : Claimed). c.addresses) is
+run-frame own name earlier old s f verdict xs m false is has rest =
     let t = before s (source_of f) m in
-    rest (acting s (source_of f) m f).after
-    (claims-acts t (acts s (source_of f) m f) ∙ heard-is own name earlier s (source_of f) m is)
-    (lost-acts t (acts s (source_of f) m f) ∙ has)
+    let u = acted s (source_of f) m f verdict in
+    rest (settled u)
+    (settled-claims u ∙ claims-acts t (acts s (source_of f) m f verdict) ∙ heard-is own name earlier s (source_of f) m is)
+    (settled-lost u ∙ lost-acts t (acts s (source_of f) m f verdict) ∙ has)
 
-run-claims : (own name : ℕ) (earlier : List Claim) (s : State) (xs : List Input) → s.claims ≡ kept-by own name earlier → s.lost ≡ false
+run-claims : (own name : ℕ) (earlier : List Claim) (s : State) (xs : List Event) → s.claims ≡ kept-by own name earlier → s.lost ≡ false
     → (after_all s xs).claims.addresses ≡ after_claims (claims_heard own name earlier xs)
 unfolding kept-by
 run-claims own name earlier s [] is has = ap (λ (c : Claimed). c.addresses) is
-run-claims own name earlier s (inputs.Operator action ∷ xs) is has = run-claims own name earlier s xs is has
-run-claims own name earlier s (inputs.Frame time f ∷ xs) is has =
+run-claims own name earlier s (ActionAt action shown ∷ xs) is has =
+    let u = selecting s action in
+    let hs = at_shown s.shown (Operates action shown) in
+    let t = after_acts u hs in
+    ap (λ b. (after_all (cond b (no_step s) (step_action s action shown)).after xs).claims.addresses) has
+    ∙ run-claims own name earlier (settled t) xs
+    (settled-claims t ∙ claims-acts u hs ∙ selecting-same (λ x. x.claims) (λ x o. refl) s action ∙ is)
+    (settled-lost t ∙ lost-acts u hs ∙ selecting-same (λ x. x.lost) (λ x o. refl) s action ∙ has)
+run-claims own name earlier s (FrameAt time f verdict ∷ xs) is has =
     let source = source_of f in
     let m = notice_of own name f in
-    let t = at_time s time in
-    let rest = λ (u : State). run-claims own name (claim_of source m ++ earlier) u xs in
+    let u = lapsed (at_time s time) in
+    let u-is : u.claims ≡ kept-by own name earlier = claims-lapsed (at_time s time) ∙ is in
+    let rest = λ (t : State). run-claims own name (claim_of source m ++ earlier) t xs in
     let same : notice_of s.claims.own s.claims.name f ≡ m = ap (λ (c : Claimed). notice_of c.own c.name f) is in
-    let gone : is_lost_by (answer_to t source m) ≡ takes_address own name source m =
-    loss-is t source m ∙ ap (λ (c : Claimed). takes_address c.own c.name source m) is in
-    ap (λ b. (after_all (cond b (no_step s) (step_now t f)).after xs).claims.addresses) has
-    ∙ ap (λ (n : Notice). (after_all (step_notice t source n f).after xs).claims.addresses) same
-    ∙ ap (λ b. (after_all (cond b (no_step t) (cond (is_lost_by (answer_to t source m)) (losing t) (acting t source m f))).after xs).claims.addresses) has
-    ∙ ap (λ b. (after_all (cond b (losing t) (acting t source m f)).after xs).claims.addresses) gone
-    ∙ run-frame own name earlier t f xs m (takes_address own name source m) is has rest
+    let gone : is_lost_by (answer_to u source m) ≡ takes_address own name source m =
+    loss-is u source m ∙ ap (λ (c : Claimed). takes_address c.own c.name source m) u-is in
+    ap (λ b. (after_all (cond b (no_step s) (step_frame s time f verdict)).after xs).claims.addresses) has
+    ∙ ap (λ (n : Notice). (after_all (hearing s u source n f verdict).after xs).claims.addresses) same
+    ∙ ap (λ b. (after_all (cond b (losing u) (acting s u source m f verdict)).after xs).claims.addresses) gone
+    ∙ run-frame own name earlier s u f verdict xs m (takes_address own name source m) u-is (lost-lapsed (at_time s time) ∙ has) rest
 
 pub holders : HoldersAreLeast → HoldersOfRuns
 unfolding kept-by

@@ -1,27 +1,27 @@
 -- A set with a NAME keeps that of its address's holder.
-use Rattle.std.proofs.Common.{ap, ◌∙◌, ◌≡◌, ℕ, Bool, true, false, cond, ◌||◌, List, [], ◌∷◌, Option, Some, None, refl, sym, subst, nat_eq}
+use Rattle.std.proofs.Common.{ap, ◌∙◌, ◌≡◌, ℕ, Bool, true, false, cond, ◌||◌, [], ◌∷◌, Option, Some, None, refl, sym, subst, nat_eq}
 use Rattle.std.specs.Option.{option_eq}
 use Rattle.vt_can.specs.declared.frames.frame.Frame.{Frame}
-use Rattle.vt_can.specs.transport.Messages as transport
-use Rattle.vt_transport.specs.Protocol as tp
-use Rattle.vt_extended.specs.Protocol as etp
-use Rattle.vt_server.specs.Receiving.{taken}
+use Rattle.vt_can.specs.frames.Frame.{source_of}
+use Rattle.vt_names.specs.Claims.{Claimed, IsRising}
 use Rattle.vt_names.specs.Registry.{Set, set_at, has_place, joined}
-use Rattle.vt_objects.specs.declared.command.Command.{Command}
-use Rattle.vt_objects.specs.Commands.{command_at}
-use Rattle.vt_server.specs.Messages.{technical_reply}
-use Rattle.vt_server.specs.Parts.{Part, Preloads, unchanged, without_set, outcome_of_notice, after_change, with_holder_name, after_claim_heard, after_master, after_member, after_command, after_reply, after_message, after_whole}
-use Rattle.vt_server.specs.Terminals.{State, holder, part, after_act}
-use Rattle.vt_server.specs.Happenings.{Happening, FrameHeard, HolderIs, Lost, Preloaded, Response, without_effect, with_holder, response, response_while, part_after_all, happenings, own_part, NameIsHeld, SetIsHeld, SetsHoldTheirAddress}
+use Rattle.vt_server.specs.Bus.{notice_of}
+use Rattle.vt_server.specs.Choosing.{choosing, shown_now, events_of_change}
+use Rattle.vt_server.specs.Happenings.{IsOrderly, NameIsHeld, SetIsHeld, SetsHoldTheirAddress}
+use Rattle.vt_server.specs.Lapses.{at_time, lapsed}
+use Rattle.vt_server.specs.Parts.{Part, Act, Rebinds, Operates, Preloads, unchanged, without_set, after_change, with_holder_name, after_claim_heard, after_master, after_member, outcome}
+use Rattle.vt_server.specs.Steps.{Event, FrameAt, ActionAt, step, before, changes, heard_at_source, answer_to, is_lost_by, settled, losing, acted, acting, no_step, step_frame, selecting, at_shown, step_action}
+use Rattle.vt_server.specs.Terminals.{State, holder, part, after_act, after_acts}
+use Rattle.vt_server.specs.Transfers.{Verdict}
 use Rattle.vt_server.specs.declared.bus.Notice.{Notice}
-use Rattle.vt_server.specs.declared.bus.Notice.TheVariants.{Claim, ClaimRequest, Master, Member, Message, Tp, Etp, Nothing}
-use Rattle.vt_server.proofs.Happened.{option-true, part-step, orderly-step, own-step}
-use Rattle.vt_server.proofs.Own.{own-act, part-take_other}
+use Rattle.vt_server.proofs.Changes.{option-true, of-changes}
+use Rattle.vt_server.proofs.Keeping.{acts-keep, lapsed-keeps, step-keeps, preloading-keeps, orderly-kept, own-step, claims-lapsed}
+use Rattle.vt_server.proofs.Own.{outcome-holds, bare, turns, part-act, part-act_other, part-acts}
+use Rattle.vt_server.proofs.Puts.{by_eq, acts-append, beside-act}
+use Rattle.vt_server.proofs.Stepping.{selecting-same}
 use Rattle.vt_server.proofs.Timeless.{Laws}
-use Rattle.vt_server.proofs.Puts.{by_eq, act-is}
-use Rattle.vt_server.specs.Bus.{frame_notice}
 
--- ---- a frame from the address
+-- ---- claims and registration
 
 named-held : (set : Set) (x y : Option ℕ) → set.name ≡ x → NameIsHeld x y → NameIsHeld (with_holder_name set x y).name y
 named-held set None None e has = subst (λ n. NameIsHeld n None) (sym e) tt
@@ -45,40 +45,6 @@ member-held : (p : Part) (o : Option Set) (name : ℕ) → SetIsHeld p.set p.hol
 member-held p None name has its = has
 member-held p (Some set) name has its = join-held (has_place set) set name p.holder its
 
-commanded-held : (a : ℕ) (p : Part) (o : Option Command) → SetIsHeld p.set p.holder → SetIsHeld (after_command a p o).set p.holder
-commanded-held a p None has = has
-commanded-held a p (Some command) has = has
-
-technical-held : (a : ℕ) (p : Part) (bytes : List ℕ) (o : Option (List ℕ)) → SetIsHeld p.set p.holder → SetIsHeld (after_reply a p bytes o).set p.holder
-technical-held a p bytes None has = commanded-held a p (command_at bytes) has
-technical-held a p bytes (Some reply) has = has
-
-message-held : (a : ℕ) (p : Part) (bytes : List ℕ) (o : Option Set) → SetIsHeld p.set p.holder → SetIsHeld (after_message a p bytes o).set p.holder
-message-held a p bytes None has = has
-message-held a p bytes (Some set) has = technical-held a p bytes (technical_reply bytes) has
-
-whole-held : (a : ℕ) (p : Part) (o : Option transport.Message) → SetIsHeld p.set p.holder → SetIsHeld (after_whole a p o).set p.holder
-whole-held a p None has = has
-whole-held a p (Some message) has = cases (nat_eq message.pgn 0xE700)
-  where
-    cases : (b : Bool) → SetIsHeld (cond b (after_message a p message.bytes p.set) (unchanged p)).set p.holder
-    cases true = message-held a p message.bytes p.set has
-    cases false = has
-
-notice-held : (now a : ℕ) (p : Part) (notice : Notice) (frame : Frame) → SetIsHeld p.set p.holder → SetIsHeld (outcome_of_notice now a p notice frame).set p.holder
-notice-held now a p (Claim name) frame has = claim-held p p.set has has
-notice-held now a p ClaimRequest frame has = has
-notice-held now a p (Master count) frame has = master-held a p p.holder count refl has
-notice-held now a p (Member name) frame has = member-held p p.set name has has
-notice-held now a p Message frame has = message-held a p frame.bytes.items p.set has
-notice-held now a p Tp frame has =
-    let t = taken tp.protocol now p.terminal a p.place.tp frame in
-    whole-held a (record p { place = record p.place { tp = t.session } }) t.message has
-notice-held now a p Etp frame has =
-    let t = taken etp.protocol now p.terminal a p.place.etp frame in
-    whole-held a (record p { place = record p.place { etp = t.session } }) t.message has
-notice-held now a p Nothing frame has = has
-
 -- ---- another holder
 
 same-name : (n h : Option ℕ) → (option_eq nat_eq n None || option_eq nat_eq n h) ≡ true → NameIsHeld n h
@@ -94,39 +60,97 @@ rebound-held : (p : Part) (o : Option Set) → p.set ≡ o → SetIsHeld (after_
 rebound-held p None is = subst (λ o. SetIsHeld o p.holder) (sym is) tt
 rebound-held p (Some set) is = kept-held p set (option_eq nat_eq set.name None || option_eq nat_eq set.name p.holder) refl is
 
--- ---- every happening, and every step
+-- ---- every act, at any address
 
-while-held : (a : ℕ) (p : Part) (h : Happening) → SetIsHeld p.set p.holder → SetIsHeld (response_while a p h).part.set (response_while a p h).part.holder
-while-held a p (FrameHeard f) has = notice-held 0 a p (frame_notice p.terminal f) f has
-while-held a p (HolderIs name) has = rebound-held (with_holder p name) p.set refl
-while-held a p Lost has = has
-while-held a p (Preloaded contents) has = tt
+abbrev pub IsHeldAt : ℕ → State → Type 0
+IsHeldAt a s = SetIsHeld (set_at a s.sets) (holder s a)
 
-lost-held : (b : Bool) (p : Part) (o : Response) → SetIsHeld p.set p.holder → SetIsHeld o.part.set o.part.holder
-    → SetIsHeld (cond b (without_effect p) o).part.set (cond b (without_effect p) o).part.holder
-lost-held true p o has its = has
-lost-held false p o has its = its
+outcome-held : (now a : ℕ) (p : Part) (h : Act) → SetIsHeld p.set p.holder → SetIsHeld (outcome now a p h).set p.holder
+outcome-held now a p h has = outcome-holds (λ o. SetIsHeld o p.holder) now a p (record {
+  none = tt;
+  same = has;
+  claim = λ place. claim-held (record p { place = place }) p.set has has;
+  master = λ place count. master-held a (record p { place = place }) p.holder count refl has;
+  member = λ place name. member-held (record p { place = place }) p.set name has has;
+  rebound = rebound-held p p.set refl;
+  preloaded = tt;
+}) h
 
-response-held : (a : ℕ) (p : Part) (h : Happening) → SetIsHeld p.set p.holder → SetIsHeld (response a p h).part.set (response a p h).part.holder
-response-held a p h has = lost-held p.lost p (response_while a p h) has (while-held a p h has)
+pub act-held : (a : ℕ) (s : State) (b : ℕ) (h : Act) → IsHeldAt a s → IsHeldAt a (after_act s b h)
+act-held a s b h has =
+    by_eq b a
+    (λ is. subst (λ c. IsHeldAt a (after_act s c h)) (sym is)
+    (subst (λ (p : Part). SetIsHeld p.set p.holder) (sym (part-act a s h)) (outcome-held s.now a (part a s) h has)))
+    (λ ne. subst (λ (p : Part). SetIsHeld p.set p.holder) (sym (part-act_other a b s h (λ e. ne (sym e)))) has)
 
-responses-held : (a : ℕ) (p : Part) (hs : List Happening) → SetIsHeld p.set p.holder → SetIsHeld (part_after_all a p hs).set (part_after_all a p hs).holder
-responses-held a p [] has = has
-responses-held a p (h ∷ hs) has = responses-held a (response a p h).part hs (response-held a p h has)
+settled-held : (a : ℕ) (s : State) → IsHeldAt a s → IsHeldAt a (settled s)
+unfolding settled
+settled-held a s has = acts-keep (IsHeldAt a) (act-held a) (choosing s) (events_of_change s.shown (shown_now s)) has
 
-none-held : (o : Option Set) (holder : Option ℕ) → o ≡ None → SetIsHeld o holder
+-- ---- a claim, and what it changes
+
+module _ (laws : Laws) (a : ℕ) (s : State) (rising : IsRising s.claims.addresses) (has : IsHeldAt a s) where
+  changed-held : (source : ℕ) (n : Notice) → IsHeldAt a (after_acts (before s source n) (changes s source n))
+  changed-held source n =
+      let t = before s source n in
+      subst (λ (p : Part). SetIsHeld p.set p.holder)
+      (sym (part-acts laws a t (changes s source n) ∙ ap (turns a (bare a t)) (of-changes laws.holders s rising a source n)))
+      (cases (option_eq nat_eq (holder s a) (holder t a)) refl)
+    where
+      cases : (b : Bool) → option_eq nat_eq (holder s a) (holder (before s source n) a) ≡ b
+          → let p = turns a (bare a (before s source n)) (cond b [] (Rebinds ∷ [])) in SetIsHeld p.set p.holder
+      cases true same = subst (SetIsHeld (set_at a s.sets)) (option-true (holder s a) (holder (before s source n) a) same) has
+      cases false other = rebound-held (bare a (before s source n)) (set_at a s.sets) refl
+
+  acted-held : (source : ℕ) (n : Notice) (f : Frame) (verdict : Verdict) → IsHeldAt a (acted s source n f verdict)
+  acted-held source n f verdict =
+      let t = before s source n in
+      let last = heard_at_source s.claims.own source n f verdict in
+      subst (IsHeldAt a) (sym (acts-append t (changes s source n) last))
+      (acts-keep (IsHeldAt a) (act-held a) (after_acts t (changes s source n)) last (changed-held source n))
+
+step-held : Laws → (a : ℕ) (s : State) (e : Event) → IsOrderly s → IsHeldAt a s → IsHeldAt a (step s e).after
+step-held laws a s (FrameAt time f verdict) orderly has = cases s.lost
+  where
+    heard : (gone : Bool) → let u = lapsed (at_time s time) in
+        IsHeldAt a (cond gone (losing u) (acting s u (source_of f) (notice_of s.claims.own s.claims.name f) f verdict)).after
+    heard gone =
+        let t = at_time s time in
+        let still = lapsed-keeps (IsHeldAt a) (act-held a) t has in
+        by-loss still
+        (settled-held a (acted (lapsed t) (source_of f) (notice_of s.claims.own s.claims.name f) f verdict)
+        (acted-held laws a (lapsed t) (subst (λ (c : Claimed). IsRising c.addresses) (sym (claims-lapsed t)) orderly.rising) still
+        (source_of f) (notice_of s.claims.own s.claims.name f) f verdict)) gone
+      where
+        by-loss : let u = lapsed (at_time s time) in
+            IsHeldAt a u → IsHeldAt a (acting s u (source_of f) (notice_of s.claims.own s.claims.name f) f verdict).after → (gone : Bool)
+            → IsHeldAt a (cond gone (losing u) (acting s u (source_of f) (notice_of s.claims.own s.claims.name f) f verdict)).after
+        by-loss still then-still true = still
+        by-loss still then-still false = then-still
+
+    cases : (lost : Bool) → IsHeldAt a (cond lost (no_step s) (step_frame s time f verdict)).after
+    cases true = has
+    cases false = heard (is_lost_by (answer_to (lapsed (at_time s time)) (source_of f) (notice_of s.claims.own s.claims.name f)))
+step-held laws a s (ActionAt action shown) orderly has = cases s.lost
+  where
+    cases : (lost : Bool) → IsHeldAt a (cond lost (no_step s) (step_action s action shown)).after
+    cases true = has
+    cases false =
+        let u = selecting s action in
+        let hs = at_shown s.shown (Operates action shown) in
+        let there : IsHeldAt a u = subst (λ (p : Part). SetIsHeld p.set p.holder) (sym (selecting-same (part a) (λ x o. refl) s action)) has in
+        settled-held a (after_acts u hs) (acts-keep (IsHeldAt a) (act-held a) u hs there)
+
+-- ---- the law
+
+pub none-held : (o : Option Set) (holder : Option ℕ) → o ≡ None → SetIsHeld o holder
 none-held o holder none = subst (λ p. SetIsHeld p holder) (sym none) tt
 
 pub held : Laws → SetsHoldTheirAddress
 held laws = record {
   first = λ s none a _. none-held (set_at a s.sets) (holder s a) (ap (set_at a) none);
-  preloaded = λ a s contents has b apart. by_eq b a
-      (λ is. subst (λ x. SetIsHeld (part x (after_act s a (Preloads contents))).set (part x (after_act s a (Preloads contents))).holder) (sym is)
-      (subst (λ (p : Part). SetIsHeld p.set p.holder) (sym (own-act laws a s (Preloads contents))) tt))
-      (λ ne. subst (λ (p : Part). SetIsHeld p.set p.holder) (sym (part-take_other b a s (Preloads contents) ne))
-      (has b (λ h. apart (h ∙ sym (ap (λ (x : State). x.claims.own) (act-is s a (Preloads contents)))))));
-  kept = λ s i orderly has a apart.
-      let there = λ (h : a ≡ s.claims.own). apart (h ∙ sym (own-step s i)) in
-      subst (λ (p : Part). SetIsHeld p.set p.holder) (sym (part-step laws a s i orderly there)) (responses-held a (own_part a s) (happenings a s i) (has a there));
-  orderly = orderly-step laws.holders;
+  preloaded = λ a s contents has b apart. act-held b s a (Preloads contents) (has b (λ h. apart (h ∙ sym (beside-act (λ (t : State). t.claims.own) (λ c o t. refl) s a (Preloads contents)))));
+  kept = λ s e orderly has a apart. step-held laws a s e orderly (has a (λ h. apart (h ∙ sym (own-step s e))));
+  orderly = λ s e orderly. step-keeps IsOrderly (orderly-kept laws.holders) s e orderly;
+  orderly_preloaded = λ a s contents orderly. preloading-keeps IsOrderly (orderly-kept laws.holders) a s contents orderly;
 }

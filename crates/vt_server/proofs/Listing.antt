@@ -3,17 +3,24 @@ use Rattle.std.proofs.Common.{◌≡◌, ◌≢◌, ℕ, Bool, true, false, cond
 use Rattle.std.specs.List.{filter, AllByRecursion}
 use Rattle.std.specs.Option.{option_eq}
 use Rattle.vt_can.specs.declared.frames.frame.Frame.{Frame}
-use Rattle.vt_names.specs.Claims.{Claimed, OtherHoldersStay, address_of}
+use Rattle.vt_names.specs.Claims.{Claimed, IsRising, OtherHoldersStay, address_of, holder_of}
 use Rattle.vt_names.specs.Registry.{Set, set_at, with_set, without}
+use Rattle.vt_server.specs.Happenings.{AreApart, NameIsHeld, SetIsHeld}
 use Rattle.vt_server.specs.Parts.{Act, Hears, Rebinds, unchanged, without_set, with_holder_name, after_change, after_claim_heard}
-use Rattle.vt_server.specs.Terminals.{State, holder, part, after_act, after_acts, before, changed, changed_left, left_holder, left_by, changes_by, acts, acting, with_set_at}
-use Rattle.vt_server.specs.Happenings.{IsOrderly, NameIsHeld, SetIsHeld}
-use Rattle.vt_server.specs.SetLists.{AreApart, stays, named_at}
+use Rattle.vt_server.specs.Places.{Place, heard_at}
+use Rattle.vt_server.specs.SetLists.{stays, named_at}
+use Rattle.vt_server.specs.Steps.{before, changed, changed_left, left_holder, left_by, changes_by, heard_at_source, acts}
+use Rattle.vt_server.specs.Terminals.{State, holder, part, after_act, after_acts, with_set_at}
+use Rattle.vt_server.specs.Transfers.{Verdict}
 use Rattle.vt_server.specs.declared.bus.Notice.TheVariants.{Claim}
-use Rattle.vt_server.proofs.Happened.{option-true}
+use Rattle.vt_server.proofs.Changes.{option-true, claims-acts}
+use Rattle.vt_server.proofs.Keeping.{none-filter, apart-filter}
 use Rattle.vt_server.proofs.Own.{named-address}
 use Rattle.vt_server.proofs.Puts.{by_eq, some-is, none-some, set_at-first, set_at-later, set_at-address, with_set-first, with_set-later, without-first, without-later, sets-same, none-same, act-is, acts-append}
-use Rattle.vt_server.proofs.Steps.{claims-acts, changed-same}
+
+changed-same : (was : Option ℕ) (s t : State) (a : ℕ) → s.claims ≡ t.claims → changed was s a ≡ changed was t a
+changed-same was s t a e =
+    ap (λ (c : Claimed). cond (option_eq nat_eq was (holder_of c.addresses a)) [] ((a, Rebinds) ∷ [])) e
 
 -- ---- lists of sets that are tested, and changed
 
@@ -85,26 +92,6 @@ filter-twice f g h (t ∷ sets) all =
 
 -- ---- tests, and changes that leave the addresses
 
-none-filter : (q : ℕ) (test : Set → Bool) (sets : List Set) → set_at q sets ≡ None → set_at q (filter test sets) ≡ None
-none-filter q test [] none = refl
-none-filter q test (t ∷ sets) none =
-    let rest = none-filter q test sets in
-    by_eq t.address q
-    (λ is. none-some (sym none ∙ set_at-first q t sets is))
-    (λ ne. cases ne (rest (sym (set_at-later q t sets ne) ∙ none)) (test t))
-  where
-    cases : t.address ≢ q → set_at q (filter test sets) ≡ None → (b : Bool) → set_at q (cond b (t ∷ filter test sets) (filter test sets)) ≡ None
-    cases ne rest true = set_at-later q t (filter test sets) ne ∙ rest
-    cases ne rest false = rest
-
-apart-filter : (test : Set → Bool) (sets : List Set) → AreApart sets → AreApart (filter test sets)
-apart-filter test [] apart = tt
-apart-filter test (t ∷ sets) apart = cases (apart-filter test sets apart.1) (test t)
-  where
-    cases : AreApart (filter test sets) → (b : Bool) → AreApart (cond b (t ∷ filter test sets) (filter test sets))
-    cases rest true = (none-filter t.address test sets apart.0, rest)
-    cases rest false = rest
-
 none-map : (q : ℕ) (f : Set → Set) (sets : List Set) → ((x : Set) → (f x).address ≡ x.address) → set_at q sets ≡ None → set_at q (map f sets) ≡ None
 none-map q f [] same none = refl
 none-map q f (t ∷ sets) same none =
@@ -112,11 +99,6 @@ none-map q f (t ∷ sets) same none =
     by_eq t.address q
     (λ is. none-some (sym none ∙ set_at-first q t sets is))
     (λ ne. set_at-later q (f t) (map f sets) (λ h. ne (sym (same t) ∙ h)) ∙ rest (sym (set_at-later q t sets ne) ∙ none))
-
-apart-map : (f : Set → Set) (sets : List Set) → ((x : Set) → (f x).address ≡ x.address) → AreApart sets → AreApart (map f sets)
-apart-map f [] same apart = tt
-apart-map f (t ∷ sets) same apart =
-    (subst (λ q. set_at q (map f sets) ≡ None) (sym (same t)) (none-map t.address f sets same apart.0), apart-map f sets same apart.1)
 
 abbrev pub change_at : ℕ → (Set → Set) → Set → Set
 change_at a f set = cond (eqb set.address a) (f set) set
@@ -186,12 +168,13 @@ module _ (u : State) (a : ℕ) (apart : AreApart u.sets) where
       cases true e = stays-all was (set_at a u.sets) refl held (option-true was (holder u a) e)
       cases false e = ap (λ (s : State). s.sets) (act-is u a Rebinds) ∙ rebound-is (set_at a u.sets) refl
 
-  bound-is : (o : Option Set) → set_at a u.sets ≡ o → with_set_at a (after_claim_heard (part a u) o).set u.sets ≡ map (named_at u a) u.sets
-  bound-is None e = sets-same a u.sets (set_at a u.sets) refl ∙ sym (map-none a (λ x. with_holder_name x x.name (holder u a)) u.sets e)
-  bound-is (Some x) e = sym (map-some a (λ x. with_holder_name x x.name (holder u a)) u.sets x (λ y. named-address y y.name (holder u a)) e apart)
+  bound-is : (place : Place) (o : Option Set) → set_at a u.sets ≡ o → with_set_at a (after_claim_heard (record (part a u) { place = place }) o).set u.sets ≡ map (named_at u a) u.sets
+  bound-is place None e = sets-same a u.sets (set_at a u.sets) refl ∙ sym (map-none a (λ x. with_holder_name x x.name (holder u a)) u.sets e)
+  bound-is place (Some x) e = sym (map-some a (λ x. with_holder_name x x.name (holder u a)) u.sets x (λ y. named-address y y.name (holder u a)) e apart)
 
-  claim-list : (name : ℕ) (frame : Frame) → (after_act u a (Hears (Claim name) frame)).sets ≡ map (named_at u a) u.sets
-  claim-list name frame = ap (λ (s : State). s.sets) (act-is u a (Hears (Claim name) frame)) ∙ bound-is (set_at a u.sets) refl
+  claim-list : (name : ℕ) (frame : Frame) (verdict : Verdict) → (after_act u a (Hears (Claim name) frame verdict)).sets ≡ map (named_at u a) u.sets
+  claim-list name frame verdict =
+      ap (λ (s : State). s.sets) (act-is u a (Hears (Claim name) frame verdict)) ∙ bound-is (heard_at u.now (u.places a)) (set_at a u.sets) refl
 
 -- ---- a claim
 
@@ -199,8 +182,8 @@ and-true : (b : Bool) → (b && true) ≡ b
 and-true true = refl
 and-true false = refl
 
-module _ (law : OtherHoldersStay) (s : State) (orderly : IsOrderly s) (source name : ℕ) (apart : AreApart s.sets)
-    (held : (a : ℕ) → SetIsHeld (set_at a s.sets) (holder s a)) where
+module _ (law : OtherHoldersStay) (s : State) (rising : IsRising s.claims.addresses) (source name : ℕ) (apart : AreApart s.sets)
+    (elsewhere-set : set_at s.claims.own s.sets ≡ None) (held : (a : ℕ) → SetIsHeld (set_at a s.sets) (holder s a)) where
   abbrev pub t : State
   t = before s source (Claim name)
 
@@ -208,7 +191,7 @@ module _ (law : OtherHoldersStay) (s : State) (orderly : IsOrderly s) (source na
       → NameIsHeld x.name (holder s x.address) → stays t x ≡ true
   still x ne not has =
       stays-name x.name (holder t x.address)
-      (subst (NameIsHeld x.name) (sym (law.others s.claims.addresses source name x.address orderly ne not)) has)
+      (subst (NameIsHeld x.name) (sym (law.others s.claims.addresses source name x.address rising ne not)) has)
 
   abbrev left_test : Option ℕ → Set → Bool
   left_test None x = true
@@ -291,42 +274,49 @@ module _ (law : OtherHoldersStay) (s : State) (orderly : IsOrderly s) (source na
     whole-list : v.sets ≡ filter (stays t) s.sets
     whole-list = v-list ∙ filter-twice (left_test left) (only_at source (stays t)) (stays t) s.sets (all s.sets apart held)
 
-    claimed-list : (frame : Frame) → (after_acts t (changes_by s t left source ++ (source, Hears (Claim name) frame) ∷ [])).sets
+    -- and then the frame, if it is not from the terminal's own address, which has no set
+    last-list : (frame : Frame) (verdict : Verdict) → (after_acts v (heard_at_source s.claims.own source (Claim name) frame verdict)).sets
         ≡ map (named_at t source) (filter (stays t) s.sets)
-    claimed-list frame =
-        ap (λ (x : State). x.sets) (acts-append t (changes_by s t left source) ((source, Hears (Claim name) frame) ∷ []))
-        ∙ ap (λ (x : State). (after_act x source (Hears (Claim name) frame)).sets)
-        (acts-append t (changed_left (left_holder s left) t left) (changed (holder s source) t source))
-        ∙ claim-list v source (subst AreApart (sym whole-list) (apart-filter (stays t) s.sets apart)) name frame
+    last-list frame verdict =
+        by_eq source s.claims.own
+        (λ is.
+        ap (λ b. (after_acts v (cond b [] ((source, Hears (Claim name) frame verdict) ∷ []))).sets) (eq-eqb source s.claims.own is) ∙ whole-list
+        ∙ sym (map-none source (λ x. with_holder_name x x.name (holder t source)) (filter (stays t) s.sets)
+        (none-filter source (stays t) s.sets (ap (λ q. set_at q s.sets) is ∙ elsewhere-set))))
+        (λ ne.
+        ap (λ b. (after_acts v (cond b [] ((source, Hears (Claim name) frame verdict) ∷ []))).sets) (ne_eqb source s.claims.own ne)
+        ∙ claim-list v source (subst AreApart (sym whole-list) (apart-filter (stays t) s.sets apart)) name frame verdict
         ∙ ap (λ (c : Claimed). map (named_at (record t { claims = c }) source) v.sets) v-claims
-        ∙ ap (map (named_at t source)) whole-list
+        ∙ ap (map (named_at t source)) whole-list)
 
-  by-left : (o : Option ℕ) → address_of s.claims.addresses name ≡ o → (frame : Frame)
-      → (after_acts t (changes_by s t (left_by source o) source ++ (source, Hears (Claim name) frame) ∷ [])).sets
+    claimed-list : (frame : Frame) (verdict : Verdict)
+        → (after_acts t (changes_by s t left source ++ heard_at_source s.claims.own source (Claim name) frame verdict)).sets
+        ≡ map (named_at t source) (filter (stays t) s.sets)
+    claimed-list frame verdict =
+        let last = heard_at_source s.claims.own source (Claim name) frame verdict in
+        ap (λ (x : State). x.sets) (acts-append t (changes_by s t left source) last)
+        ∙ ap (λ (x : State). (after_acts x last).sets) (acts-append t (changed_left (left_holder s left) t left) (changed (holder s source) t source))
+        ∙ last-list frame verdict
+
+  by-left : (o : Option ℕ) → address_of s.claims.addresses name ≡ o → (frame : Frame) (verdict : Verdict)
+      → (after_acts t (changes_by s t (left_by source o) source ++ heard_at_source s.claims.own source (Claim name) frame verdict)).sets
       ≡ map (named_at t source) (filter (stays t) s.sets)
-  by-left None e frame = claimed-list None (λ l h. none-some h) (λ q ne _. λ h. none-some (sym e ∙ h)) frame
-  by-left (Some l) e frame =
+  by-left None e frame verdict = claimed-list None (λ l h. none-some h) (λ q ne _. λ h. none-some (sym e ∙ h)) frame verdict
+  by-left (Some l) e frame verdict =
+      let last = heard_at_source s.claims.own source (Claim name) frame verdict in
       by_eq l source
       (λ is.
-      ap (λ b. (after_acts t (changes_by s t (cond b None (Some l)) source ++ (source, Hears (Claim name) frame) ∷ [])).sets) (eq-eqb l source is)
-      ∙ claimed-list None (λ k h. none-some h) (λ q ne _. λ h. ne (sym (some-is l q (sym e ∙ h)) ∙ is)) frame)
+      ap (λ b. (after_acts t (changes_by s t (cond b None (Some l)) source ++ last)).sets) (eq-eqb l source is)
+      ∙ claimed-list None (λ k h. none-some h) (λ q ne _. λ h. ne (sym (some-is l q (sym e ∙ h)) ∙ is)) frame verdict)
       (λ ne.
-      ap (λ b. (after_acts t (changes_by s t (cond b None (Some l)) source ++ (source, Hears (Claim name) frame) ∷ [])).sets) (ne_eqb l source ne)
-      ∙ claimed-list (Some l) (λ k h. λ at. ne (some-is l k h ∙ at)) (λ q _ other. λ h. other (sym e ∙ h)) frame)
+      ap (λ b. (after_acts t (changes_by s t (cond b None (Some l)) source ++ last)).sets) (ne_eqb l source ne)
+      ∙ claimed-list (Some l) (λ k h. λ at. ne (some-is l k h ∙ at)) (λ q _ other. λ h. other (sym e ∙ h)) frame verdict)
 
-  pub claim-closes : (frame : Frame) → let after = (acting s source (Claim name) frame).after in
-      after.sets ≡ map (named_at after source) (filter (stays after) s.sets)
-  claim-closes frame =
-      by-left (address_of s.claims.addresses name) refl frame
-      ∙ ap (λ (c : Claimed). map (named_at (record t { claims = c }) source) (filter (stays (record t { claims = c })) s.sets))
-      (sym (claims-acts t (acts s source (Claim name) frame)))
+  pub claim-closes : (frame : Frame) (verdict : Verdict) → (after_acts t (acts s source (Claim name) frame verdict)).sets ≡ map (named_at t source) (filter (stays t) s.sets)
+  claim-closes frame verdict = by-left (address_of s.claims.addresses name) refl frame verdict
 
--- ---- nothing is found where nothing was, and sets stay apart
+-- ---- nothing is found where nothing was
 
 pub none-closed : (q : ℕ) (t : State) (source : ℕ) (sets : List Set) → set_at q sets ≡ None → set_at q (map (named_at t source) (filter (stays t) sets)) ≡ None
 none-closed q t source sets none =
     none-map q (named_at t source) (filter (stays t) sets) (named_at-address t source) (none-filter q (stays t) sets none)
-
-pub apart-closed : (t : State) (source : ℕ) (sets : List Set) → AreApart sets → AreApart (map (named_at t source) (filter (stays t) sets))
-apart-closed t source sets apart =
-    apart-map (named_at t source) (filter (stays t) sets) (named_at-address t source) (apart-filter (stays t) sets apart)

@@ -1,22 +1,79 @@
 -- What happens at one address changes the part of that address, and no other.
-use Rattle.std.proofs.Common.{◌≡◌, ◌≢◌, ℕ, Bool, true, false, cond, ◌||◌, eqb, List, [], ◌∷◌, ◌++◌, map, Option, Some, None, refl, sym, ap, ◌∙◌, eq-eqb, ne_eqb, nat_eq}
+use Rattle.std.proofs.Common.{◌≡◌, ◌≢◌, ℕ, Bool, true, false, cond, ◌||◌, eqb, List, [], ◌∷◌, ◌++◌, map, Option, Some, None, refl, sym, ap, subst, ◌∙◌, eq-eqb, ne_eqb, nat_eq, append-nil, append_assoc}
 use Rattle.std.specs.Option.{option_eq}
 use Rattle.vt_can.specs.declared.frames.frame.Frame.{Frame}
-use Rattle.vt_names.specs.Registry.{Set, set_at, with_set, without, has_place, joined}
-use Rattle.vt_objects.specs.declared.command.Command.{Command}
-use Rattle.vt_objects.specs.Commands.{command_at}
-use Rattle.vt_server.specs.Messages.{technical_reply}
-use Rattle.vt_server.specs.Parts.{Part, Outcome, Act, Hears, Rebinds, Preloads, unchanged, without_set, outcome, outcome_of_notice, after_change, with_holder_name, after_claim_heard, after_master, after_member, after_command, after_reply, after_message, after_whole, untimed_part}
-use Rattle.vt_server.specs.Terminals.{State, Sent, part, after_act, after_acts, sent_by_act, sent_by_acts, to_one, with_set_at}
-use Rattle.vt_server.specs.Happenings.{response_of, own_part, frames_to}
+use Rattle.vt_machine.specs.Lives.{SetState}
+use Rattle.vt_machine.specs.Operating as operating
+use Rattle.vt_names.specs.Registry.{Set, set_at, with_set, without, has_place, joined, preloaded}
+use Rattle.vt_can.specs.lines.Actions.{ActionValue}
+use Rattle.vt_server.specs.Happenings.{response_of, frame_to, frames_to}
+use Rattle.vt_server.specs.Operators.{action_on, is_busy}
+use Rattle.vt_server.specs.Parts.{Part, Outcome, Act, Hears, Rebinds, Preloads, TpExpires, EtpExpires, SendingExpires, FallsSilent, Operates, Raises, unchanged, without_set, outcome, after_change, with_holder_name, after_claim_heard, after_master, after_member, after_message, after_action, after_operator, untimed_part}
+use Rattle.vt_server.specs.Places.{Place, heard_at}
+use Rattle.vt_server.specs.Sessions.{came}
+use Rattle.vt_server.specs.Terminals.{State, Sent, ToOne, part, after_act, after_acts, sent_by_act, sent_by_acts, to_address, refusal, with_set_at}
+use Rattle.vt_server.specs.Transfers.{Verdict}
 use Rattle.vt_server.specs.declared.bus.Notice.{Notice}
 use Rattle.vt_server.specs.declared.bus.Notice.TheVariants.{Claim, ClaimRequest, Master, Member, Message, Tp, Etp, Nothing}
-use Rattle.vt_server.proofs.Puts.{by_eq, set_at-first, set_at-later, set_at-address, with_set-first, with_set-later, without-first, without-later, at-own, act-is, sent_by_one-is}
+use Rattle.vt_server.specs.declared.output.OperatorFault.{OperatorFault}
+use Rattle.vt_server.proofs.Puts.{by_eq, set_at-first, set_at-later, set_at-address, with_set-first, with_set-later, without-first, without-later, at-own, at-other, act-is, sent_by_one-is}
 use Rattle.vt_server.proofs.Timeless.{Laws, outcome-timeless}
-use Rattle.vt_server.specs.Receiving.{taken}
-use Rattle.vt_can.specs.transport.Messages as transport
-use Rattle.vt_transport.specs.Protocol as tp
-use Rattle.vt_extended.specs.Protocol as etp
+
+-- ---- which set an act leaves
+
+pub message-set : (a : ℕ) (p : Part) (verdict : Verdict) (o : Option Set) (bytes : Option (List ℕ)) → (after_message a p verdict o bytes).set ≡ p.set
+message-set a p verdict None bytes = refl
+message-set a p verdict (Some set) None = refl
+message-set a p verdict (Some set) (Some bytes) = refl
+
+either-set : (b : Bool) (x y : Outcome) (set : Option Set) → x.set ≡ set → y.set ≡ set → (cond b x y).set ≡ set
+either-set true x y set first second = first
+either-set false x y set first second = second
+
+action-set : (now a : ℕ) (p : Part) (o : Option operating.Action) → (after_action now a p o).set ≡ p.set
+action-set now a p None = refl
+action-set now a p (Some (operating.Refused refusal)) = refl
+action-set now a p (Some (operating.Acts message start raised)) = either-set (is_busy message p.place.sending) _ _ p.set refl refl
+
+pub operator-set : (now a : ℕ) (p : Part) (action : ActionValue) (shown : Bool) (o : Option SetState) → (after_operator now a p action shown o).set ≡ p.set
+operator-set now a p action shown None = refl
+operator-set now a p action shown (Some state) = action-set now a p (action_on state shown action)
+
+-- what holds of the sets that claims, registration, a change of the holder and a preload leave
+pub record HoldsOfSets (Q : Option Set → Type 0) (a : ℕ) (p : Part) : Type 0 where
+  pub none : Q None
+  pub same : Q p.set
+  pub claim : (place : Place) → Q (after_claim_heard (record p { place = place }) p.set).set
+  pub master : (place : Place) (count : ℕ) → Q (after_master a (record p { place = place }) p.holder count).set
+  pub member : (place : Place) (name : ℕ) → Q (after_member (record p { place = place }) p.set name).set
+  pub rebound : Q (after_change p p.set).set
+  pub preloaded : Q (Some (preloaded a))
+
+-- holds of that after any act
+module _ (Q : Option Set → Type 0) (now a : ℕ) (p : Part) (holds : HoldsOfSets Q a p) where
+  came-holds : (n : Notice) (frame : Frame) (verdict : Verdict) → let c = came now p.terminal a (heard_at now p.place) n frame in
+      Q (after_message a (record p { place = c.place }) verdict p.set c.message).set
+  came-holds n frame verdict =
+      let c = came now p.terminal a (heard_at now p.place) n frame in
+      subst Q (sym (message-set a (record p { place = c.place }) verdict p.set c.message)) holds.same
+
+  pub outcome-holds : (h : Act) → Q (outcome now a p h).set
+  outcome-holds (Hears (Claim name) frame verdict) = holds.claim (heard_at now p.place)
+  outcome-holds (Hears ClaimRequest frame verdict) = came-holds ClaimRequest frame verdict
+  outcome-holds (Hears (Master count) frame verdict) = holds.master (heard_at now p.place) count
+  outcome-holds (Hears (Member name) frame verdict) = holds.member (heard_at now p.place) name
+  outcome-holds (Hears Message frame verdict) = came-holds Message frame verdict
+  outcome-holds (Hears Tp frame verdict) = came-holds Tp frame verdict
+  outcome-holds (Hears Etp frame verdict) = came-holds Etp frame verdict
+  outcome-holds (Hears Nothing frame verdict) = came-holds Nothing frame verdict
+  outcome-holds Rebinds = holds.rebound
+  outcome-holds (Preloads contents) = holds.preloaded
+  outcome-holds TpExpires = holds.same
+  outcome-holds EtpExpires = holds.same
+  outcome-holds SendingExpires = holds.same
+  outcome-holds FallsSilent = holds.none
+  outcome-holds (Operates action shown) = subst Q (sym (operator-set now a p action shown p.place.content.pool)) holds.same
+  outcome-holds (Raises event) = holds.same
 
 -- ---- the address of the set stays
 
@@ -61,44 +118,16 @@ member-address : (a : ℕ) (p : Part) (o : Option Set) (name : ℕ) → HasAddre
 member-address a p None name has its = has
 member-address a p (Some set) name has its = join-address (has_place set) set name ∙ its
 
-commanded-address : (a : ℕ) (p : Part) (o : Option Command) → HasAddress a p.set → HasAddress a (after_command a p o).set
-commanded-address a p None has = has
-commanded-address a p (Some command) has = has
-
-technical-address : (a : ℕ) (p : Part) (bytes : List ℕ) (o : Option (List ℕ)) → HasAddress a p.set → HasAddress a (after_reply a p bytes o).set
-technical-address a p bytes None has = commanded-address a p (command_at bytes) has
-technical-address a p bytes (Some reply) has = has
-
-message-address : (a : ℕ) (p : Part) (bytes : List ℕ) (o : Option Set) → HasAddress a p.set → HasAddress a (after_message a p bytes o).set
-message-address a p bytes None has = has
-message-address a p bytes (Some set) has = technical-address a p bytes (technical_reply bytes) has
-
-whole-address : (a : ℕ) (p : Part) (o : Option transport.Message) → HasAddress a p.set → HasAddress a (after_whole a p o).set
-whole-address a p None has = has
-whole-address a p (Some message) has = cases (eqb message.pgn 0xE700)
-  where
-    cases : (b : Bool) → HasAddress a (cond b (after_message a p message.bytes p.set) (unchanged p)).set
-    cases true = message-address a p message.bytes p.set has
-    cases false = has
-
-notice-address : (now a : ℕ) (p : Part) (notice : Notice) (frame : Frame) → HasAddress a p.set → HasAddress a (outcome_of_notice now a p notice frame).set
-notice-address now a p (Claim name) frame has = claim-address a p p.set has has
-notice-address now a p ClaimRequest frame has = has
-notice-address now a p (Master count) frame has = master-address a p p.holder count has
-notice-address now a p (Member name) frame has = member-address a p p.set name has has
-notice-address now a p Message frame has = message-address a p frame.bytes.items p.set has
-notice-address now a p Tp frame has =
-    let t = taken tp.protocol now p.terminal a p.place.tp frame in
-    whole-address a (record p { place = record p.place { tp = t.session } }) t.message has
-notice-address now a p Etp frame has =
-    let t = taken etp.protocol now p.terminal a p.place.etp frame in
-    whole-address a (record p { place = record p.place { etp = t.session } }) t.message has
-notice-address now a p Nothing frame has = has
-
 pub outcome-address : (now a : ℕ) (p : Part) (h : Act) → HasAddress a p.set → HasAddress a (outcome now a p h).set
-outcome-address now a p (Hears notice frame) has = notice-address now a p notice frame has
-outcome-address now a p Rebinds has = rebound-address a p p.set has
-outcome-address now a p (Preloads contents) has = refl
+outcome-address now a p h has = outcome-holds (HasAddress a) now a p (record {
+  none = tt;
+  same = has;
+  claim = λ place. claim-address a (record p { place = place }) p.set has has;
+  master = λ place count. master-address a (record p { place = place }) p.holder count has;
+  member = λ place name. member-address a (record p { place = place }) p.set name has has;
+  rebound = rebound-address a p p.set has;
+  preloaded = refl;
+}) h
 
 -- ---- a set that was written, there and elsewhere
 
@@ -148,7 +177,7 @@ at-put_other a b (Some x) sets has ne = at-with_other a x sets (λ h. ne (sym h 
 
 -- ---- the part
 
-part-act : (a : ℕ) (s : State) (h : Act) → let after = outcome s.now a (part a s) h in
+pub part-act : (a : ℕ) (s : State) (h : Act) → let after = outcome s.now a (part a s) h in
     part a (after_act s a h) ≡ record (part a s) { set = after.set; place = after.place }
 part-act a s h =
     let after = outcome s.now a (part a s) h in
@@ -158,46 +187,57 @@ part-act a s h =
       place = at-own a s.places after.place i;
     })
 
--- without times, by what happens on a part without times
-pub own-act : (laws : Laws) (a : ℕ) (s : State) (h : Act) → own_part a (after_act s a h) ≡ (response_of (own_part a s) (outcome 0 a (own_part a s) h)).part
-own-act laws a s h =
+-- the part without times, by what happens on a part without times
+abbrev pub bare : ℕ → State → Part
+bare a s = untimed_part (part a s)
+
+pub bare-act : (laws : Laws) (a : ℕ) (s : State) (h : Act) → bare a (after_act s a h) ≡ (response_of (bare a s) (outcome 0 a (bare a s) h)).part
+bare-act laws a s h =
     ap untimed_part (part-act a s h)
     ∙ ap (λ (o : Outcome). record (part a s) { set = o.set; place = o.place }) (outcome-timeless laws s.now a (part a s) h)
 
-pub part-take_other : (a b : ℕ) (s : State) (h : Act) → a ≢ b → part a (after_act s b h) ≡ part a s
-part-take_other a b s h ne =
+pub part-act_other : (a b : ℕ) (s : State) (h : Act) → a ≢ b → part a (after_act s b h) ≡ part a s
+part-act_other a b s h ne =
     let after = outcome s.now b (part b s) h in
     ap (part a) (act-is s b h)
     ∙ (λ i. record (part a s) {
       set = at-put_other a b after.set s.sets (outcome-address s.now b (part b s) h (part-address b s)) ne i;
-      place = ap (λ c. cond c after.place (s.places a)) (ne_eqb a b ne) i;
+      place = at-other b a s.places after.place ne i;
     })
 
-pub own-take_other : (a b : ℕ) (s : State) (h : Act) → a ≢ b → own_part a (after_act s b h) ≡ own_part a s
-own-take_other a b s h ne = ap untimed_part (part-take_other a b s h ne)
+pub bare-act_other : (a b : ℕ) (s : State) (h : Act) → a ≢ b → bare a (after_act s b h) ≡ bare a s
+bare-act_other a b s h ne = ap untimed_part (part-act_other a b s h ne)
 
 -- ---- frames
 
 pub frames-append : (a : ℕ) (xs ys : List Sent) → frames_to a (xs ++ ys) ≡ frames_to a xs ++ frames_to a ys
 frames-append a [] ys = refl
-frames-append a (x ∷ xs) ys = cases (option_eq nat_eq x.to (Some a)) (frames-append a xs ys)
-  where
-    cases : (b : Bool) → frames_to a (xs ++ ys) ≡ frames_to a xs ++ frames_to a ys
-        → cond b (x.frame ∷ frames_to a (xs ++ ys)) (frames_to a (xs ++ ys)) ≡ cond b (x.frame ∷ frames_to a xs) (frames_to a xs) ++ frames_to a ys
-    cases true rest = ap (λ l. x.frame ∷ l) rest
-    cases false rest = rest
+frames-append a (x ∷ xs) ys =
+    ap (λ l. frame_to a x ++ l) (frames-append a xs ys) ∙ sym (append_assoc (frame_to a x) (frames_to a xs) (frames_to a ys))
 
-frames-own : (a : ℕ) (frames : List Frame) → frames_to a (map (to_one a) frames) ≡ frames
+frames-own : (a : ℕ) (frames : List Frame) → frames_to a (map (ToOne a) frames) ≡ frames
 frames-own a [] = refl
 frames-own a (f ∷ frames) =
-    ap (λ b. cond b (f ∷ frames_to a (map (to_one a) frames)) (frames_to a (map (to_one a) frames))) (eq-eqb a a refl)
-    ∙ ap (λ l. f ∷ l) (frames-own a frames)
+    ap (λ b. cond b (f ∷ []) [] ++ frames_to a (map (ToOne a) frames)) (eq-eqb a a refl) ∙ ap (λ l. f ∷ l) (frames-own a frames)
 
-frames-other : (a b : ℕ) (frames : List Frame) → a ≢ b → frames_to a (map (to_one b) frames) ≡ []
+frames-other : (a b : ℕ) (frames : List Frame) → a ≢ b → frames_to a (map (ToOne b) frames) ≡ []
 frames-other a b [] ne = refl
 frames-other a b (f ∷ frames) ne =
-    ap (λ c. cond c (f ∷ frames_to a (map (to_one b) frames)) (frames_to a (map (to_one b) frames))) (ne_eqb b a (λ h. ne (sym h)))
-    ∙ frames-other a b frames ne
+    ap (λ c. cond c (f ∷ []) [] ++ frames_to a (map (ToOne b) frames)) (ne_eqb b a (λ h. ne (sym h))) ∙ frames-other a b frames ne
+
+frames-refusal : (a : ℕ) (o : Option OperatorFault) → frames_to a (refusal o) ≡ []
+frames-refusal a None = refl
+frames-refusal a (Some fault) = refl
+
+frames-there : (a : ℕ) (after : Outcome) → frames_to a (to_address a after) ≡ after.frames
+frames-there a after =
+    frames-append a (map (ToOne a) after.frames) (refusal after.refused)
+    ∙ (λ i. frames-own a after.frames i ++ frames-refusal a after.refused i) ∙ append-nil after.frames
+
+frames-elsewhere : (a b : ℕ) (after : Outcome) → a ≢ b → frames_to a (to_address b after) ≡ []
+frames-elsewhere a b after ne =
+    frames-append a (map (ToOne b) after.frames) (refusal after.refused)
+    ∙ (λ i. frames-other a b after.frames ne i ++ frames-refusal a after.refused i)
 
 -- ---- what happens there among all that happens
 
@@ -222,19 +262,19 @@ of-append a (x ∷ xs) ys = cases (eqb x.0 a) (of-append a xs ys)
     cases false rest = rest
 
 module _ (laws : Laws) where
-  pub part-acts : (a : ℕ) (s : State) (hs : List (ℕ × Act)) → own_part a (after_acts s hs) ≡ turns a (own_part a s) (of a hs)
+  pub part-acts : (a : ℕ) (s : State) (hs : List (ℕ × Act)) → bare a (after_acts s hs) ≡ turns a (bare a s) (of a hs)
   part-acts a s [] = refl
   part-acts a s (h ∷ hs) =
       let rest = part-acts a (after_act s h.0 h.1) hs in
       by_eq h.0 a
       (λ is.
-      rest ∙ ap (λ p. turns a p (of a hs)) (ap (λ b. own_part a (after_act s b h.1)) is ∙ own-act laws a s h.1)
-      ∙ sym (ap (λ b. turns a (own_part a s) (cond b (h.1 ∷ of a hs) (of a hs))) (eq-eqb h.0 a is)))
+      rest ∙ ap (λ p. turns a p (of a hs)) (ap (λ b. bare a (after_act s b h.1)) is ∙ bare-act laws a s h.1)
+      ∙ sym (ap (λ b. turns a (bare a s) (cond b (h.1 ∷ of a hs) (of a hs))) (eq-eqb h.0 a is)))
       (λ ne.
-      rest ∙ ap (λ p. turns a p (of a hs)) (own-take_other a h.0 s h.1 (λ e. ne (sym e)))
-      ∙ sym (ap (λ b. turns a (own_part a s) (cond b (h.1 ∷ of a hs) (of a hs))) (ne_eqb h.0 a ne)))
+      rest ∙ ap (λ p. turns a p (of a hs)) (bare-act_other a h.0 s h.1 (λ e. ne (sym e)))
+      ∙ sym (ap (λ b. turns a (bare a s) (cond b (h.1 ∷ of a hs) (of a hs))) (ne_eqb h.0 a ne)))
 
-  pub frames-sent_by : (a : ℕ) (s : State) (hs : List (ℕ × Act)) → frames_to a (sent_by_acts s hs) ≡ turns_frames a (own_part a s) (of a hs)
+  pub frames-sent_by : (a : ℕ) (s : State) (hs : List (ℕ × Act)) → frames_to a (sent_by_acts s hs) ≡ turns_frames a (bare a s) (of a hs)
   frames-sent_by a s [] = refl
   frames-sent_by a s (h ∷ hs) =
       let rest = frames-sent_by a (after_act s h.0 h.1) hs in
@@ -244,12 +284,12 @@ module _ (laws : Laws) where
       (λ is.
       (λ i. frames_to a (sent_by_act s (is i) h.1) ++ frames_to a (sent_by_acts (after_act s h.0 h.1) hs))
       ∙ ap (λ l. l ++ frames_to a (sent_by_acts (after_act s h.0 h.1) hs))
-      (ap (frames_to a) (sent_by_one-is s a h.1) ∙ frames-own a (outcome s.now a (part a s) h.1).frames
+      (ap (frames_to a) (sent_by_one-is s a h.1) ∙ frames-there a (outcome s.now a (part a s) h.1)
       ∙ ap (λ (o : Outcome). o.frames) (outcome-timeless laws s.now a (part a s) h.1))
-      ∙ ap (λ l. (outcome 0 a (own_part a s) h.1).frames ++ l)
-      (rest ∙ ap (λ p. turns_frames a p (of a hs)) (ap (λ b. own_part a (after_act s b h.1)) is ∙ own-act laws a s h.1))
-      ∙ sym (ap (λ b. turns_frames a (own_part a s) (cond b (h.1 ∷ of a hs) (of a hs))) (eq-eqb h.0 a is)))
+      ∙ ap (λ l. (outcome 0 a (bare a s) h.1).frames ++ l)
+      (rest ∙ ap (λ p. turns_frames a p (of a hs)) (ap (λ b. bare a (after_act s b h.1)) is ∙ bare-act laws a s h.1))
+      ∙ sym (ap (λ b. turns_frames a (bare a s) (cond b (h.1 ∷ of a hs) (of a hs))) (eq-eqb h.0 a is)))
       (λ ne.
-      ap (λ l. l ++ frames_to a (sent_by_acts (after_act s h.0 h.1) hs)) (ap (frames_to a) (sent_by_one-is s h.0 h.1) ∙ frames-other a h.0 first.frames (λ e. ne (sym e)))
-      ∙ rest ∙ ap (λ p. turns_frames a p (of a hs)) (own-take_other a h.0 s h.1 (λ e. ne (sym e)))
-      ∙ sym (ap (λ b. turns_frames a (own_part a s) (cond b (h.1 ∷ of a hs) (of a hs))) (ne_eqb h.0 a ne)))
+      ap (λ l. l ++ frames_to a (sent_by_acts (after_act s h.0 h.1) hs)) (ap (frames_to a) (sent_by_one-is s h.0 h.1) ∙ frames-elsewhere a h.0 first (λ e. ne (sym e)))
+      ∙ rest ∙ ap (λ p. turns_frames a p (of a hs)) (bare-act_other a h.0 s h.1 (λ e. ne (sym e)))
+      ∙ sym (ap (λ b. turns_frames a (bare a s) (cond b (h.1 ∷ of a hs) (of a hs))) (ne_eqb h.0 a ne)))

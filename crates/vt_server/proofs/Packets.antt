@@ -1,150 +1,165 @@
--- What the receivers hand to the terminal, and what it makes of that.
-use Rattle.std.proofs.Common.{◌≡◌, ◌≢◌, ℕ, List, [], ◌∷◌, ◌++◌, map, Option, Some, None, refl, sym, ap, subst, ◌∙◌, append_assoc}
-use Rattle.std.specs.FinMap as finite
+-- What frames come of a frame of the transport protocols, and how many.
+use Rattle.std.proofs.Common.{◌≡◌, ◌<◌, ◌≤◌, ◌⊎◌, inl, inr, ◌||◌, nat_lt, ◌+◌, ◌-◌, ℕ, zero, suc, min, Bool, true, false, cond, eqb, List, [], ◌∷◌, ◌++◌, map, length, slice_index, drop, Option, Some, None, refl, sym, ap, subst, ◌∙◌, arith}
+use Rattle.std.proofs.lemmas.List.{length-map}
 use Rattle.std.specs.Option.{option_map, option_to_list}
 use Rattle.vt_can.specs.declared.frames.frame.Frame.{Frame}
-use Rattle.vt_can.specs.declared.transport.heard.Heard.{Heard}
 use Rattle.vt_can.specs.declared.transport.sessions.Timed.{Timed}
-use Rattle.vt_can.specs.frames.Frame.{source_of}
 use Rattle.vt_can.specs.transport.Messages as transport
-use Rattle.vt_can.specs.transport.Protocols.{Protocol}
-use Rattle.vt_can.specs.transport.Receivers as receivers
-use Rattle.vt_can.specs.transport.Receivers.{ReceiverState, AnswersWith, MakesStep, OthersStay}
-use Rattle.vt_transport.specs.Protocol as tp_protocol
-use Rattle.vt_transport.specs.SessionState as tp
-use Rattle.vt_extended.specs.Protocol as etp_protocol
-use Rattle.vt_extended.specs.SessionState as etp
-use Rattle.vt_machine.specs.Lives.{SetState}
-use Rattle.vt_server.specs.Nodes.{NodeState, HasTaken}
-use Rattle.vt_server.specs.Parts.{Part, Outcome, Hears, outcome, after_whole}
-use Rattle.vt_server.specs.Places.{Place}
-use Rattle.vt_server.specs.Receiving.{Taken, taken, frames_in, message_in}
-use Rattle.vt_server.specs.States.{places_by, frames_of, outputs_of}
-use Rattle.vt_server.specs.declared.bus.Notice.TheVariants.{Tp, Etp}
-use Rattle.vt_server.specs.declared.output.Output.{Output}
-use Rattle.vt_server.specs.declared.output.Output.TheVariants as declared
-use Rattle.vt_server.specs.Terminals.{State, part, put, with_at, to_one, after_act, sent_by_act}
-use Rattle.vt_server.proofs.Puts.{at-own, places-twice, places-written, act-is, sent_by_one-is}
+use Rattle.vt_can.specs.transport.Steps.{stepped}
+use Rattle.vt_can.specs.transport.Wire.{is_transport_frame_to}
+use Rattle.vt_transport.specs.Protocol as tp
+use Rattle.vt_transport.specs.Senders as sender
+use Rattle.vt_transport.specs.Senders.{numbers_from}
+use Rattle.vt_transport.specs.SessionState as tp_session
+use Rattle.vt_server.specs.Receiving.{taken}
+use Rattle.vt_transport.specs.Wire.{tp_frame, packet_frame}
+use Rattle.vt_can.specs.frames.Identifier.{parts_of, raw_of, pgn_of, addressed}
+use Rattle.byteorder.specs.Endian.{little_number}
 
--- ---- what a receiver answers
+-- ---- a test whose outcomes are of a type that is private to the crate below
 
-module _ {S F R : Type 0} (protocol : Protocol S F R) where
-  answers-frames : (own source : ℕ) (reply : Option R) (message : Option transport.Message) (heard : Heard) → AnswersWith protocol own source reply message heard
-      → frames_in heard ≡ option_to_list (option_map (protocol.reply_frame own source) reply)
-  answers-frames own source None None heard is = ap frames_in is
-  answers-frames own source None (Some message) heard is = absurd is
-  answers-frames own source (Some reply) None heard is = ap frames_in is
-  answers-frames own source (Some reply) (Some message) heard is = ap frames_in is
+record Holds {T : Type 0} (P : T → Type 0) (x : T) : Type 0 where
+  pub it : P x
 
-  answers-message : (own source : ℕ) (reply : Option R) (message : Option transport.Message) (heard : Heard) → AnswersWith protocol own source reply message heard
-      → message_in heard ≡ message
-  answers-message own source None None heard is = ap message_in is
-  answers-message own source None (Some message) heard is = absurd is
-  answers-message own source (Some reply) None heard is = ap message_in is
-  answers-message own source (Some reply) (Some message) heard is = ap message_in is
+cond-holds : {T : Type 0} {P : T → Type 0} (b : Bool) (x y : T) → Holds P x → Holds P y → Holds P (cond b x y)
+cond-holds {T} {P} b x y first second = cases b
+  where
+    cases : (c : Bool) → Holds P (cond c x y)
+    cases true = first
+    cases false = second
 
-  pub has-taken : (old new : ReceiverState S) (own now : ℕ) (frame : Frame) (heard : Heard) → old.own_address ≡ own
-      → MakesStep protocol old new (source_of frame) (receivers.outcome protocol old now frame) heard → OthersStay old new (source_of frame)
-      → HasTaken (taken protocol now own (source_of frame) (finite.get old.sessions (source_of frame)) frame) (source_of frame) old.sessions new.sessions heard
-  has-taken old new own now frame heard is step others =
-      let source = source_of frame in
-      let out = receivers.outcome protocol old now frame in
-      subst (λ o. HasTaken (taken protocol now o source (finite.get old.sessions source) frame) source old.sessions new.sessions heard) is
-      (record {
-        frames = answers-frames old.own_address source out.reply out.message heard step.answers;
-        message = answers-message old.own_address source out.reply out.message heard step.answers;
-        session = step.session;
-        others = others;
-      })
+some-holds : {T : Type 0} {P : Option T → Type 0} {x : T} → Holds (λ y. P (Some y)) x → Holds P (Some x)
+some-holds holds = record { it = holds.it }
 
--- ---- what is kept of the source afterwards
+-- ---- frames to an address by their identifiers: messages, what manages its sessions, and packets
 
-pub tp-placed : (pools : ℕ → Option SetState) (old new : NodeState) (a : ℕ) (session : Option (Timed tp.SessionState)) → new ≡ record old { tp = new.tp }
-    → finite.get new.tp a ≡ session → ((b : ℕ) → b ≢ a → finite.get new.tp b ≡ finite.get old.tp b)
-    → places_by pools new ≡ with_at a (record (places_by pools old a) { tp = session }) (places_by pools old)
-tp-placed pools old new a session rest here others =
-    places-written a (places_by pools old) (places_by pools new) (record (places_by pools old a) { tp = session })
-    (λ i. record { pool = pools a; tp = here i; etp = finite.get (rest i).etp a })
-    (λ b ne. λ i. record { pool = pools b; tp = others b ne i; etp = finite.get (rest i).etp b })
+abbrev pub IsReply : ℕ → ℕ → Frame → Type 0
+IsReply own a f =
+    (f.id ≡ raw_of (addressed 5 0xE600 a own))
+    ⊎ ((f.id ≡ raw_of (addressed 7 0xEC00 a own))
+    ⊎ ((f.id ≡ raw_of (addressed 7 0xC800 a own)) ⊎ (f.id ≡ raw_of (addressed 7 0xEB00 a own))))
 
-pub etp-placed : (pools : ℕ → Option SetState) (old new : NodeState) (a : ℕ) (session : Option (Timed etp.SessionState)) → new ≡ record old { etp = new.etp }
-    → finite.get new.etp a ≡ session → ((b : ℕ) → b ≢ a → finite.get new.etp b ≡ finite.get old.etp b)
-    → places_by pools new ≡ with_at a (record (places_by pools old a) { etp = session }) (places_by pools old)
-etp-placed pools old new a session rest here others =
-    places-written a (places_by pools old) (places_by pools new) (record (places_by pools old a) { etp = session })
-    (λ i. record { pool = pools a; tp = finite.get (rest i).tp a; etp = here i })
-    (λ b ne. λ i. record { pool = pools b; tp = finite.get (rest i).tp b; etp = others b ne i })
+abbrev pub AreReplies : ℕ → ℕ → List Frame → Type 0
+AreReplies own a [] = Unit {0}
+AreReplies own a (f ∷ frames) = IsReply own a f × AreReplies own a frames
 
--- ---- what comes of the message, from the state in which the session is written
+pub replies-append : (own a : ℕ) (xs ys : List Frame) → AreReplies own a xs → AreReplies own a ys → AreReplies own a (xs ++ ys)
+replies-append own a [] ys first second = second
+replies-append own a (x ∷ xs) ys first second = (first.0, replies-append own a xs ys first.1 second)
 
-module _ (s t : State) (a : ℕ) (place : Place) (is : t ≡ record s { places = with_at a place s.places }) (message : Option transport.Message) where
-  abbrev pub part-then : Part
-  part-then = record (part a s) { place = place }
+pub option-replies : {R : Type 0} (own a : ℕ) (spelled : R → Frame) → ((r : R) → IsReply own a (spelled r)) → (o : Option R)
+    → AreReplies own a (option_to_list (option_map spelled o))
+option-replies own a spelled each None = tt
+option-replies own a spelled each (Some r) = (each r, tt)
 
-  whole-is : after_whole a (part a t) message ≡ after_whole a part-then message
-  whole-is =
-      ap (λ (u : State). after_whole a (part a u) message) is
-      ∙ ap (λ (p : Place). after_whole a (record (part a s) { place = p }) message) (at-own a s.places place)
+packets-replies : (own a : ℕ) (bytes numbers : List ℕ) → AreReplies own a (map (packet_frame own a bytes) numbers)
+packets-replies own a bytes [] = tt
+packets-replies own a bytes (j ∷ numbers) = (inr (inr (inr refl)), packets-replies own a bytes numbers)
 
-  pub received-state : put a (after_whole a (part a t) message) t ≡ put a (after_whole a part-then message) s
-  received-state =
-      ap (λ (o : Outcome). put a o t) whole-is ∙ ap (put a (after_whole a part-then message)) is
-      ∙ ap (λ (places : ℕ → Place). record (put a (after_whole a part-then message) s) { places = places })
-      (places-twice a s.places (after_whole a part-then message).place place)
+clear-replies : (own a now : ℕ) (current : Timed transport.Message) (count next : ℕ) → AreReplies own a (sender.clear_to_send own a now current count next).frames
+clear-replies own a now current count next =
+    let last = sender.packet_count_of current.session in
+    (cond-holds {P = λ (g : sender.Answer). AreReplies own a g.frames} (eqb count 0) _ _ (record { it = tt })
+    (cond-holds (eqb next 0 || nat_lt last next) _ _ (record { it = (inr (inl refl), tt) })
+    (record { it = packets-replies own a current.session.bytes (numbers_from next (min count (last + 1 - next))) }))).it
 
-  pub received-frames : (after_whole a (part a t) message).frames ≡ (after_whole a part-then message).frames
-  received-frames = ap (λ (o : Outcome). o.frames) whole-is
+module _ (now own a : ℕ) (current : Timed transport.Message) (frame : Frame) where
+  answer-holds : Holds (λ o. AreReplies own a (sender.answered own a now (Some current) o).frames) (tp_frame own frame)
+  answer-holds =
+      let pgn = pgn_of (parts_of frame.id) in
+      let control = slice_index frame.bytes.items 0 in
+      let cts = (cond-holds {P = λ (g : sender.Answer). AreReplies own a g.frames} (eqb (little_number 3 (drop 5 frame.bytes.items)) current.session.pgn) _ _
+      (record { it = clear-replies own a now current (slice_index frame.bytes.items 1) (slice_index frame.bytes.items 2) }) (record { it = tt })).it in
+      cond-holds (is_transport_frame_to own frame) _ _
+      (cond-holds (eqb pgn 0xEC00) _ _
+      (some-holds
+      (cond-holds (eqb control 0x10) _ _ (record { it = tt })
+      (cond-holds (eqb control 0x11) _ _ (record { it = cts })
+      (cond-holds (eqb control 0x13) _ _ (record { it = tt })
+      (cond-holds (eqb control 0xFF) _ _ (record { it = tt }) (record { it = tt }))))))
+      (cond-holds (eqb pgn 0xEB00) _ _ (record { it = tt }) (record { it = tt })))
+      (record { it = tt })
 
--- ---- a frame of a protocol
+pub answer-replies : (now own a : ℕ) (sending : Option (Timed transport.Message)) (frame : Frame) → AreReplies own a (sender.answered own a now sending (tp_frame own frame)).frames
+answer-replies now own a None frame = tt
+answer-replies now own a (Some current) frame = (answer-holds now own a current frame).it
 
--- frames to one address, as outputs
-pub outputs-one : (a : ℕ) (frames : List Frame) → outputs_of (map (to_one a) frames) ≡ frames_of frames
-outputs-one a [] = refl
-outputs-one a (f ∷ frames) = ap (λ l. declared.Frame f ∷ l) (outputs-one a frames)
+-- ---- how many
 
-frames-append : (xs ys : List Frame) → frames_of (xs ++ ys) ≡ frames_of xs ++ frames_of ys
-frames-append [] ys = refl
-frames-append (x ∷ xs) ys = ap (λ l. declared.Frame x ∷ l) (frames-append xs ys)
+numbers-few : (next count : ℕ) → length (numbers_from next count) ≡ count
+numbers-few next zero = refl
+numbers-few next (suc count) = ap suc (numbers-few (suc next) count)
 
-both-sent : (a : ℕ) (old : List Output) (first then-these all : List Frame) → first ++ then-these ≡ all
-    → (old ++ frames_of first) ++ frames_of then-these ≡ old ++ outputs_of (map (to_one a) all)
-both-sent a old first then-these all is =
-    append_assoc old (frames_of first) (frames_of then-these)
-    ∙ ap (λ l. old ++ l) (sym (frames-append first then-these) ∙ ap frames_of is ∙ sym (outputs-one a all))
+-- the packets that a CTS asks for
+clear-few : (own a now : ℕ) (current : Timed transport.Message) (count next : ℕ) → count < 256 → length (sender.clear_to_send own a now current count next).frames ≤ 255
+clear-few own a now current count next small =
+    let last = sender.packet_count_of current.session in
+    (cond-holds {P = λ (g : sender.Answer). length g.frames ≤ 255} (eqb count 0) _ _ (record { it = omega arith })
+    (cond-holds (eqb next 0 || nat_lt last next) _ _ (record { it = omega arith })
+    (record {
+      it = subst (λ n. n ≤ 255)
+          (sym (length-map (numbers_from next (min count (last + 1 - next))) (sender_frame own a current) ∙ numbers-few next (min count (last + 1 - next)))) (omega arith);
+    }))).it
+  where
+    sender_frame : ℕ → ℕ → Timed transport.Message → ℕ → Frame
+    sender_frame own a current = packet_frame own a current.session.bytes
 
-module _ (s t : State) (a : ℕ) (f : Frame) (heard : Heard) where
-  abbrev pub tp-taken : Taken tp.SessionState
-  tp-taken = taken tp_protocol.protocol s.now s.claims.own a (s.places a).tp f
+-- what the receiver and the sender make of a frame: only a CTS is answered by the sender, and it isn't the receiver's
+module _ (now own a : ℕ) (session : Option (Timed tp_session.SessionState)) (current : Timed transport.Message) (frame : Frame) (small : slice_index frame.bytes.items 1 < 256) where
+  either-few : Holds
+      (λ o. (length (sender.answered own a now (Some current) o).frames ≡ 0)
+      ⊎ (((stepped tp.protocol now session o).reply ≡ None) × ((stepped tp.protocol now session o).message ≡ None) × (length (sender.answered own a now (Some current) o).frames ≤ 255)))
+      (tp_frame own frame)
+  either-few =
+      let pgn = pgn_of (parts_of frame.id) in
+      let control = slice_index frame.bytes.items 0 in
+      let cts = (cond-holds {P = λ (g : sender.Answer). length g.frames ≤ 255} (eqb (little_number 3 (drop 5 frame.bytes.items)) current.session.pgn) _ _
+      (record { it = clear-few own a now current (slice_index frame.bytes.items 1) (slice_index frame.bytes.items 2) small }) (record { it = omega arith })).it in
+      cond-holds (is_transport_frame_to own frame) _ _
+      (cond-holds (eqb pgn 0xEC00) _ _
+      (some-holds
+      (cond-holds (eqb control 0x10) _ _ (record { it = inl refl })
+      (cond-holds (eqb control 0x11) _ _ (record { it = inr (refl, refl, cts) })
+      (cond-holds (eqb control 0x13) _ _ (record { it = inl refl })
+      (cond-holds (eqb control 0xFF) _ _ (record { it = inl refl }) (record { it = inl refl }))))))
+      (cond-holds (eqb pgn 0xEB00) _ _ (record { it = inl refl }) (record { it = inl refl })))
+      (record { it = inl refl })
 
-  abbrev pub etp-taken : Taken etp.SessionState
-  etp-taken = taken etp_protocol.protocol s.now s.claims.own a (s.places a).etp f
+-- all that is sent for a frame, with one reply at most where a message is whole
+pub option-few : {R : Type 0} (spelled : R → Frame) (o : Option R) → length (option_to_list (option_map spelled o)) ≤ 1
+option-few spelled None = omega arith
+option-few spelled (Some r) = omega arith
 
-  module _ (is : t ≡ record s { places = with_at a (record (s.places a) { tp = tp-taken.session }) s.places }) (message : message_in heard ≡ tp-taken.message) where
-    pub tp-state : put a (after_whole a (part a t) (message_in heard)) t ≡ after_act s a (Hears Tp f)
-    tp-state =
-        ap (λ (m : Option transport.Message). put a (after_whole a (part a t) m) t) message
-        ∙ received-state s t a (record (s.places a) { tp = tp-taken.session }) is tp-taken.message
-        ∙ sym (act-is s a (Hears Tp f))
+abbrev pub one_if : {X : Type 0} → Option X → ℕ
+one_if None = 0
+one_if (Some x) = 1
 
-    pub tp-sent : (old : List Output) → frames_in heard ≡ tp-taken.frames
-        → (old ++ frames_of (frames_in heard)) ++ frames_of (after_whole a (part a t) (message_in heard)).frames ≡ old ++ outputs_of (sent_by_act s a (Hears Tp f))
-    tp-sent old frames =
-        both-sent a old (frames_in heard) (after_whole a (part a t) (message_in heard)).frames (outcome s.now a (part a s) (Hears Tp f)).frames
-        ((λ i. frames i ++ (after_whole a (part a t) (message i)).frames)
-        ∙ ap (λ l. tp-taken.frames ++ l) (received-frames s t a (record (s.places a) { tp = tp-taken.session }) is tp-taken.message))
-        ∙ ap (λ l. old ++ outputs_of l) (sym (sent_by_one-is s a (Hears Tp f)))
+one-few : {X : Type 0} (o : Option X) → one_if o ≤ 1
+one-few None = omega arith
+one-few (Some x) = omega arith
 
-  module _ (is : t ≡ record s { places = with_at a (record (s.places a) { etp = etp-taken.session }) s.places }) (message : message_in heard ≡ etp-taken.message) where
-    pub etp-state : put a (after_whole a (part a t) (message_in heard)) t ≡ after_act s a (Hears Etp f)
-    etp-state =
-        ap (λ (m : Option transport.Message). put a (after_whole a (part a t) m) t) message
-        ∙ received-state s t a (record (s.places a) { etp = etp-taken.session }) is etp-taken.message
-        ∙ sym (act-is s a (Hears Etp f))
-
-    pub etp-sent : (old : List Output) → frames_in heard ≡ etp-taken.frames
-        → (old ++ frames_of (frames_in heard)) ++ frames_of (after_whole a (part a t) (message_in heard)).frames ≡ old ++ outputs_of (sent_by_act s a (Hears Etp f))
-    etp-sent old frames =
-        both-sent a old (frames_in heard) (after_whole a (part a t) (message_in heard)).frames (outcome s.now a (part a s) (Hears Etp f)).frames
-        ((λ i. frames i ++ (after_whole a (part a t) (message i)).frames)
-        ∙ ap (λ l. etp-taken.frames ++ l) (received-frames s t a (record (s.places a) { etp = etp-taken.session }) is etp-taken.message))
-        ∙ ap (λ l. old ++ outputs_of l) (sym (sent_by_one-is s a (Hears Etp f)))
+pub tp-few : (now own a : ℕ) (session : Option (Timed tp_session.SessionState)) (sending : Option (Timed transport.Message)) (frame : Frame) → slice_index frame.bytes.items 1 < 256
+    → let t = taken tp.protocol now own a session frame in
+    length t.frames + length (sender.answered own a now sending (tp_frame own frame)).frames + one_if t.message ≤ 255
+tp-few now own a session None frame small =
+    let t = taken tp.protocol now own a session frame in
+    let first = option-few (tp.protocol.reply_frame own a) (stepped tp.protocol now session (tp_frame own frame)).reply in
+    let last = one-few t.message in
+    omega arith
+tp-few now own a session (Some current) frame small = cases (either-few now own a session current frame small).it
+  where
+    cases : (length (sender.answered own a now (Some current) (tp_frame own frame)).frames ≡ 0)
+        ⊎ (((stepped tp.protocol now session (tp_frame own frame)).reply ≡ None) × ((stepped tp.protocol now session (tp_frame own frame)).message ≡ None)
+        × (length (sender.answered own a now (Some current) (tp_frame own frame)).frames ≤ 255))
+        → let t = taken tp.protocol now own a session frame in
+        length t.frames + length (sender.answered own a now (Some current) (tp_frame own frame)).frames + one_if t.message ≤ 255
+    cases (inl none) =
+        let t = taken tp.protocol now own a session frame in
+        let first = option-few (tp.protocol.reply_frame own a) (stepped tp.protocol now session (tp_frame own frame)).reply in
+        let last = one-few t.message in
+        omega arith
+    cases (inr (no-reply, no-message, few)) =
+        let t = taken tp.protocol now own a session frame in
+        let first : length t.frames ≡ 0 = ap (λ o. length (option_to_list (option_map (tp.protocol.reply_frame own a) o))) no-reply in
+        let last : one_if t.message ≡ 0 = ap one_if no-message in
+        omega arith

@@ -1,16 +1,11 @@
 -- What is written at one address.
-use Rattle.std.proofs.Common.{◌≡◌, ◌≢◌, ℕ, Bool, true, false, cond, not, eqb, List, [], ◌∷◌, ◌++◌, map, length, get_or, ◌<◌, inl, inr, Option, Some, None, true≢false, is_some, unwrap_or, refl, sym, ap, subst, ◌∙◌, eq-eqb, ne_eqb}
-use Rattle.std.proofs.lemmas.Bool.{eqb-true, false≢true, cases_lt}
-use Rattle.std.proofs.Math.ListN.{get_or-eq_default}
-use Rattle.std.proofs.lemmas.List.{get_or-set_same, get_or-set_other}
-use Rattle.std.specs.Prelude.{slice_set}
-use Rattle.vt_machine.specs.Lives.{SetState}
+use Rattle.std.proofs.Common.{◌≡◌, ◌≢◌, ℕ, Bool, true, false, cond, not, eqb, List, [], ◌∷◌, ◌++◌, Option, Some, None, true≢false, is_some, unwrap_or, refl, sym, ap, ◌∙◌, eq-eqb, ne_eqb, append_assoc}
+use Rattle.std.proofs.lemmas.Bool.{eqb-true, false≢true}
 use Rattle.vt_names.specs.Registry.{Set, set_at, with_set, without}
-use Rattle.vt_server.specs.Nodes.{NodeState}
-use Rattle.vt_server.specs.Parts.{Outcome, Act, unchanged, outcome}
-use Rattle.vt_server.specs.Places.{Place, with_pool}
-use Rattle.vt_server.specs.States.{places_by}
-use Rattle.vt_server.specs.Terminals.{State, to_one, part, put, after_act, after_acts, sent_by_act, with_set_at, with_at}
+use Rattle.vt_server.specs.Parts.{Outcome, Act, outcome}
+use Rattle.vt_server.specs.Terminals.{State, part, put, after_act, after_acts, sent_by_act, sent_by_acts, to_address, with_set_at, with_at}
+
+-- ---- equal or not, some or none
 
 pub by_eq : {P : Type 0} (x y : ℕ) → (x ≡ y → P) → (x ≢ y → P) → P
 by_eq {P} x y same other = cases (eqb x y) refl
@@ -24,14 +19,6 @@ some-is x y e = ap (λ o. unwrap_or o x) e
 
 pub none-some : {P X : Type 0} {x : X} → None ≡ Some x → P
 none-some e = absurd (true≢false (sym (ap is_some e)))
-
-pub some-name : (o : Option ℕ) → true ≡ is_some o → (n : ℕ) × (o ≡ Some n)
-some-name None e = absurd (true≢false e)
-some-name (Some n) e = (n, refl)
-
-pub no-name : (o : Option ℕ) → false ≡ is_some o → o ≡ None
-no-name None e = refl
-no-name (Some n) e = absurd (true≢false (sym e))
 
 -- ---- sets
 
@@ -85,91 +72,37 @@ sets-same a sets (Some s) e = set-same a s sets e
 
 -- ---- what stands at addresses
 
-pub places-same : {X : Type 0} (a : ℕ) (places : ℕ → X) (x : X) → places a ≡ x → with_at a x places ≡ places
-places-same a places x e = λ i b. at b i
-  where
-    cases : (b : ℕ) (same : Bool) → eqb b a ≡ same → cond same x (places b) ≡ places b
-    cases b true h = sym (ap places (eqb-true b a h) ∙ e)
-    cases b false h = refl
-
-    at : (b : ℕ) → with_at a x places b ≡ places b
-    at b = cases b (eqb b a) refl
-
-pub places-twice : {X : Type 0} (a : ℕ) (places : ℕ → X) (x y : X) → with_at a x (with_at a y places) ≡ with_at a x places
-places-twice a places x y = λ i b. at b i
-  where
-    cases : (b : ℕ) (same : Bool) → cond same x (cond same y (places b)) ≡ cond same x (places b)
-    cases b true = refl
-    cases b false = refl
-
-    at : (b : ℕ) → with_at a x (with_at a y places) b ≡ with_at a x places b
-    at b = cases b (eqb b a)
-
--- what stands at the address, and what at another
 pub at-own : {X : Type 0} (a : ℕ) (places : ℕ → X) (x : X) → with_at a x places a ≡ x
 at-own a places x = ap (λ b. cond b x (places a)) (eq-eqb a a refl)
 
--- where one address has another value, and the others keep theirs
-pub places-written : {X : Type 0} (a : ℕ) (old new : ℕ → X) (x : X) → new a ≡ x → ((b : ℕ) → b ≢ a → new b ≡ old b) → new ≡ with_at a x old
-places-written a old new x here others = λ i b. at b i
-  where
-    at : (b : ℕ) → new b ≡ with_at a x old b
-    at b =
-        by_eq b a
-        (λ is. ap new is ∙ here ∙ sym (ap (λ c. cond c x (old b)) (eq-eqb b a is)))
-        (λ ne. others b ne ∙ sym (ap (λ c. cond c x (old b)) (ne_eqb b a ne)))
+pub at-other : {X : Type 0} (a b : ℕ) (places : ℕ → X) (x : X) → b ≢ a → with_at a x places b ≡ places b
+at-other a b places x ne = ap (λ c. cond c x (places b)) (ne_eqb b a ne)
 
--- places that are all empty hold no pool
-pub no-pools : (places : List (Option SetState)) → length places ≡ 256 → ((q : ℕ) → q < 256 → get_or places q None ≡ None)
-    → (address : ℕ) → get_or places address None ≡ None
-no-pools places long empty address = elim (cases_lt address (length places)) as (λ _. get_or places address None ≡ None) [
-  | inl h ↦ empty address (subst (λ n. address < n) long h)
-  | inr h ↦ get_or-eq_default places None h
-]
-
--- what stands at each address after a write
-pub place-written : (places : List (Option SetState)) (a n : ℕ) (o : Option SetState) → n ≡ a → a < length places
-    → (λ (q : ℕ). get_or (slice_set places n o) q None) ≡ with_at a o (λ q. get_or places q None)
-place-written places a n o is within = ap (λ k. λ (q : ℕ). get_or (slice_set places k o) q None) is ∙ (λ i q. at q i)
-  where
-    at : (q : ℕ) → get_or (slice_set places a o) q None ≡ with_at a o (λ r. get_or places r None) q
-    at q =
-        by_eq q a
-        (λ is.
-        ap (λ r. get_or (slice_set places a o) r None) is ∙ get_or-set_same places a o None within
-        ∙ sym (ap (λ b. cond b o (get_or places q None)) (eq-eqb q a is)))
-        (λ ne. get_or-set_other places a q o None ne ∙ sym (ap (λ b. cond b o (get_or places q None)) (ne_eqb q a ne)))
-
--- ---- states
-
--- what is kept of an address where its pool is another
-pub pool-placed : (pools : ℕ → Option SetState) (node : NodeState) (a : ℕ) (x : Option SetState)
-    → places_by (with_at a x pools) node ≡ with_at a (with_pool (places_by pools node a) x) (places_by pools node)
-pool-placed pools node a x =
-    places-written a (places_by pools node) (places_by (with_at a x pools) node) (with_pool (places_by pools node a) x)
-    (ap (with_pool (places_by pools node a)) (at-own a pools x))
-    (λ b ne. ap (with_pool (places_by pools node b)) (ap (λ c. cond c x (pools b)) (ne_eqb b a ne)))
-
-pub state_is : (s : State) (sets : List Set) (places : ℕ → Place) → sets ≡ s.sets → places ≡ s.places → record s { sets = sets; places = places } ≡ s
-state_is s sets places e f = λ i. record s { sets = e i; places = f i }
-
-pub put-kept : (a : ℕ) (s : State) (after : Outcome) → after.set ≡ set_at a s.sets → after.place ≡ s.places a → put a after s ≡ s
-put-kept a s after e f =
-    state_is s (with_set_at a after.set s.sets) (with_at a after.place s.places)
-    (sets-same a s.sets after.set (sym e)) (places-same a s.places after.place (sym f))
+-- ---- acts, one and several
 
 pub act-is : (s : State) (a : ℕ) (h : Act) → after_act s a h ≡ put a (outcome s.now a (part a s) h) s
 unfolding after_act
 act-is s a h = refl
 
-pub sent_by_one-is : (s : State) (a : ℕ) (h : Act) → sent_by_act s a h ≡ map (to_one a) (outcome s.now a (part a s) h).frames
+pub sent_by_one-is : (s : State) (a : ℕ) (h : Act) → sent_by_act s a h ≡ to_address a (outcome s.now a (part a s) h)
 unfolding sent_by_act
 sent_by_one-is s a h = refl
-
--- nothing comes of what leaves the part as it was
-pub idle : (s : State) (a : ℕ) (h : Act) → outcome s.now a (part a s) h ≡ unchanged (part a s) → after_act s a h ≡ s
-idle s a h e = act-is s a h ∙ ap (λ after. put a after s) e ∙ put-kept a s (unchanged (part a s)) refl refl
 
 pub acts-append : (s : State) (hs ks : List (ℕ × Act)) → after_acts s (hs ++ ks) ≡ after_acts (after_acts s hs) ks
 acts-append s [] ks = refl
 acts-append s (h ∷ hs) ks = acts-append (after_act s h.0 h.1) hs ks
+
+pub sent-append : (s : State) (hs ks : List (ℕ × Act)) → sent_by_acts s (hs ++ ks) ≡ sent_by_acts s hs ++ sent_by_acts (after_acts s hs) ks
+sent-append s [] ks = refl
+sent-append s (h ∷ hs) ks =
+    let t = after_act s h.0 h.1 in
+    ap (λ l. sent_by_act s h.0 h.1 ++ l) (sent-append t hs ks)
+    ∙ sym (append_assoc (sent_by_act s h.0 h.1) (sent_by_acts t hs) (sent_by_acts (after_acts t hs) ks))
+
+-- what no act writes
+pub beside-act : {X : Type 0} (read : State → X) → ((a : ℕ) (o : Outcome) (s : State) → read (put a o s) ≡ read s) → (s : State) (a : ℕ) (h : Act) → read (after_act s a h) ≡ read s
+beside-act read stays s a h = ap read (act-is s a h) ∙ stays a (outcome s.now a (part a s) h) s
+
+pub beside : {X : Type 0} (read : State → X) → ((a : ℕ) (o : Outcome) (s : State) → read (put a o s) ≡ read s) → (s : State) (hs : List (ℕ × Act)) → read (after_acts s hs) ≡ read s
+beside read stays s [] = refl
+beside read stays s (h ∷ hs) = beside read stays (after_act s h.0 h.1) hs ∙ beside-act read stays s h.0 h.1

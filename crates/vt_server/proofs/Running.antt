@@ -1,39 +1,60 @@
 -- A run of inputs, one more at a time.
-use Rattle.std.proofs.Common.{◌≡◌, ◌<◌, ℕ, suc, ◌+◌, List, [], ◌∷◌, ◌++◌, length, take, get_or, refl, sym, ap, ◌∙◌, append-nil, append_assoc, arith}
-use Rattle.std.proofs.lemmas.List.{map-append}
+use Rattle.std.proofs.Common.{◌≡◌, ◌<◌, ℕ, suc, ◌+◌, List, [], ◌∷◌, ◌++◌, length, take, get_or, refl, sym, ap, subst, ◌∙◌, append-nil, append_assoc, arith}
 use Rattle.std.proofs.Math.Seq.{take-suc}
+use Rattle.vt_server.specs.Findings.{IsEventOf, AreEventsOf, IsFound, AreFound}
+use Rattle.vt_server.specs.Outputs.{outputs_of}
+use Rattle.vt_server.specs.States.{TakesInput, TakesInputs}
+use Rattle.vt_server.specs.Steps.{Event, step, after_all, sent_by_all}
 use Rattle.vt_server.specs.Terminals.{State}
-use Rattle.vt_server.specs.States.{step, outputs_of, after_all, sent_by_all}
 use Rattle.vt_server.specs.declared.input.Input.{Input}
 use Rattle.vt_server.specs.declared.output.Output.{Output}
+use Rattle.vt_server.proofs.Framed.{outputs-append}
 
-after-more : (s : State) (xs : List Input) (x : Input) → after_all s (xs ++ x ∷ []) ≡ (step (after_all s xs) x).after
-after-more s [] x = refl
-after-more s (y ∷ xs) x = after-more (step s y).after xs x
+after-more : (s : State) (es : List Event) (e : Event) → after_all s (es ++ e ∷ []) ≡ (step (after_all s es) e).after
+after-more s [] e = refl
+after-more s (d ∷ es) e = after-more (step s d).after es e
 
-sent-more : (s : State) (xs : List Input) (x : Input) → sent_by_all s (xs ++ x ∷ []) ≡ sent_by_all s xs ++ (step (after_all s xs) x).sent
-sent-more s [] x = append-nil (step s x).sent
-sent-more s (y ∷ xs) x =
-    ap (λ l. (step s y).sent ++ l) (sent-more (step s y).after xs x)
-    ∙ sym (append_assoc (step s y).sent (sent_by_all (step s y).after xs) (step (after_all (step s y).after xs) x).sent)
+sent-more : (s : State) (es : List Event) (e : Event) → sent_by_all s (es ++ e ∷ []) ≡ sent_by_all s es ++ (step (after_all s es) e).sent
+sent-more s [] e = append-nil (step s e).sent
+sent-more s (d ∷ es) e =
+    ap (λ l. (step s d).sent ++ l) (sent-more (step s d).after es e)
+    ∙ sym (append_assoc (step s d).sent (sent_by_all (step s d).after es) (step (after_all (step s d).after es) e).sent)
+
+found-more : (s : State) (es : List Event) (e : Event) → AreFound s es → IsFound (after_all s es) e → AreFound s (es ++ e ∷ [])
+found-more s [] e are is = (is, tt)
+found-more s (d ∷ es) e are is = (are.0, found-more (step s d).after es e are.1 is)
+
+events-more : (xs : List Input) (es : List Event) (x : Input) (e : Event) → AreEventsOf xs es → IsEventOf x e → AreEventsOf (xs ++ x ∷ []) (es ++ e ∷ [])
+events-more [] [] x e are is = (is, tt)
+events-more [] (d ∷ es) x e are is = absurd are
+events-more (y ∷ xs) [] x e are is = absurd are
+events-more (y ∷ xs) (d ∷ es) x e are is = (are.0, events-more xs es x e are.1 is)
+
+-- none yet
+pub run-none : (s : State) (outputs : List Output) → TakesInputs s [] s outputs outputs
+run-none s outputs = record { events = []; are_inputs = tt; found = tt; state = refl; sent = sym (append-nil outputs) }
 
 next-place : (n : ℕ) → n + 1 ≡ suc n
 next-place n = omega arith
 
-module _ (s t u : State) (inputs : List Input) (at : ℕ) (x : Input) (more : at < length inputs) (is : x ≡ get_or inputs at x) where
+module _ (s t u : State) (inputs : List Input) (at : ℕ) (x : Input) (old mid new : List Output) (more : at < length inputs) (is : x ≡ get_or inputs at x) where
   taken : take (at + 1) inputs ≡ take at inputs ++ x ∷ []
   taken = ap (λ (n : ℕ). take n inputs) (next-place at) ∙ take-suc inputs at x more ∙ ap (λ y. take at inputs ++ y ∷ []) (sym is)
 
-  pub run-state : t ≡ after_all s (take at inputs) → u ≡ (step t x).after → u ≡ after_all s (take (at + 1) inputs)
-  run-state so next =
-      next ∙ ap (λ (r : State). (step r x).after) so ∙ sym (after-more s (take at inputs) x) ∙ sym (ap (after_all s) taken)
-
-  pub run-sent : (old mid new : List Output) → t ≡ after_all s (take at inputs) → mid ≡ old ++ outputs_of (sent_by_all s (take at inputs))
-      → new ≡ mid ++ outputs_of (step t x).sent → new ≡ old ++ outputs_of (sent_by_all s (take (at + 1) inputs))
-  run-sent old mid new so sent next =
-      let first = sent_by_all s (take at inputs) in
-      let last = (step (after_all s (take at inputs)) x).sent in
-      next ∙ (λ i. sent i ++ outputs_of (step (so i) x).sent)
-      ∙ append_assoc old (outputs_of first) (outputs_of last)
-      ∙ ap (λ l. old ++ l) (sym (map-append _ first last))
-      ∙ ap (λ l. old ++ outputs_of l) (sym (sent-more s (take at inputs) x) ∙ sym (ap (sent_by_all s) taken))
+  pub run-more : TakesInputs s (take at inputs) t old mid → TakesInput t x u mid new → TakesInputs s (take (at + 1) inputs) u old new
+  run-more before now =
+      let es = before.events in
+      let e = now.event in
+      let first = sent_by_all s es in
+      let last = (step (after_all s es) e).sent in
+      subst (λ xs. TakesInputs s xs u old new) (sym taken) (record {
+        events = es ++ e ∷ [];
+        are_inputs = events-more (take at inputs) es x e before.are_inputs now.is_input;
+        found = found-more s es e before.found (subst (λ (r : State). IsFound r e) before.state now.found);
+        state = now.state ∙ ap (λ (r : State). (step r e).after) before.state ∙ sym (after-more s es e);
+        sent =
+            now.sent ∙ (λ i. before.sent i ++ outputs_of (step (before.state i) e).sent)
+            ∙ append_assoc old (outputs_of first) (outputs_of last)
+            ∙ ap (λ l. old ++ l) (sym (outputs-append first last))
+            ∙ ap (λ l. old ++ outputs_of l) (sym (sent-more s es e));
+      })

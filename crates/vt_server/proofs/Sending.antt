@@ -1,271 +1,221 @@
--- The frames of a step: at most two, to its source, or a claim to all.
-use Rattle.std.proofs.Common.{◌≡◌, ◌<◌, ◌≤◌, ◌^◌, ◌⊎◌, inl, inr, eqb, ◌++◌, ℕ, Bool, true, false, cond, List, [], ◌∷◌, map, length, Option, Some, None, refl, sym, ap, subst, ◌∙◌, arith}
+-- The frames of a step go to one address as messages, sessions and packets, or to all as claims and statuses.
+use Rattle.std.proofs.Common.{◌≡◌, ◌<◌, ◌^◌, inl, inr, ◌||◌, ℕ, Bool, true, false, cond, nat_eq, List, [], ◌∷◌, ◌++◌, map, Option, Some, None, IfSome, refl, sym, ap, subst, ◌∙◌, arith}
+use Rattle.std.specs.Option.{option_eq}
 use Rattle.vt_can.specs.declared.frames.frame.Frame.{Frame}
-use Rattle.vt_can.specs.frames.Identifier.{PartsAreIdentifiers, parts_of, pgn_of, destination_of, addressed}
+use Rattle.vt_can.specs.frames.Identifier.{PartsAreIdentifiers, parts_of, raw_of, addressed}
 use Rattle.vt_can.specs.frames.Frame.{source_of}
-use Rattle.vt_names.specs.Claims.{answer}
-use Rattle.vt_names.specs.Registry.{Set, set_at}
-use Rattle.vt_objects.specs.declared.command.Command.{Command}
-use Rattle.vt_objects.specs.Commands.{command_at}
+use Rattle.vt_can.specs.lines.Actions.{ActionValue}
+use Rattle.vt_can.specs.transport.Sessions.{is_overdue}
+use Rattle.vt_names.specs.Claims.{Claimed}
+use Rattle.vt_names.specs.Registry.{Set}
 use Rattle.vt_server.specs.Bus.{notice_of}
-use Rattle.vt_server.specs.Commands.{error_after}
-use Rattle.vt_server.specs.Replies.{reply_to}
-use Rattle.vt_server.specs.Messages.{message_to, claim_from, technical_reply}
-use Rattle.vt_server.specs.Parts.{Part, Hears, outcome, unchanged, after_command, after_message, after_reply, after_whole, after_tp, after_etp}
-use Rattle.vt_server.specs.Receiving.{taken}
-use Rattle.vt_can.specs.transport.Messages as transport
-use Rattle.vt_can.specs.transport.Steps.{stepped}
-use Rattle.vt_can.specs.frames.Frame.{frame_of}
-use Rattle.vt_transport.specs.Protocol as tp
-use Rattle.vt_extended.specs.Protocol as etp
-use Rattle.std.specs.Option.{option_map, option_to_list}
-use Rattle.std.proofs.lemmas.List.{length-append, length-map}
-use Rattle.vt_server.specs.Terminals.{State, Sent, part, to_one, to_all, no_step, losing, acting, step_now, at_time, is_lost_by, is_defended, answer_to}
-use Rattle.vt_server.specs.States.{step}
-use Rattle.vt_server.specs.Sending.{IsAddressed, AreAddressed, SentAreAddressed}
+use Rattle.vt_server.specs.Choosing.{choosing, shown_now, events_of_change, display, status, same_display, Display, status_frame}
+use Rattle.vt_server.specs.Lapses.{at_time, lapsed, sent_by_lapses, tp_due, etp_due, sending_due, after_tp_timeouts, after_etp_timeouts}
+use Rattle.vt_server.specs.Messages.{claim_from}
+use Rattle.vt_server.specs.Parts.{Part, Act, Hears, Rebinds, Preloads, TpExpires, EtpExpires, SendingExpires, FallsSilent, Operates, Raises, unchanged, without_set, after_change, outcome}
+use Rattle.vt_server.specs.Sending.{IsToOne, IsToAll, AreAddressed, HasAddresses}
+use Rattle.vt_server.specs.Steps.{Event, FrameAt, ActionAt, step, before, changes, heard_at_source, acts, answer_to, is_lost_by, is_defended, defence, settled, sent_by_settling, losing, acting, no_step, step_frame, has_no_set, selecting, at_shown, no_set, step_action}
+use Rattle.vt_server.specs.Terminals.{State, Sent, ToOne, ToAll, part, after_act, after_acts, sent_by_act, sent_by_acts, to_address, refusal}
+use Rattle.vt_server.specs.Transfers.{Verdict}
 use Rattle.vt_server.specs.declared.bus.Notice.{Notice}
-use Rattle.vt_server.specs.declared.bus.Notice.TheVariants.{Claim, ClaimRequest, Master, Member, Message, Tp, Etp, Nothing}
-use Rattle.vt_server.specs.declared.input.Input.{Input}
-use Rattle.vt_server.specs.declared.input.Input.TheVariants as inputs
-use Rattle.vt_server.proofs.Steps.{sent-claim, sent-request, sent-master, sent-member, sent-nothing, sent-heard}
+use Rattle.vt_server.specs.declared.output.OperatorFault.{OperatorFault}
+use Rattle.vt_server.proofs.Changes.{own-before}
+use Rattle.vt_server.proofs.Keeping.{claims-lapsed}
+use Rattle.vt_server.proofs.Packets.{AreReplies, IsReply}
+use Rattle.vt_server.proofs.ActsAt.{AllAt, at-append, at-below, at-changes, at-heard, at-change}
+use Rattle.vt_server.proofs.Replies.{outcome-replies}
+use Rattle.vt_server.proofs.Puts.{beside, beside-act, sent_by_one-is}
+use Rattle.vt_server.proofs.Stepping.{selecting-same}
 
--- a message to an address, or what manages a session of it
-IsReply : ℕ → ℕ → Frame → Type 0
-IsReply own address f =
-    (bytes : List ℕ) × ((f ≡ message_to own address bytes) ⊎ ((f ≡ frame_of 0xEC00 own address bytes) ⊎ (f ≡ frame_of 0xC800 own address bytes)))
-
-AreReplies : ℕ → ℕ → List Frame → Type 0
-AreReplies own address [] = Unit {0}
-AreReplies own address (f ∷ frames) = IsReply own address f × AreReplies own address frames
-
-append-replies : (own a : ℕ) (xs ys : List Frame) → AreReplies own a xs → AreReplies own a ys → AreReplies own a (xs ++ ys)
-unfolding AreReplies
-append-replies own a [] ys first then-these = then-these
-append-replies own a (x ∷ xs) ys first then-these = (first.0, append-replies own a xs ys first.1 then-these)
-
-option-replies : {R : Type 0} (own a : ℕ) (spelled : R → Frame) → ((r : R) → IsReply own a (spelled r)) → (o : Option R)
-    → AreReplies own a (option_to_list (option_map spelled o))
-unfolding AreReplies
-option-replies own a spelled each None = tt
-option-replies own a spelled each (Some r) = (each r, tt)
-
-option-few : {R : Type 0} (spelled : R → Frame) (o : Option R) → length (option_to_list (option_map spelled o)) ≤ 1
-option-few spelled None = omega arith
-option-few spelled (Some r) = omega arith
-
--- ---- a message
-
-message-reply : (own a : ℕ) (bytes : List ℕ) → IsReply own a (message_to own a bytes)
-unfolding IsReply
-message-reply own a bytes = (bytes, inl refl)
-
-commanded-replies : (a : ℕ) (p : Part) (o : Option Command) → AreReplies p.terminal a (after_command a p o).frames
-unfolding AreReplies
-commanded-replies a p None = tt
-commanded-replies a p (Some command) =
-    option-replies p.terminal a (λ e. message_to p.terminal a (reply_to command e)) (λ e. message-reply p.terminal a (reply_to command e))
-    (error_after command p.place.pool)
-
-technical-replies : (a : ℕ) (p : Part) (bytes : List ℕ) (o : Option (List ℕ)) → AreReplies p.terminal a (after_reply a p bytes o).frames
-unfolding AreReplies
-technical-replies a p bytes None = commanded-replies a p (command_at bytes)
-technical-replies a p bytes (Some reply) = (message-reply p.terminal a reply, tt)
-
-replies : (a : ℕ) (p : Part) (bytes : List ℕ) (o : Option Set) → AreReplies p.terminal a (after_message a p bytes o).frames
-unfolding AreReplies
-replies a p bytes None = tt
-replies a p bytes (Some set) = technical-replies a p bytes (technical_reply bytes)
-
-commanded-few : (a : ℕ) (p : Part) (o : Option Command) → length (after_command a p o).frames ≤ 1
-commanded-few a p None = omega arith
-commanded-few a p (Some command) = option-few (λ e. message_to p.terminal a (reply_to command e)) (error_after command p.place.pool)
-
-technical-few : (a : ℕ) (p : Part) (bytes : List ℕ) (o : Option (List ℕ)) → length (after_reply a p bytes o).frames ≤ 1
-technical-few a p bytes None = commanded-few a p (command_at bytes)
-technical-few a p bytes (Some reply) = omega arith
-
-message-few : (a : ℕ) (p : Part) (bytes : List ℕ) (o : Option Set) → length (after_message a p bytes o).frames ≤ 1
-message-few a p bytes None = omega arith
-message-few a p bytes (Some set) = technical-few a p bytes (technical_reply bytes)
-
--- ---- transport
-
-whole-replies : (a : ℕ) (p : Part) (o : Option transport.Message) → AreReplies p.terminal a (after_whole a p o).frames
-unfolding AreReplies
-whole-replies a p None = tt
-whole-replies a p (Some message) = cases (eqb message.pgn 0xE700)
-  where
-    cases : (b : Bool) → AreReplies p.terminal a (cond b (after_message a p message.bytes p.set) (unchanged p)).frames
-    cases true = replies a p message.bytes p.set
-    cases false = tt
-
-whole-few : (a : ℕ) (p : Part) (o : Option transport.Message) → length (after_whole a p o).frames ≤ 1
-whole-few a p None = omega arith
-whole-few a p (Some message) = cases (eqb message.pgn 0xE700)
-  where
-    cases : (b : Bool) → length (cond b (after_message a p message.bytes p.set) (unchanged p)).frames ≤ 1
-    cases true = message-few a p message.bytes p.set
-    cases false = omega arith
-
-add-few : (xs ys : List Frame) → length xs ≤ 1 → length ys ≤ 1 → length (xs ++ ys) ≤ 2
-add-few xs ys few others = subst (λ n. n ≤ 2) (sym (length-append xs ys)) (omega arith)
-
-tp-replies : (now a : ℕ) (p : Part) (f : Frame) → AreReplies p.terminal a (after_tp now a p f).frames
-unfolding IsReply
-tp-replies now a p f =
-    let t = taken tp.protocol now p.terminal a p.place.tp f in
-    append-replies p.terminal a t.frames (after_whole a (record p { place = record p.place { tp = t.session } }) t.message).frames
-    (option-replies p.terminal a (tp.protocol.reply_frame p.terminal a) (λ r. ((tp.protocol.reply_frame p.terminal a r).bytes.items, inr (inl refl)))
-    (stepped tp.protocol now p.place.tp (tp.protocol.frame_in p.terminal f)).reply)
-    (whole-replies a (record p { place = record p.place { tp = t.session } }) t.message)
-
-etp-replies : (now a : ℕ) (p : Part) (f : Frame) → AreReplies p.terminal a (after_etp now a p f).frames
-unfolding IsReply
-etp-replies now a p f =
-    let t = taken etp.protocol now p.terminal a p.place.etp f in
-    append-replies p.terminal a t.frames (after_whole a (record p { place = record p.place { etp = t.session } }) t.message).frames
-    (option-replies p.terminal a (etp.protocol.reply_frame p.terminal a) (λ r. ((etp.protocol.reply_frame p.terminal a r).bytes.items, inr (inr refl)))
-    (stepped etp.protocol now p.place.etp (etp.protocol.frame_in p.terminal f)).reply)
-    (whole-replies a (record p { place = record p.place { etp = t.session } }) t.message)
-
-tp-few : (now a : ℕ) (p : Part) (f : Frame) → length (after_tp now a p f).frames ≤ 2
-tp-few now a p f =
-    let t = taken tp.protocol now p.terminal a p.place.tp f in
-    add-few t.frames (after_whole a (record p { place = record p.place { tp = t.session } }) t.message).frames
-    (option-few (tp.protocol.reply_frame p.terminal a) (stepped tp.protocol now p.place.tp (tp.protocol.frame_in p.terminal f)).reply)
-    (whole-few a (record p { place = record p.place { tp = t.session } }) t.message)
-
-etp-few : (now a : ℕ) (p : Part) (f : Frame) → length (after_etp now a p f).frames ≤ 2
-etp-few now a p f =
-    let t = taken etp.protocol now p.terminal a p.place.etp f in
-    add-few t.frames (after_whole a (record p { place = record p.place { etp = t.session } }) t.message).frames
-    (option-few (etp.protocol.reply_frame p.terminal a) (stepped etp.protocol now p.place.etp (etp.protocol.frame_in p.terminal f)).reply)
-    (whole-few a (record p { place = record p.place { etp = t.session } }) t.message)
-
--- ---- the identifiers
+-- ---- by the law on identifiers
 
 module _ (law : PartsAreIdentifiers) where
-  message-parts : (own a : ℕ) (bytes : List ℕ) → own < 2 ^ 8 → a < 2 ^ 8 → parts_of (message_to own a bytes).id ≡ addressed 5 0xE600 a own
-  message-parts own a bytes own-fits fits =
-      law.parts_again (addressed 5 0xE600 a own)
-      (record { priority = omega arith; extended_data_page = omega arith; data_page = omega arith; pdu_format = omega arith; pdu_specific = fits; source = own-fits })
+  module _ (own a : ℕ) (own-fits : own < 2 ^ 8) (fits : a < 2 ^ 8) where
+    message-parts : parts_of (raw_of (addressed 5 0xE600 a own)) ≡ addressed 5 0xE600 a own
+    message-parts = law.parts_again (addressed 5 0xE600 a own)
+        (record { priority = omega arith; extended_data_page = omega arith; data_page = omega arith; pdu_format = omega arith; pdu_specific = fits; source = own-fits })
 
-  claim-parts : (address name : ℕ) → address < 2 ^ 8 → parts_of (claim_from address name).id ≡ addressed 6 0xEE00 255 address
-  claim-parts address name fits =
-      law.parts_again (addressed 6 0xEE00 255 address)
-      (record { priority = omega arith; extended_data_page = omega arith; data_page = omega arith; pdu_format = omega arith; pdu_specific = omega arith; source = fits })
+    claim-parts : parts_of (raw_of (addressed 6 0xEE00 a own)) ≡ addressed 6 0xEE00 a own
+    claim-parts = law.parts_again (addressed 6 0xEE00 a own)
+        (record { priority = omega arith; extended_data_page = omega arith; data_page = omega arith; pdu_format = omega arith; pdu_specific = fits; source = own-fits })
 
-  claim-to_all : (own address name : ℕ) → address < 2 ^ 8 → IsAddressed own None (claim_from address name)
-  claim-to_all own address name fits =
-      (ap pgn_of (claim-parts address name fits), ap destination_of (claim-parts address name fits))
+    tp-parts : parts_of (raw_of (addressed 7 0xEC00 a own)) ≡ addressed 7 0xEC00 a own
+    tp-parts = law.parts_again (addressed 7 0xEC00 a own)
+        (record { priority = omega arith; extended_data_page = omega arith; data_page = omega arith; pdu_format = omega arith; pdu_specific = fits; source = own-fits })
 
-  tp-parts : (own a : ℕ) (bytes : List ℕ) → own < 2 ^ 8 → a < 2 ^ 8 → parts_of (frame_of 0xEC00 own a bytes).id ≡ addressed 7 0xEC00 a own
-  tp-parts own a bytes own-fits fits =
-      law.parts_again (addressed 7 0xEC00 a own)
-      (record { priority = omega arith; extended_data_page = omega arith; data_page = omega arith; pdu_format = omega arith; pdu_specific = fits; source = own-fits })
+    etp-parts : parts_of (raw_of (addressed 7 0xC800 a own)) ≡ addressed 7 0xC800 a own
+    etp-parts = law.parts_again (addressed 7 0xC800 a own)
+        (record { priority = omega arith; extended_data_page = omega arith; data_page = omega arith; pdu_format = omega arith; pdu_specific = fits; source = own-fits })
 
-  etp-parts : (own a : ℕ) (bytes : List ℕ) → own < 2 ^ 8 → a < 2 ^ 8 → parts_of (frame_of 0xC800 own a bytes).id ≡ addressed 7 0xC800 a own
-  etp-parts own a bytes own-fits fits =
-      law.parts_again (addressed 7 0xC800 a own)
-      (record { priority = omega arith; extended_data_page = omega arith; data_page = omega arith; pdu_format = omega arith; pdu_specific = fits; source = own-fits })
+    packet-parts : parts_of (raw_of (addressed 7 0xEB00 a own)) ≡ addressed 7 0xEB00 a own
+    packet-parts = law.parts_again (addressed 7 0xEB00 a own)
+        (record { priority = omega arith; extended_data_page = omega arith; data_page = omega arith; pdu_format = omega arith; pdu_specific = fits; source = own-fits })
 
-  addressed-reply : (own a : ℕ) (f : Frame) → own < 2 ^ 8 → a < 2 ^ 8 → IsReply own a f → IsAddressed own (Some a) f
-  unfolding IsReply
-  addressed-reply own a f own-fits fits (bytes, inl is) = inl (ap (λ (g : Frame). parts_of g.id) is ∙ message-parts own a bytes own-fits fits)
-  addressed-reply own a f own-fits fits (bytes, inr (inl is)) = inr (inl (ap (λ (g : Frame). parts_of g.id) is ∙ tp-parts own a bytes own-fits fits))
-  addressed-reply own a f own-fits fits (bytes, inr (inr is)) = inr (inr (ap (λ (g : Frame). parts_of g.id) is ∙ etp-parts own a bytes own-fits fits))
+    addressed-reply : (f : Frame) → IsReply own a f → IsToOne own a f
+    addressed-reply f (inl is) = inl (ap parts_of is ∙ message-parts)
+    addressed-reply f (inr (inl is)) = inr (inl (ap parts_of is ∙ tp-parts))
+    addressed-reply f (inr (inr (inl is))) = inr (inr (inl (ap parts_of is ∙ etp-parts)))
+    addressed-reply f (inr (inr (inr is))) = inr (inr (inr (ap parts_of is ∙ packet-parts)))
 
-  addressed-replies : (own a : ℕ) (frames : List Frame) → own < 2 ^ 8 → a < 2 ^ 8 → AreReplies own a frames → AreAddressed own (map (to_one a) frames)
-  unfolding AreReplies
-  addressed-replies own a [] own-fits fits are = tt
-  addressed-replies own a (f ∷ frames) own-fits fits are = (addressed-reply own a f own-fits fits are.0, addressed-replies own a frames own-fits fits are.1)
+    addressed-replies : (frames : List Frame) → AreReplies own a frames → AreAddressed own (map (ToOne a) frames)
+    addressed-replies [] are = tt
+    addressed-replies (f ∷ frames) are = (addressed-reply f are.0, addressed-replies frames are.1)
 
-  -- ---- the step
+addressed-append : (own : ℕ) (xs ys : List Sent) → AreAddressed own xs → AreAddressed own ys → AreAddressed own (xs ++ ys)
+addressed-append own [] ys first second = second
+addressed-append own (x ∷ xs) ys first second = (first.0, addressed-append own xs ys first.1 second)
 
-  source-fits : (f : Frame) → source_of f < 2 ^ 8
-  source-fits f = omega arith
+addressed-refusal : (own : ℕ) (o : Option OperatorFault) → AreAddressed own (refusal o)
+addressed-refusal own None = tt
+addressed-refusal own (Some fault) = (tt, tt)
 
-  cond-claim : (b : Bool) (own name : ℕ) → own < 2 ^ 8 → AreAddressed own (cond b (to_all (claim_from own name) ∷ []) [])
-  cond-claim true own name fits = (claim-to_all own own name fits, tt)
-  cond-claim false own name fits = tt
+-- ---- what acts send
 
-  acting-addressed : (s : State) (source : ℕ) (n : Notice) (f : Frame) → s.claims.own < 2 ^ 8 → source < 2 ^ 8 → AreAddressed s.claims.own (acting s source n f).sent
-  acting-addressed s source (Claim name) f own-fits fits =
-      subst (AreAddressed s.claims.own) (sent-claim s source name f (answer s.claims source name) refl)
-      (cond-claim (is_defended (Claim name) (answer s.claims source name)) s.claims.own s.claims.name own-fits)
-  acting-addressed s source ClaimRequest f own-fits fits =
-      subst (AreAddressed s.claims.own) (sent-request s source f) (claim-to_all s.claims.own s.claims.own s.claims.name own-fits, tt)
-  acting-addressed s source (Master count) f own-fits fits = subst (AreAddressed s.claims.own) (sent-master s source count f) tt
-  acting-addressed s source (Member name) f own-fits fits = subst (AreAddressed s.claims.own) (sent-member s source name f) tt
-  acting-addressed s source Message f own-fits fits =
-      subst (AreAddressed s.claims.own) (sent-heard s source Message f refl (refl, refl))
-      (addressed-replies s.claims.own source (outcome s.now source (part source s) (Hears Message f)).frames own-fits fits
-      (replies source (part source s) f.bytes.items (set_at source s.sets)))
-  acting-addressed s source Tp f own-fits fits =
-      subst (AreAddressed s.claims.own) (sent-heard s source Tp f refl (refl, refl))
-      (addressed-replies s.claims.own source (outcome s.now source (part source s) (Hears Tp f)).frames own-fits fits (tp-replies s.now source (part source s) f))
-  acting-addressed s source Etp f own-fits fits =
-      subst (AreAddressed s.claims.own) (sent-heard s source Etp f refl (refl, refl))
-      (addressed-replies s.claims.own source (outcome s.now source (part source s) (Hears Etp f)).frames own-fits fits (etp-replies s.now source (part source s) f))
-  acting-addressed s source Nothing f own-fits fits = subst (AreAddressed s.claims.own) (sent-nothing s source f) tt
+-- an act sends nothing, or its address is one
+abbrev Fits : ℕ → Act → Type 0
+Fits a Rebinds = Unit {0}
+Fits a FallsSilent = Unit {0}
+Fits a (Raises event) = Unit {0}
+Fits a _ = a < 2 ^ 8
 
-  step-addressed : (s : State) (source : ℕ) (n : Notice) (f : Frame) (lost gone : Bool) → s.claims.own < 2 ^ 8 → source < 2 ^ 8
-      → AreAddressed s.claims.own (cond lost (no_step s) (cond gone (losing s) (acting s source n f))).sent
-  step-addressed s source n f true gone own-fits fits = tt
-  step-addressed s source n f false true own-fits fits = (claim-to_all s.claims.own 254 s.claims.name (omega arith), tt)
-  step-addressed s source n f false false own-fits fits = acting-addressed s source n f own-fits fits
-
-  each-addressed : (s : State) (i : Input) → s.claims.own < 2 ^ 8 → AreAddressed s.claims.own (step s i).sent
-  each-addressed s (inputs.Frame time f) own-fits =
-      let m = notice_of s.claims.own s.claims.name f in
-      by-lost s.lost (step-addressed (at_time s time) (source_of f) m f s.lost (is_lost_by (answer_to s (source_of f) m)) own-fits (source-fits f))
-    where
-      by-lost : (lost : Bool) → AreAddressed s.claims.own (step_now (at_time s time) f).sent → AreAddressed s.claims.own (cond lost (no_step s) (step_now (at_time s time) f)).sent
-      by-lost true are = tt
-      by-lost false are = are
-  each-addressed s (inputs.Operator action) own-fits = tt
-
-cond-few : (b : Bool) (x : Sent) → length (cond b (x ∷ []) []) ≤ 2
-cond-few true x = omega arith
-cond-few false x = omega arith
-
-messages-few : (a : ℕ) (frames : List Frame) → length frames ≤ 2 → length (map (to_one a) frames) ≤ 2
-messages-few a frames few = subst (λ n. n ≤ 2) (sym (length-map frames (to_one a))) few
-
-acting-few : (s : State) (source : ℕ) (n : Notice) (f : Frame) → length (acting s source n f).sent ≤ 2
-acting-few s source (Claim name) f =
-    subst (λ (l : List Sent). length l ≤ 2) (sent-claim s source name f (answer s.claims source name) refl)
-    (cond-few (is_defended (Claim name) (answer s.claims source name)) (to_all (claim_from s.claims.own s.claims.name)))
-acting-few s source ClaimRequest f = subst (λ (l : List Sent). length l ≤ 2) (sent-request s source f) (omega arith)
-acting-few s source (Master count) f = subst (λ (l : List Sent). length l ≤ 2) (sent-master s source count f) (omega arith)
-acting-few s source (Member name) f = subst (λ (l : List Sent). length l ≤ 2) (sent-member s source name f) (omega arith)
-acting-few s source Message f =
-    let few = message-few source (part source s) f.bytes.items (set_at source s.sets) in
-    subst (λ (l : List Sent). length l ≤ 2) (sent-heard s source Message f refl (refl, refl))
-    (messages-few source (outcome s.now source (part source s) (Hears Message f)).frames (omega arith))
-acting-few s source Tp f =
-    subst (λ (l : List Sent). length l ≤ 2) (sent-heard s source Tp f refl (refl, refl))
-    (messages-few source (outcome s.now source (part source s) (Hears Tp f)).frames (tp-few s.now source (part source s) f))
-acting-few s source Etp f =
-    subst (λ (l : List Sent). length l ≤ 2) (sent-heard s source Etp f refl (refl, refl))
-    (messages-few source (outcome s.now source (part source s) (Hears Etp f)).frames (etp-few s.now source (part source s) f))
-acting-few s source Nothing f = subst (λ (l : List Sent). length l ≤ 2) (sent-nothing s source f) (omega arith)
-
-step-few : (s : State) (source : ℕ) (n : Notice) (f : Frame) (lost gone : Bool)
-    → length (cond lost (no_step s) (cond gone (losing s) (acting s source n f))).sent ≤ 2
-step-few s source n f true gone = omega arith
-step-few s source n f false true = omega arith
-step-few s source n f false false = acting-few s source n f
-
-each-few : (s : State) (i : Input) → length (step s i).sent ≤ 2
-each-few s (inputs.Frame time f) =
-    let m = notice_of s.claims.own s.claims.name f in
-    by-lost s.lost (step-few (at_time s time) (source_of f) m f s.lost (is_lost_by (answer_to s (source_of f) m)))
+change-sends : (own a : ℕ) (p : Part) (o : Option Set) → AreAddressed own (to_address a (after_change p o))
+change-sends own a p None = tt
+change-sends own a p (Some set) = cases (option_eq nat_eq set.name None || option_eq nat_eq set.name p.holder)
   where
-    by-lost : (lost : Bool) → length (step_now (at_time s time) f).sent ≤ 2 → length (cond lost (no_step s) (step_now (at_time s time) f)).sent ≤ 2
-    by-lost true few = omega arith
-    by-lost false few = few
-each-few s (inputs.Operator action) = omega arith
+    cases : (b : Bool) → AreAddressed own (to_address a (cond b (unchanged p) (without_set p)))
+    cases true = tt
+    cases false = tt
 
-pub sendings : PartsAreIdentifiers → SentAreAddressed
-sendings law = record { each = each-addressed law; few = each-few }
+module _ (law : PartsAreIdentifiers) where
+  act-sends : (s : State) (a : ℕ) (h : Act) → s.claims.own < 2 ^ 8 → a < 2 ^ 8 → AreAddressed s.claims.own (to_address a (outcome s.now a (part a s) h))
+  act-sends s a h own-fits fits =
+      let after = outcome s.now a (part a s) h in
+      addressed-append s.claims.own (map (ToOne a) after.frames) (refusal after.refused)
+      (addressed-replies law s.claims.own a own-fits fits after.frames (outcome-replies s.now a (part a s) h))
+      (addressed-refusal s.claims.own after.refused)
+
+  fitting-sends : (s : State) (a : ℕ) (h : Act) → s.claims.own < 2 ^ 8 → Fits a h → AreAddressed s.claims.own (to_address a (outcome s.now a (part a s) h))
+  fitting-sends s a (Hears n f verdict) own-fits fits = act-sends s a (Hears n f verdict) own-fits fits
+  fitting-sends s a Rebinds own-fits fits = change-sends s.claims.own a (part a s) (part a s).set
+  fitting-sends s a (Preloads contents) own-fits fits = tt
+  fitting-sends s a TpExpires own-fits fits = act-sends s a TpExpires own-fits fits
+  fitting-sends s a EtpExpires own-fits fits = act-sends s a EtpExpires own-fits fits
+  fitting-sends s a SendingExpires own-fits fits = act-sends s a SendingExpires own-fits fits
+  fitting-sends s a FallsSilent own-fits fits = tt
+  fitting-sends s a (Operates action shown) own-fits fits = act-sends s a (Operates action shown) own-fits fits
+  fitting-sends s a (Raises event) own-fits fits = tt
+
+  module _ (own : ℕ) (own-fits : own < 2 ^ 8) where
+    acts-send : (s : State) (hs : List (ℕ × Act)) → s.claims.own ≡ own → AllAt Fits hs → AreAddressed own (sent_by_acts s hs)
+    acts-send s [] is fit = tt
+    acts-send s (h ∷ hs) is fit =
+        addressed-append own (sent_by_act s h.0 h.1) (sent_by_acts (after_act s h.0 h.1) hs)
+        (subst (λ l. AreAddressed own l) (sym (sent_by_one-is s h.0 h.1))
+        (subst (λ q. AreAddressed q (to_address h.0 (outcome s.now h.0 (part h.0 s) h.1))) is (fitting-sends s h.0 h.1 (subst (λ q. q < 2 ^ 8) (sym is) own-fits) fit.0)))
+        (acts-send (after_act s h.0 h.1) hs (beside-act (λ (t : State). t.claims.own) (λ b o t. refl) s h.0 h.1 ∙ is) fit.1)
+
+    own-acts : (s : State) (hs : List (ℕ × Act)) → s.claims.own ≡ own → (after_acts s hs).claims.own ≡ own
+    own-acts s hs is = beside (λ (t : State). t.claims.own) (λ b o t. refl) s hs ∙ is
+
+    lapses-send : (s : State) → s.claims.own ≡ own → AreAddressed own (sent_by_lapses s)
+    unfolding sent_by_lapses
+    lapses-send s is =
+        let t = after_tp_timeouts s in
+        let u = after_etp_timeouts s in
+        let t-is = own-acts s (tp_due s) is in
+        let u-is = own-acts t (etp_due t) t-is in
+        addressed-append own (sent_by_acts s (tp_due s)) (sent_by_acts t (etp_due t) ++ sent_by_acts u (sending_due u))
+        (acts-send s (tp_due s) is (at-below Fits (λ b. is_overdue s.now (s.places b).tp) TpExpires 256 (λ b lt. lt)))
+        (addressed-append own (sent_by_acts t (etp_due t)) (sent_by_acts u (sending_due u))
+        (acts-send t (etp_due t) t-is (at-below Fits (λ b. is_overdue t.now (t.places b).etp) EtpExpires 256 (λ b lt. lt)))
+        (acts-send u (sending_due u) u-is (at-below Fits (λ b. is_overdue u.now (u.places b).sending) SendingExpires 256 (λ b lt. lt))))
+
+    -- ---- to all
+
+    own-claim : (name : ℕ) → IsToAll own (claim_from own name)
+    own-claim name = inl (claim-parts law own 255 own-fits (omega arith))
+
+    cannot-claim : (name : ℕ) → IsToAll own (claim_from 254 name)
+    cannot-claim name = inr (inl (claim-parts law 254 255 (omega arith) (omega arith)))
+
+    defence-sends : (b : Bool) (name : ℕ) → AreAddressed own (cond b (ToAll (claim_from own name) ∷ []) [])
+    defence-sends true name = (own-claim name, tt)
+    defence-sends false name = tt
+
+    status-sends : (was now : Display) → AreAddressed own (status own was now)
+    status-sends was now = cases (same_display was now)
+      where
+        cases : (b : Bool) → AreAddressed own (cond b [] (ToAll (status_frame own now) ∷ []))
+        cases true = tt
+        cases false = (inr (inr (message-parts law own 255 own-fits (omega arith))), tt)
+
+    settling-sends : (old s : State) → s.claims.own ≡ own → AreAddressed own (sent_by_settling old s)
+    unfolding sent_by_settling
+    settling-sends old s is =
+        addressed-append own (sent_by_acts (choosing s) (events_of_change s.shown (shown_now s))) (status s.claims.own (display old) (display (settled s)))
+        (acts-send (choosing s) (events_of_change s.shown (shown_now s)) is (at-change Fits (λ a event. tt) s.shown (shown_now s)))
+        (subst (λ q. AreAddressed own (status q (display old) (display (settled s)))) (sym is) (status-sends (display old) (display (settled s))))
+
+    -- ---- a frame
+
+    own-before-is : (s : State) (source : ℕ) (n : Notice) → s.claims.own ≡ own → (before s source n).claims.own ≡ own
+    own-before-is s source n is = own-before s source n ∙ is
+
+    acting-sends : (old s : State) (f : Frame) (n : Notice) (verdict : Verdict) → s.claims.own ≡ own → AreAddressed own (acting old s (source_of f) n f verdict).sent
+    acting-sends old s f n verdict is =
+        let source = source_of f in
+        let t = before s source n in
+        let hs = acts s source n f verdict in
+        let t-is = own-before-is s source n is in
+        addressed-append own (defence s source n ++ sent_by_acts t hs) (sent_by_settling old (after_acts t hs))
+        (addressed-append own (defence s source n) (sent_by_acts t hs)
+        (subst (λ q. AreAddressed own (cond (is_defended n (answer_to s source n)) (ToAll (claim_from q s.claims.name) ∷ []) [])) (sym is)
+        (defence-sends (is_defended n (answer_to s source n)) s.claims.name))
+        (acts-send t hs t-is (at-append Fits (changes s source n) (heard_at_source s.claims.own source n f verdict)
+        (at-changes Fits (λ a. tt) s source n) (at-heard Fits s.claims.own source n f verdict (omega arith)))))
+        (settling-sends old (after_acts t hs) (own-acts t hs t-is))
+
+    frame-sends : (s : State) (time : ℕ) (f : Frame) (verdict : Verdict) → s.claims.own ≡ own → AreAddressed own (step_frame s time f verdict).sent
+    frame-sends s time f verdict is =
+        let t = at_time s time in
+        let u = lapsed t in
+        let n = notice_of s.claims.own s.claims.name f in
+        addressed-append own (sent_by_lapses t) _ (lapses-send t is)
+        (by-loss n (ap (λ (c : Claimed). c.own) (claims-lapsed t) ∙ is) (is_lost_by (answer_to u (source_of f) n)))
+      where
+        by-loss : (n : Notice) → let u = lapsed (at_time s time) in
+            u.claims.own ≡ own → (b : Bool) → AreAddressed own (cond b (losing u) (acting s u (source_of f) n f verdict)).sent
+        by-loss n u-is true = (cannot-claim (lapsed (at_time s time)).claims.name, tt)
+        by-loss n u-is false = acting-sends s (lapsed (at_time s time)) f n verdict u-is
+
+    -- ---- an action
+
+    no_set-sends : (b : Bool) → AreAddressed own (no_set b)
+    no_set-sends true = (tt, tt)
+    no_set-sends false = tt
+
+    shown-fits : (o : Option ℕ) (action : ActionValue) (shown : Bool) → IfSome o (λ a. a < 2 ^ 8) → AllAt Fits (at_shown o (Operates action shown))
+    shown-fits None action shown fits = tt
+    shown-fits (Some a) action shown fits = (fits, tt)
+
+    action-sends : (s : State) (action : ActionValue) (shown : Bool) → s.claims.own ≡ own → IfSome s.shown (λ a. a < 2 ^ 8) → AreAddressed own (step_action s action shown).sent
+    action-sends s action shown is fits =
+        let u = selecting s action in
+        let hs = at_shown s.shown (Operates action shown) in
+        let u-is : u.claims.own ≡ own = selecting-same (λ x. x.claims.own) (λ x o. refl) s action ∙ is in
+        addressed-append own (no_set (has_no_set s action) ++ sent_by_acts u hs) (sent_by_settling s (after_acts u hs))
+        (addressed-append own (no_set (has_no_set s action)) (sent_by_acts u hs) (no_set-sends (has_no_set s action))
+        (acts-send u hs u-is (shown-fits s.shown action shown fits)))
+        (settling-sends s (after_acts u hs) (own-acts u hs u-is))
+
+  pub step-sends : (s : State) (e : Event) → HasAddresses s → AreAddressed s.claims.own (step s e).sent
+  step-sends s (FrameAt time f verdict) fits = cases s.lost
+    where
+      cases : (b : Bool) → AreAddressed s.claims.own (cond b (no_step s) (step_frame s time f verdict)).sent
+      cases true = tt
+      cases false = frame-sends s.claims.own fits.own s time f verdict refl
+  step-sends s (ActionAt action shown) fits = cases s.lost
+    where
+      cases : (b : Bool) → AreAddressed s.claims.own (cond b (no_step s) (step_action s action shown)).sent
+      cases true = tt
+      cases false = action-sends s.claims.own fits.own s action shown refl fits.shown

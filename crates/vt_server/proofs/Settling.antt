@@ -1,153 +1,264 @@
--- The list of the sets after a step, and that they stay apart.
-use Rattle.std.proofs.Common.{◌≡◌, ◌≢◌, ℕ, Bool, true, false, cond, eqb, List, [], ◌∷◌, Option, Some, None, refl, sym, ap, subst, ◌∙◌, eq-eqb, ne_eqb}
+-- The list of the sets after a step.
+use Rattle.std.proofs.Common.{◌≡◌, ◌≢◌, ℕ, Bool, true, false, cond, not, eqb, List, [], ◌∷◌, map, Option, Some, None, refl, sym, ap, subst, ◌∙◌, eq-eqb, ne_eqb}
+use Rattle.std.specs.List.{filter}
 use Rattle.vt_can.specs.declared.frames.frame.Frame.{Frame}
 use Rattle.vt_can.specs.frames.Frame.{source_of}
-use Rattle.vt_names.specs.Claims.{Claimed, OtherHoldersStay, holder_of}
-use Rattle.vt_names.specs.Registry.{Set, set_at, with_set, registering, joining, mastered, joined, has_place, preloaded}
-use Rattle.vt_objects.specs.declared.command.Command.{Command}
-use Rattle.vt_objects.specs.Commands.{command_at}
+use Rattle.vt_can.specs.lines.Actions.{ActionValue}
+use Rattle.vt_names.specs.Claims.{Claimed, OtherHoldersStay, answer, holder_of}
+use Rattle.vt_names.specs.Registry.{Set, set_at, with_set, without, registering, joining, mastered, joined, has_place, preloaded}
 use Rattle.vt_server.specs.Bus.{notice_of, frame_notice, unless_echo}
-use Rattle.vt_server.specs.Messages.{technical_reply}
-use Rattle.vt_server.specs.Parts.{Part, Act, Hears, Preloads, unchanged, outcome, after_command, after_reply, after_message, after_whole}
-use Rattle.vt_server.specs.Terminals.{State, holder, part, after_act, acts, no_step, losing, acting, step_now, at_time, is_lost_by, answer_to, with_set_at}
-use Rattle.vt_server.specs.States.{step}
-use Rattle.vt_server.specs.Happenings.{IsOrderly, SetIsHeld}
-use Rattle.vt_server.specs.SetLists.{AreApart, IsSettled, SetsAfterSteps, sets_after, sets_by}
+use Rattle.vt_server.specs.Choosing.{choosing, shown_now, events_of_change}
+use Rattle.vt_server.specs.Happenings.{loses, AreApart, IsOrderly, SetIsHeld}
+use Rattle.vt_server.specs.Lapses.{at_time, lapsed, silent, is_silent, after_timeouts}
+use Rattle.vt_server.specs.Parts.{Part, Act, Hears, Preloads, FallsSilent, Operates, after_master, after_member, after_message, outcome}
+use Rattle.vt_server.specs.Places.{Place, heard_at}
+use Rattle.vt_server.specs.Sessions.{came}
+use Rattle.vt_server.specs.SetLists.{heard_sets, named_at, stays, IsSettled, SetsAfterSteps, sets_after, sets_by}
+use Rattle.vt_server.specs.Steps.{Event, FrameAt, ActionAt, step, before, heard_at_source, acts, answer_to, is_lost_by, settled, losing, acted, acting, hearing, no_step, step_frame, selecting, at_shown, step_action}
+use Rattle.vt_server.specs.Terminals.{State, holder, part, after_act, after_acts, with_set_at}
+use Rattle.vt_server.specs.Transfers.{Verdict}
 use Rattle.vt_server.specs.declared.bus.Notice.{Notice}
 use Rattle.vt_server.specs.declared.bus.Notice.TheVariants.{Claim, ClaimRequest, Master, Member, Message, Tp, Etp, Nothing}
-use Rattle.vt_server.specs.declared.input.Input.{Input}
-use Rattle.vt_server.specs.declared.input.Input.TheVariants as inputs
-use Rattle.vt_server.proofs.Happened.{own-step}
-use Rattle.vt_server.proofs.Held.{held}
-use Rattle.vt_server.proofs.Listing.{claim-closes, none-closed, apart-closed}
-use Rattle.vt_server.proofs.Own.{at-with_other}
+use Rattle.vt_server.proofs.ActsAt.{AllAt, at-change, at-heard}
+use Rattle.vt_server.proofs.Changes.{claims-acts}
+use Rattle.vt_server.proofs.Held.{IsHeldAt, act-held, none-held, held}
+use Rattle.vt_server.proofs.Keeping.{lapsed-keeps, orderly-kept, claims-lapsed, own-step, none-filter}
+use Rattle.vt_server.proofs.Overdue.{AllActs, KeepsSets, sets-kept, sets-third, now-third, places-third}
+use Rattle.vt_server.proofs.Listing.{claim-closes, none-closed}
+use Rattle.vt_server.proofs.Own.{at-with_other, message-set, operator-set}
+use Rattle.vt_server.proofs.Puts.{by_eq, none-some, set_at-first, set_at-later, set_at-address, without-first, without-later, sets-same, none-same, act-is}
+use Rattle.vt_server.proofs.Stepping.{selecting-same}
 use Rattle.vt_server.proofs.Timeless.{Laws}
-use Rattle.vt_server.specs.Receiving.{taken}
-use Rattle.vt_can.specs.transport.Messages as transport
-use Rattle.vt_transport.specs.Protocol as tp
-use Rattle.vt_extended.specs.Protocol as etp
-use Rattle.vt_server.proofs.Puts.{by_eq, set_at-address, with_set-first, with_set-later, sets-same, act-is, idle}
-use Rattle.vt_server.proofs.Registering.{master-state}
-use Rattle.vt_server.proofs.Steps.{claims-acts, member-state}
 
--- ---- a message leaves the set
+-- ---- the sets that fall silent
 
-commanded-set : (a : ℕ) (p : Part) (o : Option Command) → (after_command a p o).set ≡ p.set
-commanded-set a p None = refl
-commanded-set a p (Some command) = refl
+-- without the sets of the addresses of these
+abbrev gone : List Set → List Set → List Set
+gone [] sets = sets
+gone (x ∷ xs) sets = gone xs (without x.address sets)
 
-technical-set : (a : ℕ) (p : Part) (bytes : List ℕ) (o : Option (List ℕ)) → (after_reply a p bytes o).set ≡ p.set
-technical-set a p bytes None = commanded-set a p (command_at bytes)
-technical-set a p bytes (Some reply) = refl
+falls-list : (xs : List Set) (s : State) → (after_acts s (map (λ set. (set.address, FallsSilent)) xs)).sets ≡ gone xs s.sets
+falls-list [] s = refl
+falls-list (x ∷ xs) s =
+    falls-list xs (after_act s x.address FallsSilent) ∙ ap (λ (t : State). gone xs t.sets) (act-is s x.address FallsSilent)
 
-message-set : (a : ℕ) (p : Part) (bytes : List ℕ) (o : Option Set) → (after_message a p bytes o).set ≡ p.set
-message-set a p bytes None = refl
-message-set a p bytes (Some set) = technical-set a p bytes (technical_reply bytes)
+gone-later : (xs : List Set) (t : Set) (sets : List Set) → set_at t.address xs ≡ None → gone xs (t ∷ sets) ≡ t ∷ gone xs sets
+gone-later [] t sets none = refl
+gone-later (x ∷ xs) t sets none =
+    let rest = gone-later xs t (without x.address sets) in
+    by_eq x.address t.address
+    (λ is. none-some (sym none ∙ set_at-first t.address x xs is))
+    (λ ne. ap (gone xs) (without-later x.address t sets (λ h. ne (sym h))) ∙ rest (sym (set_at-later t.address x xs ne) ∙ none))
 
-whole-set : (a : ℕ) (p : Part) (o : Option transport.Message) → (after_whole a p o).set ≡ p.set
-whole-set a p None = refl
-whole-set a p (Some message) = cases (eqb message.pgn 0xE700)
+gone-filter : (f : Set → Bool) (sets : List Set) → AreApart sets → gone (filter f sets) sets ≡ filter (λ set. not (f set)) sets
+gone-filter f [] apart = refl
+gone-filter f (t ∷ sets) apart = cases (f t) (gone-filter f sets apart.1)
   where
-    cases : (b : Bool) → (cond b (after_message a p message.bytes p.set) (unchanged p)).set ≡ p.set
-    cases true = message-set a p message.bytes p.set
-    cases false = refl
+    cases : (b : Bool) → gone (filter f sets) sets ≡ filter (λ set. not (f set)) sets
+        → gone (cond b (t ∷ filter f sets) (filter f sets)) (t ∷ sets) ≡ cond (not b) (t ∷ filter (λ set. not (f set)) sets) (filter (λ set. not (f set)) sets)
+    cases true rest =
+        ap (gone (filter f sets)) (without-first t.address t sets refl ∙ none-same t.address sets apart.0) ∙ rest
+    cases false rest = gone-later (filter f sets) t sets (none-filter t.address f sets apart.0) ∙ ap (λ l. t ∷ l) rest
 
--- what is put at an address with the set that it has
-kept-sets : (s : State) (a : ℕ) (h : Act) → (outcome s.now a (part a s) h).set ≡ set_at a s.sets → (after_act s a h).sets ≡ s.sets
-kept-sets s a h is =
-    ap (λ (x : State). x.sets) (act-is s a h) ∙ ap (λ o. with_set_at a o s.sets) is ∙ sets-same a s.sets (set_at a s.sets) refl
+lapsed-list : (s : State) (time : ℕ) → AreApart s.sets → (lapsed (at_time s time)).sets ≡ heard_sets s time
+unfolding lapsed
+lapsed-list s time apart =
+    let t = at_time s time in
+    let u = after_timeouts t in
+    falls-list (filter (silent u) u.sets) u
+    ∙ gone-filter (silent u) u.sets (subst AreApart (sym (sets-third t)) apart)
+    ∙ (λ i. filter
+    (λ set. not (is_silent (now-third t i) (places-third t (λ (x : Place). x.heard) set.address (λ now b p. refl) (λ now b p. refl) (λ now b p. refl) i)))
+    (sets-third t i))
+
+-- ---- what keeps the list
+
+all-sets : (P : Act → Type 0) (hs : List (ℕ × Act)) → AllAt (λ a h. P h) hs → AllActs P hs
+all-sets P [] all = tt
+all-sets P (h ∷ hs) all = (all.0, all-sets P hs all.1)
+
+settled-list : (s : State) → (settled s).sets ≡ s.sets
+unfolding settled
+settled-list s =
+    let hs = events_of_change s.shown (shown_now s) in
+    sets-kept (choosing s) hs (all-sets KeepsSets hs (at-change (λ a h. KeepsSets h) (λ a event now b p. refl) s.shown (shown_now s)))
+
+pub settled-claims : (s : State) → (settled s).claims ≡ s.claims
+unfolding settled
+settled-claims s = claims-acts (choosing s) (events_of_change s.shown (shown_now s))
+
+came-kept : (n : Notice) (f : Frame) (verdict : Verdict)
+    → ((now a : ℕ) (p : Part) → let c = came now p.terminal a (heard_at now p.place) n f in (outcome now a p (Hears n f verdict)).set ≡ (after_message a (record p { place = c.place }) verdict p.set c.message).set)
+    → KeepsSets (Hears n f verdict)
+came-kept n f verdict is now a p =
+    let c = came now p.terminal a (heard_at now p.place) n f in
+    is now a p ∙ message-set a (record p { place = c.place }) verdict p.set c.message
+
+-- ---- what a frame from the terminal's own address may say
+
+abbrev IsHeeded : Notice → Type 0
+IsHeeded (Claim name) = Unit {0}
+IsHeeded Nothing = Unit {0}
+IsHeeded _ = ⊥
+
+echo-heeded : (name : ℕ) (n : Notice) → IsHeeded (unless_echo name n)
+echo-heeded name (Claim other) = cases (eqb other name)
+  where
+    cases : (b : Bool) → IsHeeded (cond b Nothing (Claim other))
+    cases true = tt
+    cases false = tt
+echo-heeded name ClaimRequest = tt
+echo-heeded name (Master count) = tt
+echo-heeded name (Member other) = tt
+echo-heeded name Message = tt
+echo-heeded name Tp = tt
+echo-heeded name Etp = tt
+echo-heeded name Nothing = tt
+
+own-heeded : (own name : ℕ) (f : Frame) → source_of f ≡ own → IsHeeded (notice_of own name f)
+own-heeded own name f is =
+    subst (λ b. IsHeeded (cond b (unless_echo name (frame_notice own f)) (frame_notice own f))) (sym (eq-eqb (source_of f) own is)) (echo-heeded name (frame_notice own f))
 
 -- ---- a frame
 
-module _ (law : OtherHoldersStay) (s : State) (orderly : IsOrderly s) (settled : IsSettled s) where
-  everywhere : (a : ℕ) → SetIsHeld (set_at a s.sets) (holder s a)
-  everywhere a =
-      by_eq a s.claims.own
-      (λ is. subst (λ o. SetIsHeld o (holder s a)) (sym (ap (λ b. set_at b s.sets) is ∙ settled.elsewhere)) tt)
-      (settled.held a)
+master-list : (s : State) (a count : ℕ) (place : Place) (o : Option ℕ)
+    → with_set_at a (after_master a (record (part a s) { place = place }) o count).set s.sets ≡ registering a o count s.sets
+master-list s a count place None = sets-same a s.sets (set_at a s.sets) refl
+master-list s a count place (Some h) = refl
 
-  acting-list : (source : ℕ) (n : Notice) (frame : Frame) → (acting s source n frame).after.sets ≡ sets_after (acting s source n frame).after source n s.sets
-  acting-list source (Claim name) frame = claim-closes law s orderly source name settled.apart everywhere frame
-  acting-list source ClaimRequest frame = ap (λ (x : State). x.sets) (idle s source (Hears ClaimRequest frame) refl)
-  acting-list source (Master count) frame =
-      ap (λ (x : State). x.sets)
-      (sym (master-state s source count frame (holder s source) (registering source (holder s source) count s.sets) refl refl))
-      ∙ ap (λ (c : Claimed). registering source (holder_of c.addresses source) count s.sets)
-      (sym (claims-acts s (acts s source (Master count) frame)))
-  acting-list source (Member name) frame =
-      ap (λ (x : State). x.sets) (sym (member-state s source name frame (joining (set_at source s.sets) name s.sets) refl))
-  acting-list source Message frame = kept-sets s source (Hears Message frame) (message-set source (part source s) frame.bytes.items (set_at source s.sets))
-  acting-list source Tp frame =
-      let t = taken tp.protocol s.now s.claims.own source (s.places source).tp frame in
-      kept-sets s source (Hears Tp frame) (whole-set source (record (part source s) { place = record (s.places source) { tp = t.session } }) t.message)
-  acting-list source Etp frame =
-      let t = taken etp.protocol s.now s.claims.own source (s.places source).etp frame in
-      kept-sets s source (Hears Etp frame) (whole-set source (record (part source s) { place = record (s.places source) { etp = t.session } }) t.message)
-  acting-list source Nothing frame = ap (λ (x : State). x.sets) (idle s source (Hears Nothing frame) refl)
-
-  now-list : (f : Frame) → let m = notice_of s.claims.own s.claims.name f in let source = source_of f in
-      (step_now s f).after.sets ≡ cond s.lost s.sets (cond (is_lost_by (answer_to s source m)) s.sets (sets_after (step_now s f).after source m s.sets))
-  now-list f =
-      let m = notice_of s.claims.own s.claims.name f in
-      cases (source_of f) m s.lost (is_lost_by (answer_to s (source_of f) m))
-    where
-      cases : (source : ℕ) (m : Notice) (lost gone : Bool)
-          → (cond lost (no_step s) (cond gone (losing s) (acting s source m f))).after.sets
-          ≡ cond lost s.sets (cond gone s.sets (sets_after (cond lost (no_step s) (cond gone (losing s) (acting s source m f))).after source m s.sets))
-      cases source m true gone = refl
-      cases source m false true = refl
-      cases source m false false = acting-list source m f
-
--- the time says nothing of it
-step-list : OtherHoldersStay → (s : State) → IsOrderly s → IsSettled s → (i : Input) → (step s i).after.sets ≡ sets_by s (step s i).after i
-step-list law s orderly settled (inputs.Frame time f) = cases s.lost refl
+member-list : (s : State) (a name : ℕ) (place : Place) (o : Option Set) → set_at a s.sets ≡ o
+    → with_set_at a (after_member (record (part a s) { place = place }) o name).set s.sets ≡ joining o name s.sets
+member-list s a name place None e = sets-same a s.sets (set_at a s.sets) refl
+member-list s a name place (Some set) e = cases (has_place set)
   where
-    t : State
-    t = at_time s time
+    cases : (b : Bool) → with_set (cond b (joined set name) set) s.sets ≡ cond b (with_set (joined set name) s.sets) s.sets
+    cases true = refl
+    cases false = sets-same a s.sets (Some set) e
 
-    m : Notice
-    m = notice_of s.claims.own s.claims.name f
+module _ (law : OtherHoldersStay) (s : State) (orderly : IsOrderly s) (is : IsSettled s) where
+  everywhere : (a : ℕ) → SetIsHeld (set_at a s.sets) (holder s a)
+  everywhere a = by_eq a s.claims.own (λ h. none-held (set_at a s.sets) (holder s a) (ap (λ b. set_at b s.sets) h ∙ is.elsewhere)) (is.held a)
 
-    cases : (lost : Bool) → s.lost ≡ lost
-        → (cond lost (no_step s) (step_now t f)).after.sets
-        ≡ cond s.lost s.sets (cond (is_lost_by (answer_to s (source_of f) m)) s.sets (sets_after (cond lost (no_step s) (step_now t f)).after (source_of f) m s.sets))
-    cases true is = sym (ap (λ b. cond b s.sets (cond (is_lost_by (answer_to s (source_of f) m)) s.sets (sets_after s (source_of f) m s.sets))) is)
-    cases false is = now-list law t orderly (record { apart = settled.apart; elsewhere = settled.elsewhere; held = settled.held }) f
-step-list law s orderly settled (inputs.Operator action) = refl
+  -- a frame that its source alone looks at
+  one-list : (source : ℕ) (n : Notice) (f : Frame) (verdict : Verdict) (sets : List Set) → (source ≡ s.claims.own → IsHeeded n) → (IsHeeded n → ⊥)
+      → (after_act s source (Hears n f verdict)).sets ≡ sets → (after_acts s (heard_at_source s.claims.own source n f verdict)).sets ≡ sets
+  one-list source n f verdict sets heeded not-heeded these =
+      by_eq source s.claims.own
+      (λ h. absurd (not-heeded (heeded h)))
+      (λ ne. ap (λ b. (after_acts s (cond b [] ((source, Hears n f verdict) ∷ []))).sets) (ne_eqb source s.claims.own ne) ∙ these)
 
--- ---- no two at one address
+  kept-list : (source : ℕ) (n : Notice) (f : Frame) (verdict : Verdict) → KeepsSets (Hears n f verdict) → (after_acts s (heard_at_source s.claims.own source n f verdict)).sets ≡ s.sets
+  kept-list source n f verdict keeps =
+      let hs = heard_at_source s.claims.own source n f verdict in
+      sets-kept s hs (all-sets KeepsSets hs (at-heard (λ a h. KeepsSets h) s.claims.own source n f verdict keeps))
 
-apart-with : (x : Set) (sets : List Set) → AreApart sets → AreApart (with_set x sets)
-apart-with x [] apart = (refl, tt)
-apart-with x (t ∷ sets) apart =
-    let rest = apart-with x sets apart.1 in
-    by_eq t.address x.address
-    (λ is. subst AreApart (sym (with_set-first x t sets is)) (subst (λ q. set_at q sets ≡ None) is apart.0, apart.1))
-    (λ ne. subst AreApart (sym (with_set-later x t sets ne)) (at-with_other t.address x sets (λ h. ne (sym h)) ∙ apart.0, rest))
+  acts-list : (source : ℕ) (n : Notice) (f : Frame) (verdict : Verdict) → (source ≡ s.claims.own → IsHeeded n)
+      → (acted s source n f verdict).sets ≡ sets_after (before s source n) source n s.sets
+  acts-list source (Claim name) f verdict heeded = claim-closes law s orderly.rising source name orderly.apart is.elsewhere everywhere f verdict
+  acts-list source ClaimRequest f verdict heeded = kept-list source ClaimRequest f verdict (came-kept ClaimRequest f verdict (λ now a p. refl))
+  acts-list source (Master count) f verdict heeded =
+      one-list source (Master count) f verdict (registering source (holder s source) count s.sets) heeded (λ h. h)
+      (ap (λ (x : State). x.sets) (act-is s source (Hears (Master count) f verdict)) ∙ master-list s source count (heard_at s.now (s.places source)) (holder s source))
+  acts-list source (Member name) f verdict heeded =
+      one-list source (Member name) f verdict (joining (set_at source s.sets) name s.sets) heeded (λ h. h)
+      (ap (λ (x : State). x.sets) (act-is s source (Hears (Member name) f verdict)) ∙ member-list s source name (heard_at s.now (s.places source)) (set_at source s.sets) refl)
+  acts-list source Message f verdict heeded = kept-list source Message f verdict (came-kept Message f verdict (λ now a p. refl))
+  acts-list source Tp f verdict heeded = kept-list source Tp f verdict (came-kept Tp f verdict (λ now a p. refl))
+  acts-list source Etp f verdict heeded = kept-list source Etp f verdict (came-kept Etp f verdict (λ now a p. refl))
+  acts-list source Nothing f verdict heeded = kept-list source Nothing f verdict (came-kept Nothing f verdict (λ now a p. refl))
 
-apart-join : (b : Bool) (x : Set) (sets : List Set) → AreApart sets → AreApart (cond b (with_set x sets) sets)
-apart-join true x sets apart = apart-with x sets apart
-apart-join false x sets apart = apart
+-- ---- the holders are all that counts of the state after it
 
-apart-joining : (o : Option Set) (name : ℕ) (sets : List Set) → AreApart sets → AreApart (joining o name sets)
-apart-joining None name sets apart = apart
-apart-joining (Some x) name sets apart = apart-join (has_place x) (joined x name) sets apart
+answer-same : (s u : State) (source : ℕ) (n : Notice) → u.claims ≡ s.claims → answer_to u source n ≡ answer_to s source n
+answer-same s u source (Claim name) same = ap (λ (c : Claimed). answer c source name) same
+answer-same s u source ClaimRequest same = refl
+answer-same s u source (Master count) same = refl
+answer-same s u source (Member name) same = refl
+answer-same s u source Message same = refl
+answer-same s u source Tp same = refl
+answer-same s u source Etp same = refl
+answer-same s u source Nothing same = refl
 
-apart-registering : (source : ℕ) (o : Option ℕ) (count : ℕ) (sets : List Set) → AreApart sets → AreApart (registering source o count sets)
-apart-registering source None count sets apart = apart
-apart-registering source (Some h) count sets apart = apart-with (mastered source h count) sets apart
+after-same : (t u : State) (source : ℕ) (n : Notice) (sets : List Set) → u.claims ≡ t.claims → sets_after u source n sets ≡ sets_after t source n sets
+after-same t u source (Claim name) sets same = ap (λ (c : Claimed). map (named_at (record t { claims = c }) source) (filter (stays (record t { claims = c })) sets)) same
+after-same t u source ClaimRequest sets same = refl
+after-same t u source (Master count) sets same = ap (λ (c : Claimed). registering source (holder_of c.addresses source) count sets) same
+after-same t u source (Member name) sets same = refl
+after-same t u source Message sets same = refl
+after-same t u source Tp sets same = refl
+after-same t u source Etp sets same = refl
+after-same t u source Nothing sets same = refl
 
-apart-after : (t : State) (source : ℕ) (n : Notice) (sets : List Set) → AreApart sets → AreApart (sets_after t source n sets)
-apart-after t source (Claim name) sets apart = apart-closed t source sets apart
-apart-after t source ClaimRequest sets apart = apart
-apart-after t source (Master count) sets apart = apart-registering source (holder t source) count sets apart
-apart-after t source (Member name) sets apart = apart-joining (set_at source sets) name sets apart
-apart-after t source Message sets apart = apart
-apart-after t source Tp sets apart = apart
-apart-after t source Etp sets apart = apart
-apart-after t source Nothing sets apart = apart
+-- ---- every step
 
--- ---- none at the terminal's own
+module _ (laws : Laws) (s : State) (orderly : IsOrderly s) (is : IsSettled s) where
+  module _ (time : ℕ) where
+    abbrev u : State
+    u = lapsed (at_time s time)
+
+    u-claims : u.claims ≡ s.claims
+    u-claims = claims-lapsed (at_time s time)
+
+    u-list : u.sets ≡ heard_sets s time
+    u-list = lapsed-list s time orderly.apart
+
+    u-orderly : IsOrderly u
+    u-orderly = lapsed-keeps IsOrderly (orderly-kept laws.holders).act (at_time s time) (record { rising = orderly.rising; apart = orderly.apart })
+
+    u-settled : IsSettled u
+    u-settled = record {
+      elsewhere =
+          (λ i. set_at (u-claims i).own (u-list i)) ∙ none-filter s.claims.own (λ set. not (silent (at_time s time) set)) s.sets is.elsewhere;
+      held = λ a apart. lapsed-keeps (IsHeldAt a) (act-held a) (at_time s time) (is.held a (λ h. apart (h ∙ sym (ap (λ (c : Claimed). c.own) u-claims))));
+    }
+
+    frame-list : (f : Frame) (verdict : Verdict) → let m = notice_of s.claims.own s.claims.name f in let after = (step_frame s time f verdict).after in
+        after.sets ≡ cond (loses s f) (heard_sets s time) (sets_after after (source_of f) m (heard_sets s time))
+    frame-list f verdict =
+        let m = notice_of s.claims.own s.claims.name f in
+        let source = source_of f in
+        let acting-list : (settled (acted u source m f verdict)).sets ≡ sets_after (settled (acted u source m f verdict)) source m (heard_sets s time) =
+        settled-list (acted u source m f verdict)
+        ∙ acts-list laws.holders u u-orderly u-settled source m f verdict
+        (λ h. own-heeded s.claims.own s.claims.name f (h ∙ ap (λ (c : Claimed). c.own) u-claims))
+        ∙ ap (sets_after (before u source m) source m) u-list
+        ∙ sym (after-same (before u source m) (settled (acted u source m f verdict)) source m (heard_sets s time)
+        (settled-claims (acted u source m f verdict) ∙ claims-acts (before u source m) (acts u source m f verdict))) in
+        cases m acting-list (is_lost_by (answer_to u source m))
+        ∙ ap (λ a. cond (is_lost_by a) (heard_sets s time) (sets_after (hearing s u source m f verdict).after source m (heard_sets s time))) (answer-same s u source m u-claims)
+      where
+        cases : (m : Notice) → (settled (acted u (source_of f) m f verdict)).sets ≡ sets_after (settled (acted u (source_of f) m f verdict)) (source_of f) m (heard_sets s time)
+            → (b : Bool) → let after = (cond b (losing u) (acting s u (source_of f) m f verdict)).after in
+            after.sets ≡ cond b (heard_sets s time) (sets_after after (source_of f) m (heard_sets s time))
+        cases m listed true = u-list
+        cases m listed false = listed
+
+  action-list : (action : ActionValue) (shown : Bool) → (step_action s action shown).after.sets ≡ s.sets
+  action-list action shown =
+      let t = selecting s action in
+      let hs = at_shown s.shown (Operates action shown) in
+      settled-list (after_acts t hs)
+      ∙ sets-kept t hs (all-shown s.shown)
+      ∙ selecting-same (λ x. x.sets) (λ x o. refl) s action
+    where
+      all-shown : (o : Option ℕ) → AllActs KeepsSets (at_shown o (Operates action shown))
+      all-shown None = tt
+      all-shown (Some a) = (λ now b p. operator-set now b p action shown p.place.content.pool, tt)
+
+  step-list : (e : Event) → (step s e).after.sets ≡ sets_by s (step s e).after e
+  step-list (FrameAt time f verdict) = cases s.lost
+    where
+      cases : (b : Bool) → let m = notice_of s.claims.own s.claims.name f in let after = (cond b (no_step s) (step_frame s time f verdict)).after in
+          after.sets ≡ cond b s.sets (cond (loses s f) (heard_sets s time) (sets_after after (source_of f) m (heard_sets s time)))
+      cases true = refl
+      cases false = frame-list time f verdict
+  step-list (ActionAt action shown) = cases s.lost
+    where
+      cases : (b : Bool) → (cond b (no_step s) (step_action s action shown)).after.sets ≡ s.sets
+      cases true = refl
+      cases false = action-list action shown
+
+-- ---- none at the terminal's own address
 
 none-join : (b : Bool) (q : ℕ) (x : Set) (sets : List Set) → x.address ≢ q → set_at q sets ≡ None → set_at q (cond b (with_set x sets) sets) ≡ None
 none-join true q x sets ne none = at-with_other q x sets ne ∙ none
@@ -200,52 +311,39 @@ none-notice own name t f sets none =
     (λ ne. ap (λ b. set_at own (sets_after t (source_of f) (there b) sets)) (ne_eqb (source_of f) own ne)
     ∙ none-after own t (source_of f) (frame_notice own f) sets ne none)
 
--- ---- after every step
-
-apart-by : (s t : State) (i : Input) → AreApart s.sets → AreApart (sets_by s t i)
-apart-by s t (inputs.Frame time f) apart =
-    let sets = sets_after t (source_of f) (notice_of s.claims.own s.claims.name f) s.sets in
-    cases s.lost (is_lost_by (answer_to s (source_of f) (notice_of s.claims.own s.claims.name f))) sets
-    (apart-after t (source_of f) (notice_of s.claims.own s.claims.name f) s.sets apart)
+none-by : (s t : State) (e : Event) → set_at s.claims.own s.sets ≡ None → set_at s.claims.own (sets_by s t e) ≡ None
+none-by s t (FrameAt time f verdict) none =
+    let sets = heard_sets s time in
+    let still = none-filter s.claims.own (λ set. not (silent (at_time s time) set)) s.sets none in
+    cases s.lost (loses s f) sets (sets_after t (source_of f) (notice_of s.claims.own s.claims.name f) sets) still
+    (none-notice s.claims.own s.claims.name t f sets still)
   where
-    cases : (lost gone : Bool) (sets : List Set) → AreApart sets → AreApart (cond lost s.sets (cond gone s.sets sets))
-    cases true gone sets its = apart
-    cases false true sets its = apart
-    cases false false sets its = its
-apart-by s t (inputs.Operator action) apart = apart
+    cases : (lost gone : Bool) (sets after : List Set) → set_at s.claims.own sets ≡ None → set_at s.claims.own after ≡ None
+        → set_at s.claims.own (cond lost s.sets (cond gone sets after)) ≡ None
+    cases true gone sets after still its = none
+    cases false true sets after still its = still
+    cases false false sets after still its = its
+none-by s t (ActionAt action shown) none = none
 
-none-by : (s t : State) (i : Input) → set_at s.claims.own s.sets ≡ None → set_at s.claims.own (sets_by s t i) ≡ None
-none-by s t (inputs.Frame time f) none =
-    let sets = sets_after t (source_of f) (notice_of s.claims.own s.claims.name f) s.sets in
-    cases s.lost (is_lost_by (answer_to s (source_of f) (notice_of s.claims.own s.claims.name f))) sets
-    (none-notice s.claims.own s.claims.name t f s.sets none)
-  where
-    cases : (lost gone : Bool) (sets : List Set) → set_at s.claims.own sets ≡ None → set_at s.claims.own (cond lost s.sets (cond gone s.sets sets)) ≡ None
-    cases true gone sets its = none
-    cases false true sets its = none
-    cases false false sets its = its
-none-by s t (inputs.Operator action) none = none
+-- ---- the law
 
 pub after-steps : Laws → SetsAfterSteps
 after-steps laws = record {
-  listed = λ s i orderly is. step-list laws.holders s orderly is i;
+  listed = λ s e orderly is. step-list laws s orderly is e;
   first = λ s none. record {
-    apart = subst AreApart (sym none) tt;
     elsewhere = ap (set_at s.claims.own) none;
     held = (held laws).first s none;
   };
   preloaded = λ a s contents apart is. record {
-    apart = subst AreApart (sym (ap (λ (x : State). x.sets) (act-is s a (Preloads contents)))) (apart-with (preloaded a) s.sets is.apart);
     elsewhere =
         (λ i. set_at (act-is s a (Preloads contents) i).claims.own (act-is s a (Preloads contents) i).sets)
         ∙ at-with_other s.claims.own (preloaded a) s.sets apart ∙ is.elsewhere;
     held = (held laws).preloaded a s contents is.held;
   };
-  settled = λ s i orderly is. record {
-    apart = subst AreApart (sym (step-list laws.holders s orderly is i)) (apart-by s (step s i).after i is.apart);
+  settled = λ s e orderly is. record {
     elsewhere =
-        ap (λ q. set_at q (step s i).after.sets) (own-step s i)
-        ∙ ap (set_at s.claims.own) (step-list laws.holders s orderly is i) ∙ none-by s (step s i).after i is.elsewhere;
-    held = (held laws).kept s i orderly is.held;
+        ap (λ q. set_at q (step s e).after.sets) (own-step s e)
+        ∙ ap (set_at s.claims.own) (step-list laws s orderly is e) ∙ none-by s (step s e).after e is.elsewhere;
+    held = (held laws).kept s e orderly is.held;
   };
 }

@@ -1,101 +1,95 @@
 -- What happens at an address depends on no time, apart from the times that its sessions have afterwards.
-use Rattle.std.proofs.Common.{◌≡◌, ℕ, Bool, true, false, cond, ◌||◌, eqb, List, [], Option, Some, None, refl, ap, ◌∙◌, sym, nat_eq}
+use Rattle.std.proofs.Common.{◌≡◌, ℕ, Bool, true, false, cond, ◌||◌, ◌&&◌, ◌++◌, List, [], Option, Some, None, refl, ap, ◌∙◌, sym, nat_eq, is_some}
 use Rattle.std.specs.Option.{option_eq}
 use Rattle.vt_can.specs.declared.frames.frame.Frame.{Frame}
 use Rattle.vt_can.specs.declared.transport.sessions.Timed.{Timed}
+use Rattle.vt_can.specs.lines.Actions.{ActionValue}
 use Rattle.vt_can.specs.transport.Messages as transport
 use Rattle.vt_can.specs.transport.Protocols as protocols
 use Rattle.vt_can.specs.transport.Protocols.{Protocol, IsTimeless}
 use Rattle.vt_can.specs.transport.Sessions.{untimed_session}
 use Rattle.vt_can.specs.transport.Steps.{stepped}
 use Rattle.vt_transport.specs.Protocol as tp
+use Rattle.vt_transport.specs.Senders as sender
+use Rattle.vt_transport.specs.Senders.{AnswersAreTimeless}
+use Rattle.vt_transport.specs.Wire.{tp_frame}
 use Rattle.vt_extended.specs.Protocol as etp
 use Rattle.vt_transport.specs.SessionState as tp_session
 use Rattle.vt_extended.specs.SessionState as etp_session
 use Rattle.vt_machine.specs.Lives.{SetState}
+use Rattle.vt_machine.specs.Operating as operating
 use Rattle.vt_names.specs.Claims.{OtherHoldersStay}
 use Rattle.vt_names.specs.Registry.{Set}
-use Rattle.vt_objects.specs.declared.command.Command.{Command}
-use Rattle.vt_objects.specs.Commands.{command_at}
-use Rattle.vt_server.specs.Commands.{pool_after}
-use Rattle.vt_server.specs.Messages.{technical_reply}
-use Rattle.vt_server.specs.Parts.{Part, Outcome, Act, Hears, Rebinds, Preloads, unchanged, without_set, after_change, after_claim_heard, after_master, after_member, after_command, after_reply, after_message, after_whole, behind, outcome, outcome_of_notice, untimed_part, untimed_outcome}
-use Rattle.vt_server.specs.Places.{Place, with_pool, untimed_place}
-use Rattle.vt_server.specs.Receiving.{taken_of}
+use Rattle.vt_server.specs.Handling.{handled}
+use Rattle.vt_server.specs.Operators.{action_on, fault_of, is_long, is_busy, message_frames, sending_after, ran}
+use Rattle.vt_server.specs.Parts.{Part, Outcome, Act, Hears, Rebinds, Preloads, TpExpires, EtpExpires, SendingExpires, FallsSilent, Operates, Raises, unchanged, without_set, answered, after_change, after_claim_heard, after_master, after_member, after_message, behind, after_came, after_notice, refused_by, with_place, after_action, after_operator, outcome, untimed_part, untimed_outcome}
+use Rattle.vt_server.specs.Places.{Place, no_content, with_content, with_pool, heard_at, untimed_place}
+use Rattle.vt_server.specs.Receiving.{Taken, taken, taken_of}
+use Rattle.vt_server.specs.Sessions.{Came, came, message_to_terminal, timeout_of, sending_timeout}
+use Rattle.vt_server.specs.Transfers.{Verdict}
 use Rattle.vt_server.specs.declared.bus.Notice.{Notice}
 use Rattle.vt_server.specs.declared.bus.Notice.TheVariants.{Claim, ClaimRequest, Master, Member, Message, Tp, Etp, Nothing}
+use Rattle.vt_server.specs.declared.output.OperatorFault.TheVariants.{Busy}
 
 -- what the crates below promise of holders and of times
 pub record Laws : Type 0 where
   pub holders : OtherHoldersStay
   pub tp : tp.IsTimeless
   pub etp : etp.IsTimeless
+  pub sender : AnswersAreTimeless
 
 untimed-twice : {S : Type 0} (o : Option (Timed S)) → untimed_session o ≡ untimed_session (untimed_session o)
 untimed-twice None = refl
 untimed-twice (Some timed) = refl
 
-place-twice : (place : Place) → untimed_place place ≡ untimed_place (untimed_place place)
-place-twice place = λ i. record place { tp = untimed-twice place.tp i; etp = untimed-twice place.etp i }
+pub place-twice : (place : Place) → untimed_place place ≡ untimed_place (untimed_place place)
+place-twice place = λ i. record place {
+  tp = untimed-twice place.tp i;
+  etp = untimed-twice place.etp i;
+  sending = untimed-twice place.sending i;
+  heard = None;
+}
 
--- where the sessions stay
-sessions-kept : (place : Place) (pool : Option SetState) (set : Option Set) (frames : List Frame)
-    → untimed_outcome (record { set = set; place = with_pool place pool; frames = frames })
-    ≡ untimed_outcome (record { set = set; place = with_pool (untimed_place place) pool; frames = frames })
-sessions-kept place pool set frames = λ i. record { set = set; place = with_pool (place-twice place i) pool; frames = frames }
+-- ---- claims, registration and messages, at two places that are alike without times
 
-same : (p : Part) (set : Option Set) (frames : List Frame)
-    → untimed_outcome (record { set = set; place = p.place; frames = frames })
-    ≡ untimed_outcome (record { set = set; place = (untimed_part p).place; frames = frames })
-same p set frames = sessions-kept p.place p.place.pool set frames
+module _ (p : Part) (x : Place) (alike : untimed_place p.place ≡ untimed_place x) where
+  abbrev q : Part
+  q = record p { place = x }
 
--- ---- claims and registration
+  kept-timeless : (set : Option Set) → untimed_outcome (record (unchanged p) { set = set }) ≡ untimed_outcome (record (unchanged q) { set = set })
+  kept-timeless set = ap (λ (u : Place). record (unchanged p) { set = set; place = u }) alike
 
-claim-timeless : (p : Part) (o : Option Set) → untimed_outcome (after_claim_heard p o) ≡ untimed_outcome (after_claim_heard (untimed_part p) o)
-claim-timeless p None = same p p.set []
-claim-timeless p (Some set) = same p (after_claim_heard p (Some set)).set []
+  closed-timeless : untimed_outcome (without_set p) ≡ untimed_outcome (without_set q)
+  closed-timeless = ap (λ (u : Place). record (without_set p) { place = with_content u no_content }) alike
 
-master-timeless : (a : ℕ) (p : Part) (o : Option ℕ) (count : ℕ) → untimed_outcome (after_master a p o count) ≡ untimed_outcome (after_master a (untimed_part p) o count)
-master-timeless a p None count = same p p.set []
-master-timeless a p (Some h) count = same p (after_master a p (Some h) count).set []
+  claim-timeless : (o : Option Set) → untimed_outcome (after_claim_heard p o) ≡ untimed_outcome (after_claim_heard q o)
+  claim-timeless None = kept-timeless p.set
+  claim-timeless (Some set) = kept-timeless (after_claim_heard p (Some set)).set
 
-member-timeless : (p : Part) (o : Option Set) (name : ℕ) → untimed_outcome (after_member p o name) ≡ untimed_outcome (after_member (untimed_part p) o name)
-member-timeless p None name = same p p.set []
-member-timeless p (Some set) name = same p (after_member p (Some set) name).set []
+  master-timeless : (a : ℕ) (o : Option ℕ) (count : ℕ) → untimed_outcome (after_master a p o count) ≡ untimed_outcome (after_master a q o count)
+  master-timeless a None count = kept-timeless p.set
+  master-timeless a (Some h) count = kept-timeless (after_master a p (Some h) count).set
 
-change-timeless : (p : Part) (o : Option Set) → untimed_outcome (after_change p o) ≡ untimed_outcome (after_change (untimed_part p) o)
-change-timeless p None = same p p.set []
-change-timeless p (Some set) = cases (option_eq nat_eq set.name None || option_eq nat_eq set.name p.holder)
-  where
-    cases : (b : Bool) → untimed_outcome (cond b (unchanged p) (without_set p)) ≡ untimed_outcome (cond b (unchanged (untimed_part p)) (without_set (untimed_part p)))
-    cases true = same p p.set []
-    cases false = sessions-kept p.place None None []
+  member-timeless : (o : Option Set) (name : ℕ) → untimed_outcome (after_member p o name) ≡ untimed_outcome (after_member q o name)
+  member-timeless None name = kept-timeless p.set
+  member-timeless (Some set) name = kept-timeless (after_member p (Some set) name).set
 
--- ---- messages
+  change-timeless : (o : Option Set) → untimed_outcome (after_change p o) ≡ untimed_outcome (after_change q o)
+  change-timeless None = kept-timeless p.set
+  change-timeless (Some set) = cases (option_eq nat_eq set.name None || option_eq nat_eq set.name p.holder)
+    where
+      cases : (b : Bool) → untimed_outcome (cond b (unchanged p) (without_set p)) ≡ untimed_outcome (cond b (unchanged q) (without_set q))
+      cases true = kept-timeless p.set
+      cases false = closed-timeless
 
-command-timeless : (a : ℕ) (p : Part) (o : Option Command) → untimed_outcome (after_command a p o) ≡ untimed_outcome (after_command a (untimed_part p) o)
-command-timeless a p None = same p p.set []
-command-timeless a p (Some command) =
-    sessions-kept p.place (pool_after command p.place.pool) p.set (after_command a p (Some command)).frames
+  message-timeless : (a : ℕ) (verdict : Verdict) (o : Option Set) (bytes : Option (List ℕ))
+      → untimed_outcome (after_message a p verdict o bytes) ≡ untimed_outcome (after_message a q verdict o bytes)
+  message-timeless a verdict None bytes = kept-timeless p.set
+  message-timeless a verdict (Some set) None = kept-timeless p.set
+  message-timeless a verdict (Some set) (Some bytes) =
+      ap (λ (u : Place). answered a (record p { place = u }) (handled u.content verdict bytes)) alike
 
-reply-timeless : (a : ℕ) (p : Part) (bytes : List ℕ) (o : Option (List ℕ)) → untimed_outcome (after_reply a p bytes o) ≡ untimed_outcome (after_reply a (untimed_part p) bytes o)
-reply-timeless a p bytes None = command-timeless a p (command_at bytes)
-reply-timeless a p bytes (Some reply) = same p p.set (after_reply a p bytes (Some reply)).frames
-
-message-timeless : (a : ℕ) (p : Part) (bytes : List ℕ) (o : Option Set) → untimed_outcome (after_message a p bytes o) ≡ untimed_outcome (after_message a (untimed_part p) bytes o)
-message-timeless a p bytes None = same p p.set []
-message-timeless a p bytes (Some set) = reply-timeless a p bytes (technical_reply bytes)
-
-whole-timeless : (a : ℕ) (p : Part) (o : Option transport.Message) → untimed_outcome (after_whole a p o) ≡ untimed_outcome (after_whole a (untimed_part p) o)
-whole-timeless a p None = same p p.set []
-whole-timeless a p (Some message) = cases (eqb message.pgn 0xE700)
-  where
-    cases : (b : Bool) → untimed_outcome (cond b (after_message a p message.bytes p.set) (unchanged p))
-        ≡ untimed_outcome (cond b (after_message a (untimed_part p) message.bytes p.set) (unchanged (untimed_part p)))
-    cases true = message-timeless a p message.bytes p.set
-    cases false = same p p.set []
-
--- ---- transport
+-- ---- sessions
 
 module _ {S F R : Type 0} (protocol : Protocol S F R) (law : IsTimeless protocol) where
   stepped-timeless : (now : ℕ) (current : Option (Timed S)) (o : Option F)
@@ -103,55 +97,135 @@ module _ {S F R : Type 0} (protocol : Protocol S F R) (law : IsTimeless protocol
   stepped-timeless now current None = λ i. record { session = untimed-twice current i; reply = None; message = None }
   stepped-timeless now current (Some frame) = law now current frame
 
--- what comes of a session, which stands among the others by `placed`
-heard-timeless : {S R : Type 0} (a : ℕ) (p : Part) (spelled : R → Frame) (placed : Option (Timed S) → Place) (timeless : Option (Timed S) → Place)
-    → ((o : Option (Timed S)) → untimed_place (placed o) ≡ timeless (untimed_session o)) → (out : protocols.Outcome S R)
-    → let t = taken_of spelled out in let u = taken_of spelled (protocols.untimed_outcome out) in
-    untimed_outcome (behind t.frames (after_whole a (record p { place = placed t.session }) t.message))
-    ≡ untimed_outcome (behind u.frames (after_whole a (record p { place = timeless u.session }) u.message))
-heard-timeless a p spelled placed timeless is out =
-    let t = taken_of spelled out in
-    ap (λ (o : Outcome). behind t.frames o) (whole-timeless a (record p { place = placed t.session }) t.message)
-    ∙ ap (λ (place : Place). untimed_outcome (behind t.frames (after_whole a (record p { place = place }) t.message))) (is out.session)
+  abbrev untimed_taken : Taken S → Taken S
+  untimed_taken t = record t { session = untimed_session t.session }
+
+  taken-timeless : (now own a : ℕ) (current : Option (Timed S)) (frame : Frame)
+      → untimed_taken (taken protocol now own a current frame) ≡ untimed_taken (taken protocol 0 own a (untimed_session current) frame)
+  taken-timeless now own a current frame =
+      ap (taken_of (protocol.reply_frame own a)) (stepped-timeless now current (protocol.frame_in own frame))
+
+timeout-timeless : {S F R : Type 0} (protocol : Protocol S F R) (own a : ℕ) (o : Option (Timed S)) → timeout_of protocol own a o ≡ timeout_of protocol own a (untimed_session o)
+timeout-timeless protocol own a None = refl
+timeout-timeless protocol own a (Some timed) = refl
+
+sending-timeless : (own a : ℕ) (o : Option (Timed transport.Message)) → sending_timeout own a o ≡ sending_timeout own a (untimed_session o)
+sending-timeless own a None = refl
+sending-timeless own a (Some timed) = refl
+
+abbrev untimed_came : Came → Came
+untimed_came c = record c { place = untimed_place c.place }
 
 module _ (laws : Laws) where
-  tp-timeless : (now a : ℕ) (p : Part) (frame : Frame) → untimed_outcome (outcome_of_notice now a p Tp frame) ≡ untimed_outcome (outcome_of_notice 0 a (untimed_part p) Tp frame)
-  tp-timeless now a p frame =
-      let spelled = tp.protocol.reply_frame p.terminal a in
-      let said = tp.protocol.frame_in p.terminal frame in
-      let timeless : Option (Timed tp_session.SessionState) → Place = λ o. record (untimed_place p.place) { tp = o } in
-      heard-timeless a p spelled (λ o. record p.place { tp = o }) timeless (λ o. refl) (stepped tp.protocol now p.place.tp said)
-      ∙ (λ i. let u = taken_of spelled (stepped-timeless tp.protocol laws.tp now p.place.tp said i) in
-      untimed_outcome (behind u.frames (after_whole a (record p { place = timeless u.session }) u.message)))
-      ∙ sym (heard-timeless a p spelled (λ o. record (untimed_place p.place) { tp = o }) timeless
-      (λ o. sym (λ i. record (untimed_place p.place) { tp = untimed_session o; etp = untimed-twice p.place.etp i }))
-      (stepped tp.protocol 0 (untimed_session p.place.tp) said))
+  came-timeless : (now own a : ℕ) (place : Place) (n : Notice) (frame : Frame)
+      → untimed_came (came now own a place n frame) ≡ untimed_came (came 0 own a (untimed_place place) n frame)
+  came-timeless now own a place (Claim name) frame = λ i. record { place = place-twice place i; frames = []; message = None }
+  came-timeless now own a place ClaimRequest frame = λ i. record { place = place-twice place i; frames = []; message = None }
+  came-timeless now own a place (Master count) frame = λ i. record { place = place-twice place i; frames = []; message = None }
+  came-timeless now own a place (Member name) frame = λ i. record { place = place-twice place i; frames = []; message = None }
+  came-timeless now own a place Message frame = λ i. record { place = place-twice place i; frames = []; message = Some frame.bytes.items }
+  came-timeless now own a place Tp frame = λ i.
+      let t : Taken tp_session.SessionState = taken-timeless tp.protocol laws.tp now own a place.tp frame i in
+      let given : sender.Answer = laws.sender own a now place.sending (tp_frame own frame) i in
+      record {
+        place = record (untimed_place place) { tp = t.session; etp = untimed-twice place.etp i; sending = given.session };
+        frames = t.frames ++ given.frames;
+        message = message_to_terminal t.message;
+      }
+  came-timeless now own a place Etp frame = λ i.
+      let t : Taken etp_session.SessionState = taken-timeless etp.protocol laws.etp now own a place.etp frame i in
+      record {
+        place = record (untimed_place place) { tp = untimed-twice place.tp i; etp = t.session; sending = untimed-twice place.sending i };
+        frames = t.frames;
+        message = message_to_terminal t.message;
+      }
+  came-timeless now own a place Nothing frame = λ i. record { place = place-twice place i; frames = []; message = None }
 
-  etp-timeless : (now a : ℕ) (p : Part) (frame : Frame) → untimed_outcome (outcome_of_notice now a p Etp frame) ≡ untimed_outcome (outcome_of_notice 0 a (untimed_part p) Etp frame)
-  etp-timeless now a p frame =
-      let spelled = etp.protocol.reply_frame p.terminal a in
-      let said = etp.protocol.frame_in p.terminal frame in
-      let timeless : Option (Timed etp_session.SessionState) → Place = λ o. record (untimed_place p.place) { etp = o } in
-      heard-timeless a p spelled (λ o. record p.place { etp = o }) timeless (λ o. refl) (stepped etp.protocol now p.place.etp said)
-      ∙ (λ i. let u = taken_of spelled (stepped-timeless etp.protocol laws.etp now p.place.etp said i) in
-      untimed_outcome (behind u.frames (after_whole a (record p { place = timeless u.session }) u.message)))
-      ∙ sym (heard-timeless a p spelled (λ o. record (untimed_place p.place) { etp = o }) timeless
-      (λ o. sym (λ i. record (untimed_place p.place) { etp = untimed_session o; tp = untimed-twice p.place.tp i }))
-      (stepped etp.protocol 0 (untimed_session p.place.etp) said))
+  -- what came, apart from times, decides what comes of it
+  came-outcome : (a : ℕ) (p : Part) (verdict : Verdict) (c : Came) → untimed_outcome (after_came a p verdict c) ≡ untimed_outcome (after_came a p verdict (untimed_came c))
+  came-outcome a p verdict c =
+      ap (behind c.frames) (message-timeless (record p { place = c.place }) (untimed_place c.place) (place-twice c.place) a verdict p.set c.message)
 
-  notice-timeless : (now a : ℕ) (p : Part) (n : Notice) (frame : Frame)
-      → untimed_outcome (outcome_of_notice now a p n frame) ≡ untimed_outcome (outcome_of_notice 0 a (untimed_part p) n frame)
-  notice-timeless now a p (Claim name) frame = claim-timeless p p.set
-  notice-timeless now a p ClaimRequest frame = same p p.set []
-  notice-timeless now a p (Master count) frame = master-timeless a p p.holder count
-  notice-timeless now a p (Member name) frame = member-timeless p p.set name
-  notice-timeless now a p Message frame = message-timeless a p frame.bytes.items p.set
-  notice-timeless now a p Tp frame = tp-timeless now a p frame
-  notice-timeless now a p Etp frame = etp-timeless now a p frame
-  notice-timeless now a p Nothing frame = same p p.set []
+  carried-timeless : (now a : ℕ) (p : Part) (x : Place) → untimed_place p.place ≡ untimed_place x → (n : Notice) (frame : Frame) (verdict : Verdict)
+      → untimed_outcome (after_came a p verdict (came now p.terminal a p.place n frame)) ≡ untimed_outcome (after_came a p verdict (came 0 p.terminal a x n frame))
+  carried-timeless now a p x alike n frame verdict =
+      came-outcome a p verdict (came now p.terminal a p.place n frame)
+      ∙ ap (λ c. untimed_outcome (after_came a p verdict c))
+      (came-timeless now p.terminal a p.place n frame
+      ∙ ap (λ (u : Place). untimed_came (came 0 p.terminal a u n frame)) alike
+      ∙ sym (came-timeless 0 p.terminal a x n frame))
+      ∙ sym (came-outcome a p verdict (came 0 p.terminal a x n frame))
 
-  pub outcome-timeless : (now a : ℕ) (p : Part) (h : Act) → untimed_outcome (outcome now a p h) ≡ untimed_outcome (outcome 0 a (untimed_part p) h)
-  outcome-timeless now a p (Hears n frame) = notice-timeless now a p n frame
-  outcome-timeless now a p Rebinds = change-timeless p p.set
-  outcome-timeless now a p (Preloads contents) =
-      sessions-kept p.place (outcome now a p (Preloads contents)).place.pool (outcome now a p (Preloads contents)).set []
+  notice-timeless : (now a : ℕ) (p : Part) (x : Place) → untimed_place p.place ≡ untimed_place x → (n : Notice) (frame : Frame) (verdict : Verdict)
+      → untimed_outcome (after_notice now a p n frame verdict) ≡ untimed_outcome (after_notice 0 a (record p { place = x }) n frame verdict)
+  notice-timeless now a p x alike (Claim name) frame verdict = claim-timeless p x alike p.set
+  notice-timeless now a p x alike ClaimRequest frame verdict = carried-timeless now a p x alike ClaimRequest frame verdict
+  notice-timeless now a p x alike (Master count) frame verdict = master-timeless p x alike a p.holder count
+  notice-timeless now a p x alike (Member name) frame verdict = member-timeless p x alike p.set name
+  notice-timeless now a p x alike Message frame verdict = carried-timeless now a p x alike Message frame verdict
+  notice-timeless now a p x alike Tp frame verdict = carried-timeless now a p x alike Tp frame verdict
+  notice-timeless now a p x alike Etp frame verdict = carried-timeless now a p x alike Etp frame verdict
+  notice-timeless now a p x alike Nothing frame verdict = carried-timeless now a p x alike Nothing frame verdict
+
+-- ---- the operator
+
+busy-timeless : {S : Type 0} (o : Option (Timed S)) → is_some o ≡ is_some (untimed_session o)
+busy-timeless None = refl
+busy-timeless (Some timed) = refl
+
+sent-timeless : (now : ℕ) (bytes : List ℕ) (o : Option (Timed transport.Message))
+    → untimed_session (sending_after now bytes o) ≡ untimed_session (sending_after 0 bytes (untimed_session o))
+sent-timeless now bytes o = cases (is_long bytes)
+  where
+    cases : (b : Bool) → untimed_session (cond b (Some (record { last = now; session = record { pgn = 0xE600; bytes = bytes } })) o)
+        ≡ untimed_session (cond b (Some (record { last = 0; session = record { pgn = 0xE600; bytes = bytes } })) (untimed_session o))
+    cases true = refl
+    cases false = untimed-twice o
+
+either-timeless : (b : Bool) (x y x' y' : Outcome) → untimed_outcome x ≡ untimed_outcome x' → untimed_outcome y ≡ untimed_outcome y'
+    → untimed_outcome (cond b x y) ≡ untimed_outcome (cond b x' y')
+either-timeless true x y x' y' first second = first
+either-timeless false x y x' y' first second = second
+
+action-timeless : (now a : ℕ) (p : Part) (o : Option operating.Action) → untimed_outcome (after_action now a p o) ≡ untimed_outcome (after_action 0 a (untimed_part p) o)
+action-timeless now a p None = kept-timeless p (untimed_place p.place) (place-twice p.place) p.set
+action-timeless now a p (Some (operating.Refused refusal)) = ap (λ (u : Place). record (refused_by p (fault_of refusal)) { place = u }) (place-twice p.place)
+action-timeless now a p (Some (operating.Acts message start raised)) =
+    let q = untimed_part p in
+    let pool = Some (ran start raised) in
+    let frames = message_frames p.terminal a message in
+    let acted = with_place p (record (with_pool p.place pool) { sending = sending_after now message p.place.sending }) frames in
+    let then-acted = with_place q (record (with_pool q.place pool) { sending = sending_after 0 message q.place.sending }) frames in
+    either-timeless (is_busy message p.place.sending) (refused_by p Busy) acted (refused_by q Busy) then-acted
+    (ap (λ (u : Place). record (refused_by p Busy) { place = u }) (place-twice p.place))
+    (λ i. record acted { place = record (with_pool (place-twice p.place i) pool) { sending = sent-timeless now message p.place.sending i } })
+    ∙ ap (λ b. untimed_outcome (cond (is_long message && b) (refused_by q Busy) then-acted)) (busy-timeless p.place.sending)
+
+operator-timeless : (now a : ℕ) (p : Part) (action : ActionValue) (shown : Bool) (o : Option SetState)
+    → untimed_outcome (after_operator now a p action shown o) ≡ untimed_outcome (after_operator 0 a (untimed_part p) action shown o)
+operator-timeless now a p action shown None = kept-timeless p (untimed_place p.place) (place-twice p.place) p.set
+operator-timeless now a p action shown (Some state) = action-timeless now a p (action_on state shown action)
+
+-- ---- whatever happens
+
+pub outcome-timeless : (laws : Laws) (now a : ℕ) (p : Part) (h : Act) → untimed_outcome (outcome now a p h) ≡ untimed_outcome (outcome 0 a (untimed_part p) h)
+outcome-timeless laws now a p (Hears n frame verdict) =
+    notice-timeless laws now a (record p { place = heard_at now p.place }) (heard_at 0 (untimed_place p.place)) (place-twice p.place) n frame verdict
+outcome-timeless laws now a p Rebinds = change-timeless p (untimed_place p.place) (place-twice p.place) p.set
+outcome-timeless laws now a p (Preloads contents) =
+    λ i. record (outcome now a p (Preloads contents)) { place = record (place-twice p.place i) { content = (outcome now a p (Preloads contents)).place.content } }
+outcome-timeless laws now a p TpExpires = λ i. record (outcome now a p TpExpires) {
+  place = record (place-twice p.place i) { tp = None };
+  frames = timeout-timeless tp.protocol p.terminal a p.place.tp i;
+}
+outcome-timeless laws now a p EtpExpires = λ i. record (outcome now a p EtpExpires) {
+  place = record (place-twice p.place i) { etp = None };
+  frames = timeout-timeless etp.protocol p.terminal a p.place.etp i;
+}
+outcome-timeless laws now a p SendingExpires = λ i. record (outcome now a p SendingExpires) {
+  place = record (place-twice p.place i) { sending = None };
+  frames = sending-timeless p.terminal a p.place.sending i;
+}
+outcome-timeless laws now a p FallsSilent = closed-timeless p (untimed_place p.place) (place-twice p.place)
+outcome-timeless laws now a p (Operates action shown) = operator-timeless now a p action shown p.place.content.pool
+outcome-timeless laws now a p (Raises event) = λ i. record (outcome now a p (Raises event)) { place = with_pool (place-twice p.place i) (outcome now a p (Raises event)).place.content.pool }

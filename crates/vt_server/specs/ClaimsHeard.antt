@@ -3,12 +3,10 @@ use Rattle.std.specs.Prelude.{◌≡◌, ℕ, ◌==◌, ◌&&◌, Bool, false, n
 use Rattle.vt_can.specs.frames.Frame.{source_of}
 use Rattle.vt_names.specs.Claims.{Claim, IsHolder}
 use Rattle.vt_server.specs.Bus.{notice_of}
+use Rattle.vt_server.specs.Steps.{Event, FrameAt, ActionAt, after_all}
 use Rattle.vt_server.specs.Terminals.{State, holder}
-use Rattle.vt_server.specs.States.{after_all}
 use Rattle.vt_server.specs.declared.bus.Notice.{Notice}
 use Rattle.vt_server.specs.declared.bus.Notice.TheVariants as notices
-use Rattle.vt_server.specs.declared.input.Input.{Input}
-use Rattle.vt_server.specs.declared.input.Input.TheVariants as inputs
 
 abbrev pub claim_of : ℕ → Notice → List Claim
 claim_of source (notices.Claim name) = record { address = source; name = name } ∷ []
@@ -21,16 +19,16 @@ takes_address own name source _ = false
 
 -- The claims that a terminal hears, the latest first, after those before: all up to the one by which it loses its
 -- own address. Echoes are none.
-abbrev pub claims_heard : ℕ → ℕ → List Claim → List Input → List Claim
+abbrev pub claims_heard : ℕ → ℕ → List Claim → List Event → List Claim
 claims_heard own name before [] = before
-claims_heard own name before (inputs.Frame time frame ∷ inputs) =
+claims_heard own name before (FrameAt time frame verdict ∷ events) =
     if takes_address own name (source_of frame) (notice_of own name frame) then before
-    else claims_heard own name (claim_of (source_of frame) (notice_of own name frame) ++ before) inputs
-claims_heard own name before (inputs.Operator action ∷ inputs) = claims_heard own name before inputs
+    else claims_heard own name (claim_of (source_of frame) (notice_of own name frame) ++ before) events
+claims_heard own name before (ActionAt action shown ∷ events) = claims_heard own name before events
 
 -- The holder of each address after a run is the least NAME among those whose last claim in it was of the address.
 abbrev pub HoldersOfRuns : Type 0
 HoldersOfRuns =
-    (own name : ℕ) (s : State) (inputs : List Input) (address : ℕ)
+    (own name : ℕ) (s : State) (events : List Event) (address : ℕ)
     → s.claims ≡ record { own = own; name = name; addresses = [] } → s.lost ≡ false
-    → IsHolder (claims_heard own name [] inputs) address (holder (after_all s inputs) address)
+    → IsHolder (claims_heard own name [] events) address (holder (after_all s events) address)

@@ -9,6 +9,7 @@ use Rattle.vt_machine.specs.declared.live.Outcome.{Outcome}
 use Rattle.vt_machine.specs.declared.live.Outcome.TheVariants.{Done, Refused}
 use Rattle.vt_machine.specs.Effects.{effect}
 use Rattle.vt_machine.specs.Lives.{SetState, with_objects}
+use Rattle.vt_server.specs.Places.{Content, no_content}
 use Rattle.vt_machine.specs.Machines.{End, Ended, Sticks, run_of, events_of}
 
 -- a pool in whose set no key is held and no input is selected
@@ -49,9 +50,9 @@ abbrev pub deletes : Command → Bool
 deletes DeletePool = true
 deletes _ = false
 
--- the pool of a set after a command, and the error byte of its reply, if it has one
-abbrev pub pool_after : Command → Option SetState → Option SetState
-pool_after command pool = if deletes command then None else option_map (state_after command) pool
+-- the pool of a set after a command, and the error byte of its reply, if it has one; with the pool its transfer goes too
+abbrev pub content_after : Command → Content → Content
+content_after command content = if deletes command then no_content else record content { pool = option_map (state_after command) content.pool }
 
 abbrev pub error_after : Command → Option SetState → Option ℕ
 error_after command pool = if deletes command then Some 0 else option_map (error_of command) pool

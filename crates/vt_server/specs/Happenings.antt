@@ -1,24 +1,35 @@
 -- One address among all: what happens there, and what it makes of that (docs/PROFILE.md, "One address").
-use Rattle.std.specs.Prelude.{◌≡◌, ◌≢◌, ℕ, ◌==◌, Bool, true, false, if◌then◌else◌, List, [], ◌∷◌, ◌++◌, Option, Some, None, nat_eq}
+use Rattle.std.specs.Prelude.{◌≡◌, ◌≢◌, ◌<◌, ℕ, ◌==◌, ◌&&◌, Bool, true, false, if◌then◌else◌, List, [], ◌∷◌, ◌++◌, Option, Some, None, nat_eq, is_some}
 use Rattle.std.specs.Option.{option_eq}
 use Rattle.vt_can.specs.declared.frames.frame.Frame.{Frame}
 use Rattle.vt_can.specs.frames.Frame.{source_of}
+use Rattle.vt_can.specs.lines.Actions.{ActionValue}
+use Rattle.vt_can.specs.transport.Sessions.{is_overdue}
 use Rattle.vt_names.specs.Claims.{Claimed, IsRising, holder_of}
 use Rattle.vt_names.specs.Registry.{Set, set_at}
 use Rattle.vt_objects.specs.Stores.{Contents}
 use Rattle.vt_server.specs.Bus.{notice_of, frame_notice}
-use Rattle.vt_server.specs.Parts.{Part, Outcome, Hears, Rebinds, Preloads, outcome, untimed_part}
-use Rattle.vt_server.specs.Terminals.{State, Sent, holder, part, after_act, hear_claim, answer_to, is_lost_by}
-use Rattle.vt_server.specs.States.{step, after_all, sent_by_all}
-use Rattle.vt_server.specs.declared.input.Input.{Input}
-use Rattle.vt_server.specs.declared.input.Input.TheVariants as inputs
+use Rattle.vt_server.specs.Choosing.{shown_now, ACTIVATE, DEACTIVATE}
+use Rattle.vt_server.specs.Lapses.{at_time, lapsed, is_silent}
+use Rattle.vt_server.specs.Parts.{Part, Outcome, Act, Hears, Rebinds, Preloads, TpExpires, EtpExpires, SendingExpires, FallsSilent, Operates, Raises, outcome, untimed_part}
+use Rattle.vt_server.specs.Steps.{Event, FrameAt, ActionAt, step, after_all, sent_by_all, acted, selecting, at_shown, hear_claim, answer_to, is_lost_by, preloading}
+use Rattle.vt_server.specs.Terminals.{State, Sent, ToOne, ToAll, Refused, holder, part, after_acts}
+use Rattle.vt_server.specs.Transfers.{Verdict}
 
--- A frame comes from the address; the address has another holder; the terminal loses its own address; a pool is
--- preloaded.
+-- A session with the address is silent for too long: one in which it sends, by either protocol, or the one in which it is
+-- sent a message. Its set is. The terminal loses its own address. The address has another holder. A frame comes from it,
+-- with the verdict on the transfer that the frame ends. The operator acts on its set, whose object is shown or not. An
+-- event of its set is raised. A pool is preloaded.
 pub data Happening : Type 0 where
-  FrameHeard : Frame → Happening
-  HolderIs : Option ℕ → Happening
+  TpExpired : Happening
+  EtpExpired : Happening
+  SendingExpired : Happening
+  FellSilent : Happening
   Lost : Happening
+  HolderIs : Option ℕ → Happening
+  FrameHeard : Frame → Verdict → Happening
+  Operated : ActionValue → Bool → Happening
+  EventRaised : ℕ → Happening
   Preloaded : Contents → Happening
 
 -- ---- what the address makes of it, by its own part alone
@@ -37,12 +48,22 @@ response_of p after = record { part = untimed_part (record p { set = after.set; 
 abbrev pub with_holder : Part → Option ℕ → Part
 with_holder p name = record p { holder = name }
 
--- while the terminal has its own address; no time is looked at
+-- An act at the address; no time is looked at.
+abbrev pub by_act : ℕ → Part → Act → Response
+by_act address p act = response_of p (outcome 0 address p act)
+
+-- while the terminal has its own address; the loss takes the holder out of the part
 abbrev pub response_while : ℕ → Part → Happening → Response
-response_while address p (FrameHeard frame) = response_of p (outcome 0 address p (Hears (frame_notice p.terminal frame) frame))
-response_while address p (HolderIs name) = response_of (with_holder p name) (outcome 0 address (with_holder p name) Rebinds)
-response_while address p Lost = without_effect (record p { lost = true })
-response_while address p (Preloaded contents) = response_of p (outcome 0 address p (Preloads contents))
+response_while address p TpExpired = by_act address p TpExpires
+response_while address p EtpExpired = by_act address p EtpExpires
+response_while address p SendingExpired = by_act address p SendingExpires
+response_while address p FellSilent = by_act address p FallsSilent
+response_while address p Lost = without_effect (record p { lost = true; holder = None })
+response_while address p (HolderIs name) = by_act address (with_holder p name) Rebinds
+response_while address p (FrameHeard frame verdict) = by_act address p (Hears (frame_notice p.terminal frame) frame verdict)
+response_while address p (Operated action shown) = by_act address p (Operates action shown)
+response_while address p (EventRaised event) = by_act address p (Raises event)
+response_while address p (Preloaded contents) = by_act address p (Preloads contents)
 
 -- After the loss nothing has effect.
 abbrev pub response : ℕ → Part → Happening → Response
@@ -56,73 +77,122 @@ abbrev pub frames_of_all : ℕ → Part → List Happening → List Frame
 frames_of_all address p [] = []
 frames_of_all address p (h ∷ happenings) = (response address p h).frames ++ frames_of_all address (response address p h).part happenings
 
--- the part of an address in a state, without times
+-- The part of an address in a state, without times. It has a holder while the terminal has its own address.
 abbrev pub own_part : ℕ → State → Part
-own_part address s = untimed_part (part address s)
+own_part address s = untimed_part (with_holder (part address s) (if s.lost then None else holder s address))
 
 -- ---- the happenings of an address, which is not the terminal's own
+
+abbrev pub if_so : Bool → Happening → List Happening
+if_so true happening = happening ∷ []
+if_so false happening = []
+
+abbrev pub is_at : ℕ → Option ℕ → Bool
+is_at address found = option_eq nat_eq found (Some address)
+
+-- by the time of a frame: its sessions, and its set
+abbrev pub lapses : ℕ → State → List Happening
+lapses address s =
+    if_so (is_overdue s.now (s.places address).tp) TpExpired
+    ++ (if_so (is_overdue s.now (s.places address).etp) EtpExpired
+    ++ (if_so (is_overdue s.now (s.places address).sending) SendingExpired
+    ++ if_so (is_some (set_at address s.sets) && is_silent s.now (s.places address).heard) FellSilent))
 
 -- the terminal loses its address by a frame
 abbrev pub loses : State → Frame → Bool
 loses s frame = is_lost_by (answer_to s (source_of frame) (notice_of s.claims.own s.claims.name frame))
 
--- what is heard of addresses after a frame; nothing after the loss
+-- what is heard of addresses after a frame by which the own one is not lost
 abbrev pub claims_after : State → Frame → Claimed
-claims_after s frame =
-    if s.lost then s.claims else if loses s frame then s.claims
-    else hear_claim s (source_of frame) (notice_of s.claims.own s.claims.name frame)
-
-abbrev pub loss : State → Frame → List Happening
-loss s frame = if s.lost then [] else if loses s frame then Lost ∷ [] else []
+claims_after s frame = hear_claim s (source_of frame) (notice_of s.claims.own s.claims.name frame)
 
 abbrev pub holder_change : ℕ → Claimed → Claimed → List Happening
 holder_change address old new =
     if option_eq nat_eq (holder_of old.addresses address) (holder_of new.addresses address) then []
     else HolderIs (holder_of new.addresses address) ∷ []
 
-abbrev pub heard_from : ℕ → Frame → List Happening
-heard_from address frame = if source_of frame == address then FrameHeard frame ∷ [] else []
+-- the events of another set's being shown than before
+abbrev pub events_at : ℕ → Option ℕ → Option ℕ → List Happening
+events_at address was now =
+    if option_eq nat_eq was now then [] else if_so (is_at address was) (EventRaised DEACTIVATE) ++ if_so (is_at address now) (EventRaised ACTIVATE)
 
--- In one input the loss stands first, then the change of the holder, and then the frame.
-abbrev pub happenings : ℕ → State → Input → List Happening
-happenings address s (inputs.Frame time frame) =
-    loss s frame ++ holder_change address s.claims (claims_after s frame) ++ heard_from address frame
-happenings address s (inputs.Operator action) = []
+-- a change of the holder comes before the frame
+abbrev pub heard_happenings : ℕ → State → Frame → Verdict → List Happening
+heard_happenings address s frame verdict =
+    holder_change address s.claims (claims_after s frame) ++ if_so (source_of frame == address) (FrameHeard frame verdict)
 
-abbrev pub happenings_all : ℕ → State → List Input → List Happening
+-- the state after a frame, before the shown set is chosen
+abbrev pub after_frame : State → Frame → Verdict → State
+after_frame s frame verdict = acted s (source_of frame) (notice_of s.claims.own s.claims.name frame) frame verdict
+
+abbrev pub after_action_at : State → ActionValue → Bool → State
+after_action_at s action shown = after_acts (selecting s action) (at_shown s.shown (Operates action shown))
+
+abbrev pub frame_happenings : ℕ → State → Frame → Verdict → List Happening
+frame_happenings address s frame verdict =
+    if loses s frame then Lost ∷ []
+    else heard_happenings address s frame verdict ++ events_at address s.shown (shown_now (after_frame s frame verdict))
+
+abbrev pub happenings : ℕ → State → Event → List Happening
+happenings address s (FrameAt time frame verdict) =
+    if s.lost then [] else lapses address (at_time s time) ++ frame_happenings address (lapsed (at_time s time)) frame verdict
+happenings address s (ActionAt action shown) =
+    if s.lost then []
+    else if_so (is_at address s.shown) (Operated action shown) ++ events_at address s.shown (shown_now (after_action_at s action shown))
+
+abbrev pub happenings_all : ℕ → State → List Event → List Happening
 happenings_all address s [] = []
-happenings_all address s (i ∷ inputs) = happenings address s i ++ happenings_all address (step s i).after inputs
+happenings_all address s (e ∷ events) = happenings address s e ++ happenings_all address (step s e).after events
 
--- ---- the frames to an address; claims go to all and are not counted
+-- ---- the frames to an address; claims and status messages go to all and are not counted
+
+abbrev pub frame_to : ℕ → Sent → List Frame
+frame_to address (ToOne to frame) = if to == address then frame ∷ [] else []
+frame_to address (ToAll frame) = []
+frame_to address (Refused fault) = []
 
 abbrev pub frames_to : ℕ → List Sent → List Frame
 frames_to address [] = []
-frames_to address (s ∷ sent) =
-    if option_eq nat_eq s.to (Some address) then s.frame ∷ frames_to address sent else frames_to address sent
+frames_to address (s ∷ sent) = frame_to address s ++ frames_to address sent
 
 -- ---- Each address takes its own happenings, and no other.
 
-abbrev pub IsOrderly : State → Type 0
-IsOrderly s = IsRising s.claims.addresses
+-- no two sets have the same address
+abbrev pub AreApart : List Set → Type 0
+AreApart [] = Unit {0}
+AreApart (set ∷ sets) = (set_at set.address sets ≡ None) × AreApart sets
+
+-- what every state of a terminal keeps
+pub record IsOrderly (s : State) : Type 0 where
+  pub rising : IsRising s.claims.addresses
+  pub apart : AreApart s.sets
+
+-- an address that is not the terminal's own
+pub record IsOther (address : ℕ) (s : State) : Type 0 where
+  pub small : address < 256
+  pub other : address ≢ s.claims.own
 
 pub record EachTakesItsOwn : Type 0 where
-  -- a step, and the sets and pools that it leaves at an address, with the frames to it
-  pub part_after : (address : ℕ) (s : State) (i : Input) → IsOrderly s → address ≢ s.claims.own
-      → own_part address (step s i).after ≡ part_after_all address (own_part address s) (happenings address s i)
-  pub frames_after : (address : ℕ) (s : State) (i : Input) → IsOrderly s → address ≢ s.claims.own
-      → frames_to address (step s i).sent ≡ frames_of_all address (own_part address s) (happenings address s i)
+  -- a step, and what it leaves at an address, with the frames to it
+  pub part_after : (address : ℕ) (s : State) (e : Event) → IsOrderly s → IsOther address s
+      → own_part address (step s e).after ≡ part_after_all address (own_part address s) (happenings address s e)
+  pub frames_after : (address : ℕ) (s : State) (e : Event) → IsOrderly s → IsOther address s
+      → frames_to address (step s e).sent ≡ frames_of_all address (own_part address s) (happenings address s e)
+  -- an input that makes nothing happen there leaves it as it was
+  pub quiet : (address : ℕ) (s : State) (e : Event) → IsOrderly s → IsOther address s → happenings address s e ≡ []
+      → own_part address (step s e).after ≡ own_part address s
   -- a pool that is preloaded, at its address and elsewhere
   pub preloaded : (address : ℕ) (s : State) (contents : Contents) → s.lost ≡ false
-      → own_part address (after_act s address (Preloads contents)) ≡ part_after_all address (own_part address s) (Preloaded contents ∷ [])
+      → own_part address (preloading s address contents) ≡ part_after_all address (own_part address s) (Preloaded contents ∷ [])
   pub preloaded_elsewhere : (address other : ℕ) (s : State) (contents : Contents) → other ≢ address
-      → own_part other (after_act s address (Preloads contents)) ≡ own_part other s
+      → own_part other (preloading s address contents) ≡ own_part other s
 
 -- Two runs with the same happenings of an address, from the same part of it, leave the same part and send it
 -- the same frames, whatever else they hear.
 abbrev pub OwnHappeningsDecide : Type 0
 OwnHappeningsDecide =
-    (address : ℕ) (s t : State) (xs ys : List Input) → IsOrderly s → IsOrderly t
-    → address ≢ s.claims.own → address ≢ t.claims.own
+    (address : ℕ) (s t : State) (xs ys : List Event) → IsOrderly s → IsOrderly t
+    → IsOther address s → IsOther address t
     → own_part address s ≡ own_part address t → happenings_all address s xs ≡ happenings_all address t ys
     → (own_part address (after_all s xs) ≡ own_part address (after_all t ys))
     × (frames_to address (sent_by_all s xs) ≡ frames_to address (sent_by_all t ys))
@@ -142,6 +212,7 @@ SetsAreHeld s = (address : ℕ) → address ≢ s.claims.own → SetIsHeld (set_
 
 pub record SetsHoldTheirAddress : Type 0 where
   pub first : (s : State) → s.sets ≡ [] → SetsAreHeld s
-  pub preloaded : (address : ℕ) (s : State) (contents : Contents) → SetsAreHeld s → SetsAreHeld (after_act s address (Preloads contents))
-  pub kept : (s : State) (i : Input) → IsOrderly s → SetsAreHeld s → SetsAreHeld (step s i).after
-  pub orderly : (s : State) (i : Input) → IsOrderly s → IsOrderly (step s i).after
+  pub preloaded : (address : ℕ) (s : State) (contents : Contents) → SetsAreHeld s → SetsAreHeld (preloading s address contents)
+  pub kept : (s : State) (e : Event) → IsOrderly s → SetsAreHeld s → SetsAreHeld (step s e).after
+  pub orderly : (s : State) (e : Event) → IsOrderly s → IsOrderly (step s e).after
+  pub orderly_preloaded : (address : ℕ) (s : State) (contents : Contents) → IsOrderly s → IsOrderly (preloading s address contents)

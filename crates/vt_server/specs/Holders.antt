@@ -2,7 +2,8 @@
 use Rattle.std.specs.Prelude.{◌≡◌, ℕ}
 use Rattle.vt_names.specs.Claims.{address_of}
 use Rattle.vt_server.specs.declared.claiming.FormerHolders.{FormerHolders}
-use Rattle.vt_server.specs.Terminals.{State, holder, left_by, left_holder}
+use Rattle.vt_server.specs.Steps.{left_by, left_holder}
+use Rattle.vt_server.specs.Terminals.{State, holder}
 
 -- the address that the claim's NAME leaves, its holder, and that of the source
 pub record AreFormer (s : State) (source name : ℕ) (former : FormerHolders) : Type 0 where

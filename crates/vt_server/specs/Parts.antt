@@ -1,26 +1,32 @@
--- What happens at one address: its set, its pool, its sessions, and the frames to it.
-use Rattle.std.specs.Prelude.{ℕ, ◌==◌, ◌||◌, Bool, if◌then◌else◌, List, [], ◌∷◌, ◌++◌, Option, Some, None, nat_eq}
+-- What happens at one address: its set, its pool, its sessions, and the frames to it (docs/PROFILE.md, "One address").
+use Rattle.std.specs.Prelude.{ℕ, ◌||◌, Bool, if◌then◌else◌, List, [], ◌++◌, Option, Some, None, nat_eq}
 use Rattle.std.specs.Option.{option_eq, option_map, option_to_list}
-use Rattle.vt_can.specs.Assigned.{ECU_TO_VT}
 use Rattle.vt_can.specs.declared.frames.frame.Frame.{Frame}
-use Rattle.vt_can.specs.transport.Messages as transport
+use Rattle.vt_can.specs.lines.Actions.{ActionValue}
 use Rattle.vt_transport.specs.Protocol as tp
 use Rattle.vt_extended.specs.Protocol as etp
 use Rattle.vt_names.specs.Registry.{Set, mastered, has_place, joined, preloaded, bound}
-use Rattle.vt_objects.specs.declared.command.Command.{Command}
-use Rattle.vt_objects.specs.Commands.{command_at}
 use Rattle.vt_objects.specs.Stores.{Contents}
-use Rattle.vt_machine.specs.Lives.{SetState}
-use Rattle.vt_server.specs.Commands.{fresh, pool_after, error_after}
-use Rattle.vt_server.specs.Messages.{message_to, technical_reply}
-use Rattle.vt_server.specs.Places.{Place, with_pool, untimed_place}
-use Rattle.vt_server.specs.Receiving.{taken}
-use Rattle.vt_server.specs.Replies.{reply_to}
+use Rattle.vt_verify.specs.Triggers.{listing}
+use Rattle.vt_verify.specs.Budgets.{budget}
+use Rattle.vt_machine.specs.Lives.{SetState, with_objects}
+use Rattle.vt_machine.specs.Lives.{working_set_in}
+use Rattle.vt_machine.specs.Machines.{shape_in, joined as commands_at, run}
+use Rattle.vt_machine.specs.Operating as operating
+use Rattle.vt_server.specs.Commands.{fresh, store_of}
+use Rattle.vt_server.specs.Handling.{Handled, handled}
+use Rattle.vt_server.specs.Messages.{message_to}
+use Rattle.vt_server.specs.Operators.{action_on, fault_of, is_busy, message_frames, sending_after, ran}
+use Rattle.vt_server.specs.Places.{Place, no_content, with_content, with_pool, heard_at, untimed_place}
+use Rattle.vt_server.specs.Sessions.{Came, came, timeout_of, sending_timeout}
+use Rattle.vt_server.specs.Transfers.{Verdict}
 use Rattle.vt_server.specs.declared.bus.Notice.{Notice}
-use Rattle.vt_server.specs.declared.bus.Notice.TheVariants.{Claim, Master, Member, Message, Tp, Etp}
+use Rattle.vt_server.specs.declared.bus.Notice.TheVariants.{Claim, Master, Member}
+use Rattle.vt_server.specs.declared.output.OperatorFault.{OperatorFault}
+use Rattle.vt_server.specs.declared.output.OperatorFault.TheVariants.{Busy}
 
 -- The part of an address: the terminal's own address and whether that was lost, the holder of this address,
--- its set, and its pool and sessions.
+-- its set, and what is kept of it beside that.
 pub record Part : Type 0 where
   pub terminal : ℕ
   pub lost : Bool
@@ -28,28 +34,39 @@ pub record Part : Type 0 where
   pub set : Option Set
   pub place : Place
 
--- what comes of it, and the frames to the address
+-- what comes of it, the frames to the address, and why an action of the operator was refused there
 pub record Outcome : Type 0 where
   pub set : Option Set
   pub place : Place
   pub frames : List Frame
+  pub refused : Option OperatorFault
 
--- What happens there: a frame from the address says something; the address has another holder; a pool is
--- preloaded.
+-- What happens there: a frame from the address says something; the address has another holder; a pool is preloaded; a
+-- session is silent for too long, or the set; the operator acts on the set, whose object is shown or not; an event of the
+-- set is raised.
 pub data Act : Type 0 where
-  Hears : Notice → Frame → Act
+  Hears : Notice → Frame → Verdict → Act
   Rebinds : Act
   Preloads : Contents → Act
+  TpExpires : Act
+  EtpExpires : Act
+  SendingExpires : Act
+  FallsSilent : Act
+  Operates : ActionValue → Bool → Act
+  Raises : ℕ → Act
 
 abbrev pub unchanged : Part → Outcome
-unchanged p = record { set = p.set; place = p.place; frames = [] }
+unchanged p = record { set = p.set; place = p.place; frames = []; refused = None }
 
 abbrev pub with_other_set : Part → Option Set → Outcome
-with_other_set p set = record { set = set; place = p.place; frames = [] }
+with_other_set p set = record { set = set; place = p.place; frames = []; refused = None }
+
+abbrev pub with_place : Part → Place → List Frame → Outcome
+with_place p place frames = record { set = p.set; place = place; frames = frames; refused = None }
 
 -- the sessions stay
 abbrev pub without_set : Part → Outcome
-without_set p = record { set = None; place = with_pool p.place None; frames = [] }
+without_set p = record { set = None; place = with_content p.place no_content; frames = []; refused = None }
 
 -- ---- claims and registration
 
@@ -79,66 +96,72 @@ abbrev pub after_member : Part → Option Set → ℕ → Outcome
 after_member p None name = unchanged p
 after_member p (Some set) name = with_other_set p (Some (if has_place set then joined set name else set))
 
--- ---- messages of a set
+-- ---- messages
 
--- the pool that a command leaves, and its reply, if it has one
-abbrev pub answered : ℕ → Part → Command → Option SetState → Option ℕ → Outcome
-answered address p command pool error = record {
-  set = p.set;
-  place = with_pool p.place pool;
-  frames = option_to_list (option_map (λ e. message_to p.terminal address (reply_to command e)) error);
-}
+abbrev pub answered : ℕ → Part → Handled → Outcome
+answered address p done =
+    with_place p (with_content p.place done.content) (option_to_list (option_map (message_to p.terminal address) done.reply))
 
-abbrev pub after_command : ℕ → Part → Option Command → Outcome
-after_command address p None = unchanged p
-after_command address p (Some command) = answered address p command (pool_after command p.place.pool) (error_after command p.place.pool)
-
-abbrev pub after_reply : ℕ → Part → List ℕ → Option (List ℕ) → Outcome
-after_reply address p bytes (Some reply) = record { set = p.set; place = p.place; frames = message_to p.terminal address reply ∷ [] }
-after_reply address p bytes None = after_command address p (command_at bytes)
-
--- Only the master of a set is answered.
-abbrev pub after_message : ℕ → Part → List ℕ → Option Set → Outcome
-after_message address p bytes None = unchanged p
-after_message address p bytes (Some set) = after_reply address p bytes (technical_reply bytes)
-
--- ---- transport
-
--- A whole message of another group is dropped.
-abbrev pub after_whole : ℕ → Part → Option transport.Message → Outcome
-after_whole address p None = unchanged p
-after_whole address p (Some message) = if message.pgn == ECU_TO_VT then after_message address p message.bytes p.set else unchanged p
+-- Only the master of a set is heard.
+abbrev pub after_message : ℕ → Part → Verdict → Option Set → Option (List ℕ) → Outcome
+after_message address p verdict (Some set) (Some bytes) = answered address p (handled p.place.content verdict bytes)
+after_message address p verdict _ _ = unchanged p
 
 -- The end of a session goes out before the reply to its message.
 abbrev pub behind : List Frame → Outcome → Outcome
 behind frames after = record after { frames = frames ++ after.frames }
 
-abbrev pub after_tp : ℕ → ℕ → Part → Frame → Outcome
-after_tp now address p frame =
-    let t = taken tp.protocol now p.terminal address p.place.tp frame in
-    behind t.frames (after_whole address (record p { place = record p.place { tp = t.session } }) t.message)
+abbrev pub after_came : ℕ → Part → Verdict → Came → Outcome
+after_came address p verdict c = behind c.frames (after_message address (record p { place = c.place }) verdict p.set c.message)
 
-abbrev pub after_etp : ℕ → ℕ → Part → Frame → Outcome
-after_etp now address p frame =
-    let t = taken etp.protocol now p.terminal address p.place.etp frame in
-    behind t.frames (after_whole address (record p { place = record p.place { etp = t.session } }) t.message)
+abbrev pub after_notice : ℕ → ℕ → Part → Notice → Frame → Verdict → Outcome
+after_notice now address p (Claim name) frame verdict = after_claim_heard p p.set
+after_notice now address p (Master count) frame verdict = after_master address p p.holder count
+after_notice now address p (Member name) frame verdict = after_member p p.set name
+after_notice now address p notice frame verdict = after_came address p verdict (came now p.terminal address p.place notice frame)
+
+-- ---- the operator
+
+abbrev pub refused_by : Part → OperatorFault → Outcome
+refused_by p fault = record (unchanged p) { refused = Some fault }
+
+abbrev pub after_action : ℕ → ℕ → Part → Option operating.Action → Outcome
+after_action now address p None = unchanged p
+after_action now address p (Some (operating.Refused refusal)) = refused_by p (fault_of refusal)
+after_action now address p (Some (operating.Acts message start raised)) =
+    if is_busy message p.place.sending then refused_by p Busy
+    else with_place p (record (with_pool p.place (Some (ran start raised))) { sending = sending_after now message p.place.sending })
+    (message_frames p.terminal address message)
+
+abbrev pub after_operator : ℕ → ℕ → Part → ActionValue → Bool → Option SetState → Outcome
+after_operator now address p action shown None = unchanged p
+after_operator now address p action shown (Some state) = after_action now address p (action_on state shown action)
+
+-- ---- events of the Working Set
+
+-- what the macros leave that run at the event
+abbrev pub raised_on : SetState → ℕ → SetState
+raised_on state event =
+    let shape = shape_in state.objects in let event_of = listing (working_set_in state.objects) event in
+    with_objects state (store_of (run (budget shape (working_set_in state.objects) event) state.objects (commands_at shape event_of)))
 
 -- ---- what an address makes of what happens there
 
-abbrev pub outcome_of_notice : ℕ → ℕ → Part → Notice → Frame → Outcome
-outcome_of_notice now address p (Claim name) frame = after_claim_heard p p.set
-outcome_of_notice now address p (Master count) frame = after_master address p p.holder count
-outcome_of_notice now address p (Member name) frame = after_member p p.set name
-outcome_of_notice now address p Message frame = after_message address p frame.bytes.items p.set
-outcome_of_notice now address p Tp frame = after_tp now address p frame
-outcome_of_notice now address p Etp frame = after_etp now address p frame
-outcome_of_notice now address p _ frame = unchanged p
-
 abbrev pub outcome : ℕ → ℕ → Part → Act → Outcome
-outcome now address p (Hears notice frame) = outcome_of_notice now address p notice frame
+outcome now address p (Hears notice frame verdict) = after_notice now address (record p { place = heard_at now p.place }) notice frame verdict
 outcome now address p Rebinds = after_change p p.set
-outcome now address p (Preloads contents) =
-    record { set = Some (preloaded address); place = with_pool p.place (Some (fresh contents)); frames = [] }
+outcome now address p (Preloads contents) = record {
+  set = Some (preloaded address);
+  place = record p.place { content = record { pool = Some (fresh contents); transfer = [] }; heard = None };
+  frames = [];
+  refused = None;
+}
+outcome now address p TpExpires = with_place p (record p.place { tp = None }) (timeout_of tp.protocol p.terminal address p.place.tp)
+outcome now address p EtpExpires = with_place p (record p.place { etp = None }) (timeout_of etp.protocol p.terminal address p.place.etp)
+outcome now address p SendingExpires = with_place p (record p.place { sending = None }) (sending_timeout p.terminal address p.place.sending)
+outcome now address p FallsSilent = without_set p
+outcome now address p (Operates action shown) = after_operator now address p action shown p.place.content.pool
+outcome now address p (Raises event) = with_place p (with_pool p.place (option_map (λ state. raised_on state event) p.place.content.pool)) []
 
 -- ---- without times
 

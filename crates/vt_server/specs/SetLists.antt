@@ -1,17 +1,20 @@
--- The list of the sets after a step (docs/PROFILE.md, "Closing a set", "Working sets").
-use Rattle.std.specs.Prelude.{◌≡◌, ◌≢◌, ℕ, ◌==◌, Bool, if◌then◌else◌, List, [], ◌∷◌, map, filter, None}
+-- The list of the sets after a step (docs/PROFILE.md, "Closing a set", "Working sets", "Silence").
+use Rattle.std.specs.Prelude.{◌≡◌, ◌≢◌, ℕ, ◌==◌, Bool, not, if◌then◌else◌, List, [], map, filter, None}
 use Rattle.vt_can.specs.frames.Frame.{source_of}
 use Rattle.vt_names.specs.Registry.{Set, set_at, registering, joining}
 use Rattle.vt_objects.specs.Stores.{Contents}
 use Rattle.vt_server.specs.Bus.{notice_of}
 use Rattle.vt_server.specs.Happenings.{loses, IsOrderly, SetsAreHeld}
-use Rattle.vt_server.specs.Parts.{Preloads, stays_under, with_holder_name}
-use Rattle.vt_server.specs.States.{step}
-use Rattle.vt_server.specs.Terminals.{State, holder, after_act}
+use Rattle.vt_server.specs.Lapses.{at_time, silent}
+use Rattle.vt_server.specs.Parts.{stays_under, with_holder_name}
+use Rattle.vt_server.specs.Steps.{Event, FrameAt, ActionAt, step, preloading}
+use Rattle.vt_server.specs.Terminals.{State, holder}
 use Rattle.vt_server.specs.declared.bus.Notice.{Notice}
 use Rattle.vt_server.specs.declared.bus.Notice.TheVariants.{Claim, Master, Member}
-use Rattle.vt_server.specs.declared.input.Input.{Input}
-use Rattle.vt_server.specs.declared.input.Input.TheVariants as inputs
+
+-- the sets that are not silent by the time of a frame, in their order
+abbrev pub heard_sets : State → ℕ → List Set
+heard_sets s time = filter (λ set. not (silent (at_time s time) set)) s.sets
 
 -- a set without a NAME, or with the NAME of its address's holder
 abbrev pub stays : State → Set → Bool
@@ -30,30 +33,25 @@ sets_after t source (Master count) sets = registering source (holder t source) c
 sets_after t source (Member name) sets = joining (set_at source sets) name sets
 sets_after t source _ sets = sets
 
--- The loss changes no set, and nothing does after it.
-abbrev pub sets_by : State → State → Input → List Set
-sets_by s t (inputs.Frame time frame) =
-    if s.lost then s.sets else if loses s frame then s.sets
-    else sets_after t (source_of frame) (notice_of s.claims.own s.claims.name frame) s.sets
-sets_by s t (inputs.Operator action) = s.sets
+-- With the frame by which the address is lost only the silent sets go, and after it none does. An action of the operator
+-- changes no set.
+abbrev pub sets_by : State → State → Event → List Set
+sets_by s t (FrameAt time frame verdict) =
+    if s.lost then s.sets else if loses s frame then heard_sets s time
+    else sets_after t (source_of frame) (notice_of s.claims.own s.claims.name frame) (heard_sets s time)
+sets_by s t (ActionAt action shown) = s.sets
 
 -- ---- of what states it holds
 
--- no two sets have the same address
-abbrev pub AreApart : List Set → Type 0
-AreApart [] = Unit {0}
-AreApart (set ∷ sets) = (set_at set.address sets ≡ None) × AreApart sets
-
--- none has the terminal's own, and one with a NAME has that of its address's holder
+-- no set has the terminal's own address, and one with a NAME has that of its address's holder
 pub record IsSettled (s : State) : Type 0 where
-  pub apart : AreApart s.sets
   pub elsewhere : set_at s.claims.own s.sets ≡ None
   pub held : SetsAreHeld s
 
 pub record SetsAfterSteps : Type 0 where
-  pub listed : (s : State) (i : Input) → IsOrderly s → IsSettled s → (step s i).after.sets ≡ sets_by s (step s i).after i
+  pub listed : (s : State) (e : Event) → IsOrderly s → IsSettled s → (step s e).after.sets ≡ sets_by s (step s e).after e
   -- before the first input, after a preload at another address than the terminal's, and after every input
   pub first : (s : State) → s.sets ≡ [] → IsSettled s
   pub preloaded : (address : ℕ) (s : State) (contents : Contents) → address ≢ s.claims.own → IsSettled s
-      → IsSettled (after_act s address (Preloads contents))
-  pub settled : (s : State) (i : Input) → IsOrderly s → IsSettled s → IsSettled (step s i).after
+      → IsSettled (preloading s address contents)
+  pub settled : (s : State) (e : Event) → IsOrderly s → IsSettled s → IsSettled (step s e).after

@@ -1,56 +1,54 @@
--- What a terminal is seen as.
-use Rattle.std.specs.Prelude.{ℕ, List, [], ◌∷◌, ◌++◌, map, Option, None, get_or}
+-- What a terminal is seen as, and what its calls do.
+use Rattle.std.specs.Prelude.{◌≡◌, ℕ, Option, List, ◌++◌}
 use Rattle.std.specs.FinMap as finite
-use Rattle.vt_machine.specs.Lives.{SetState}
-use Rattle.vt_can.specs.declared.frames.frame.Frame.{Frame}
-use Rattle.vt_server.specs.declared.pools.Pools.{Pools}
-use Rattle.vt_server.specs.declared.terminal.Terminal.{Terminal}
-use Rattle.vt_server.specs.declared.output.Output.{Output}
-use Rattle.vt_server.specs.declared.output.Output.TheVariants as declared
+use Rattle.vt_server.specs.Findings.{IsEventOf, AreEventsOf, IsFound, AreFound}
 use Rattle.vt_server.specs.Nodes.{NodeState}
-use Rattle.vt_server.specs.Places.{Place}
-use Rattle.vt_server.specs.Terminals.{State, Sent, Step, no_step, step_frame}
+use Rattle.vt_server.specs.Outputs.{outputs_of}
+use Rattle.vt_server.specs.Places.{Content, Place}
+use Rattle.vt_server.specs.Steps.{Event, step, after_all, sent_by_all}
+use Rattle.vt_server.specs.Terminals.{State}
+use Rattle.vt_server.specs.Uploads.{content_of}
+use Rattle.vt_server.specs.Watches.{heard_of}
 use Rattle.vt_server.specs.declared.input.Input.{Input}
-use Rattle.vt_server.specs.declared.input.Input.TheVariants as inputs
-
--- the pool of each address
-abbrev pub pools_of : Pools → ℕ → Option SetState
-pools_of pools address = get_or pools.places address None
+use Rattle.vt_server.specs.declared.output.Output.{Output}
+use Rattle.vt_server.specs.declared.terminal.Terminal.{Terminal}
 
 -- what is kept of each address
-abbrev pub places_by : (ℕ → Option SetState) → NodeState → ℕ → Place
-places_by pools node address = record {
-  pool = pools address;
+abbrev pub places_by : (ℕ → Content) → NodeState → (ℕ → Option ℕ) → ℕ → Place
+places_by contents node heard address = record {
+  content = contents address;
   tp = finite.get node.tp address;
   etp = finite.get node.etp address;
+  sending = finite.get node.sending address;
+  heard = heard address;
 }
 
 abbrev pub state_of : Terminal → State
-state_of t = record { claims = t.node.claims; sets = t.registry.sets; places = places_by (pools_of t.pools) t.node; lost = t.lost; now = t.time }
+state_of t = record {
+  claims = t.node.claims;
+  sets = t.registry.sets;
+  places = places_by (content_of t.contents) t.node (heard_of t.watch);
+  selected = t.selected;
+  shown = t.shown;
+  lost = t.lost;
+  now = t.time;
+}
 
--- frames as outputs
-abbrev pub frames_of : List Frame → List Output
-frames_of frames = map (λ f. declared.Frame f) frames
+-- ---- inputs
 
--- the outputs of frames that are sent
-abbrev pub outputs_of : List Sent → List Output
-outputs_of sent = map (λ s. declared.Frame s.frame) sent
+-- A terminal takes an input: what it finds of pools in its course is right, and by that it makes the step of the input, and
+-- adds what the step sends to the outputs.
+pub record TakesInput (old : State) (input : Input) (new : State) (before after : List Output) : Type 0 where
+  pub event : Event
+  pub is_input : IsEventOf input event
+  pub found : IsFound old event
+  pub state : new ≡ (step old event).after
+  pub sent : after ≡ before ++ outputs_of (step old event).sent
 
--- ---- the step for an input
-
-abbrev pub IsOperator : Input → Type 0
-IsOperator (inputs.Operator action) = Unit {0}
-IsOperator (inputs.Frame time frame) = ⊥
-
--- Nothing comes of the operator's actions yet.
-abbrev pub step : State → Input → Step
-step s (inputs.Frame time frame) = step_frame s time frame
-step s (inputs.Operator action) = no_step s
-
-abbrev pub after_all : State → List Input → State
-after_all s [] = s
-after_all s (i ∷ inputs) = after_all (step s i).after inputs
-
-abbrev pub sent_by_all : State → List Input → List Sent
-sent_by_all s [] = []
-sent_by_all s (i ∷ inputs) = (step s i).sent ++ sent_by_all (step s i).after inputs
+-- So too for inputs one after the other.
+pub record TakesInputs (old : State) (inputs : List Input) (new : State) (before after : List Output) : Type 0 where
+  pub events : List Event
+  pub are_inputs : AreEventsOf inputs events
+  pub found : AreFound old events
+  pub state : new ≡ after_all old events
+  pub sent : after ≡ before ++ outputs_of (sent_by_all old events)

@@ -1,24 +1,45 @@
 //! What the terminal does with a frame.
 
-ghost use Rattle.std.specs.Prelude.{◌≡◌, ◌++◌, ◌+◌, ◌<◌, ◌≤◌, false, true, IsOk, OnOk, OnErr, vec_len, vec_capacity};
-ghost use Rattle.std.specs.Option.{option_to_list};
-ghost use Rattle.vt_names.specs.Registry.{set_at};
-ghost use Rattle.vt_server.specs.Parts.{Hears, after_message};
-ghost use Rattle.vt_server.specs.States.{state_of, outputs_of};
+ghost use Rattle.std.specs.Prelude.{◌≡◌, ◌++◌, ◌+◌, ◌<◌, ◌≤◌, ℕ, List, false, true, IsOk, IfOk, OnOk, OnErr, vec_len, vec_capacity};
+ghost use Rattle.vt_can.specs.frames.Frame.{source_of};
+ghost use Rattle.vt_server.specs.Bus.{notice_of};
+ghost use Rattle.vt_server.specs.Choosing.{display};
+ghost use Rattle.vt_server.specs.Displays.{display_value};
+ghost use Rattle.vt_server.specs.Hearings.{IsPrepared, IsReady, IsNoClaim, HasRoom, HasUpload, Hears, TakesFrame, TakesNotice};
+ghost use Rattle.vt_server.specs.Outputs.{outputs_of};
+ghost use Rattle.vt_server.specs.Parts as parts;
+ghost use Rattle.vt_server.specs.States.{state_of, TakesInput};
+ghost use Rattle.vt_server.specs.Steps as steps;
 ghost use Rattle.vt_server.specs.Terminals as spec;
 ghost use Rattle.vt_server.specs.declared.bus.Notice.TheVariants as notices;
+ghost use Rattle.vt_server.specs.declared.input.Input.TheVariants as inputs;
 
 use crate::OutOfMemory;
 use crate::bus::{Notice, notice_of};
-use crate::commands::reply_to;
-use crate::messages::{message_to, technical_reply};
+use crate::choosing::Display;
+use crate::claiming::FormerHolders;
+use crate::messages::claim_from;
 use crate::output::{Output, send};
 use crate::terminal::Terminal;
+use crate::uploading::Upload;
 use vt_can::Frame;
-use vt_objects::Command;
+use vt_can::assigned::NULL_ADDRESS;
+use vt_names::Heard;
 
-/// At most so many outputs come of one input.
-const MOST_OUTPUTS: usize = 1024;
+/// Room for the outputs of one input, of which there are at most 1,024: a frame is never answered by a receiver and by the sender
+/// at once, but there is room for both.
+pub(crate) const MOST_OUTPUTS: usize = 1026;
+
+/// What was made ready for a frame before anything is changed, so that memory for it is not refused any more.
+#[derive(Drop)]
+pub(crate) enum Ready {
+    /// The terminal loses its address by the frame.
+    Loses,
+    /// A claim is recorded, and these were the holders before.
+    Claimed(FormerHolders),
+    /// There is room for the set, the session or the upload that the frame may bring.
+    Prepared(Upload),
+}
 
 impl Terminal {
     /// Hears a frame at a time. All growths are made before the first change.
@@ -28,9 +49,7 @@ impl Terminal {
         frame: &Frame,
         outputs: &mut Vec<Output>,
     ) -> Result<(), OutOfMemory>
-        ensures ok { OnOk result (state_of self.new ≡ (spec.step_frame (state_of self.old) time frame.now).after) }
-        ensures sent { OnOk result (outputs.new.items
-            ≡ outputs.old.items ++ outputs_of (spec.step_frame (state_of self.old) time frame.now).sent) }
+        ensures ok { OnOk result (TakesInput (state_of self.old) (inputs.Frame time frame.now) (state_of self.new) outputs.old.items outputs.new.items) }
         ensures err { OnErr result (state_of self.new ≡ state_of self.old) }
         ensures err_sent { OnErr result (outputs.new.items ≡ outputs.old.items) }
         // A terminal without its address asks for no memory.
@@ -40,89 +59,162 @@ impl Terminal {
             return Ok(());
         }
         outputs.reserve(MOST_OUTPUTS)?;
-        let before = self.time;
-        self.time = before.max(time);
-        if let Err(error) = self.hear_now(frame, outputs) {
-            self.time = before;
-            return Err(error);
-        }
+        let now = self.time.max(time);
+        let notice = notice_of(self.node.own(), self.node.name(), frame);
+        let ready = self.prepare(now, &notice, frame)?;
+        let before = self.display();
+        self.lapse(now, outputs);
+        self.finish(&notice, frame, ready, &before, outputs);
         Ok(())
     }
 
-    // Hears a frame at the latest time so far.
-    fn hear_now(&mut self, frame: &Frame, outputs: &mut Vec<Output>) -> Result<(), OutOfMemory>
-        requires has { (state_of self.old).lost ≡ false }
-        requires room { vec_len outputs.old + 2 ≤ vec_capacity outputs.old }
-        ensures ok { OnOk result (state_of self.new ≡ (spec.step_now (state_of self.old) frame.now).after) }
-        ensures sent { OnOk result (outputs.new.items
-            ≡ outputs.old.items ++ outputs_of (spec.step_now (state_of self.old) frame.now).sent) }
+    /// Makes the room that a frame may want, and records a claim, so that nothing is refused after it.
+    fn prepare(&mut self, now: u64, notice: &Notice, frame: &Frame) -> Result<Ready, OutOfMemory>
+        requires { notice.now ≡ notice_of (state_of self.old).claims.own (state_of self.old).claims.name frame.now }
+        ensures ok { IfOk result (IsPrepared (state_of self.old) self.new now notice.now frame.now) }
         ensures err { OnErr result (state_of self.new ≡ state_of self.old) }
-        ensures err_sent { OnErr result (outputs.new.items ≡ outputs.old.items) }
     {
         let source = frame.id.source();
-        match notice_of(self.node.own(), self.node.name(), frame) {
-            Notice::Claim(name) => self.hear_claim(source, name, outputs),
-            Notice::ClaimRequest => {
-                send(outputs, self.own_claim());
-                Ok(())
-            }
-            Notice::Master { count } => {
-                self.hear_master(source, count)?;
-                Ok(())
-            }
-            Notice::Member(name) => {
-                let _refused = self.registry.member(source, name);
-                Ok(())
+        match *notice {
+            Notice::Claim(name) => match self.node.answer(source, name) {
+                Heard::Lost => Ok(Ready::Loses),
+                meaning => {
+                    let former = self.record(source, name, meaning == Heard::Defend)?;
+                    Ok(Ready::Claimed(former))
+                }
+            },
+            Notice::Master { .. } => {
+                self.registry.reserve(source)?;
+                Ok(Ready::Prepared(Upload::Nothing))
             }
             Notice::Message => {
-                if let Some(reply) = self.answer(source, frame.bytes.as_slice()) {
-                    send(outputs, reply);
-                }
-                Ok(())
+                let upload = self.prepare_frame(source, frame.bytes.as_slice())?;
+                Ok(Ready::Prepared(upload))
             }
-            Notice::Tp => self.hear_tp(frame, outputs),
-            Notice::Etp => self.hear_etp(frame, outputs),
-            Notice::Nothing => Ok(()),
+            Notice::Tp => {
+                let told = self.node.prepare_tp(now, frame)?;
+                let upload = self.prepare_told(source, told)?;
+                Ok(Ready::Prepared(upload))
+            }
+            Notice::Etp => {
+                let told = self.node.prepare_etp(now, frame)?;
+                let upload = self.prepare_told(source, told)?;
+                Ok(Ready::Prepared(upload))
+            }
+            _ => Ok(Ready::Prepared(Upload::Nothing)),
         }
     }
 
-    fn hear_master(&mut self, source: u8, count: u8) -> Result<(), OutOfMemory>
-        ensures ok { OnOk result ((frame : Frame) → state_of self.new
-            ≡ spec.after_act (state_of self.old) source (Hears (notices.Master count) frame)) }
-        ensures err { OnErr result (state_of self.new ≡ state_of self.old) }
+    /// Does what a frame asks for, after what its time ended.
+    fn finish(
+        &mut self,
+        notice: &Notice,
+        frame: &Frame,
+        ready: Ready,
+        before: &Display,
+        outputs: &mut Vec<Output>,
+    )
+        requires room { vec_len outputs.old + 258 ≤ vec_capacity outputs.old }
+        requires ready { (s : spec.State) × IsReady s self.old notice.now frame.now ready }
+        ensures { (old s : spec.State) → display_value before.now ≡ display old → IsReady s self.old notice.now frame.now ready
+            → Hears old s notice.now frame.now (state_of self.new) outputs.old.items outputs.new.items }
     {
-        self.registry.reserve(source)?;
-        self.register(source, count);
-        Ok(())
+        match ready {
+            Ready::Loses => self.lose(outputs),
+            Ready::Claimed(former) => {
+                self.take_claim(frame.id.source(), &former, outputs);
+                self.settle(before, outputs);
+            }
+            Ready::Prepared(upload) => {
+                self.take(notice, frame, upload, outputs);
+                self.settle(before, outputs);
+            }
+        }
+    }
+
+    /// Loses the own address: Cannot Claim goes out, and nothing else from then on. A set that was closed is shown no more.
+    fn lose(&mut self, outputs: &mut Vec<Output>)
+        requires room { vec_len outputs.old + 1 ≤ vec_capacity outputs.old }
+        ensures state { state_of self.new ≡ (steps.losing (state_of self.old)).after }
+        ensures sent { outputs.new.items ≡ outputs.old.items ++ outputs_of (steps.losing (state_of self.old)).sent }
+    {
+        send(outputs, claim_from(NULL_ADDRESS, self.node.name()));
+        if self.shown_pool().is_none() {
+            self.shown = None;
+        }
+        self.lost = true;
+    }
+
+    /// Takes a frame that is no claim.
+    fn take(&mut self, notice: &Notice, frame: &Frame, upload: Upload, outputs: &mut Vec<Output>)
+        requires room { vec_len outputs.old + 257 ≤ vec_capacity outputs.old }
+        requires no_claim { IsNoClaim notice.now }
+        requires rooms { HasRoom self.old notice.now frame.now }
+        requires upload { HasUpload self.old notice.now frame.now upload }
+        ensures takes { TakesFrame (state_of self.old) notice.now frame.now (state_of self.new) outputs.old.items outputs.new.items }
+        ensures left { vec_capacity outputs.old + vec_len outputs.new ≤ vec_capacity outputs.new + vec_len outputs.old + 257 }
+    {
+        if matches!(*notice, Notice::ClaimRequest) {
+            self.answer_request(frame, outputs);
+            return;
+        }
+        let source = frame.id.source();
+        if source == self.node.own() {
+            return;
+        }
+        self.watch.hear(source, self.time);
+        self.take_notice(notice, frame, upload, outputs);
+    }
+
+    /// Answers a request for the terminal's claim.
+    fn answer_request(&mut self, frame: &Frame, outputs: &mut Vec<Output>)
+        requires room { vec_len outputs.old + 1 ≤ vec_capacity outputs.old }
+        ensures takes { TakesFrame (state_of self.old) notices.ClaimRequest frame.now (state_of self.new) outputs.old.items outputs.new.items }
+        ensures left { vec_capacity outputs.old + vec_len outputs.new ≤ vec_capacity outputs.new + vec_len outputs.old + 1 }
+    {
+        send(outputs, self.own_claim());
+        let source = frame.id.source();
+        if source == self.node.own() {
+            return;
+        }
+        self.watch.hear(source, self.time);
+    }
+
+    /// Does what a frame of another node says.
+    fn take_notice(
+        &mut self,
+        notice: &Notice,
+        frame: &Frame,
+        upload: Upload,
+        outputs: &mut Vec<Output>,
+    )
+        requires room { vec_len outputs.old + 257 ≤ vec_capacity outputs.old }
+        requires no_claim { IsNoClaim notice.now }
+        requires rooms { HasRoom self.old notice.now frame.now }
+        requires upload { HasUpload self.old notice.now frame.now upload }
+        ensures takes { TakesNotice (state_of self.old) notice.now frame.now (state_of self.new) outputs.old.items outputs.new.items }
+        ensures left { vec_capacity outputs.old + vec_len outputs.new ≤ vec_capacity outputs.new + vec_len outputs.old + 257 }
+    {
+        let source = frame.id.source();
+        match *notice {
+            Notice::Master { count } => self.register(source, count),
+            Notice::Member(name) => {
+                let _refused = self.registry.member(source, name);
+            }
+            Notice::Message => self.take_message(frame, upload, outputs),
+            Notice::Tp => self.take_tp(frame, upload, outputs),
+            Notice::Etp => self.take_etp(frame, upload, outputs),
+            _ => {}
+        }
     }
 
     // There is room, so only an address without a holder is refused, and then nothing is registered.
     fn register(&mut self, source: u8, count: u8)
         requires room { 0 < self.old.registry.room }
-        ensures { (frame : Frame) → state_of self.new
-            ≡ spec.after_act (state_of self.old) source (Hears (notices.Master count) frame) }
+        ensures { state_of self.new ≡ spec.put source (parts.after_master source (spec.part source (state_of self.old)) (spec.part source (state_of self.old)).holder count) (state_of self.old) }
     {
         let _refused = self
             .registry
             .master(source, self.node.holder(source), count);
-    }
-
-    /// The reply to a message from the master of a set, if it has one.
-    pub(crate) fn answer(&mut self, source: u8, bytes: &[u8]) -> Option<Frame>
-        ensures state { state_of self.new ≡ spec.put source
-            (after_message source (spec.part source (state_of self.old)) bytes.now (set_at source (state_of self.old).sets)) (state_of self.old) }
-        ensures reply { option_to_list result
-            ≡ (after_message source (spec.part source (state_of self.old)) bytes.now (set_at source (state_of self.old).sets)).frames }
-    {
-        if !self.registered(source) {
-            return None;
-        }
-        let own = self.node.own();
-        if let Some(reply) = technical_reply(bytes) {
-            return Some(message_to(own, source, reply));
-        }
-        let command = Command::read(bytes)?;
-        let error = self.pools.apply(source, &command)?;
-        Some(message_to(own, source, reply_to(&command, error)))
     }
 }

@@ -1,8 +1,9 @@
 //! What the definitions of the step come to.
 
+ghost use Rattle.vt_names.specs.Claims.{IsRising};
 ghost use Rattle.vt_server.specs.ClaimsHeard.{HoldersOfRuns};
 ghost use Rattle.vt_server.specs.Sending.{SentAreAddressed};
-ghost use Rattle.vt_server.specs.Happenings.{EachTakesItsOwn, OwnHappeningsDecide, SetsHoldTheirAddress, IsOrderly};
+ghost use Rattle.vt_server.specs.Happenings.{EachTakesItsOwn, OwnHappeningsDecide, SetsHoldTheirAddress};
 ghost use Rattle.vt_server.specs.SetLists.{SetsAfterSteps};
 ghost use Rattle.vt_server.specs.States.{state_of};
 
@@ -17,6 +18,7 @@ pub fn each_takes_its_own()
     vt_names::other_holders_stay();
     vt_transport::laws::steps_are_timeless();
     vt_extended::laws::steps_are_timeless();
+    vt_transport::laws::answers_are_timeless();
 }
 
 /// The law that two runs with the same happenings of an address, from the same part of it, leave the same part
@@ -27,27 +29,39 @@ pub fn own_happenings_decide()
     vt_names::other_holders_stay();
     vt_transport::laws::steps_are_timeless();
     vt_extended::laws::steps_are_timeless();
+    vt_transport::laws::answers_are_timeless();
 }
 
 /// The law that a step leaves each set with a NAME under an address whose holder has that NAME. So to close the
-/// sets of the addresses whose holder is another is to close each set whose NAME isn't its address's holder.
+/// sets of the addresses whose holder is another is to close each set whose NAME isn't its address's holder. No
+/// two sets have one address, and what is heard of addresses stands by rising NAME, as the laws on steps want.
 pub fn sets_hold_their_address()
     ensures { SetsHoldTheirAddress }
 {
     vt_names::other_holders_stay();
     vt_transport::laws::steps_are_timeless();
     vt_extended::laws::steps_are_timeless();
+    vt_transport::laws::answers_are_timeless();
 }
 
-/// The law that a claim closes each set with a NAME that isn't its address's holder, that the others keep their
-/// order, and that a set of its source without a NAME takes the holder's; and what each other input does to the
-/// list of the sets.
+/// The law that a frame of a step to one address is a message, a packet of one, or what manages a session with it,
+/// and one to all a claim or a status; and that a step sends at most 1,024 outputs.
+pub fn sent_are_addressed()
+    ensures { SentAreAddressed }
+{
+    vt_can::laws::parts_are_identifiers();
+}
+
+/// The law that by the time of a frame the sets that are silent are gone; that a claim closes each set with a NAME
+/// that isn't its address's holder, that the others keep their order, and that a set of its source without a NAME
+/// takes the holder's; and what each other input does to the list of the sets.
 pub fn sets_after_steps()
     ensures { SetsAfterSteps }
 {
     vt_names::other_holders_stay();
     vt_transport::laws::steps_are_timeless();
     vt_extended::laws::steps_are_timeless();
+    vt_transport::laws::answers_are_timeless();
 }
 
 /// The law that the holder of each address after a run is the least NAME among those whose last claim in it was of
@@ -58,17 +72,9 @@ pub fn holders_are_of_runs()
     vt_names::holders_are_least();
 }
 
-/// The law that a step sends at most two frames: to one address, messages and what manages its sessions, or a claim
-/// to all.
-pub fn sent_are_addressed()
-    ensures { SentAreAddressed }
-{
-    vt_can::laws::parts_are_identifiers();
-}
-
 /// What a terminal has heard of addresses stands by rising NAME, as the laws on its steps want.
-pub fn terminals_are_orderly(terminal: &Terminal)
-    ensures { IsOrderly (state_of terminal.now) }
+pub fn claims_are_rising(terminal: &Terminal)
+    ensures { IsRising (state_of terminal.now).claims.addresses }
 {
     let _address = terminal.node.address_of(Name::default());
 }

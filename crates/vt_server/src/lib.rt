@@ -4,24 +4,31 @@
 #![tactic(auto)]
 
 mod bus;
+mod choosing;
 mod claiming;
 mod commands;
+mod contents;
+mod ending;
 mod hearing;
 mod input;
+mod lapsing;
 mod law;
 mod messages;
 mod node;
+mod operating;
+mod operator;
 mod output;
-mod pools;
 mod receiving;
 mod terminal;
+mod uploading;
+mod watch;
 
 pub use input::Input;
 pub use law::{
-    each_takes_its_own, holders_are_of_runs, own_happenings_decide, sent_are_addressed,
-    sets_after_steps, sets_hold_their_address, terminals_are_orderly,
+    claims_are_rising, each_takes_its_own, holders_are_of_runs, own_happenings_decide,
+    sent_are_addressed, sets_after_steps, sets_hold_their_address,
 };
-pub use output::Output;
+pub use output::{OperatorFault, Output};
 pub use terminal::{RunFault, Terminal};
 
 /// A growth that was refused.

@@ -1,8 +1,11 @@
 //! Messages from the terminal.
 
 ghost use Rattle.std.specs.Prelude.{◌≡◌, [], ◌∷◌};
+ghost use Rattle.vt_server.specs.Choosing.{status_frame};
+ghost use Rattle.vt_server.specs.Displays.{display_value};
 ghost use Rattle.vt_server.specs.Messages.{message_to, claim_from, memory_status, technical_reply};
 
+use crate::choosing::Display;
 use arrayvec::ArrayVec;
 use byteorder::{ByteOrder, LittleEndian};
 use vt_can::assigned::{ADDRESS_CLAIMED, GLOBAL_ADDRESS, VT_TO_ECU};
@@ -29,6 +32,16 @@ pub(crate) fn message_to(own: u8, address: u8, bytes: [u8; 8]) -> Frame
         id: CanId::new(MESSAGE_PRIORITY, VT_TO_ECU, address, own),
         bytes: ArrayVec::from(bytes),
     }
+}
+
+/// The status message: the set that is shown, its active mask and that mask's soft key mask.
+pub(crate) fn status_frame(own: u8, shown: &Display) -> Frame
+    ensures { result ≡ status_frame own (display_value shown.now) }
+{
+    let mut bytes = [0xFE, shown.address, 0, 0, 0, 0, 0, 0xFF];
+    LittleEndian::write_u16(&mut bytes[2..4], shown.mask.raw());
+    LittleEndian::write_u16(&mut bytes[4..6], shown.soft_keys.raw());
+    message_to(own, GLOBAL_ADDRESS, bytes)
 }
 
 /// Address Claimed, or Cannot Claim from the null address.

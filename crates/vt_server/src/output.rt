@@ -1,22 +1,101 @@
 //! What the terminal sends.
 
-ghost use Rattle.std.specs.Prelude.{◌≡◌, ◌++◌, ◌<◌, ◌≤◌, [], ◌∷◌, vec_len, vec_capacity};
+ghost use Rattle.std.specs.Prelude.{◌≡◌, ◌++◌, ◌+◌, ◌<◌, ◌≤◌, [], ◌∷◌, length, vec_len, vec_capacity};
+ghost use Rattle.vt_server.specs.Outputs.{frames_of};
 ghost use Rattle.vt_server.specs.declared.output.Output.TheVariants as declared;
 
+use arrayvec::ArrayVec;
+use thiserror::Error;
 use vt_can::Frame;
+use vt_machine::OperatorRefusal;
+
+/// Why an action of the operator is refused. A fault's number is its place here, from 1.
+#[derive(Clone, Copy, Debug, PartialEq, Eq, Error)]
+pub enum OperatorFault {
+    /// The object is not shown.
+    #[error("the object is not shown")]
+    NotShown,
+    /// The input is not enabled.
+    #[error("the input is not enabled")]
+    Disabled,
+    /// The number is not accepted.
+    #[error("the number is not accepted")]
+    Range,
+    /// The text is longer than that of the object, or of its variable.
+    #[error("the text is longer than that of the object, or of its variable")]
+    TooLong,
+    /// The object is of another kind.
+    #[error("the object is of another kind")]
+    WrongKind,
+    /// The key is not the one that is held.
+    #[error("the key is not the one that is held")]
+    NotPressed,
+    /// A key is held already.
+    #[error("a key is held already")]
+    Held,
+    /// A message to the working set is still being sent.
+    #[error("a message to the working set is still being sent")]
+    Busy,
+    /// No working set is shown, or there is none with a pool at the address.
+    #[error("no working set is shown, or there is none with a pool at the address")]
+    NoSet,
+}
 
 /// One output of the terminal.
 #[derive(Debug, Drop)]
 pub enum Output {
     /// A frame to the bus.
     Frame(Frame),
+    /// A refusal to the operator.
+    Refused(OperatorFault),
 }
 
 /// Appends a frame for which there is room.
 pub(crate) fn send(outputs: &mut Vec<Output>, frame: Frame)
     requires room { vec_len outputs.old < vec_capacity outputs.old }
     ensures items { outputs.new.items ≡ outputs.old.items ++ declared.Frame frame ∷ [] }
+    ensures len { vec_len outputs.new ≡ vec_len outputs.old + 1 }
     ensures room { vec_capacity outputs.old ≤ vec_capacity outputs.new }
 {
     let _done = outputs.push(Output::Frame(frame));
+}
+
+/// Appends a refusal for which there is room.
+pub(crate) fn refuse(outputs: &mut Vec<Output>, fault: OperatorFault)
+    requires room { vec_len outputs.old < vec_capacity outputs.old }
+    ensures items { outputs.new.items ≡ outputs.old.items ++ declared.Refused fault ∷ [] }
+    ensures len { vec_len outputs.new ≡ vec_len outputs.old + 1 }
+    ensures room { vec_capacity outputs.old ≤ vec_capacity outputs.new }
+{
+    let _done = outputs.push(Output::Refused(fault));
+}
+
+/// Appends frames for which there is room.
+pub(crate) fn send_all(outputs: &mut Vec<Output>, frames: ArrayVec<Frame, 255>)
+    requires room { vec_len outputs.old + length frames.items ≤ vec_capacity outputs.old }
+    ensures items { outputs.new.items ≡ outputs.old.items ++ frames_of frames.items }
+    ensures len { vec_len outputs.new ≡ vec_len outputs.old + length frames.items }
+    ensures room { vec_capacity outputs.old ≤ vec_capacity outputs.new }
+{
+    for frame in frames {
+        send(outputs, frame);
+    }
+}
+
+impl From<OperatorRefusal> for OperatorFault {
+    ghost use Rattle.vt_server.specs.Operators.{fault_of};
+
+    ghost from_gives = { λ refusal fault. fault ≡ fault_of refusal };
+
+    fn from(refusal: OperatorRefusal) -> OperatorFault {
+        match refusal {
+            OperatorRefusal::NotShown => OperatorFault::NotShown,
+            OperatorRefusal::Disabled => OperatorFault::Disabled,
+            OperatorRefusal::Range => OperatorFault::Range,
+            OperatorRefusal::TooLong => OperatorFault::TooLong,
+            OperatorRefusal::WrongKind => OperatorFault::WrongKind,
+            OperatorRefusal::NotPressed => OperatorFault::NotPressed,
+            OperatorRefusal::Held => OperatorFault::Held,
+        }
+    }
 }

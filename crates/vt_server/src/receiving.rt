@@ -1,69 +1,94 @@
 //! What the terminal does with the frames of transport sessions.
 
-ghost use Rattle.std.specs.Prelude.{◌≡◌, ◌++◌, ◌+◌, ◌≤◌, OnOk, OnErr, vec_len, vec_capacity};
+ghost use Rattle.std.specs.Prelude.{◌≡◌, ◌++◌, ◌+◌, ◌≤◌, ℕ, List, [], Option, Some, None, true, is_some, length, vec_len, vec_capacity};
 ghost use Rattle.vt_can.specs.frames.Frame.{source_of};
-ghost use Rattle.vt_server.specs.Parts.{Hears, after_whole};
+ghost use Rattle.vt_can.specs.transport.Receivers.{IsReadyFor};
+ghost use Rattle.vt_names.specs.Registry.{set_at};
+ghost use Rattle.vt_transport.specs.Protocol as tp;
+ghost use Rattle.vt_transport.specs.Wire.{tp_frame};
+ghost use Rattle.vt_extended.specs.Protocol as etp;
+ghost use Rattle.vt_extended.specs.Wire.{etp_frame};
+ghost use Rattle.vt_server.specs.Hearings.{IsReadyForMessage, IsReadyWith, IsReadyNow, Answers, begins_with, TakesNotice, TakesMessage, message_by};
+ghost use Rattle.vt_server.specs.Handling.{TRANSFER};
 ghost use Rattle.vt_server.specs.Receiving.{frames_in, message_in};
-ghost use Rattle.vt_server.specs.States.{state_of, frames_of, outputs_of};
+ghost use Rattle.vt_server.specs.Sessions.{message_to_terminal};
+ghost use Rattle.vt_server.specs.States.{state_of};
 ghost use Rattle.vt_server.specs.Terminals as spec;
+ghost use Rattle.vt_server.specs.Uploads.{content_of, room_of};
 ghost use Rattle.vt_server.specs.declared.bus.Notice.TheVariants as notices;
 
-use crate::OutOfMemory;
-use crate::output::{Output, send};
+use crate::output::{Output, send, send_all};
 use crate::terminal::Terminal;
+use crate::uploading::Upload;
+use arrayvec::ArrayVec;
 use vt_can::assigned::ECU_TO_VT;
-use vt_can::{Frame, Heard};
+use vt_can::{Bytes, Frame, Heard};
 
 impl Terminal {
-    /// Hears a frame of the transport protocol.
-    pub(crate) fn hear_tp(
-        &mut self,
-        frame: &Frame,
-        outputs: &mut Vec<Output>,
-    ) -> Result<(), OutOfMemory>
-        requires room { vec_len outputs.old + 2 ≤ vec_capacity outputs.old }
-        ensures ok { OnOk result (state_of self.new ≡ spec.after_act (state_of self.old) (source_of frame.now) (Hears notices.Tp frame.now)) }
-        ensures sent { OnOk result (outputs.new.items
-            ≡ outputs.old.items ++ outputs_of (spec.sent_by_act (state_of self.old) (source_of frame.now) (Hears notices.Tp frame.now))) }
-        ensures err { OnErr result (state_of self.new ≡ state_of self.old) }
-        ensures err_sent { OnErr result (outputs.new.items ≡ outputs.old.items) }
+    /// Takes a message of one frame.
+    pub(crate) fn take_message(&mut self, frame: &Frame, upload: Upload, outputs: &mut Vec<Output>)
+        requires room { vec_len outputs.old + 1 ≤ vec_capacity outputs.old }
+        requires ready { is_some (set_at (source_of frame.now) (state_of self.old).sets) ≡ true
+            → IsReadyNow (content_of self.old.contents (source_of frame.now)) (room_of self.old.contents (source_of frame.now)) frame.now.bytes.items upload }
+        ensures takes { TakesNotice (state_of self.old) notices.Message frame.now (state_of self.new) outputs.old.items outputs.new.items }
+        ensures left { vec_capacity outputs.old + vec_len outputs.new ≤ vec_capacity outputs.new + vec_len outputs.old + 1 }
     {
-        let heard = self.node.hear_tp(self.time, frame)?;
-        self.receive(frame.id.source(), heard, outputs);
-        Ok(())
+        if let Some(reply) = self.answer(frame.id.source(), frame.bytes.as_slice(), upload) {
+            send(outputs, reply);
+        }
     }
 
-    /// Hears a frame of the extended transport protocol.
-    pub(crate) fn hear_etp(
-        &mut self,
-        frame: &Frame,
-        outputs: &mut Vec<Output>,
-    ) -> Result<(), OutOfMemory>
-        requires room { vec_len outputs.old + 2 ≤ vec_capacity outputs.old }
-        ensures ok { OnOk result (state_of self.new ≡ spec.after_act (state_of self.old) (source_of frame.now) (Hears notices.Etp frame.now)) }
-        ensures sent { OnOk result (outputs.new.items
-            ≡ outputs.old.items ++ outputs_of (spec.sent_by_act (state_of self.old) (source_of frame.now) (Hears notices.Etp frame.now))) }
-        ensures err { OnErr result (state_of self.new ≡ state_of self.old) }
-        ensures err_sent { OnErr result (outputs.new.items ≡ outputs.old.items) }
+    /// Takes a frame of the transport protocol, as the one that receives and as the one that sends.
+    pub(crate) fn take_tp(&mut self, frame: &Frame, upload: Upload, outputs: &mut Vec<Output>)
+        requires room { vec_len outputs.old + 257 ≤ vec_capacity outputs.old }
+        requires session { IsReadyFor tp.protocol (tp_frame self.old.node.claims.own frame.now) self.old.node.tp_room }
+        requires ready { is_some (set_at (source_of frame.now) (state_of self.old).sets) ≡ true
+            → IsReadyForMessage (content_of self.old.contents (source_of frame.now)) (room_of self.old.contents (source_of frame.now))
+            (message_by self.old self.old.time ((state_of self.old).places (source_of frame.now)) notices.Tp frame.now) upload }
+        ensures takes { TakesNotice (state_of self.old) notices.Tp frame.now (state_of self.new) outputs.old.items outputs.new.items }
+        ensures left { vec_capacity outputs.old + vec_len outputs.new ≤ vec_capacity outputs.new + vec_len outputs.old + 257 }
     {
-        let heard = self.node.hear_etp(self.time, frame)?;
-        self.receive(frame.id.source(), heard, outputs);
-        Ok(())
+        let heard = self.node.hear_tp(self.time, frame);
+        let sent = self.node.hear_as_sender(self.time, frame);
+        self.receive(frame.id.source(), heard, sent, upload, outputs);
     }
 
-    /// Sends what a receiver answers, and handles the message that is whole. The end of its session goes out before
+    /// Takes a frame of the extended transport protocol.
+    pub(crate) fn take_etp(&mut self, frame: &Frame, upload: Upload, outputs: &mut Vec<Output>)
+        requires room { vec_len outputs.old + 2 ≤ vec_capacity outputs.old }
+        requires session { IsReadyFor etp.protocol (etp_frame self.old.node.claims.own frame.now) self.old.node.etp_room }
+        requires ready { is_some (set_at (source_of frame.now) (state_of self.old).sets) ≡ true
+            → IsReadyForMessage (content_of self.old.contents (source_of frame.now)) (room_of self.old.contents (source_of frame.now))
+            (message_by self.old self.old.time ((state_of self.old).places (source_of frame.now)) notices.Etp frame.now) upload }
+        ensures takes { TakesNotice (state_of self.old) notices.Etp frame.now (state_of self.new) outputs.old.items outputs.new.items }
+        ensures left { vec_capacity outputs.old + vec_len outputs.new ≤ vec_capacity outputs.new + vec_len outputs.old + 2 }
+    {
+        let heard = self.node.hear_etp(self.time, frame);
+        self.receive(frame.id.source(), heard, ArrayVec::new(), upload, outputs);
+    }
+
+    /// Sends what a receiver and the sender answer, and handles the message that is whole. The end of its session goes out before
     /// the reply to it.
-    fn receive(&mut self, source: u8, heard: Heard, outputs: &mut Vec<Output>)
-        requires room { vec_len outputs.old + 2 ≤ vec_capacity outputs.old }
-        ensures state { state_of self.new
-            ≡ spec.put source (after_whole source (spec.part source (state_of self.old)) (message_in heard)) (state_of self.old) }
-        ensures sent { outputs.new.items
-            ≡ (outputs.old.items ++ frames_of (frames_in heard))
-            ++ frames_of (after_whole source (spec.part source (state_of self.old)) (message_in heard)).frames }
+    fn receive(
+        &mut self,
+        source: u8,
+        heard: Heard,
+        sent: ArrayVec<Frame, 255>,
+        upload: Upload,
+        outputs: &mut Vec<Output>,
+    )
+        requires room { vec_len outputs.old + length sent.items + 2 ≤ vec_capacity outputs.old }
+        requires ready { is_some (set_at source (state_of self.old).sets) ≡ true
+            → IsReadyForMessage (content_of self.old.contents source) (room_of self.old.contents source) (message_to_terminal (message_in heard)) upload }
+        ensures takes { TakesMessage (state_of self.old) source (frames_in heard ++ sent.items) (message_to_terminal (message_in heard)) (state_of self.new) outputs.old.items outputs.new.items }
+        ensures left { vec_capacity outputs.old + vec_len outputs.new ≤ vec_capacity outputs.new + vec_len outputs.old + length sent.items + 2 }
     {
         match heard {
-            Heard::Nothing => {}
-            Heard::Reply(reply) => send(outputs, reply),
+            Heard::Nothing => send_all(outputs, sent),
+            Heard::Reply(reply) => {
+                send(outputs, reply);
+                send_all(outputs, sent);
+            }
             Heard::Message {
                 pgn,
                 bytes,
@@ -71,13 +96,41 @@ impl Terminal {
                 ..
             } => {
                 send(outputs, reply);
+                send_all(outputs, sent);
                 if pgn == ECU_TO_VT {
-                    let bytes = bytes.into_vec();
-                    if let Some(reply) = self.answer(source, &bytes) {
-                        send(outputs, reply);
-                    }
+                    self.take_whole(source, bytes, upload, outputs);
                 }
             }
+        }
+    }
+
+    /// Handles a message that came in packets. A piece of a pool is taken over as it is.
+    fn take_whole(&mut self, source: u8, bytes: Bytes, upload: Upload, outputs: &mut Vec<Output>)
+        requires room { vec_len outputs.old + 1 ≤ vec_capacity outputs.old }
+        requires ready { is_some (set_at source (state_of self.old).sets) ≡ true
+            → IsReadyWith (content_of self.old.contents source) (room_of self.old.contents source) bytes upload }
+        ensures takes { TakesMessage (state_of self.old) source [] (Some bytes) (state_of self.new) outputs.old.items outputs.new.items }
+        ensures left { vec_capacity outputs.old + vec_len outputs.new ≤ vec_capacity outputs.new + vec_len outputs.old + 1 }
+    {
+        let bytes = bytes.into_vec();
+        match upload {
+            Upload::Room => self.take_piece(source, bytes),
+            upload => {
+                if let Some(reply) = self.answer(source, &bytes, upload) {
+                    send(outputs, reply);
+                }
+            }
+        }
+    }
+
+    /// Adds a piece to the pool that a set uploads.
+    fn take_piece(&mut self, source: u8, piece: Vec<u8>)
+        requires { is_some (set_at source (state_of self.old).sets) ≡ true
+            → begins_with TRANSFER piece.items × (length piece.items ≤ 1 + room_of self.old.contents source) }
+        ensures { Answers (state_of self.old) source piece.items None (state_of self.new) }
+    {
+        if self.registered(source) {
+            self.contents.feed(source, piece, 1);
         }
     }
 }

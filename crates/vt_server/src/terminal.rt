@@ -4,31 +4,37 @@ ghost use Rattle.std.specs.Prelude.{◌≡◌, ◌≢◌, ◌≤◌, ◌++◌, �
 ghost use Rattle.std.specs.Option.{option_map};
 ghost use Rattle.vt_names.specs.Registry.{set_at};
 ghost use Rattle.vt_objects.specs.Stores.{map_of};
-ghost use Rattle.vt_server.specs.Parts.{Preloads};
 ghost use Rattle.vt_server.specs.Places.{empty};
-ghost use Rattle.vt_server.specs.States.{IsOperator, state_of, outputs_of, step, after_all, sent_by_all};
-ghost use Rattle.vt_server.specs.Terminals as spec;
+ghost use Rattle.vt_server.specs.Screens.{GainsScreenOf};
+ghost use Rattle.vt_server.specs.States.{state_of, TakesInput, TakesInputs};
+ghost use Rattle.vt_server.specs.Steps.{preloading};
 
 use crate::OutOfMemory;
+use crate::contents::Contents;
 use crate::input::Input;
 use crate::node::Node;
 use crate::output::Output;
-use crate::pools::Pools;
+use crate::watch::Watch;
 use std::alloc::Global;
 use thiserror::Error;
+use vt_layout::draw;
 use vt_machine::Live;
 use vt_names::{Name, Registry};
 use vt_objects::SortedStore;
 use vt_verify::Accepted;
 
-/// A terminal at an address of its own: its working sets, their pools, and what it has heard of the
-/// addresses of others.
+/// A terminal at an address of its own: its working sets, their pools, what it has heard of the addresses of others, and the
+/// working set that it shows.
 #[derive(Drop)]
 pub struct Terminal {
     pub(crate) alloc: Global,
     pub(crate) node: Node,
     pub(crate) registry: Registry,
-    pub(crate) pools: Pools,
+    pub(crate) contents: Contents,
+    pub(crate) watch: Watch,
+    // The working set that the operator has chosen, and the one that is shown, by their addresses.
+    pub(crate) selected: Option<u8>,
+    pub(crate) shown: Option<u8>,
     // Whether a lower NAME has claimed the own address.
     pub(crate) lost: bool,
     // The latest time so far, in microseconds.
@@ -50,6 +56,8 @@ impl Terminal {
         ensures claims { (state_of result).claims ≡ record { own = own; name = name; addresses = [] } }
         ensures sets { (state_of result).sets ≡ [] }
         ensures places { (address : ℕ) → (state_of result).places address ≡ empty }
+        ensures selected { (state_of result).selected ≡ None }
+        ensures shown { (state_of result).shown ≡ None }
         ensures lost { (state_of result).lost ≡ false }
         ensures now { (state_of result).now ≡ 0 }
     {
@@ -57,7 +65,10 @@ impl Terminal {
             alloc,
             node: Node::new(alloc, own, name),
             registry: Registry::new(alloc),
-            pools: Pools::new(),
+            contents: Contents::new(),
+            watch: Watch::new(),
+            selected: None,
+            shown: None,
             lost: false,
             time: 0,
         }
@@ -72,56 +83,69 @@ impl Terminal {
 
     /// The object pool of the working set of an address, if it has one.
     pub fn set(&self, address: u8) -> Option<&Live<SortedStore>>
-        ensures { option_map (λ live. live.now) result ≡ ((state_of self.now).places address).pool }
+        ensures { option_map (λ live. live.now) result ≡ ((state_of self.now).places address).content.pool }
     {
-        self.pools.get(address)
+        self.contents.pool(address)
     }
 
-    /// Adds a working set without a NAME, with the objects of an accepted pool. There is none of that address yet, and
-    /// the address is at most 253 and not the terminal's own. Nothing is sent. After `OutOfMemory` the
-    /// terminal is as it was. docs/PROFILE.md, "Preloaded sets".
+    /// The address of the working set that is shown, if one is. docs/PROFILE.md, "The shown set and the selected set".
+    pub fn shown(&self) -> Option<u8>
+        ensures { result ≡ (state_of self.now).shown }
+    {
+        self.shown
+    }
+
+    /// Appends the screen of the working set that is shown as text, or that none is. After `OutOfMemory` the vector is as it was.
+    /// docs/PROFILE.md, "The drawing and the screen text".
+    pub fn screen(&self, out: &mut Vec<u8>) -> Result<(), OutOfMemory>
+        ensures ok { OnOk result (GainsScreenOf (state_of self.now) out.old.items out.new.items) }
+        ensures err { OnErr result (out.new.items ≡ out.old.items) }
+    {
+        match self.shown_pool() {
+            Some((address, live)) => draw(self.alloc, address, live, out),
+            None => out.extend_from_slice(b"screen none\n"),
+        }
+    }
+
+    /// Adds a working set without a NAME, with the objects of an accepted pool, and chooses the set that is shown. There is none
+    /// of that address yet, and the address is at most 253 and not the terminal's own. No event is raised, and nothing is sent.
+    /// After `OutOfMemory` the terminal is as it was. docs/PROFILE.md, "Preloaded sets".
     pub fn preload(&mut self, address: u8, pool: &Accepted) -> Result<(), OutOfMemory>
         requires none { set_at address (state_of self.old).sets ≡ None }
         requires claimed { address ≤ 253 }
         requires other { address ≢ (state_of self.old).claims.own }
-        ensures ok { OnOk result (state_of self.new ≡ spec.after_act (state_of self.old) address (Preloads (map_of pool.now))) }
+        ensures ok { OnOk result (state_of self.new ≡ preloading (state_of self.old) address (map_of pool.now)) }
         ensures err { OnErr result (state_of self.new ≡ state_of self.old) }
     {
         let live = Live::new(self.alloc, pool)?;
         self.registry.preload(address)?;
-        self.pools.put(address, live);
+        self.contents.put(address, live);
+        self.watch.preload(address);
+        self.choose();
         Ok(())
     }
 
-    /// Takes one input and appends what the terminal sends. After `OutOfMemory` the terminal and the outputs
-    /// are as they were. docs/PROFILE.md, "The order of a step".
+    /// Takes one input and appends what the terminal sends, at most 1,024 outputs. After `OutOfMemory` the terminal and the
+    /// outputs are as they were. docs/PROFILE.md, "The order of a step".
     pub fn step(&mut self, input: &Input<'_>, outputs: &mut Vec<Output>) -> Result<(), OutOfMemory>
-        ensures ok { OnOk result (state_of self.new ≡ (step (state_of self.old) input.now).after) }
-        ensures sent { OnOk result (outputs.new.items ≡ outputs.old.items ++ outputs_of (step (state_of self.old) input.now).sent) }
+        ensures ok { OnOk result (TakesInput (state_of self.old) input.now (state_of self.new) outputs.old.items outputs.new.items) }
         ensures err { OnErr result (state_of self.new ≡ state_of self.old) }
         ensures err_sent { OnErr result (outputs.new.items ≡ outputs.old.items) }
-        // An operator's line, and a terminal without its address, ask for no memory.
-        ensures operator { IsOperator input.now → IsOk result }
+        // A terminal without its address asks for no memory.
         ensures lost { (state_of self.old).lost ≡ true → IsOk result }
     {
         match input {
-            Input::Frame { time, frame } => {
-                self.hear(*time, frame, outputs)?;
-                Ok(())
-            }
-            Input::Operator(_) => Ok(()),
+            Input::Frame { time, frame } => self.hear(*time, frame, outputs),
+            Input::Operator(action) => self.operate(action, outputs),
         }
     }
 
     /// Takes inputs in their order and appends what the terminal sends. After a fault the terminal and the
     /// outputs are those of the inputs before the one it names.
     pub fn run(&mut self, inputs: &[Input<'_>], outputs: &mut Vec<Output>) -> Result<(), RunFault>
-        ensures ok { OnOk result (state_of self.new ≡ after_all (state_of self.old) inputs.now) }
-        ensures sent { OnOk result (outputs.new.items ≡ outputs.old.items ++ outputs_of (sent_by_all (state_of self.old) inputs.now)) }
+        ensures ok { OnOk result (TakesInputs (state_of self.old) inputs.now (state_of self.new) outputs.old.items outputs.new.items) }
         ensures within { IfErr result (λ fault. fault.at < length inputs.now) }
-        ensures fault { IfErr result (λ fault. state_of self.new ≡ after_all (state_of self.old) (take fault.at inputs.now)) }
-        ensures fault_sent { IfErr result (λ fault. outputs.new.items
-            ≡ outputs.old.items ++ outputs_of (sent_by_all (state_of self.old) (take fault.at inputs.now))) }
+        ensures fault { IfErr result (λ fault. TakesInputs (state_of self.old) (take fault.at inputs.now) (state_of self.new) outputs.old.items outputs.new.items) }
     {
         for (at, input) in inputs.iter().enumerate() {
             match self.step(input, outputs) {

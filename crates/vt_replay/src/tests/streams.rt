@@ -54,7 +54,7 @@ impl Write for Narrow {
 
 const LOG: &[u8] = b"(1.000000) can0 14E7\n# one\n\n(1.000000) can0 18EEFF80#\n(1.0";
 
-const TEXT: &[u8] = b"line 1 Shape\nline 5 Time\n\
+const TEXT: &[u8] = b"screen none\nline 1 Shape\nline 5 Time\n\
     lines 5 frames 1 operator 0 skipped 0 comments 2 faults 2\n";
 
 const COUNTS: Counts = Counts {
@@ -92,7 +92,7 @@ fn pieces_make_no_difference(rt: HostRuntime) {
 const FAULTY: &[u8] = b"(1.000000) can0 14E7\n";
 
 const FAULTY_TEXT: &[u8] =
-    b"line 1 Shape\nlines 1 frames 0 operator 0 skipped 0 comments 0 faults 1\n";
+    b"screen none\nline 1 Shape\nlines 1 frames 0 operator 0 skipped 0 comments 0 faults 1\n";
 
 #[test]
 fn a_reader_that_fails(rt: HostRuntime) {
@@ -105,7 +105,7 @@ fn a_reader_that_fails(rt: HostRuntime) {
     let mut out = Vec::new(rt.alloc());
     let end = replay(rt.alloc(), &mut reader, &mut out, &mut terminal);
     assert!(&rt; matches!(end, Err(ReplayFault::Read)));
-    assert_eq!(&rt; out.as_slice(), b"line 1 Shape\n".as_slice());
+    assert_eq!(&rt; out.as_slice(), b"screen none\nline 1 Shape\n".as_slice());
 }
 
 /// Whether a writer with room for so many bytes ends the replay, and has the front of its text.
@@ -125,6 +125,57 @@ fn writers_that_fail(rt: HostRuntime) {
         let cut = is_cut(rt.alloc(), room);
         assert!(&rt; cut, "{room}");
     }
+}
+
+/// A writer that holds bytes back until it is flushed, which may fail.
+#[derive(Drop)]
+struct Holding {
+    held: Vec<u8>,
+    written: Vec<u8>,
+    fails: bool,
+}
+
+impl Write for Holding {
+    fn write(&mut self, buf: &[u8]) -> io::Result<usize> {
+        self.held.extend_from_slice(buf)?;
+        Ok(buf.len())
+    }
+
+    fn flush(&mut self) -> io::Result<()> {
+        if self.fails {
+            return Err(Error::from(ErrorKind::Other));
+        }
+        self.written.extend_from_slice(&self.held)?;
+        self.held.clear();
+        Ok(())
+    }
+}
+
+/// Whether a replay whose reader fails at last ends with a fault, and has this written out by then.
+fn is_written_out(alloc: Global, fails: bool, fault: ReplayFault, wanted: &[u8]) -> bool {
+    let mut reader = Pieces {
+        rest: FAULTY,
+        most: FAULTY.len(),
+        fails: true,
+    };
+    let mut writer = Holding {
+        held: Vec::new(alloc),
+        written: Vec::new(alloc),
+        fails,
+    };
+    let mut terminal = Terminal::new(alloc, 0x26, Name::from_raw(1));
+    match replay(alloc, &mut reader, &mut writer, &mut terminal) {
+        Ok(_) => false,
+        Err(end) => end == fault && writer.written.as_slice() == wanted,
+    }
+}
+
+#[test]
+fn lines_are_written_out_before_the_next_read(rt: HostRuntime) {
+    let text = b"screen none\nline 1 Shape\n";
+    let read = is_written_out(rt.alloc(), false, ReplayFault::Read, text);
+    let write = is_written_out(rt.alloc(), true, ReplayFault::Write, b"");
+    assert!(&rt; read && write);
 }
 
 /// Whether a report is cut at three bytes, and no fault is named.

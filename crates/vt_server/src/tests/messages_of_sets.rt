@@ -13,6 +13,8 @@ const MEMORY: &str = "14E68026#C00300FFFFFFFFFF";
 
 const KEYS: &str = "14E68026#C2FFFFFF40404006";
 
+const NONE_SHOWN: &str = "14E6FF26#FEFEFFFFFFFF00FF";
+
 // What is heard, and what is sent.
 type Said = (&'static [&'static str], &'static [&'static str]);
 
@@ -151,6 +153,7 @@ const CASES: [Said; 16] = [
         ],
         &[
             "14E68026#B200FFFFFFFFFFFF",
+            NONE_SHOWN,
             "14E68026#B200FFFFFFFFFFFF",
             KEYS,
         ],

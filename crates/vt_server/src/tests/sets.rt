@@ -14,6 +14,8 @@ const HIDE_80: &str = "14E72680#A0640000FFFFFFFF";
 
 const HIDDEN_80: &str = "14E68026#A064000000FFFFFF";
 
+const NONE_SHOWN: &str = "14E6FF26#FEFEFFFFFFFF00FF";
+
 // Whether a pool is there from the start, at 80; what is heard, what is sent, and which sets there are then.
 type Registers = (
     bool,
@@ -126,7 +128,7 @@ const CASES: [Registers; 18] = [
     (
         true,
         &[CLAIM_80, "18EEFF80#0000000000800020", HIDE_80],
-        &[],
+        &[NONE_SHOWN],
         &[],
     ),
 ];

@@ -110,7 +110,7 @@ const CLAIMED: [Case; 1] = [Case {
         "18EEFF80#0000000000800020",
         TP_LAST,
     ],
-    sent: &[TP_CTS, TP_END],
+    sent: &[TP_CTS, "14E6FF26#FEFEFFFFFFFF00FF", TP_END],
     sets: &[],
 }];
 

@@ -14,7 +14,7 @@ returns-in-Ok-flush-clause-replayed g c =
     let terminal = c.match-options.terminal in
     let new = c.new-terminal.ensures in
     let fresh : state_of c.new-terminal.result ≡ new_state options.own options.name =
-    new_is (state_of c.new-terminal.result) options.own options.name new.claims new.sets new.places new.lost new.now in
+    new_is (state_of c.new-terminal.result) options.own options.name new.claims new.sets new.places new.selected new.shown new.lost new.now in
     let begun : IsStart files options (state_of terminal) = elim c.match-options.branch [
       | in-Some+in_ok-load w ↦
           start_with_set files options (state_of c.new-terminal.result) (state_of terminal) w.in-Some.preload w.in-Some.is

@@ -6,8 +6,8 @@ use Rattle.vt_replay.proofs.replay.replay.Given as goal
 
 abbrev pub invariant-loop : goal.invariant-loop
 invariant-loop g l = record {
-  way : IsUnderWay (stand l.initial.terminal no_counts (g.W.Write.contents l.initial.writer))
+  way : IsUnderWay (stand l.initial.terminal l.initial.progress.screen.items no_counts (g.W.Write.contents l.initial.writer))
       (g.R.Read.remaining l.initial.reader) (g.R.Read.remaining l.reader)
-      (stand l.terminal l.progress.counts (g.W.Write.contents l.writer)) l.progress.pending.items l.counter;
+      (stand l.terminal l.progress.screen.items l.progress.counts (g.W.Write.contents l.writer)) l.progress.pending.items l.counter;
   chunk : length l.chunk.items ≡ 65536;
 }

@@ -1,5 +1,10 @@
-use Rattle.vt_server.proofs.Happened.{decide}
+use Rattle.vt_server.proofs.Stepping.{decide}
 use Rattle.vt_server.proofs.law.own_happenings_decide.Goals as goal
 
 pub returns : goal.returns
-returns c = decide (record { holders = c.other_holders_stay.ensures; tp = c.steps_are_timeless.ensures; etp = c.steps_are_timeless-2.ensures })
+returns c = decide (record {
+  holders = c.other_holders_stay.ensures;
+  tp = c.steps_are_timeless.ensures;
+  etp = c.steps_are_timeless-2.ensures;
+  sender = c.answers_are_timeless.ensures;
+})

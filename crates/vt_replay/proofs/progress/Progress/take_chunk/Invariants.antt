@@ -5,8 +5,8 @@ use Rattle.vt_replay.proofs.progress.Progress.take_chunk.Given as goal
 
 abbrev pub invariant-loop-line : goal.invariant-loop-line
 invariant-loop-line g l =
-    IsMidway (stand l.initial.terminal l.initial.self.counts (g.W.Write.contents l.initial.writer)) l.initial.self.pending.items l.chunk
-    (stand l.terminal l.self.counts (g.W.Write.contents l.writer)) l.self.pending.items l.rest
+    IsMidway (stand l.initial.terminal l.initial.self.screen.items l.initial.self.counts (g.W.Write.contents l.initial.writer)) l.initial.self.pending.items l.chunk
+    (stand l.terminal l.self.screen.items l.self.counts (g.W.Write.contents l.writer)) l.self.pending.items l.rest
 
 abbrev pub decreases-loop-line : goal.decreases-loop-line
 decreases-loop-line g l = length l.rest

@@ -1,39 +1,60 @@
-use Rattle.std.proofs.Common.{None, ap, ◌∙◌}
-use Rattle.vt_server.specs.Parts.{Outcome}
-use Rattle.vt_server.specs.Commands.{pool_after}
-use Rattle.vt_server.specs.States.{state_of, pools_of, places_by}
-use Rattle.vt_server.proofs.Puts.{pool-placed}
-use Rattle.vt_server.proofs.Answering.{kept-state, reply-unregistered, reply-technical, reply-commanded, commanded-state}
+use Rattle.std.proofs.Common.{◌≡◌, ℕ, List, drop, Option, Some, None, sym, ap, subst, ◌∙◌}
+use Rattle.vt_can.specs.declared.frames.frame.Frame.{Frame}
+use Rattle.vt_server.specs.Hearings.{Answers, IsReadyNow}
+use Rattle.vt_server.specs.Messages.{message_to}
+use Rattle.vt_server.specs.Places.{with_piece}
+use Rattle.vt_server.specs.States.{state_of}
+use Rattle.vt_server.specs.Terminals.{with_at}
+use Rattle.vt_server.specs.Transfers.{ended}
+use Rattle.vt_server.specs.Uploads.{content_of, room_of}
+use Rattle.vt_server.proofs.Answered.{answers-none}
+use Rattle.vt_server.proofs.Framed.{any_verdict}
+use Rattle.vt_server.proofs.Uploaded.{contents-state, piece-answered, end-answered, other-answered}
 use Rattle.vt_server.proofs.terminal.Terminal.answer.Goals as goal
 
-pub returns-then-not-registered-clause-state : goal.returns-then-not-registered-clause-state
-returns-then-not-registered-clause-state c =
-    let s = state_of c.args.self.now in
-    let same = reply-unregistered s c.args.source c.args.bytes.now c.if-not-registered.ensures in
-    kept-state s c.args.source c.args.bytes.now (ap (λ (t : Outcome). t.set) same) (ap (λ (t : Outcome). t.place) same)
+pub returns-then-not-registered : goal.returns-then-not-registered
+returns-then-not-registered c = answers-none (state_of c.args.self.now) c.args.source c.args.bytes.now any_verdict c.if-not-registered.ensures
 
-pub returns-in-Some-clause-state : goal.returns-in-Some-clause-state
-returns-in-Some-clause-state c =
-    let s = state_of c.args.self.now in
-    let same = reply-technical s c.args.source c.args.bytes.now c.if-not-registered.ensures c.in-Some.reply c.in-Some.ensures in
-    kept-state s c.args.source c.args.bytes.now (ap (λ (t : Outcome). t.set) same) (ap (λ (t : Outcome). t.place) same)
+pub returns-in_err-reply-in-Nothing : goal.returns-in_err-reply-in-Nothing
+returns-in_err-reply-in-Nothing c =
+    let t = c.args.self.now in
+    let a = c.args.source in
+    let some = c.if-not-registered.ensures in
+    let none : None ≡ c.from_residual.result = cc in
+    subst (λ (r : Option Frame). Answers (state_of t) a c.args.bytes.now r (state_of c.reply.new.self)) none
+    (other-answered (state_of t) a c.args.bytes.now some (state_of c.reply.new.self) None
+    (subst (IsReadyNow (content_of t.contents a) (room_of t.contents a) c.args.bytes.now) c.in-Nothing.is (c.requires (sym some)))
+    c.in_err-reply-in-Nothing.ensures)
 
-pub returns-in_err-command-clause-state : goal.returns-in_err-command-clause-state
-returns-in_err-command-clause-state c =
-    let s = state_of c.args.self.now in
-    let same = reply-commanded s c.args.source c.args.bytes.now c.if-not-registered.ensures None c.in_default.ensures c.in_err-command.ensures in
-    kept-state s c.args.source c.args.bytes.now (ap (λ (t : Outcome). t.set) same) (ap (λ (t : Outcome). t.place) same)
+pub returns-in_ok-reply-in-Nothing : goal.returns-in_ok-reply-in-Nothing
+returns-in_ok-reply-in-Nothing c =
+    let t = c.args.self.now in
+    let a = c.args.source in
+    let some = c.if-not-registered.ensures in
+    subst (λ (f : Frame). Answers (state_of t) a c.args.bytes.now (Some f) (state_of c.reply.new.self))
+    (ap (λ own. message_to own a c.in_ok-reply-in-Nothing.reply) (sym c.own-own.ensures) ∙ sym c.message_to.ensures)
+    (other-answered (state_of t) a c.args.bytes.now some (state_of c.reply.new.self) (Some c.in_ok-reply-in-Nothing.reply)
+    (subst (IsReadyNow (content_of t.contents a) (room_of t.contents a) c.args.bytes.now) c.in-Nothing.is (c.requires (sym some)))
+    c.in_ok-reply-in-Nothing.ensures)
 
-pub returns-clause-state : goal.returns-clause-state
-returns-clause-state c =
-    commanded-state (state_of c.args.self.now) c.args.source c.args.bytes.now c.in_ok-command.command
-    c.if-not-registered.ensures c.in_default.ensures c.in_ok-command.ensures (places_by (pools_of c.apply.new.self) c.args.self.now.node)
-    (ap (λ pools. places_by pools c.args.self.now.node) c.apply.ensures.pools
-    ∙ pool-placed (pools_of c.args.self.now.pools) c.args.self.now.node c.args.source (pool_after c.in_ok-command.command (pools_of c.args.self.now.pools c.args.source)))
+pub returns-in-Piece : goal.returns-in-Piece
+returns-in-Piece c =
+    let t = c.args.self.now in
+    let a = c.args.source in
+    let some = c.if-not-registered.ensures in
+    let ready = subst (IsReadyNow (content_of t.contents a) (room_of t.contents a) c.args.bytes.now) c.in-Piece.is (c.requires (sym some)) in
+    piece-answered (state_of t) a c.args.bytes.now some (state_of (record t { contents = c.feed.new.self })) ready.0
+    (contents-state t c.feed.new.self a (with_piece (content_of t.contents a) (drop 1 c.args.bytes.now))
+    (c.feed.ensures ∙ ap (λ (b : List ℕ). with_at a (with_piece (content_of t.contents a) (drop 1 b)) (content_of t.contents)) ready.1))
 
-pub returns-in_err-error-clause-state : goal.returns-in_err-error-clause-state
-returns-in_err-error-clause-state c =
-    commanded-state (state_of c.args.self.now) c.args.source c.args.bytes.now c.in_ok-command.command
-    c.if-not-registered.ensures c.in_default.ensures c.in_ok-command.ensures (places_by (pools_of c.apply.new.self) c.args.self.now.node)
-    (ap (λ pools. places_by pools c.args.self.now.node) c.apply.ensures.pools
-    ∙ pool-placed (pools_of c.args.self.now.pools) c.args.self.now.node c.args.source (pool_after c.in_ok-command.command (pools_of c.args.self.now.pools c.args.source)))
+pub returns-in-End : goal.returns-in-End
+returns-in-End c =
+    let t = c.args.self.now in
+    let a = c.args.source in
+    let some = c.if-not-registered.ensures in
+    let ready = subst (IsReadyNow (content_of t.contents a) (room_of t.contents a) c.args.bytes.now) c.in-End.is (c.requires (sym some)) in
+    subst (λ (f : Frame). Answers (state_of t) a c.args.bytes.now (Some f) (state_of (record t { contents = c.end-reply.new.self })))
+    (ap (λ own. message_to own a c.end-reply.result) (sym c.own-own.ensures) ∙ sym c.message_to-in-End.ensures)
+    (end-answered (state_of t) a c.args.bytes.now some (state_of (record t { contents = c.end-reply.new.self })) c.in-End.judgement c.end-reply.result
+    (content_of c.end-reply.new.self) ready.0 c.end-reply.ensures
+    (contents-state t c.end-reply.new.self a (ended (content_of t.contents a) c.end-reply.ensures.verdict) c.end-reply.ensures.content))

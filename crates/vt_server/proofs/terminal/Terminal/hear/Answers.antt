@@ -1,20 +1,36 @@
-use Rattle.std.proofs.Common.{ℕ, Bool, List, cond, sym, ap, ◌∙◌, ◌++◌}
-use Rattle.vt_server.specs.States.{state_of, outputs_of}
-use Rattle.vt_server.specs.Terminals.{no_step, step_now, at_time}
-use Rattle.vt_server.specs.declared.output.Output.{Output}
+use Rattle.std.proofs.Common.{◌++◌, ◌∙◌}
+use Rattle.vt_server.specs.Bus.{notice_of}
+use Rattle.vt_server.specs.Lapses.{at_time, lapsed}
+use Rattle.vt_server.specs.Outputs.{outputs_of}
+use Rattle.vt_server.specs.States.{state_of}
+use Rattle.vt_server.proofs.Heard.{takes-line, takes-lost}
+use Rattle.vt_server.proofs.Prepared.{ready-then, prepared-display, prepared-sent}
 use Rattle.vt_server.proofs.terminal.Terminal.hear.Goals as goal
+
+pub returns-then-self-clause-ok : goal.returns-then-self-clause-ok
+returns-then-self-clause-ok c = takes-lost (state_of c.args.self.now) c.args.time c.args.frame.now c.args.outputs.now.items c.if-self.true
+
+pub finish-requires-clause-ready : goal.finish-requires-clause-ready
+finish-requires-clause-ready c =
+    let s = state_of c.args.self.now in
+    let n = c.notice_of-notice.result in (
+      lapsed (at_time s c.args.time),
+      ready-then s c.prepare.new.self c.args.time c.max-now.result n c.args.frame.now c.max-now.ensures c.lapse.new.self c.lapse.ensures.state c.lapse.ensures.lapsed
+          c.in_ok-ready.ready c.in_ok-ready.ensures.ok,
+    )
 
 pub returns-clause-ok : goal.returns-clause-ok
 returns-clause-ok c =
     let s = state_of c.args.self.now in
-    c.in_default.ensures.ok
-    ∙ ap (λ (n : ℕ). (step_now (record s { now = n }) c.args.frame.now).after) c.max-self.ensures
-    ∙ sym (ap (λ (b : Bool). (cond b (no_step s) (step_now (at_time s c.args.time) c.args.frame.now)).after) c.if-self.false)
-
-pub returns-clause-sent : goal.returns-clause-sent
-returns-clause-sent c =
-    let s = state_of c.args.self.now in
-    c.in_default.ensures.sent
-    ∙ ap (λ (l : List Output). l ++ outputs_of (step_now (record s { now = c.max-self.result }) c.args.frame.now).sent) c.reserve.ensures.items
-    ∙ ap (λ (n : ℕ). c.args.outputs.now.items ++ outputs_of (step_now (record s { now = n }) c.args.frame.now).sent) c.max-self.ensures
-    ∙ sym (ap (λ (b : Bool). c.args.outputs.now.items ++ outputs_of (cond b (no_step s) (step_now (at_time s c.args.time) c.args.frame.now)).sent) c.if-self.false)
+    let t = c.prepare.new.self in
+    let n = c.notice_of-notice.result in
+    let frame = c.args.frame.now in
+    let ready = c.in_ok-ready.ready in
+    let prepared = c.in_ok-ready.ensures.ok in
+    let before = c.args.outputs.now.items in
+    let now = c.max-now.result in
+    takes-line s c.args.time frame n (state_of c.finish.new.self) before c.lapse.new.outputs.items c.finish.new.outputs.items c.if-self.false
+    (c.notice_of-notice.ensures ∙ (λ i. notice_of (c.own.ensures i) (c.name.ensures i) frame))
+    (c.lapse.ensures.sent ∙ (λ i. c.reserve.ensures.items i ++ outputs_of (prepared-sent s t c.args.time now n frame c.max-now.ensures ready prepared i)))
+    (c.finish.ensures s (lapsed (at_time s c.args.time)) (c.display-before.ensures ∙ prepared-display s t c.args.time now n frame c.max-now.ensures ready prepared)
+    (ready-then s t c.args.time now n frame c.max-now.ensures c.lapse.new.self c.lapse.ensures.state c.lapse.ensures.lapsed ready prepared))

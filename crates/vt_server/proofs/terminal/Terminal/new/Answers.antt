@@ -4,7 +4,9 @@ use Rattle.vt_server.proofs.terminal.Terminal.new.Goals as goal
 
 pub returns-clause-places : goal.returns-clause-places
 returns-clause-places c address = λ i. record {
-  pool = c.new-3.ensures address i;
+  content = c.new-3.ensures address i;
   tp = (ap (λ m. finite.get m address) c.new.ensures.tp ∙ finite.get-empty nat_cmp address) i;
   etp = (ap (λ m. finite.get m address) c.new.ensures.etp ∙ finite.get-empty nat_cmp address) i;
+  sending = (ap (λ m. finite.get m address) c.new.ensures.sending ∙ finite.get-empty nat_cmp address) i;
+  heard = c.new-4.ensures address i;
 }

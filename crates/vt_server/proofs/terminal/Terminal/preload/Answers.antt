@@ -1,21 +1,20 @@
-use Rattle.std.proofs.Common.{Some, sym, ap, ◌∙◌}
-use Rattle.vt_machine.specs.Lives.{SetState}
+use Rattle.std.proofs.Common.{ℕ, refl, ap, ◌∙◌}
 use Rattle.vt_objects.specs.Stores.{map_of}
-use Rattle.vt_server.specs.Commands.{fresh}
-use Rattle.vt_server.specs.Parts.{Preloads}
-use Rattle.vt_server.specs.States.{state_of, pools_of, places_by}
-use Rattle.vt_server.specs.Terminals.{with_at}
-use Rattle.vt_server.proofs.Puts.{act-is, pool-placed}
+use Rattle.vt_server.specs.Choosing.{choosing}
+use Rattle.vt_server.specs.Places.{Place}
+use Rattle.vt_server.specs.States.{state_of, places_by}
+use Rattle.vt_server.specs.Uploads.{content_of}
+use Rattle.vt_server.specs.Watches.{heard_of}
+use Rattle.vt_server.proofs.Preloaded.{preloaded-state}
 use Rattle.vt_server.proofs.terminal.Terminal.preload.Goals as goal
 
 pub returns-clause-ok : goal.returns-clause-ok
 returns-clause-ok c =
-    let s = state_of c.args.self.now in
-    let pools = pools_of c.args.self.now.pools in
-    let node = c.args.self.now.node in
-    (λ i. record s {
-      sets = c.in_ok-preload.ensures.ok i;
-      places = (ap (λ p. places_by p node) (c.put.ensures ∙ ap (λ (l : SetState). with_at c.args.address (Some l) pools) c.in_ok-live.ensures)
-          ∙ pool-placed pools node c.args.address (Some (fresh (map_of c.args.pool.now)))) i;
-    })
-    ∙ sym (act-is s c.args.address (Preloads (map_of c.args.pool.now)))
+    let t = c.args.self.now in
+    let s = state_of t in
+    c.choose.ensures
+    ∙ ap choosing
+    (ap (λ (places : ℕ → Place). record s { sets = c.preload.new.self.sets; places = places })
+    (λ i. places_by (c.put.ensures i) t.node (c.preload-2.ensures i))
+    ∙ preloaded-state (content_of t.contents) t.node (heard_of t.watch) c.args.address (map_of c.args.pool.now) c.in_ok-live.live c.in_ok-live.ensures
+    s c.preload.new.self.sets refl c.in_ok-preload.ensures.ok)

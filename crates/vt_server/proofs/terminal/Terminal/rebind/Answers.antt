@@ -1,9 +1,12 @@
-use Rattle.std.proofs.Common.{None, sym, ap, ◌∙◌, nat_eq}
+use Rattle.std.proofs.Common.{sym, ap, ◌∙◌, nat_eq}
 use Rattle.std.specs.Option.{option_eq}
-use Rattle.vt_server.specs.States.{state_of, pools_of, places_by}
-use Rattle.vt_server.proofs.Puts.{pool-placed}
 use Rattle.vt_server.specs.Parts.{stays_under}
-use Rattle.vt_server.proofs.Registering.{rebind-none, rebind-kept, rebind-closed}
+use Rattle.vt_server.specs.Places.{no_content}
+use Rattle.vt_server.specs.States.{state_of, places_by}
+use Rattle.vt_server.specs.Uploads.{content_of}
+use Rattle.vt_server.specs.Watches.{heard_of}
+use Rattle.vt_server.proofs.Claimed.{rebind-none, rebind-kept, rebind-closed}
+use Rattle.vt_server.proofs.Writes.{content-placed}
 use Rattle.vt_server.proofs.terminal.Terminal.rebind.Goals as goal
 
 pub returns-in_default : goal.returns-in_default
@@ -13,14 +16,17 @@ returns-in_default c =
 
 pub returns-then-stays_under : goal.returns-then-stays_under
 returns-then-stays_under c =
-    rebind-kept (state_of c.args.self.now) c.args.address c.args.was c.in-Some.set.now
-    (ap (option_eq nat_eq c.args.was) (sym c.holder-holder.ensures) ∙ sym c.if-eq.ensures) c.in-Some.ensures
+    rebind-kept (state_of c.args.self.now) c.args.address c.args.was
+    (ap (option_eq nat_eq c.args.was) (sym c.holder-holder.ensures) ∙ sym c.if-eq.ensures) c.in-Some.set.now c.in-Some.ensures
     (sym (λ i. stays_under (c.name.ensures i) (c.holder-holder.ensures i)) ∙ sym c.if-stays_under.ensures)
 
 pub returns : goal.returns
 returns c =
-    rebind-closed (state_of c.args.self.now) c.args.address c.args.was c.in-Some.set.now c.close.new.self.sets (places_by (pools_of c.remove.new.self) c.args.self.now.node)
-    (ap (option_eq nat_eq c.args.was) (sym c.holder-holder.ensures) ∙ sym c.if-eq.ensures) c.in-Some.ensures
+    let t = c.args.self.now in
+    rebind-closed (state_of t) c.args.address c.args.was
+    (ap (option_eq nat_eq c.args.was) (sym c.holder-holder.ensures) ∙ sym c.if-eq.ensures) c.in-Some.set.now c.close.new.self.sets
+    (places_by (content_of c.remove.new.self) t.node (heard_of t.watch)) c.in-Some.ensures
     (sym (λ i. stays_under (c.name.ensures i) (c.holder-holder.ensures i)) ∙ sym c.if-stays_under.ensures)
     c.close.ensures.sets
-    (ap (λ pools. places_by pools c.args.self.now.node) c.remove.ensures ∙ pool-placed (pools_of c.args.self.now.pools) c.args.self.now.node c.args.address None)
+    (ap (λ contents. places_by contents t.node (heard_of t.watch)) c.remove.ensures.content
+    ∙ content-placed (content_of t.contents) t.node (heard_of t.watch) c.args.address no_content)

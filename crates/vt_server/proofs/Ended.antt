@@ -1,0 +1,17 @@
+-- What the end of an upload comes to.
+use Rattle.std.proofs.Common.{◌≡◌, ℕ, List, []}
+use Rattle.vt_server.specs.Ends.{CarriesOut, IsJudgement, IsEnded}
+use Rattle.vt_server.specs.Places.{Content}
+use Rattle.vt_server.specs.Terminals.{with_at}
+use Rattle.vt_server.specs.Transfers.{Verdict, Accepts, Faulty, Refuses, IsVerdict}
+use Rattle.vt_server.specs.declared.ending.Judgement.TheVariants as judgements
+
+-- A pool that is refused leaves the one that is there.
+pub ends-refused : (old new : ℕ → Content) (a : ℕ) (reply : List ℕ) → IsJudgement (old a) (judgements.Refused reply)
+    → new ≡ with_at a (record (old a) { transfer = [] }) old → IsEnded old a (judgements.Refused reply) reply new
+ends-refused old new a reply is left = cases is.verdict is.right is.carried_out
+  where
+    cases : (v : Verdict) → IsVerdict (old a) v → CarriesOut (old a) v (judgements.Refused reply) → IsEnded old a (judgements.Refused reply) reply new
+    cases (Accepts objects) right out = absurd out
+    cases (Faulty fault) right out = record { verdict = Faulty fault; right = right; content = left; reply_is = out }
+    cases (Refuses refusal) right out = record { verdict = Refuses refusal; right = right; content = left; reply_is = out }

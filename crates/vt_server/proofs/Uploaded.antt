@@ -1,0 +1,176 @@
+-- What the calls that take a message of a set's master leave.
+use Rattle.std.proofs.Common.{◌≡◌, ℕ, true, false, List, [], ◌∷◌, ◌++◌, drop, Option, Some, None, is_some, true≢false, refl, sym, ap, subst, ◌∙◌, append_assoc, append-nil}
+use Rattle.std.specs.FinMap as finite
+use Rattle.std.specs.Option.{option_map, option_to_list}
+use Rattle.vt_can.specs.declared.frames.frame.Frame.{Frame}
+use Rattle.vt_can.specs.declared.transport.heard.Heard.{Heard}
+use Rattle.vt_can.specs.frames.Frame.{source_of}
+use Rattle.vt_names.specs.Registry.{Set, set_at}
+use Rattle.vt_server.specs.Ends.{IsEnded}
+use Rattle.vt_server.specs.Findings.{ends_transfer}
+use Rattle.vt_server.specs.Handling.{asked, transferred, end_handled, TRANSFER, END_OF_POOL}
+use Rattle.vt_server.specs.Hearings.{Answers, IsReplyTo, TakesMessage, TakesNotice, begins_with, is_other, with_content_at}
+use Rattle.vt_server.specs.Messages.{message_to, technical_reply}
+use Rattle.vt_server.specs.Nodes.{NodeState, HasTaken, HasAnswered, tp_taken, etp_taken, sender_answer}
+use Rattle.vt_server.specs.Outputs.{frames_of}
+use Rattle.vt_server.specs.Parts.{unchanged, after_message}
+use Rattle.vt_server.specs.Places.{Content, Place, with_piece}
+use Rattle.vt_server.specs.Receiving.{frames_in, message_in}
+use Rattle.vt_server.specs.Sessions.{Came, came_tp, came_etp, message_to_terminal}
+use Rattle.vt_server.specs.States.{state_of, places_by}
+use Rattle.vt_server.specs.Terminals.{State, part, put, with_at}
+use Rattle.vt_server.specs.Transfers.{ended}
+use Rattle.vt_server.specs.Uploads.{content_of}
+use Rattle.vt_server.specs.Watches.{heard_of}
+use Rattle.vt_server.specs.declared.contents.Contents.{Contents}
+use Rattle.vt_server.specs.declared.ending.Judgement.{Judgement}
+use Rattle.vt_server.specs.declared.bus.Notice.TheVariants as notices
+use Rattle.vt_server.specs.declared.output.Output.{Output}
+use Rattle.vt_server.specs.declared.output.Output.TheVariants as declared
+use Rattle.vt_server.specs.declared.terminal.Terminal.{Terminal}
+use Rattle.vt_server.proofs.Answered.{answers-by, other-handled, piece-handled, end-handled, piece-ends_none, other-ends_none}
+use Rattle.vt_server.proofs.Framed.{any_verdict, with_place_at, takes-came}
+use Rattle.vt_server.proofs.Puts.{none-some}
+use Rattle.vt_server.proofs.Writes.{content-placed, places-written, put-kept}
+
+-- ---- the content of one address
+
+-- where the pools and the uploads alone are others
+abbrev pub with_contents : Terminal → Contents → Terminal
+with_contents t contents = record t { contents = contents }
+
+pub contents-state : (t : Terminal) (contents : Contents) (a : ℕ) (x : Content) → content_of contents ≡ with_at a x (content_of t.contents)
+    → state_of (with_contents t contents) ≡ with_content_at a x (state_of t)
+contents-state t contents a x is =
+    ap (λ (f : ℕ → Content). record (state_of t) { places = places_by f t.node (heard_of t.watch) }) is
+    ∙ ap (λ (p : ℕ → Place). record (state_of t) { places = p }) (content-placed (content_of t.contents) t.node (heard_of t.watch) a x)
+
+-- ---- the three kinds of messages
+
+module _ (s : State) (a : ℕ) (bytes : List ℕ) (some : true ≡ is_some (set_at a s.sets)) where
+  pub piece-answered : (t : State) → begins_with TRANSFER bytes → t ≡ with_content_at a (with_piece (s.places a).content (drop 1 bytes)) s → Answers s a bytes None t
+  piece-answered t begins left =
+      answers-by s a bytes some any_verdict (transferred (s.places a).content (drop 1 bytes)) (piece-handled (s.places a).content any_verdict bytes begins) t None
+      (λ ends. piece-ends_none (set_at a s.sets) bytes begins ends _) left refl
+
+  pub end-answered : (t : State) (judgement : Judgement) (reply : List ℕ) (new : ℕ → Content) → begins_with END_OF_POOL bytes
+      → (is : IsEnded (λ q. (s.places q).content) a judgement reply new) → t ≡ with_content_at a (ended (s.places a).content is.verdict) s
+      → Answers s a bytes (Some (message_to s.claims.own a reply)) t
+  end-answered t judgement reply new begins is left =
+      answers-by s a bytes some is.verdict (end_handled (s.places a).content is.verdict) (end-handled (s.places a).content is.verdict bytes begins) t
+      (Some (message_to s.claims.own a reply)) (λ _. is.right) left
+      (ap (λ (r : List ℕ). option_to_list (Some (message_to s.claims.own a r))) is.reply_is)
+
+  pub other-answered : (t : State) (reply : Option (List ℕ)) → is_other bytes → IsReplyTo s a bytes reply t
+      → Answers s a bytes (option_map (message_to s.claims.own a) reply) t
+  other-answered t reply other is =
+      answers-by s a bytes some any_verdict (asked (s.places a).content bytes (technical_reply bytes)) (other-handled (s.places a).content any_verdict bytes other) t
+      (option_map (message_to s.claims.own a) reply) (λ ends. other-ends_none (set_at a s.sets) bytes other ends _) is.state
+      (ap (λ (r : Option (List ℕ)). option_to_list (option_map (message_to s.claims.own a) r)) is.reply_is)
+
+-- ---- the frames of a session without a message for the terminal
+
+module _ (s : State) (a : ℕ) (frames : List Frame) where
+  -- where there is none
+  quiet : (set : Option Set) (message : Option (List ℕ)) → message ≡ None
+      → (after_message a (part a s) any_verdict set message ≡ unchanged (part a s)) × (ends_transfer set message ≡ false)
+  quiet None None none = (refl, refl)
+  quiet (Some set) None none = (refl, refl)
+  quiet set (Some bytes) none = none-some (sym none)
+
+  pub none-taken : (message : Option (List ℕ)) (before after : List Output) → message ≡ None → after ≡ before ++ frames_of frames → TakesMessage s a frames message s before after
+  none-taken message before after none sent =
+      let same = quiet (set_at a s.sets) message none in record {
+        verdict = any_verdict;
+        judged = λ ends. absurd (true≢false (sym ends ∙ same.1));
+        state = sym (ap (λ o. put a o s) same.0 ∙ put-kept a s (unchanged (part a s)) refl refl);
+        sent = sent ∙ sym (append-nil (before ++ frames_of frames)) ∙ ap (λ o. (before ++ frames_of frames) ++ frames_of o.frames) (sym same.0);
+      }
+
+-- a reply and then the frames that the sender sends
+pub sent-both : (before middle after : List Output) (reply : Frame) (sent : List Frame) → middle ≡ before ++ declared.Frame reply ∷ []
+    → after ≡ middle ++ frames_of sent → after ≡ before ++ frames_of (reply ∷ sent)
+sent-both before middle after reply sent first second =
+    second ∙ ap (λ l. l ++ frames_of sent) first ∙ append_assoc before (declared.Frame reply ∷ []) (frames_of sent)
+
+-- ---- frames of sessions
+
+-- of the transport protocol, as the receiver and then the sender hear it
+module _ (t : Terminal) (frame : Frame) (heard : Heard) (first second : NodeState) (frames : List Frame)
+    (rest : first ≡ record t.node { tp = first.tp; tp_room = first.tp_room })
+    (taken : HasTaken (tp_taken t.node t.time frame) (source_of frame) t.node.tp first.tp heard)
+    (left : second ≡ record first { sending = second.sending })
+    (answered : HasAnswered (sender_answer first t.time frame) (source_of frame) first.sending second.sending frames) where
+  abbrev tp_came : Came
+  tp_came = came_tp t.time t.node.claims.own (source_of frame) ((state_of t).places (source_of frame)) frame
+
+  tp-given : sender_answer first t.time frame ≡ sender_answer t.node t.time frame
+  tp-given = ap (λ (n : NodeState). sender_answer n t.time frame) rest
+
+  tp-placed : places_by (content_of t.contents) second (heard_of t.watch) ≡ with_at (source_of frame) tp_came.place (state_of t).places
+  tp-placed =
+      let a = source_of frame in
+      places-written a (state_of t).places (places_by (content_of t.contents) second (heard_of t.watch)) tp_came.place
+      (λ i. record ((state_of t).places a) {
+        tp = (ap (λ (n : NodeState). finite.get n.tp a) left ∙ taken.session) i;
+        etp = (ap (λ (n : NodeState). finite.get n.etp a) left ∙ ap (λ (n : NodeState). finite.get n.etp a) rest) i;
+        sending = (answered.session ∙ ap (λ g. g.session) tp-given) i;
+      })
+      (λ b ne. λ i. record ((state_of t).places b) {
+        tp = (ap (λ (n : NodeState). finite.get n.tp b) left ∙ taken.others b ne) i;
+        etp = (ap (λ (n : NodeState). finite.get n.etp b) left ∙ ap (λ (n : NodeState). finite.get n.etp b) rest) i;
+        sending = (answered.others b ne ∙ ap (λ (n : NodeState). finite.get n.sending b) rest) i;
+      })
+
+  tp-state : state_of (record t { node = second }) ≡ with_place_at (source_of frame) tp_came.place (state_of t)
+  tp-state = λ i. record (state_of t) {
+    claims = (ap (λ (n : NodeState). n.claims) left ∙ ap (λ (n : NodeState). n.claims) rest) i;
+    places = tp-placed i;
+  }
+
+  pub tp-takes : (u : State) (q : ℕ) (before after : List Output) → q ≡ source_of frame
+      → TakesMessage (state_of (record t { node = second })) q (frames_in heard ++ frames) (message_to_terminal (message_in heard)) u before after
+      → TakesNotice (state_of t) notices.Tp frame u before after
+  tp-takes u q before after is takes =
+      takes-came (state_of t) frame notices.Tp tp_came refl (λ p v. refl) refl u before after
+      (subst (λ s. TakesMessage s (source_of frame) tp_came.frames tp_came.message u before after) tp-state
+      (subst (λ l. TakesMessage (state_of (record t { node = second })) (source_of frame) l tp_came.message u before after)
+      (λ i. taken.frames i ++ (answered.frames_are ∙ ap (λ g. g.frames) tp-given) i)
+      (subst (λ m. TakesMessage (state_of (record t { node = second })) (source_of frame) (frames_in heard ++ frames) m u before after) (ap message_to_terminal taken.message)
+      (subst (λ a. TakesMessage (state_of (record t { node = second })) a (frames_in heard ++ frames) (message_to_terminal (message_in heard)) u before after) is takes))))
+
+-- of the extended one
+module _ (t : Terminal) (frame : Frame) (heard : Heard) (node : NodeState)
+    (rest : node ≡ record t.node { etp = node.etp; etp_room = node.etp_room })
+    (taken : HasTaken (etp_taken t.node t.time frame) (source_of frame) t.node.etp node.etp heard) where
+  abbrev etp_came : Came
+  etp_came = came_etp t.time t.node.claims.own (source_of frame) ((state_of t).places (source_of frame)) frame
+
+  etp-placed : places_by (content_of t.contents) node (heard_of t.watch) ≡ with_at (source_of frame) etp_came.place (state_of t).places
+  etp-placed =
+      let a = source_of frame in
+      places-written a (state_of t).places (places_by (content_of t.contents) node (heard_of t.watch)) etp_came.place
+      (λ i. record ((state_of t).places a) {
+        tp = ap (λ (n : NodeState). finite.get n.tp a) rest i;
+        etp = taken.session i;
+        sending = ap (λ (n : NodeState). finite.get n.sending a) rest i;
+      })
+      (λ b ne. λ i. record ((state_of t).places b) {
+        tp = ap (λ (n : NodeState). finite.get n.tp b) rest i;
+        etp = taken.others b ne i;
+        sending = ap (λ (n : NodeState). finite.get n.sending b) rest i;
+      })
+
+  etp-state : state_of (record t { node = node }) ≡ with_place_at (source_of frame) etp_came.place (state_of t)
+  etp-state = λ i. record (state_of t) { claims = ap (λ (n : NodeState). n.claims) rest i; places = etp-placed i }
+
+  pub etp-takes : (u : State) (q : ℕ) (frames : List Frame) (before after : List Output) → q ≡ source_of frame → frames ≡ []
+      → TakesMessage (state_of (record t { node = node })) q (frames_in heard ++ frames) (message_to_terminal (message_in heard)) u before after
+      → TakesNotice (state_of t) notices.Etp frame u before after
+  etp-takes u q frames before after is none takes =
+      takes-came (state_of t) frame notices.Etp etp_came refl (λ p v. refl) refl u before after
+      (subst (λ s. TakesMessage s (source_of frame) etp_came.frames etp_came.message u before after) etp-state
+      (subst (λ l. TakesMessage (state_of (record t { node = node })) (source_of frame) l etp_came.message u before after)
+      (ap (λ l. frames_in heard ++ l) none ∙ append-nil (frames_in heard) ∙ taken.frames)
+      (subst (λ m. TakesMessage (state_of (record t { node = node })) (source_of frame) (frames_in heard ++ frames) m u before after) (ap message_to_terminal taken.message)
+      (subst (λ a. TakesMessage (state_of (record t { node = node })) a (frames_in heard ++ frames) (message_to_terminal (message_in heard)) u before after) is takes))))

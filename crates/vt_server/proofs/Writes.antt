@@ -1,0 +1,124 @@
+-- What is written at one address.
+use Rattle.std.proofs.Common.{◌≡◌, ◌≢◌, ℕ, Bool, true, false, cond, eqb, List, length, get_or, ◌<◌, inl, inr, Option, None, refl, sym, ap, subst, ◌∙◌, eq-eqb}
+use Rattle.std.proofs.lemmas.Bool.{cases_lt}
+use Rattle.std.proofs.Math.ListN.{get_or-eq_default}
+use Rattle.std.proofs.lemmas.List.{get_or-set_same, get_or-set_other}
+use Rattle.std.specs.Prelude.{slice_set}
+use Rattle.vt_names.specs.Registry.{Set, set_at}
+use Rattle.vt_server.specs.Nodes.{NodeState}
+use Rattle.vt_server.specs.Parts.{Outcome, Act, unchanged, outcome}
+use Rattle.vt_server.specs.Places.{Content, Place, with_content}
+use Rattle.vt_machine.specs.Lives.{SetState}
+use Rattle.vt_pool.specs.Arriving.{Arrived}
+use Rattle.vt_server.specs.States.{places_by}
+use Rattle.vt_server.specs.Uploads.{bytes_of, content_by}
+use Rattle.vt_server.specs.Terminals.{State, part, put, after_act, with_set_at, with_at}
+use Rattle.vt_server.proofs.Puts.{by_eq, at-own, at-other, sets-same, act-is}
+
+-- ---- what stands at addresses
+
+pub places-same : {X : Type 0} (a : ℕ) (places : ℕ → X) (x : X) → places a ≡ x → with_at a x places ≡ places
+places-same a places x e = λ i b. at b i
+  where
+    at : (b : ℕ) → with_at a x places b ≡ places b
+    at b = by_eq b a (λ is. ap (with_at a x places) is ∙ at-own a places x ∙ sym e ∙ ap places (sym is)) (at-other a b places x)
+
+pub places-twice : {X : Type 0} (a : ℕ) (places : ℕ → X) (x y : X) → with_at a x (with_at a y places) ≡ with_at a x places
+places-twice a places x y = λ i b. at b i
+  where
+    cases : (b : ℕ) (same : Bool) → cond same x (cond same y (places b)) ≡ cond same x (places b)
+    cases b true = refl
+    cases b false = refl
+
+    at : (b : ℕ) → with_at a x (with_at a y places) b ≡ with_at a x places b
+    at b = cases b (eqb b a)
+
+-- where one address has another value, and the others keep theirs
+pub places-written : {X : Type 0} (a : ℕ) (old new : ℕ → X) (x : X) → new a ≡ x → ((b : ℕ) → b ≢ a → new b ≡ old b) → new ≡ with_at a x old
+places-written a old new x here others = λ i b. at b i
+  where
+    at : (b : ℕ) → new b ≡ with_at a x old b
+    at b =
+        by_eq b a
+        (λ is. ap new is ∙ here ∙ sym (ap (λ c. cond c x (old b)) (eq-eqb b a is)))
+        (λ ne. others b ne ∙ sym (at-other a b old x ne))
+
+-- ---- arrays of a place for each address
+
+-- places that all have the default have it everywhere
+pub all-default : {X : Type 0} (places : List X) (d : X) → length places ≡ 256 → ((q : ℕ) → q < 256 → get_or places q d ≡ d)
+    → (address : ℕ) → get_or places address d ≡ d
+all-default places d long each address = elim (cases_lt address (length places)) as (λ _. get_or places address d ≡ d) [
+  | inl h ↦ each address (subst (λ n. address < n) long h)
+  | inr h ↦ get_or-eq_default places d h
+]
+
+-- what stands at each address after a write
+pub place-written : {X : Type 0} (places : List (Option X)) (a n : ℕ) (o : Option X) → n ≡ a → a < length places
+    → (λ (q : ℕ). get_or (slice_set places n o) q None) ≡ with_at a o (λ q. get_or places q None)
+place-written places a n o is within = ap (λ k. λ (q : ℕ). get_or (slice_set places k o) q None) is ∙ (λ i q. at q i)
+  where
+    at : (q : ℕ) → get_or (slice_set places a o) q None ≡ with_at a o (λ r. get_or places r None) q
+    at q =
+        by_eq q a
+        (λ same.
+        ap (λ r. get_or (slice_set places a o) r None) same ∙ get_or-set_same places a o None within
+        ∙ sym (ap (λ b. cond b o (get_or places q None)) (eq-eqb q a same)))
+        (λ ne. get_or-set_other places a q o None ne ∙ sym (at-other a q (λ r. get_or places r None) o ne))
+
+-- so too of pools and uploads
+pub contents-written : (pools : List (Option SetState)) (transfers : List (Option Arrived)) (a n m : ℕ) (pool : Option SetState) (transfer : Option Arrived)
+    → n ≡ a → m ≡ a → a < length pools → a < length transfers
+    → (λ (q : ℕ). content_by (slice_set pools n pool) (slice_set transfers m transfer) q)
+    ≡ with_at a (record { pool = pool; transfer = bytes_of transfer }) (content_by pools transfers)
+contents-written pools transfers a n m pool transfer is same within inside =
+    let written = place-written pools a n pool is within in let uploaded = place-written transfers a m transfer same inside in
+    places-written a (content_by pools transfers) (content_by (slice_set pools n pool) (slice_set transfers m transfer)) (record { pool = pool; transfer = bytes_of transfer })
+    (λ i. record { pool = (ap (λ (f : ℕ → Option SetState). f a) written ∙ at-own a (λ q. get_or pools q None) pool) i; transfer = bytes_of ((ap (λ (f : ℕ → Option Arrived). f a) uploaded ∙ at-own a (λ q. get_or transfers q None) transfer) i) })
+    (λ b ne. λ i. record { pool = (ap (λ (f : ℕ → Option SetState). f b) written ∙ at-other a b (λ q. get_or pools q None) pool ne) i; transfer = bytes_of ((ap (λ (f : ℕ → Option Arrived). f b) uploaded ∙ at-other a b (λ q. get_or transfers q None) transfer ne) i) })
+
+-- where the upload alone is another
+pub upload-written : (pools : List (Option SetState)) (transfers : List (Option Arrived)) (a n : ℕ) (transfer : Option Arrived) → n ≡ a → a < length transfers
+    → (λ (q : ℕ). content_by pools (slice_set transfers n transfer) q)
+    ≡ with_at a (record (content_by pools transfers a) { transfer = bytes_of transfer }) (content_by pools transfers)
+upload-written pools transfers a n transfer is within =
+    let uploaded = place-written transfers a n transfer is within in
+    places-written a (content_by pools transfers) (content_by pools (slice_set transfers n transfer)) (record (content_by pools transfers a) { transfer = bytes_of transfer })
+    (λ i. record { pool = get_or pools a None; transfer = bytes_of ((ap (λ (f : ℕ → Option Arrived). f a) uploaded ∙ at-own a (λ q. get_or transfers q None) transfer) i) })
+    (λ b ne. λ i. record { pool = get_or pools b None; transfer = bytes_of ((ap (λ (f : ℕ → Option Arrived). f b) uploaded ∙ at-other a b (λ q. get_or transfers q None) transfer ne) i) })
+
+-- ---- places, where one thing at one address is another
+
+pub content-placed : (contents : ℕ → Content) (node : NodeState) (heard : ℕ → Option ℕ) (a : ℕ) (x : Content)
+    → places_by (with_at a x contents) node heard ≡ with_at a (with_content (places_by contents node heard a) x) (places_by contents node heard)
+content-placed contents node heard a x =
+    places-written a (places_by contents node heard) (places_by (with_at a x contents) node heard) (with_content (places_by contents node heard a) x)
+    (ap (λ c. with_content (places_by contents node heard a) c) (at-own a contents x))
+    (λ b ne. ap (λ c. with_content (places_by contents node heard b) c) (at-other a b contents x ne))
+
+pub heard-placed : (contents : ℕ → Content) (node : NodeState) (heard : ℕ → Option ℕ) (a : ℕ) (x : Option ℕ)
+    → places_by contents node (with_at a x heard) ≡ with_at a (record (places_by contents node heard a) { heard = x }) (places_by contents node heard)
+heard-placed contents node heard a x =
+    places-written a (places_by contents node heard) (places_by contents node (with_at a x heard)) (record (places_by contents node heard a) { heard = x })
+    (ap (λ c. record (places_by contents node heard a) { heard = c }) (at-own a heard x))
+    (λ b ne. ap (λ c. record (places_by contents node heard b) { heard = c }) (at-other a b heard x ne))
+
+-- ---- states
+
+pub state-is : (s : State) (sets : List Set) (places : ℕ → Place) → sets ≡ s.sets → places ≡ s.places → record s { sets = sets; places = places } ≡ s
+state-is s sets places e f = λ i. record s { sets = e i; places = f i }
+
+-- where the place alone is another
+pub put-place : (a : ℕ) (s : State) (after : Outcome) → after.set ≡ set_at a s.sets → put a after s ≡ record s { places = with_at a after.place s.places }
+put-place a s after e = ap (λ (sets : List Set). record s { sets = sets; places = with_at a after.place s.places }) (sets-same a s.sets after.set (sym e))
+
+pub put-kept : (a : ℕ) (s : State) (after : Outcome) → after.set ≡ set_at a s.sets → after.place ≡ s.places a → put a after s ≡ s
+put-kept a s after e f = put-place a s after e ∙ ap (λ (places : ℕ → Place). record s { places = places }) (places-same a s.places after.place (sym f))
+
+-- where the set alone is another
+pub put-set : (a : ℕ) (s : State) (after : Outcome) → after.place ≡ s.places a → put a after s ≡ record s { sets = with_set_at a after.set s.sets }
+put-set a s after f = ap (λ (places : ℕ → Place). record s { sets = with_set_at a after.set s.sets; places = places }) (places-same a s.places after.place (sym f))
+
+-- nothing comes of what leaves the part as it was
+pub idle : (s : State) (a : ℕ) (h : Act) → outcome s.now a (part a s) h ≡ unchanged (part a s) → after_act s a h ≡ s
+idle s a h e = act-is s a h ∙ ap (λ after. put a after s) e ∙ put-kept a s (unchanged (part a s)) refl refl

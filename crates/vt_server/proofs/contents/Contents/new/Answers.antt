@@ -1,0 +1,10 @@
+use Rattle.std.proofs.Common.{None}
+use Rattle.vt_server.specs.Uploads.{bytes_of}
+use Rattle.vt_server.proofs.Writes.{all-default}
+use Rattle.vt_server.proofs.contents.Contents.new.Goals as goal
+
+pub returns : goal.returns
+returns c address = λ i. record {
+  pool = all-default c.default.result None c.default.ensures.long (λ q h. c.default.ensures.at q None h) address i;
+  transfer = bytes_of (all-default c.default-2.result None c.default-2.ensures.long (λ q h. c.default-2.ensures.at q None h) address i);
+}

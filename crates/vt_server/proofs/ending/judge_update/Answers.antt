@@ -1,0 +1,36 @@
+use Rattle.std.proofs.Common.{◌≡◌, subst, ap, ◌∙◌}
+use Rattle.vt_objects.specs.Stores.{Contents, map_of}
+use Rattle.vt_verify.specs.Rules.{IsAcceptable, IsRefused, terminal}
+use Rattle.vt_verify.specs.Updates.{updated}
+use Rattle.vt_server.specs.Transfers.{Accepts, Refuses}
+use Rattle.vt_server.proofs.ending.judge_update.Goals as goal
+
+pub returns-in_ok-live-in-Ok : goal.returns-in_ok-live-in-Ok
+returns-in_ok-live-in-Ok c bytes is =
+    let pool = c.args.read.now in
+    let store : map_of c.store.result.now ≡ c.args.live.now.objects = c.store.ensures.objects in record {
+      verdict = Accepts (map_of c.in-Ok.accepted);
+      right = record {
+        pool = pool;
+        read = is;
+        acceptable =
+            subst (λ (o : Contents). IsAcceptable terminal (updated o pool)) store
+            (subst (IsAcceptable terminal) c.in-Ok.ensures.accepted.0 c.in-Ok.ensures.accepted.1);
+        objects_are = ap map_of c.in-Ok.ensures.accepted.0 ∙ ap (λ (o : Contents). map_of (updated o pool)) store;
+      };
+      carried_out = c.in_ok-live-in-Ok.ensures;
+    }
+
+pub returns-in_ok-reply-in-Err : goal.returns-in_ok-reply-in-Err
+returns-in_ok-reply-in-Err c bytes is =
+    let pool = c.args.read.now in
+    let store : map_of c.store.result.now ≡ c.args.live.now.objects = c.store.ensures.objects in record {
+      verdict = Refuses c.in-Err.refusal;
+      right = record {
+        pool = pool;
+        read = is;
+        refused = subst (λ (o : Contents). IsRefused terminal (updated o pool) c.in-Err.refusal) store c.in-Err.ensures.refused;
+        named = c.in_ok-reply-in-Err.ensures.named;
+      };
+      carried_out = c.in_ok-reply-in-Err.ensures.reply;
+    }

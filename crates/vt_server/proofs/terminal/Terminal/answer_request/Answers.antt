@@ -1,0 +1,42 @@
+use Rattle.std.proofs.Common.{◌≡◌, [], ◌∷◌, ◌++◌, sym, ap, subst, ◌∙◌}
+use Rattle.vt_can.specs.declared.frames.frame.Frame.{Frame}
+use Rattle.vt_can.specs.frames.Frame.{source_of}
+use Rattle.vt_server.specs.Hearings.{TakesFrame}
+use Rattle.vt_server.specs.Outputs.{outputs_of}
+use Rattle.vt_server.specs.Places.{heard_at}
+use Rattle.vt_server.specs.States.{state_of}
+use Rattle.vt_server.specs.Steps.{defence}
+use Rattle.vt_server.specs.Terminals.{State, part}
+use Rattle.vt_server.specs.Transfers.{IsVerdict}
+use Rattle.vt_server.specs.declared.bus.Notice.TheVariants as notices
+use Rattle.vt_server.specs.declared.output.Output.TheVariants as declared
+use Rattle.vt_server.proofs.Framed.{any_verdict, with_place_at, takes-echo, takes-heard}
+use Rattle.vt_server.proofs.Heard.{none-ends, takes-nothing, request-unclaimed, heard-state, accepted}
+use Rattle.vt_server.proofs.terminal.Terminal.answer_request.Goals as goal
+
+pub returns-then-source-own-clause-takes : goal.returns-then-source-own-clause-takes
+returns-then-source-own-clause-takes c =
+    let s = state_of c.args.self.now in
+    let frame = c.args.frame.now in
+    let a = source_of frame in
+    takes-echo s frame notices.ClaimRequest request-unclaimed any_verdict c.args.outputs.now.items c.send.new.outputs.items
+    (sym c.source-source.ensures ∙ c.if-source-own.true ∙ c.own.ensures)
+    (λ ends. none-ends (part a s).set ends (IsVerdict (s.places a).content any_verdict))
+    (c.send.ensures.items ∙ ap (λ (f : Frame). c.args.outputs.now.items ++ declared.Frame f ∷ []) c.own_claim.ensures)
+
+pub returns-clause-takes : goal.returns-clause-takes
+returns-clause-takes c =
+    let t = c.args.self.now in
+    let s = state_of t in
+    let frame = c.args.frame.now in
+    let a = source_of frame in
+    let heard : State = with_place_at a (heard_at s.now (s.places a)) s in
+    let before = c.args.outputs.now.items in
+    let after = c.send.new.outputs.items in
+    let sent : after ≡ before ++ outputs_of (defence s a notices.ClaimRequest) =
+    c.send.ensures.items ∙ ap (λ (f : Frame). before ++ declared.Frame f ∷ []) c.own_claim.ensures in
+    subst (λ (x : State). TakesFrame s notices.ClaimRequest frame x before after)
+    (sym (heard-state t c.hear.new.self c.source-source.result a c.source-source.ensures c.hear.ensures))
+    (takes-heard s frame notices.ClaimRequest request-unclaimed heard before after after
+    (λ e. c.if-source-own.false (c.source-source.ensures ∙ e ∙ sym c.own.ensures)) sent
+    (takes-nothing heard notices.ClaimRequest frame after tt) (accepted s.now a notices.ClaimRequest frame request-unclaimed))

@@ -1,0 +1,34 @@
+use Rattle.std.proofs.Common.{refl, sym, ap}
+use Rattle.vt_can.specs.lines.Actions.{action_value}
+use Rattle.vt_can.specs.lines.Actions as actions
+use Rattle.vt_server.specs.Acting.{TakesAction}
+use Rattle.vt_server.specs.States.{state_of}
+use Rattle.vt_server.specs.declared.terminal.Terminal.{Terminal}
+use Rattle.vt_server.proofs.Performed.{takes-lost, takes-input, takes-same}
+use Rattle.vt_server.proofs.terminal.Terminal.operate.Goals as goal
+use Rattle.vt_server.proofs.terminal.Terminal.operate.Goals.{in-Set, in-Text+in_ok-enter_long_text-in-Text, in_default}
+
+pub returns-then-self-clause-ok : goal.returns-then-self-clause-ok
+returns-then-self-clause-ok c = takes-lost (state_of c.args.self.now) c.args.action.now c.args.outputs.now.items c.if-self.true
+
+pub returns-clause-ok : goal.returns-clause-ok
+returns-clause-ok c =
+    let s = state_of c.args.self.now in
+    let t = state_of c.match-action.self in
+    let taken : TakesAction s (action_value c.args.action.now) t c.args.outputs.now.items c.match-action.outputs.items =
+    elim c.match-action.branch [
+      | in-Set w ↦
+          takes-same s (actions.Set w.in-Set.address) (action_value c.args.action.now) (state_of w.select_set.new.self) t c.reserve.new.self.items c.args.outputs.now.items
+          w.select_set.new.outputs.items c.match-action.outputs.items (sym (ap action_value w.in-Set.is)) (ap (λ (x : Terminal). state_of x) (sym w.self-is)) c.reserve.ensures.items
+          (sym (λ i. (w.outputs-is i).items)) w.select_set.ensures.takes
+      | in-Text+in_ok-enter_long_text-in-Text w ↦
+          takes-same s (actions.Text w.in-Text.id w.in-Text.text.now) (action_value c.args.action.now) (state_of w.enter_long_text.new.self) t c.reserve.new.self.items c.args.outputs.now.items
+          w.enter_long_text.new.outputs.items c.match-action.outputs.items (sym (ap action_value w.in-Text.is)) (ap (λ (x : Terminal). state_of x) (sym w.self-is)) c.reserve.ensures.items
+          (sym (λ i. (w.outputs-is i).items)) w.in_ok-enter_long_text-in-Text.ensures.takes
+      | in_default w ↦
+          takes-same s (action_value c.args.action.now) (action_value c.args.action.now) (state_of w.act.new.self) t c.reserve.new.self.items c.args.outputs.now.items
+          w.act.new.outputs.items c.match-action.outputs.items refl (ap (λ (x : Terminal). state_of x) (sym w.self-is)) c.reserve.ensures.items
+          (sym (λ i. (w.outputs-is i).items)) w.act.ensures.takes
+    ] in
+    takes-input s t (state_of c.settle.new.self) c.args.action.now c.args.outputs.now.items c.match-action.outputs.items c.settle.new.outputs.items c.if-self.false taken
+    c.settle.ensures.state (c.settle.ensures.sent s c.display-before.ensures)

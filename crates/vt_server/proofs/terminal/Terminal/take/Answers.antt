@@ -1,0 +1,45 @@
+use Rattle.std.proofs.Common.{◌≡◌, List, ◌++◌, true≢false, sym, ap, subst, ◌∙◌, append-nil}
+use Rattle.vt_can.specs.frames.Frame.{source_of}
+use Rattle.vt_server.specs.Hearings.{TakesNotice}
+use Rattle.vt_server.specs.Outputs.{outputs_of}
+use Rattle.vt_server.specs.States.{state_of}
+use Rattle.vt_server.specs.Terminals.{State, Sent}
+use Rattle.vt_server.specs.declared.bus.Notice.TheVariants as notices
+use Rattle.vt_server.proofs.Framed.{takes-echo, takes-heard}
+use Rattle.vt_server.proofs.Heard.{upload-judges, defence-none, heard-state, accepted}
+use Rattle.vt_server.proofs.terminal.Terminal.take.Goals as goal
+use Rattle.vt_server.proofs.terminal.Terminal.take.Goals.{in-ClaimRequest, in_default}
+
+pub returns-then-source-own-clause-takes : goal.returns-then-source-own-clause-takes
+returns-then-source-own-clause-takes c =
+    let s = state_of c.args.self.now in
+    let n = c.args.notice.now in
+    let frame = c.args.frame.now in
+    let before = c.args.outputs.now.items in
+    let other : n ≡ notices.ClaimRequest → ⊥ = elim c.match-matches.branch [
+      | in-ClaimRequest w ↦ (λ _. true≢false (sym w.matches-is ∙ c.if-matches.false))
+      | in_default w ↦ w.in_default.not-ClaimRequest
+    ] in
+    let judged = upload-judges c.args.self.now n frame c.args.upload c.requires.upload in
+    takes-echo s frame n c.requires.no_claim judged.0 before before (sym c.source-source.ensures ∙ c.if-source-own.true ∙ c.own.ensures) judged.1
+    (sym (append-nil before) ∙ ap (λ (l : List Sent). before ++ outputs_of l) (sym (defence-none s (source_of frame) n c.requires.no_claim other)))
+
+pub returns-clause-takes : goal.returns-clause-takes
+returns-clause-takes c =
+    let t = c.args.self.now in
+    let s = state_of t in
+    let n = c.args.notice.now in
+    let frame = c.args.frame.now in
+    let a = source_of frame in
+    let u = state_of c.take_notice.new.self in
+    let before = c.args.outputs.now.items in
+    let after = c.take_notice.new.outputs.items in
+    let other : n ≡ notices.ClaimRequest → ⊥ = elim c.match-matches.branch [
+      | in-ClaimRequest w ↦ (λ _. true≢false (sym w.matches-is ∙ c.if-matches.false))
+      | in_default w ↦ w.in_default.not-ClaimRequest
+    ] in
+    takes-heard s frame n c.requires.no_claim u before before after
+    (λ e. c.if-source-own.false (c.source-source.ensures ∙ e ∙ sym c.own.ensures))
+    (sym (append-nil before) ∙ ap (λ (l : List Sent). before ++ outputs_of l) (sym (defence-none s a n c.requires.no_claim other)))
+    (subst (λ (x : State). TakesNotice x n frame u before after) (heard-state t c.hear.new.self c.source-source.result a c.source-source.ensures c.hear.ensures) c.take_notice.ensures.takes)
+    (accepted s.now a n frame c.requires.no_claim)

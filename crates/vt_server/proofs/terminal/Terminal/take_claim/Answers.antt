@@ -1,0 +1,46 @@
+use Rattle.std.proofs.Common.{◌≡◌, ℕ, Option, Some, sym, ap, ◌∙◌}
+use Rattle.vt_server.specs.Places.{Place}
+use Rattle.vt_server.specs.States.{state_of, places_by}
+use Rattle.vt_server.specs.Steps.{before, changes}
+use Rattle.vt_server.specs.Terminals.{after_acts}
+use Rattle.vt_server.specs.Uploads.{content_of}
+use Rattle.vt_server.specs.Watches.{heard_of}
+use Rattle.vt_server.specs.declared.bus.Notice.TheVariants.{Claim}
+use Rattle.vt_server.proofs.Claimed.{after-changes, acted-own, acted-other, sent-nothing, sent-defence}
+use Rattle.vt_server.proofs.Writes.{heard-placed}
+use Rattle.vt_server.proofs.terminal.Terminal.take_claim.Goals as goal
+use Rattle.vt_server.proofs.terminal.Terminal.take_claim.Goals.{then-former, else-former}
+
+pub returns-then-source-own-clause-takes : goal.returns-then-source-own-clause-takes
+returns-then-source-own-clause-takes c s name frame verdict from former defended is =
+    let f = c.args.former.now in
+    let t = c.rebind.new.self in
+    let v = state_of t in
+    let changed : v ≡ after_acts (before s c.args.source (Claim name)) (changes s c.args.source (Claim name)) =
+    after-changes s (state_of c.args.self.now) (state_of c.rebind_left.new.self) v c.args.source name f.left f.left_holder f.holder
+    is former.left former.left_holder former.holder c.rebind_left.ensures c.rebind.ensures in (
+      acted-other s v c.args.source name frame verdict changed
+          (record v { places = places_by (content_of t.contents) t.node (heard_of c.hear.new.self) }) (state_of c.bind.new.self)
+          (λ e. c.if-source-own.true (e ∙ sym c.own.ensures))
+          (ap (λ (heard : ℕ → Option ℕ). record v { places = places_by (content_of t.contents) t.node heard }) c.hear.ensures
+          ∙ ap (λ (places : ℕ → Place). record v { places = places }) (heard-placed (content_of t.contents) t.node (heard_of t.watch) c.args.source (Some t.time)))
+          c.bind.ensures,
+      elim c.if-former.branch [
+        | then-former w ↦ ap (λ outputs. outputs.items) w.outputs-is ∙ sent-defence s c.args.source name frame verdict f.is_defended defended (state_of c.args.self.now) w.own_claim.result c.args.outputs.now.items w.send.new.outputs.items is w.own_claim.ensures w.if-former.true w.send.ensures.items
+        | else-former w ↦ ap (λ outputs. outputs.items) w.outputs-is ∙ sent-nothing s c.args.source name frame verdict f.is_defended defended c.args.outputs.now.items w.if-former.false
+      ],
+    )
+
+pub returns-else-source-own-clause-takes : goal.returns-else-source-own-clause-takes
+returns-else-source-own-clause-takes c s name frame verdict from former defended is =
+    let f = c.args.former.now in
+    let v = state_of c.rebind.new.self in
+    let changed : v ≡ after_acts (before s c.args.source (Claim name)) (changes s c.args.source (Claim name)) =
+    after-changes s (state_of c.args.self.now) (state_of c.rebind_left.new.self) v c.args.source name f.left f.left_holder f.holder
+    is former.left former.left_holder former.holder c.rebind_left.ensures c.rebind.ensures in (
+      acted-own s v c.args.source name frame verdict changed (c.if-source-own.false ∙ c.own.ensures),
+      elim c.if-former.branch [
+        | then-former w ↦ ap (λ outputs. outputs.items) w.outputs-is ∙ sent-defence s c.args.source name frame verdict f.is_defended defended (state_of c.args.self.now) w.own_claim.result c.args.outputs.now.items w.send.new.outputs.items is w.own_claim.ensures w.if-former.true w.send.ensures.items
+        | else-former w ↦ ap (λ outputs. outputs.items) w.outputs-is ∙ sent-nothing s c.args.source name frame verdict f.is_defended defended c.args.outputs.now.items w.if-former.false
+      ],
+    )

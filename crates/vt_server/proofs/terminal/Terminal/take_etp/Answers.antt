@@ -1,0 +1,10 @@
+use Rattle.vt_server.specs.States.{state_of}
+use Rattle.vt_server.proofs.Uploaded.{etp-takes}
+use Rattle.vt_server.proofs.terminal.Terminal.take_etp.Goals as goal
+
+pub returns-clause-takes : goal.returns-clause-takes
+returns-clause-takes c =
+    let received = c.hear_etp-heard in
+    etp-takes c.args.self.now c.args.frame.now received.result received.new.self
+    received.ensures.rest received.ensures.taken
+    (state_of c.receive.new.self) c.source.result c.new.result.items c.args.outputs.now.items c.receive.new.outputs.items c.source.ensures c.new.ensures c.receive.ensures.takes

@@ -1,0 +1,35 @@
+use Rattle.std.proofs.Common.{ℕ, sym, ap, subst, ◌∙◌}
+use Rattle.vt_names.specs.Registry.{set_at, joining}
+use Rattle.vt_server.specs.Hearings.{TakesNotice}
+use Rattle.vt_server.specs.Parts.{after_master}
+use Rattle.vt_server.specs.States.{state_of}
+use Rattle.vt_server.specs.Terminals.{part, put}
+use Rattle.vt_server.specs.declared.bus.Notice.{Notice}
+use Rattle.vt_server.proofs.Heard.{takes-master, takes-member, takes-nothing, idle-by}
+use Rattle.vt_server.proofs.terminal.Terminal.take_notice.Goals as goal
+
+pub returns-in-Master-clause-takes : goal.returns-in-Master-clause-takes
+returns-in-Master-clause-takes c =
+    let s = state_of c.args.self.now in
+    let t = state_of c.register.new.self in
+    let outputs = c.args.outputs.now.items in
+    let count = c.in-Master.count in
+    subst (λ (n : Notice). TakesNotice s n c.args.frame.now t outputs outputs) (sym c.in-Master.is)
+    (takes-master s t count c.args.frame.now outputs
+    (c.register.ensures ∙ ap (λ (a : ℕ). put a (after_master a (part a s) (part a s).holder count) s) c.source-source.ensures))
+
+pub returns-in-Member-clause-takes : goal.returns-in-Member-clause-takes
+returns-in-Member-clause-takes c =
+    let s = state_of c.args.self.now in
+    let outputs = c.args.outputs.now.items in
+    let name = c.in-Member.name in
+    let sets = c.member-refused.new.self.sets in
+    subst (λ (n : Notice). TakesNotice s n c.args.frame.now (record s { sets = sets }) outputs outputs) (sym c.in-Member.is)
+    (takes-member s name c.args.frame.now outputs sets
+    (c.member-refused.ensures.sets ∙ ap (λ (a : ℕ). joining (set_at a s.sets) name s.sets) c.source-source.ensures))
+
+pub returns-in_default-clause-takes : goal.returns-in_default-clause-takes
+returns-in_default-clause-takes c =
+    let n = c.args.notice.now in
+    takes-nothing (state_of c.args.self.now) n c.args.frame.now c.args.outputs.now.items
+    (idle-by n c.requires.no_claim c.in_default.not-Master c.in_default.not-Member c.in_default.not-Message c.in_default.not-Tp c.in_default.not-Etp)

@@ -1,0 +1,12 @@
+-- What is shown, as the code has it.
+use Rattle.std.specs.Prelude.{ℕ}
+use Rattle.std.specs.Borrow.{Bor}
+use Rattle.vt_machine.specs.Lives.{SetState}
+use Rattle.vt_server.specs.Choosing as choosing
+use Rattle.vt_server.specs.declared.choosing.Display.{Display}
+
+abbrev pub display_value : Display → choosing.Display
+display_value d = record { address = d.address; mask = d.mask; soft_keys = d.soft_keys }
+
+abbrev pub found_pool : ℕ × Bor SetState → ℕ × SetState
+found_pool found = (found.0, found.1.now)

@@ -1,0 +1,53 @@
+-- The messages from the master of a set: what each changes, and its reply (docs/PROFILE.md, "Other messages", "Commands: all rows").
+use Rattle.std.specs.Prelude.{ℕ, ◌==◌, Bool, false, if◌then◌else◌, List, [], ◌∷◌, Option, Some, None}
+use Rattle.std.specs.Option.{option_map}
+use Rattle.vt_objects.specs.declared.command.Command.{Command}
+use Rattle.vt_objects.specs.Commands.{command_at}
+use Rattle.vt_server.specs.Commands.{content_after, error_after}
+use Rattle.vt_server.specs.Messages.{technical_reply}
+use Rattle.vt_server.specs.Places.{Content, with_piece}
+use Rattle.vt_server.specs.Replies.{reply_to}
+use Rattle.vt_server.specs.Transfers.{Verdict, ended, end_reply}
+
+pub record Handled : Type 0 where
+  pub content : Content
+  pub reply : Option (List ℕ)
+
+abbrev pub ignored : Content → Handled
+ignored content = record { content = content; reply = None }
+
+-- A command without a pool is ignored, but Delete Object Pool.
+abbrev pub commanded : Content → Option Command → Handled
+commanded content None = ignored content
+commanded content (Some command) =
+    record { content = content_after command content; reply = option_map (reply_to command) (error_after command content.pool) }
+
+-- a message that asks what the terminal is, or else a command
+abbrev pub asked : Content → List ℕ → Option (List ℕ) → Handled
+asked content bytes (Some reply) = record { content = content; reply = Some reply }
+asked content bytes None = commanded content (command_at bytes)
+
+-- Object Pool Transfer and End of Object Pool
+abbrev pub TRANSFER : ℕ
+TRANSFER = 0x11
+
+abbrev pub END_OF_POOL : ℕ
+END_OF_POOL = 0x12
+
+abbrev pub transferred : Content → List ℕ → Handled
+transferred content bytes = ignored (with_piece content bytes)
+
+abbrev pub end_handled : Content → Verdict → Handled
+end_handled content verdict = record { content = ended content verdict; reply = Some (end_reply verdict) }
+
+-- by the verdict on the transfer, of which the end of a pool alone speaks
+abbrev pub handled : Content → Verdict → List ℕ → Handled
+handled content verdict [] = ignored content
+handled content verdict (function ∷ bytes) =
+    if function == TRANSFER then transferred content bytes
+    else if function == END_OF_POOL then end_handled content verdict
+    else asked content (function ∷ bytes) (technical_reply (function ∷ bytes))
+
+abbrev pub ends_pool : List ℕ → Bool
+ends_pool [] = false
+ends_pool (function ∷ bytes) = function == END_OF_POOL

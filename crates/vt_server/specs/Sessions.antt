@@ -1,0 +1,66 @@
+-- What the sessions of an address make of a frame from there, and of their silence (docs/PROFILE.md, "Transport").
+use Rattle.std.specs.Prelude.{ℕ, ◌==◌, if◌then◌else◌, List, [], ◌++◌, Option, Some, None}
+use Rattle.std.specs.Option.{option_map, option_to_list}
+use Rattle.vt_can.specs.Assigned.{ECU_TO_VT}
+use Rattle.vt_can.specs.declared.frames.frame.Frame.{Frame}
+use Rattle.vt_can.specs.declared.transport.sessions.Timed.{Timed}
+use Rattle.vt_can.specs.transport.Messages as transport
+use Rattle.vt_can.specs.transport.Protocols.{Protocol}
+use Rattle.vt_transport.specs.Protocol as tp
+use Rattle.vt_transport.specs.Senders as sender
+use Rattle.vt_transport.specs.Senders.{timeout_frame}
+use Rattle.vt_transport.specs.Wire.{tp_frame}
+use Rattle.vt_extended.specs.Protocol as etp
+use Rattle.vt_server.specs.Places.{Place}
+use Rattle.vt_server.specs.Receiving.{taken}
+use Rattle.vt_server.specs.declared.bus.Notice.{Notice}
+use Rattle.vt_server.specs.declared.bus.Notice.TheVariants.{Message, Tp, Etp}
+
+-- what the frame leaves of the place, the frames to the address, and the bytes of a message to the terminal that is whole
+pub record Came : Type 0 where
+  pub place : Place
+  pub frames : List Frame
+  pub message : Option (List ℕ)
+
+-- A message of another group is dropped.
+abbrev pub message_to_terminal : Option transport.Message → Option (List ℕ)
+message_to_terminal None = None
+message_to_terminal (Some message) = if message.pgn == ECU_TO_VT then Some message.bytes else None
+
+-- A frame of the transport protocol is the receiver's and the sender's.
+abbrev pub came_tp : ℕ → ℕ → ℕ → Place → Frame → Came
+came_tp now own address place frame =
+    let received = taken tp.protocol now own address place.tp frame in
+    let sent = sender.answered own address now place.sending (tp_frame own frame) in
+    record {
+      place = record place { tp = received.session; sending = sent.session };
+      frames = received.frames ++ sent.frames;
+      message = message_to_terminal received.message;
+    }
+
+abbrev pub came_etp : ℕ → ℕ → ℕ → Place → Frame → Came
+came_etp now own address place frame =
+    let received = taken etp.protocol now own address place.etp frame in
+    record {
+      place = record place { etp = received.session };
+      frames = received.frames;
+      message = message_to_terminal received.message;
+    }
+
+-- from the terminal's own address, that of the source, and its place
+abbrev pub came : ℕ → ℕ → ℕ → Place → Notice → Frame → Came
+came now own address place Message frame = record { place = place; frames = []; message = Some frame.bytes.items }
+came now own address place Tp frame = came_tp now own address place frame
+came now own address place Etp frame = came_etp now own address place frame
+came now own address place _ frame = record { place = place; frames = []; message = None }
+
+-- ---- timeouts
+
+-- the abort of a receiver's session
+abbrev pub timeout_of : {S F R : Type 0} → Protocol S F R → ℕ → ℕ → Option (Timed S) → List Frame
+timeout_of protocol own address session =
+    option_to_list (option_map (λ timed. protocol.reply_frame own address (protocol.timeout timed.session)) session)
+
+-- the abort of the sender's session
+abbrev pub sending_timeout : ℕ → ℕ → Option (Timed transport.Message) → List Frame
+sending_timeout own address sending = option_to_list (option_map (λ timed. timeout_frame own address timed.session) sending)

@@ -1,0 +1,189 @@
+-- The terminal as one step for each input (docs/PROFILE.md, "The step").
+use Rattle.std.specs.Prelude.{ℕ, ◌==◌, Bool, true, false, not, if◌then◌else◌, List, [], ◌∷◌, ◌++◌, Option, Some, None, nat_eq, is_some}
+use Rattle.std.specs.Option.{option_eq}
+use Rattle.vt_can.specs.declared.frames.frame.Frame.{Frame}
+use Rattle.vt_can.specs.Assigned.{NULL_ADDRESS}
+use Rattle.vt_can.specs.frames.Frame.{source_of}
+use Rattle.vt_can.specs.lines.Actions.{ActionValue, Set}
+use Rattle.vt_names.specs.Claims.{Claimed, heard, address_of, answer}
+use Rattle.vt_names.specs.declared.claims.Heard.{Heard}
+use Rattle.vt_names.specs.declared.claims.Heard.TheVariants as claims
+use Rattle.vt_server.specs.Bus.{notice_of}
+use Rattle.vt_server.specs.Choosing.{choosing, shown_now, events_of_change, display, status}
+use Rattle.vt_server.specs.Lapses.{at_time, lapsed, sent_by_lapses}
+use Rattle.vt_server.specs.Messages.{claim_from}
+use Rattle.vt_objects.specs.Stores.{Contents}
+use Rattle.vt_server.specs.Parts.{Act, Hears, Rebinds, Operates, Preloads}
+use Rattle.vt_server.specs.Terminals.{State, Sent, ToAll, Refused, holder, pool_of, pool_at, after_act, after_acts, sent_by_acts}
+use Rattle.vt_server.specs.Transfers.{Verdict}
+use Rattle.vt_server.specs.declared.bus.Notice.{Notice}
+use Rattle.vt_server.specs.declared.bus.Notice.TheVariants.{Claim, ClaimRequest}
+use Rattle.vt_server.specs.declared.output.OperatorFault.TheVariants.{NoSet}
+
+-- What comes to the terminal, with what is found of the pools: the verdict on the transfer that a frame ends, and whether
+-- the object that an action names is shown. Which finding is right Findings says.
+pub data Event : Type 0 where
+  FrameAt : (time : ℕ) (frame : Frame) (verdict : Verdict) → Event
+  ActionAt : (action : ActionValue) (shown : Bool) → Event
+
+pub record Step : Type 0 where
+  pub after : State
+  pub sent : List Sent
+
+abbrev pub no_step : State → Step
+no_step s = record { after = s; sent = [] }
+
+-- ---- what a frame makes happen
+
+abbrev pub hear_claim : State → ℕ → Notice → Claimed
+hear_claim s source (Claim name) = heard s.claims source name
+hear_claim s source _ = s.claims
+
+-- with the claim recorded, before anything happens at an address
+abbrev pub before : State → ℕ → Notice → State
+before s source notice = record s { claims = hear_claim s source notice }
+
+-- the address has another holder than before
+abbrev pub changed : Option ℕ → State → ℕ → List (ℕ × Act)
+changed was s address = if option_eq nat_eq was (holder s address) then [] else (address, Rebinds) ∷ []
+
+-- the address that a NAME leaves by claiming another
+abbrev pub left_by : ℕ → Option ℕ → Option ℕ
+left_by source None = None
+left_by source (Some left) = if left == source then None else Some left
+
+abbrev pub left_holder : State → Option ℕ → Option ℕ
+left_holder s None = None
+left_holder s (Some left) = holder s left
+
+abbrev pub changed_left : Option ℕ → State → Option ℕ → List (ℕ × Act)
+changed_left was s None = []
+changed_left was s (Some left) = changed was s left
+
+-- A claim changes the holders of two addresses at most: of the one that its NAME leaves, and of its source.
+abbrev pub changes_by : State → State → Option ℕ → ℕ → List (ℕ × Act)
+changes_by s t left source = changed_left (left_holder s left) t left ++ changed (holder s source) t source
+
+abbrev pub changes : State → ℕ → Notice → List (ℕ × Act)
+changes s source (Claim name) =
+    changes_by s (before s source (Claim name)) (left_by source (address_of s.claims.addresses name)) source
+changes s source _ = []
+
+-- The terminal hears no frame from its own address.
+abbrev pub heard_at_source : ℕ → ℕ → Notice → Frame → Verdict → List (ℕ × Act)
+heard_at_source own source notice frame verdict = if source == own then [] else (source, Hears notice frame verdict) ∷ []
+
+-- in order: each change of a holder, and the frame at its source
+abbrev pub acts : State → ℕ → Notice → Frame → Verdict → List (ℕ × Act)
+acts s source notice frame verdict = changes s source notice ++ heard_at_source s.claims.own source notice frame verdict
+
+abbrev pub answer_to : State → ℕ → Notice → Heard
+answer_to s source (Claim name) = answer s.claims source name
+answer_to s source _ = claims.Nothing
+
+-- a lower NAME claims the own address
+abbrev pub is_lost_by : Heard → Bool
+is_lost_by claims.Lost = true
+is_lost_by _ = false
+
+-- the terminal's claim, where another claims its address or asks for it
+abbrev pub is_defended : Notice → Heard → Bool
+is_defended ClaimRequest _ = true
+is_defended _ claims.Defend = true
+is_defended _ _ = false
+
+abbrev pub defence : State → ℕ → Notice → List Sent
+defence s source notice =
+    if is_defended notice (answer_to s source notice) then ToAll (claim_from s.claims.own s.claims.name) ∷ [] else []
+
+-- ---- the end of a step
+
+-- The shown set is chosen, the events of its change run, and the status goes out where the display is another than the
+-- one before the input.
+unfoldable pub settled : State → State
+settled s = after_acts (choosing s) (events_of_change s.shown (shown_now s))
+
+unfoldable pub sent_by_settling : State → State → List Sent
+sent_by_settling old s =
+    sent_by_acts (choosing s) (events_of_change s.shown (shown_now s)) ++ status s.claims.own (display old) (display (settled s))
+
+-- ---- a frame
+
+-- Cannot Claim goes out, and nothing else happens, now or later. A set that is closed is shown no more.
+abbrev pub losing : State → Step
+losing s = record {
+  after = record s { lost = true; shown = if is_some (pool_at s s.shown) then s.shown else None };
+  sent = ToAll (claim_from NULL_ADDRESS s.claims.name) ∷ [];
+}
+
+abbrev pub acted : State → ℕ → Notice → Frame → Verdict → State
+acted s source notice frame verdict = after_acts (before s source notice) (acts s source notice frame verdict)
+
+abbrev pub sent_by_frame : State → ℕ → Notice → Frame → Verdict → List Sent
+sent_by_frame s source notice frame verdict =
+    defence s source notice ++ sent_by_acts (before s source notice) (acts s source notice frame verdict)
+
+-- from the state before the input, and that after what its time ended
+abbrev pub acting : State → State → ℕ → Notice → Frame → Verdict → Step
+acting old s source notice frame verdict = let t = acted s source notice frame verdict in record {
+  after = settled t;
+  sent = sent_by_frame s source notice frame verdict ++ sent_by_settling old t;
+}
+
+abbrev pub hearing : State → State → ℕ → Notice → Frame → Verdict → Step
+hearing old s source notice frame verdict =
+    if is_lost_by (answer_to s source notice) then losing s else acting old s source notice frame verdict
+
+abbrev pub behind_lapses : State → Step → Step
+behind_lapses s step = record step { sent = sent_by_lapses s ++ step.sent }
+
+abbrev pub step_frame : State → ℕ → Frame → Verdict → Step
+step_frame s time frame verdict =
+    let t = at_time s time in
+    behind_lapses t (hearing s (lapsed t) (source_of frame) (notice_of s.claims.own s.claims.name frame) frame verdict)
+
+-- ---- an action of the operator
+
+-- no set with a pool is shown, or there is none at the address that is to be selected
+abbrev pub has_no_set : State → ActionValue → Bool
+has_no_set s (Set address) = not (is_some (pool_of s address))
+has_no_set s action = not (is_some (pool_at s s.shown))
+
+abbrev pub selecting : State → ActionValue → State
+selecting s (Set address) = if is_some (pool_of s address) then record s { selected = Some address } else s
+selecting s action = s
+
+abbrev pub at_shown : Option ℕ → Act → List (ℕ × Act)
+at_shown None act = []
+at_shown (Some address) act = (address, act) ∷ []
+
+abbrev pub no_set : Bool → List Sent
+no_set missing = if missing then Refused NoSet ∷ [] else []
+
+abbrev pub step_action : State → ActionValue → Bool → Step
+step_action s action shown =
+    let u = selecting s action in let happens = at_shown s.shown (Operates action shown) in let t = after_acts u happens in record {
+      after = settled t;
+      sent = (no_set (has_no_set s action) ++ sent_by_acts u happens) ++ sent_by_settling s t;
+    }
+
+-- ---- the step
+
+-- After the loss nothing has effect.
+abbrev pub step : State → Event → Step
+step s (FrameAt time frame verdict) = if s.lost then no_step s else step_frame s time frame verdict
+step s (ActionAt action shown) = if s.lost then no_step s else step_action s action shown
+
+abbrev pub after_all : State → List Event → State
+after_all s [] = s
+after_all s (e ∷ events) = after_all (step s e).after events
+
+abbrev pub sent_by_all : State → List Event → List Sent
+sent_by_all s [] = []
+sent_by_all s (e ∷ events) = (step s e).sent ++ sent_by_all (step s e).after events
+
+-- ---- a pool that is there from the start
+
+-- A set with a pool is added, and the shown set chosen. No event is raised, and nothing is sent.
+abbrev pub preloading : State → ℕ → Contents → State
+preloading s address contents = choosing (after_act s address (Preloads contents))

@@ -1,0 +1,191 @@
+//! Which working set is shown (docs/PROFILE.md, "The shown set and the selected set").
+
+ghost use Rattle.std.specs.Prelude.{◌≡◌, ◌≤◌, ◌+◌, ◌++◌, ℕ, [], ◌∷◌, None, Some, is_some, vec_len, vec_capacity};
+ghost use Rattle.std.specs.FinMap as finite;
+ghost use Rattle.std.specs.Option.{option_map};
+ghost use Rattle.vt_objects.specs.Records.{seen};
+ghost use Rattle.vt_server.specs.Choosing as choosing;
+ghost use Rattle.vt_server.specs.Displays.{display_value, found_pool};
+ghost use Rattle.vt_server.specs.Outputs.{outputs_of};
+ghost use Rattle.vt_server.specs.States.{state_of};
+ghost use Rattle.vt_server.specs.Steps.{settled, sent_by_settling};
+ghost use Rattle.vt_server.specs.Terminals as spec;
+
+use crate::messages::status_frame;
+use crate::output::{Output, send};
+use crate::terminal::Terminal;
+use vt_can::assigned::NULL_ADDRESS;
+use vt_machine::Live;
+use vt_objects::{Object, ObjectId, SortedStore};
+
+/// The number of the event that a Working Set is no longer shown.
+const DEACTIVATE: u8 = 2;
+
+/// The number of the event that a Working Set is shown.
+const ACTIVATE: u8 = 1;
+
+/// A working set that shows an alarm.
+#[derive(Clone, Copy)]
+pub(crate) struct Alarm {
+    pub(crate) address: u8,
+    pub(crate) priority: u8,
+}
+
+/// What is shown: a working set, its active mask, and that mask's soft key mask.
+#[derive(Clone, Copy, PartialEq, Eq)]
+pub(crate) struct Display {
+    pub(crate) address: u8,
+    pub(crate) mask: ObjectId,
+    pub(crate) soft_keys: ObjectId,
+}
+
+impl Terminal {
+    /// Chooses the set that is shown, runs the events of its change, and sends the status where another display is shown than
+    /// before the input.
+    pub(crate) fn settle(&mut self, before: &Display, outputs: &mut Vec<Output>)
+        requires room { vec_len outputs.old + 1 ≤ vec_capacity outputs.old }
+        ensures state { state_of self.new ≡ settled (state_of self.old) }
+        ensures sent { (s : spec.State) → display_value before.now ≡ choosing.display s
+            → outputs.new.items ≡ outputs.old.items ++ outputs_of (sent_by_settling s (state_of self.old)) }
+    {
+        let was = self.shown;
+        self.choose();
+        self.raise_change(was);
+        let now = self.display();
+        if *before != now {
+            send(outputs, status_frame(self.node.own(), &now));
+        }
+    }
+
+    /// Chooses the selected and the shown set.
+    pub(crate) fn choose(&mut self)
+        ensures { state_of self.new ≡ choosing.choosing (state_of self.old) }
+    {
+        self.selected = self.selected_now();
+        self.shown = match self.loudest() {
+            Some(alarm) => Some(alarm.address),
+            None => self.selected,
+        };
+    }
+
+    /// Raises the events of another set's being shown than before.
+    fn raise_change(&mut self, was: Option<u8>)
+        ensures { state_of self.new ≡ spec.after_acts (state_of self.old) (choosing.events_of_change was (state_of self.old).shown) }
+    {
+        let now = self.shown;
+        if was == now {
+            return;
+        }
+        self.raise_at(was, DEACTIVATE);
+        self.raise_at(now, ACTIVATE);
+    }
+
+    /// Raises an event of the Working Set of an address.
+    fn raise_at(&mut self, address: Option<u8>, event: u8)
+        ensures { state_of self.new ≡ spec.after_acts (state_of self.old) (choosing.raised_at address event) }
+    {
+        if let Some(address) = address {
+            self.contents.raise(address, event);
+        }
+    }
+
+    /// The set that is shown, with its pool.
+    pub(crate) fn shown_pool(&self) -> Option<(u8, &Live<SortedStore>)>
+        ensures { option_map found_pool result ≡ choosing.pool_shown (state_of self.now) }
+    {
+        let address = self.shown?;
+        let live = self.contents.pool(address)?;
+        Some((address, live))
+    }
+
+    /// What is shown.
+    pub(crate) fn display(&self) -> Display
+        ensures { display_value result ≡ choosing.display (state_of self.now) }
+    {
+        match self.shown_pool() {
+            None => Display {
+                address: NULL_ADDRESS,
+                mask: ObjectId::from_raw(0xFFFF),
+                soft_keys: ObjectId::from_raw(0xFFFF),
+            },
+            Some((address, live)) => Display {
+                address,
+                mask: live.active_mask(),
+                soft_keys: live.soft_key_mask(),
+            },
+        }
+    }
+
+    fn selected_now(&self) -> Option<u8>
+        ensures { result ≡ choosing.selected_now (state_of self.now) }
+    {
+        if self.has_pool(self.selected) {
+            return self.selected;
+        }
+        self.first_with_pool()
+    }
+
+    fn has_pool(&self, address: Option<u8>) -> bool
+        ensures { result ≡ is_some (spec.pool_at (state_of self.now) address) }
+    {
+        match address {
+            Some(address) => self.contents.pool(address).is_some(),
+            None => false,
+        }
+    }
+
+    /// The first set with a pool, in the order of registration.
+    fn first_with_pool(&self) -> Option<u8>
+        ensures { result ≡ choosing.first_with_pool (spec.pool_of (state_of self.now)) (state_of self.now).sets }
+    {
+        for place in 0..self.registry.len() {
+            if let Some(set) = self.registry.at(place) {
+                let address = set.address();
+                if self.contents.pool(address).is_some() {
+                    return Some(address);
+                }
+            }
+        }
+        None
+    }
+
+    /// Of the sets that show an alarm the one of the lowest priority number, and of equal ones the first.
+    fn loudest(&self) -> Option<Alarm>
+        ensures { result ≡ choosing.loudest (spec.pool_of (state_of self.now)) (state_of self.now).sets }
+    {
+        let mut loudest = None;
+        let mut place = self.registry.len();
+        while place > 0 {
+            place -= 1;
+            if let Some(set) = self.registry.at(place) {
+                let address = set.address();
+                loudest = louder(address, self.alarm(address), loudest);
+            }
+        }
+        loudest
+    }
+
+    /// The priority of the alarm that the set of an address shows.
+    fn alarm(&self, address: u8) -> Option<u8>
+        ensures { result ≡ choosing.alarm_in (spec.pool_of (state_of self.now) address) }
+    {
+        let live = self.contents.pool(address)?;
+        match live.get(live.active_mask()) {
+            Some(Object::AlarmMask(mask)) => Some(mask.priority),
+            _ => None,
+        }
+    }
+}
+
+/// Of two alarms that of the lower number, and of equal ones the first.
+fn louder(address: u8, priority: Option<u8>, other: Option<Alarm>) -> Option<Alarm>
+    ensures { result ≡ choosing.louder address priority other }
+{
+    let Some(priority) = priority else {
+        return other;
+    };
+    match other {
+        Some(alarm) if alarm.priority < priority => Some(alarm),
+        _ => Some(Alarm { address, priority }),
+    }
+}

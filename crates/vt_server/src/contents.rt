@@ -1,0 +1,187 @@
+//! The pool of each address, and the one that it uploads.
+
+ghost use Rattle.std.specs.Prelude.{◌≡◌, ◌≤◌, ◌+◌, ◌++◌, ◌∷◌, ◌≢◌, ℕ, [], None, Some, length, drop, IfOk, IfNone, IsSome, OnOk, OnErr};
+ghost use Rattle.std.specs.Option.{option_map};
+ghost use Rattle.vt_objects.specs.Stores.{map_of};
+ghost use Rattle.vt_server.specs.Commands.{content_after, error_after};
+ghost use Rattle.vt_can.specs.lines.Actions.{action_value};
+ghost use Rattle.vt_server.specs.Acting.{IsActedOn, WouldBeRefused};
+ghost use Rattle.vt_server.specs.Ends.{IsJudgement, IsEnded};
+ghost use Rattle.vt_server.specs.Parts.{raised_on};
+ghost use Rattle.vt_server.specs.Places.{no_content, with_piece};
+ghost use Rattle.vt_server.specs.Terminals.{with_at};
+ghost use Rattle.vt_server.specs.Uploads.{content_of, room_of};
+
+use crate::OutOfMemory;
+use crate::commands::{deletes, error_byte};
+use crate::ending::{ACCEPTED, Judgement, judge};
+use crate::operating::{act, text_fault};
+use std::alloc::Global;
+use vt_can::Action;
+use vt_machine::{Acted, Live, OperatorRefusal};
+use vt_objects::{Command, SortedStore};
+use vt_pool::Reading;
+
+/// At most one pool, and one upload, for each of the 256 addresses.
+#[derive(Drop)]
+pub(crate) struct Contents {
+    pools: [Option<Live<SortedStore>>; 256],
+    transfers: [Option<Reading>; 256],
+}
+
+impl Contents {
+    pub(crate) fn new() -> Contents
+        ensures { (address : ℕ) → content_of result address ≡ no_content }
+    {
+        Contents {
+            pools: Default::default(),
+            transfers: Default::default(),
+        }
+    }
+
+    pub(crate) fn pool(&self, address: u8) -> Option<&Live<SortedStore>>
+        ensures { option_map (λ live. live.now) result ≡ (content_of self.now address).pool }
+    {
+        self.pools[usize::from(address)].as_ref()
+    }
+
+    /// Gives an address a pool. Its upload is over.
+    pub(crate) fn put(&mut self, address: u8, pool: Live<SortedStore>)
+        ensures { content_of self.new ≡ with_at address (record { pool = Some pool; transfer = [] }) (content_of self.old) }
+    {
+        self.pools[usize::from(address)] = Some(pool);
+        self.transfers[usize::from(address)] = None;
+    }
+
+    /// Takes the pool and the upload of an address away.
+    pub(crate) fn remove(&mut self, address: u8)
+        ensures content { content_of self.new ≡ with_at address no_content (content_of self.old) }
+        ensures rooms { (other : ℕ) → other ≢ address → room_of self.new other ≡ room_of self.old other }
+    {
+        self.pools[usize::from(address)] = None;
+        self.transfers[usize::from(address)] = None;
+    }
+
+    /// Does a command on the pool of an address, and tells the error byte of its reply, if it has one: none where there
+    /// is no pool. To delete the pool is done there too.
+    pub(crate) fn apply(&mut self, address: u8, command: &Command<'_>) -> Option<u8>
+        ensures content { content_of self.new
+            ≡ with_at address (content_after command.now (content_of self.old address)) (content_of self.old) }
+        ensures error { result ≡ error_after command.now (content_of self.old address).pool }
+    {
+        if deletes(command) {
+            self.remove(address);
+            return Some(0);
+        }
+        let pool = self.pools[usize::from(address)].as_mut()?;
+        Some(error_byte(pool.apply(command)))
+    }
+
+    /// Makes room for so many bytes in the upload of an address.
+    pub(crate) fn reserve(
+        &mut self,
+        alloc: Global,
+        address: u8,
+        count: usize,
+    ) -> Result<(), OutOfMemory>
+        ensures same { content_of self.new ≡ content_of self.old }
+        ensures ok { OnOk result (count ≤ room_of self.new address) }
+    {
+        let place = &mut self.transfers[usize::from(address)];
+        match place {
+            Some(transfer) => transfer.reserve(count),
+            None => {
+                let mut transfer = Reading::new(alloc);
+                transfer.reserve(count)?;
+                *place = Some(transfer);
+                Ok(())
+            }
+        }
+    }
+
+    /// Adds the bytes of a piece from a place on to the upload of an address, for which there is room.
+    pub(crate) fn feed(&mut self, address: u8, piece: Vec<u8>, from: usize)
+        requires from { from ≤ length piece.items }
+        requires room { length piece.items ≤ from + room_of self.old address }
+        ensures { content_of self.new ≡ with_at address (with_piece (content_of self.old address) (drop from piece.items)) (content_of self.old) }
+    {
+        match &mut self.transfers[usize::from(address)] {
+            Some(transfer) => match transfer.feed(piece, from) {
+                Ok(()) => {}
+                Err(_) => unreachable!(),
+            },
+            None => {}
+        }
+    }
+
+    /// Judges the upload of an address. Nothing is changed.
+    pub(crate) fn judge(&self, alloc: Global, address: u8) -> Result<Judgement, OutOfMemory>
+        ensures { IfOk result (IsJudgement (content_of self.now address)) }
+    {
+        let pool = self.pools[usize::from(address)].as_ref();
+        match &self.transfers[usize::from(address)] {
+            Some(transfer) => judge(alloc, pool, transfer),
+            None => judge(alloc, pool, &Reading::new(alloc)),
+        }
+    }
+
+    /// Ends the upload of an address by what it comes to, and answers the reply.
+    pub(crate) fn end(&mut self, address: u8, judgement: Judgement) -> [u8; 8]
+        requires { IsJudgement (content_of self.old address) judgement }
+        ensures { IsEnded (content_of self.old) address judgement result (content_of self.new) }
+    {
+        match judgement {
+            Judgement::Accepted(pool) => {
+                self.put(address, pool);
+                ACCEPTED
+            }
+            Judgement::Refused(reply) => {
+                self.transfers[usize::from(address)] = None;
+                reply
+            }
+        }
+    }
+
+    /// Raises an event of the Working Set of an address, if there is a pool.
+    pub(crate) fn raise(&mut self, address: u8, event: u8)
+        ensures { content_of self.new ≡ with_at address (record (content_of self.old address) { pool = option_map (λ state. raised_on state event) (content_of self.old address).pool }) (content_of self.old) }
+    {
+        match &mut self.pools[usize::from(address)] {
+            Some(live) => {
+                let id = live.working_set();
+                let _steps = live.raise(id, event);
+            }
+            None => {}
+        }
+    }
+
+    /// Does an action of the operator on the set of an address.
+    pub(crate) fn act(
+        &mut self,
+        address: u8,
+        action: &Action<'_>,
+    ) -> Option<Result<Acted, OperatorRefusal>>
+        ensures { IsActedOn (content_of self.old) address (action_value action.now) result (content_of self.new) }
+    {
+        match &mut self.pools[usize::from(address)] {
+            Some(live) => act(live, action),
+            None => None,
+        }
+    }
+
+    /// Why the text would be refused on the set of an address, if it would. Nothing is changed. One that would not be has at
+    /// most 255 bytes.
+    pub(crate) fn text_fault(
+        &mut self,
+        address: u8,
+        id: u16,
+        text: &[u8],
+    ) -> Option<OperatorRefusal>
+        ensures fault { WouldBeRefused (content_of self.old address).pool id text.now result }
+        ensures short { IsSome (content_of self.old address).pool → IfNone result (length text.now ≤ 255) }
+        ensures same { content_of self.new ≡ content_of self.old }
+    {
+        let live = self.pools[usize::from(address)].as_mut()?;
+        text_fault(live, id, text)
+    }
+}

@@ -1,0 +1,134 @@
+//! What the terminal does with an action of the operator (docs/PROFILE.md, "The operator").
+
+ghost use Rattle.std.specs.Prelude.{◌≡◌, ◌+◌, ◌<◌, ◌≤◌, true, length, OnOk, OnErr, IsOk, vec_len, vec_capacity};
+ghost use Rattle.std.specs.Option.{option_map};
+ghost use Rattle.vt_can.specs.lines.Actions.{action_value};
+ghost use Rattle.vt_can.specs.lines.Actions as actions;
+ghost use Rattle.vt_server.specs.Acting.{TakesAction, IsShort};
+ghost use Rattle.vt_server.specs.Choosing as choosing;
+ghost use Rattle.vt_server.specs.States.{state_of, TakesInput};
+ghost use Rattle.vt_server.specs.declared.input.Input.TheVariants as inputs;
+
+use crate::OutOfMemory;
+use crate::hearing::MOST_OUTPUTS;
+use crate::messages::message_to;
+use crate::operating::{filled, text_message};
+use crate::output::{OperatorFault, Output, refuse, send};
+use crate::terminal::Terminal;
+use vt_can::Action;
+use vt_transport::SendFault;
+
+/// The most bytes of a text whose message is one frame.
+const SHORT_TEXT: usize = 4;
+
+impl Terminal {
+    /// Does an action of the operator. All growths are made before the first change.
+    pub(crate) fn operate(
+        &mut self,
+        action: &Action<'_>,
+        outputs: &mut Vec<Output>,
+    ) -> Result<(), OutOfMemory>
+        ensures ok { OnOk result (TakesInput (state_of self.old) (inputs.Operator action.now) (state_of self.new) outputs.old.items outputs.new.items) }
+        ensures err { OnErr result (state_of self.new ≡ state_of self.old) }
+        ensures err_sent { OnErr result (outputs.new.items ≡ outputs.old.items) }
+        // A terminal without its address asks for no memory.
+        ensures lost { (state_of self.old).lost ≡ true → IsOk result }
+    {
+        if self.lost {
+            return Ok(());
+        }
+        outputs.reserve(MOST_OUTPUTS)?;
+        let before = self.display();
+        match action {
+            Action::Set(address) => self.select_set(*address, outputs),
+            Action::Text(id, text) if text.len() > SHORT_TEXT => {
+                self.enter_long_text(*id, text, outputs)?
+            }
+            _ => self.act(action, outputs),
+        }
+        self.settle(&before, outputs);
+        Ok(())
+    }
+
+    /// Selects the set of an address.
+    fn select_set(&mut self, address: u8, outputs: &mut Vec<Output>)
+        requires room { vec_len outputs.old + 1 ≤ vec_capacity outputs.old }
+        ensures takes { TakesAction (state_of self.old) (actions.Set address) (state_of self.new) outputs.old.items outputs.new.items }
+        ensures left { vec_capacity outputs.old + vec_len outputs.new ≤ vec_capacity outputs.new + vec_len outputs.old + 1 }
+    {
+        if self.contents.pool(address).is_none() {
+            refuse(outputs, OperatorFault::NoSet);
+            return;
+        }
+        self.selected = Some(address);
+    }
+
+    /// Acts on the set that is shown, with a message of one frame or none.
+    fn act(&mut self, action: &Action<'_>, outputs: &mut Vec<Output>)
+        requires room { vec_len outputs.old + 1 ≤ vec_capacity outputs.old }
+        requires short { IsShort (action_value action.now) }
+        ensures takes { TakesAction (state_of self.old) (action_value action.now) (state_of self.new) outputs.old.items outputs.new.items }
+        ensures left { vec_capacity outputs.old + vec_len outputs.new ≤ vec_capacity outputs.new + vec_len outputs.old + 1 }
+    {
+        let Some(address) = self.shown_address() else {
+            refuse(outputs, OperatorFault::NoSet);
+            return;
+        };
+        match self.contents.act(address, action) {
+            None => {}
+            Some(Err(refusal)) => refuse(outputs, OperatorFault::from(refusal)),
+            Some(Ok(acted)) => {
+                if !acted.message.is_empty() {
+                    let bytes = filled(acted.message.as_slice());
+                    send(outputs, message_to(self.node.own(), address, bytes));
+                }
+            }
+        }
+    }
+
+    /// Enters a text whose message goes out in packets, so that it wants a session and memory for it.
+    fn enter_long_text(
+        &mut self,
+        id: u16,
+        text: &[u8],
+        outputs: &mut Vec<Output>,
+    ) -> Result<(), OutOfMemory>
+        requires room { vec_len outputs.old + 1 ≤ vec_capacity outputs.old }
+        requires long { 4 < length text.now }
+        ensures takes { OnOk result (TakesAction (state_of self.old) (actions.Text id text.now) (state_of self.new) outputs.old.items outputs.new.items) }
+        ensures left { vec_capacity outputs.old + vec_len outputs.new ≤ vec_capacity outputs.new + vec_len outputs.old + 1 }
+        ensures err { OnErr result (state_of self.new ≡ state_of self.old) }
+        ensures err_sent { OnErr result (outputs.new.items ≡ outputs.old.items) }
+    {
+        let Some(address) = self.shown_address() else {
+            refuse(outputs, OperatorFault::NoSet);
+            return Ok(());
+        };
+        if let Some(refusal) = self.contents.text_fault(address, id, text) {
+            refuse(outputs, OperatorFault::from(refusal));
+            return Ok(());
+        }
+        let message = text_message(id, text);
+        match self.node.start(self.time, address, message.as_slice()) {
+            Ok(request) => {
+                let _done = self.contents.act(address, &Action::Text(id, text));
+                send(outputs, request);
+                Ok(())
+            }
+            Err(SendFault::Busy) => {
+                refuse(outputs, OperatorFault::Busy);
+                Ok(())
+            }
+            Err(SendFault::OutOfMemory) => Err(std::alloc::AllocError),
+            Err(SendFault::Size) => unreachable!(),
+        }
+    }
+
+    /// The address of the set that is shown, if it has a pool.
+    fn shown_address(&self) -> Option<u8>
+        ensures { result ≡ option_map (λ found. found.0) (choosing.pool_shown (state_of self.now)) }
+    {
+        let (address, _live) = self.shown_pool()?;
+        Some(address)
+    }
+}

@@ -1,0 +1,144 @@
+//! The events of a change of the set that is shown.
+
+use super::script::{Step, expect_script, expect_step};
+use super::*;
+
+// Working Set 0 with macro 1 on Activate and macro 2 on Deactivate; Data Mask 1000 with Output Numbers 300 and 301
+// of Number Variables 200 and 201, both 9. Macro 1 sets the first to 1, and macro 2 the second to 2.
+const COUNTED: &[u8] = b"\x00\x00\x00\x00\x01\xE8\x03\x00\x02\x00\x01\x01\x02\x02\
+    \xE8\x03\x01\x00\xFF\xFF\x02\x00\x2C\x01\x00\x00\x00\x00\x2D\x01\x00\x00\x00\x00\
+    \x2C\x01\x0C\x0A\x00\x05\x00\x00\xFF\xFF\x00\xC8\x00\x00\x00\x00\x00\x00\x00\x00\x00\
+    \x00\x00\x80\x3F\x00\x00\x00\x00\
+    \x2D\x01\x0C\x0A\x00\x05\x00\x00\xFF\xFF\x00\xC9\x00\x00\x00\x00\x00\x00\x00\x00\x00\
+    \x00\x00\x80\x3F\x00\x00\x00\x00\
+    \xC8\x00\x15\x09\x00\x00\x00\xC9\x00\x15\x09\x00\x00\x00\
+    \x01\x00\x1C\x08\x00\xA8\xC8\x00\xFF\x01\x00\x00\x00\
+    \x02\x00\x1C\x08\x00\xA8\xC9\x00\xFF\x02\x00\x00\x00";
+
+// The same in hexadecimal.
+const UPLOADED: [&str; 6] = [
+    "0000000001E80300020001010202",
+    "E8030100FFFF02002C01000000002D0100000000",
+    "2C010C0A00050000FFFF00C80000000000000000000000803F00000000",
+    "2D010C0A00050000FFFF00C90000000000000000000000803F00000000",
+    "C8001509000000C9001509000000",
+    "01001C0800A8C800FF0100000002001C0800A8C900FF02000000",
+];
+
+const CLAIMS: Step = Step::Line("18EEFF81#0200000000800020", &[]);
+
+const IS_MASTER: Step = Step::Line("18FE0D81#01FFFFFFFFFFFFFF", &[]);
+
+// A preloaded set is shown without an event.
+const PRELOADED: [Step; 3] = [
+    Step::Screen("screen 80 mask 1000\nvalue 300 0 0 9\nvalue 301 0 0 9\n"),
+    Step::Line("14E72680#FFFFFFFFFFFFFFFF", &[]),
+    Step::Screen("screen 80 mask 1000\nvalue 300 0 0 9\nvalue 301 0 0 9\n"),
+];
+
+const CHANGES: [Step; 10] = [
+    Step::Line("14E72681#12FFFFFFFFFFFFFF", &["14E68126#1200FFFFFFFF00FF"]),
+    Step::Line("! set 81", &["14E6FF26#FE81E803FFFF00FF"]),
+    Step::Screen("screen 81 mask 1000\nvalue 300 0 0 1\nvalue 301 0 0 9\n"),
+    Step::Line("! set 80", &["14E6FF26#FE80E803FFFF00FF"]),
+    Step::Screen("screen 80 mask 1000\nvalue 300 0 0 1\nvalue 301 0 0 2\n"),
+    // An update raises none.
+    Step::Pieces("80", "C8001507000000"),
+    Step::Line("14E72680#12FFFFFFFFFFFFFF", &["14E68026#1200FFFFFFFF00FF"]),
+    Step::Screen("screen 80 mask 1000\nvalue 300 0 0 7\nvalue 301 0 0 2\n"),
+    // The set that comes in the place of a deleted one is activated.
+    Step::Line(
+        "14E72680#B2FFFFFFFFFFFFFF",
+        &["14E68026#B200FFFFFFFFFFFF", "14E6FF26#FE81E803FFFF00FF"],
+    ),
+    Step::Screen("screen 81 mask 1000\nvalue 300 0 0 1\nvalue 301 0 0 2\n"),
+];
+
+// The first pool of a set, where none was shown.
+const FIRST: [Step; 2] = [
+    Step::Line(
+        "14E72681#12FFFFFFFFFFFFFF",
+        &["14E68126#1200FFFFFFFF00FF", "14E6FF26#FE81E803FFFF00FF"],
+    ),
+    Step::Screen("screen 81 mask 1000\nvalue 300 0 0 1\nvalue 301 0 0 9\n"),
+];
+
+// A set whose Activate activates another mask: its first status has that mask.
+const ACTIVATED: [Step; 7] = [
+    CLAIMS,
+    IS_MASTER,
+    Step::Pieces("81", "0000000001E8030001000101"),
+    Step::Pieces("81", "E8030100FFFF0000D0070100FFFF0000"),
+    Step::Pieces("81", "01001C0800AD0000D007FFFFFF"),
+    Step::Line(
+        "14E72681#12FFFFFFFFFFFFFF",
+        &["14E68126#1200FFFFFFFF00FF", "14E6FF26#FE81D007FFFF00FF"],
+    ),
+    Step::Screen("screen 81 mask 2000\n"),
+];
+
+fn uploaded(rt: &(impl Abort + AllocGlobal), terminal: &mut Terminal) -> Result<(), Fail> {
+    for step in &[CLAIMS, IS_MASTER] {
+        expect_step(rt, terminal, step)?;
+    }
+    for record in UPLOADED {
+        expect_step(rt, terminal, &Step::Pieces("81", record))?;
+    }
+    Ok(())
+}
+
+#[test]
+fn events_of_a_change(rt: HostRuntime) -> Result<(), Fail> {
+    let mut terminal = preloaded_with(&rt, COUNTED)?;
+    for step in &PRELOADED {
+        expect_step(&rt, &mut terminal, step)?;
+    }
+    uploaded(&rt, &mut terminal)?;
+    for step in &CHANGES {
+        expect_step(&rt, &mut terminal, step)?;
+    }
+    let mut empty = started(&rt, false)?;
+    uploaded(&rt, &mut empty)?;
+    for step in &FIRST {
+        expect_step(&rt, &mut empty, step)?;
+    }
+    expect_script(&rt, None, &ACTIVATED)
+}
+
+// Working Set 0, Data Mask 1000, Container 100 and Alarm Mask 2000.
+const ALARMED: &[u8] = b"\x00\x00\x00\x00\x01\xE8\x03\x00\x00\x00\
+    \xE8\x03\x01\x00\xFF\xFF\x01\x00\x64\x00\x0A\x00\x05\x00\
+    \x64\x00\x03\x32\x00\x14\x00\x00\x00\x00\
+    \xD0\x07\x02\x00\xFF\xFF\x01\x00\x00\x00";
+
+// At 81 the same, but Deactivate activates the alarm mask again: so the set is shown again, at the next input.
+const CHOSEN_ONCE: [Step; 13] = [
+    CLAIMS,
+    IS_MASTER,
+    Step::Pieces("81", "0000000001E8030001000201"),
+    Step::Pieces("81", "E8030100FFFF010064000A000500"),
+    Step::Pieces("81", "64000332001400000000"),
+    Step::Pieces("81", "D0070200FFFF01000000"),
+    Step::Pieces("81", "01001C0800AD0000D007FFFFFF"),
+    Step::Line("14E72681#12FFFFFFFFFFFFFF", &["14E68126#1200FFFFFFFF00FF"]),
+    Step::Line(
+        "14E72681#AD0000D007FFFFFF",
+        &["14E68126#ADD00700FFFFFFFF", "14E6FF26#FE81D007FFFF00FF"],
+    ),
+    Step::Line(
+        "14E72681#AD0000E803FFFFFF",
+        &["14E68126#ADE80300FFFFFFFF", "14E6FF26#FE80E803FFFF00FF"],
+    ),
+    Step::Screen("screen 80 mask 1000\ncontainer 100 10 5 50x20\n"),
+    Step::Line("14E72680#FFFFFFFFFFFFFFFF", &["14E6FF26#FE81D007FFFF00FF"]),
+    // Of two alarms of one priority that of the set that was there first.
+    Step::Line(
+        "14E72680#AD0000D007FFFFFF",
+        &["14E68026#ADD00700FFFFFFFF", "14E6FF26#FE80D007FFFF00FF"],
+    ),
+];
+
+#[test]
+fn the_shown_set_is_chosen_once(rt: HostRuntime) -> Result<(), Fail> {
+    expect_script(&rt, Some(ALARMED), &CHOSEN_ONCE)
+}

@@ -1,0 +1,153 @@
+//! An upload in pieces, cut at any place, by frames and in packets.
+
+use super::script::{Step, expect_script, expect_step};
+use super::*;
+
+// The pool of 34 bytes, cut in two. Its second part comes in pieces of seven bytes: so it is cut at each place.
+const CUTS: [(&str, &str); 8] = [
+    (
+        "",
+        "0000000001E803000000E8030100FFFF010064000A00050064000332001400000000",
+    ),
+    (
+        "00",
+        "00000001E803000000E8030100FFFF010064000A00050064000332001400000000",
+    ),
+    (
+        "0000",
+        "000001E803000000E8030100FFFF010064000A00050064000332001400000000",
+    ),
+    (
+        "000000",
+        "0001E803000000E8030100FFFF010064000A00050064000332001400000000",
+    ),
+    (
+        "00000000",
+        "01E803000000E8030100FFFF010064000A00050064000332001400000000",
+    ),
+    (
+        "0000000001",
+        "E803000000E8030100FFFF010064000A00050064000332001400000000",
+    ),
+    (
+        "0000000001E8",
+        "03000000E8030100FFFF010064000A00050064000332001400000000",
+    ),
+    (
+        "0000000001E803000000E8030100FFFF010064000A000500640003320014000000",
+        "00",
+    ),
+];
+
+const CLAIMS: Step = Step::Line("18EEFF80#0100000000800020", &[]);
+
+const IS_MASTER: Step = Step::Line("18FE0D80#01FFFFFFFFFFFFFF", &[]);
+
+const ACCEPTED: &[&str] = &["14E68026#1200FFFFFFFF00FF", "14E6FF26#FE80E803FFFF00FF"];
+
+const SHOWN: Step = Step::Screen("screen 80 mask 1000\ncontainer 100 10 5 50x20\n");
+
+const DELETED: Step = Step::Line(
+    "14E72680#B2FFFFFFFFFFFFFF",
+    &["14E68026#B200FFFFFFFFFFFF", "14E6FF26#FEFEFFFFFFFF00FF"],
+);
+
+#[test]
+fn an_upload_cut_at_each_place(rt: HostRuntime) -> Result<(), Fail> {
+    let mut terminal = started(&rt, false)?;
+    for step in &[CLAIMS, IS_MASTER] {
+        expect_step(&rt, &mut terminal, step)?;
+    }
+    for (head, tail) in CUTS {
+        expect_step(&rt, &mut terminal, &Step::Pieces("80", head))?;
+        // An empty piece adds nothing.
+        expect_step(&rt, &mut terminal, &Step::Line("14E72680#11", &[]))?;
+        expect_step(&rt, &mut terminal, &Step::Pieces("80", tail))?;
+        expect_step(&rt, &mut terminal, &Step::Line("14E72680#12", ACCEPTED))?;
+        expect_step(&rt, &mut terminal, &SHOWN)?;
+        expect_step(&rt, &mut terminal, &DELETED)?;
+    }
+    Ok(())
+}
+
+const IN_PACKETS: [Step; 22] = [
+    CLAIMS,
+    IS_MASTER,
+    // By TP whole, and its end in packets too: the session ends before the reply.
+    Step::Line("1CEC2680#10230005FF00E700", &["1CEC8026#110501FFFF00E700"]),
+    Step::Line("1CEB2680#01110000000001E8", &[]),
+    Step::Line("1CEB2680#0203000000E80301", &[]),
+    Step::Line("1CEB2680#0300FFFF01006400", &[]),
+    Step::Line("1CEB2680#040A000500640003", &[]),
+    Step::Line("1CEB2680#0532001400000000", &["1CEC8026#13230005FF00E700"]),
+    Step::Line("1CEC2680#10090002FF00E700", &["1CEC8026#110201FFFF00E700"]),
+    Step::Line("1CEB2680#0112FFFFFFFFFFFF", &[]),
+    Step::Line(
+        "1CEB2680#02FFFFFFFFFFFFFF",
+        &[
+            "1CEC8026#13090002FF00E700",
+            "14E68026#1200FFFFFFFF00FF",
+            "14E6FF26#FE80E803FFFF00FF",
+        ],
+    ),
+    SHOWN,
+    DELETED,
+    // Its first bytes in a frame, the rest by ETP.
+    Step::Line("14E72680#110000000001E803", &[]),
+    Step::Line("1CC82680#141C00000000E700", &["1CC88026#150401000000E700"]),
+    Step::Line("1CC82680#160400000000E700", &[]),
+    Step::Line("1CC72680#0111000000E80301", &[]),
+    Step::Line("1CC72680#0200FFFF01006400", &[]),
+    Step::Line("1CC72680#030A000500640003", &[]),
+    Step::Line("1CC72680#0432001400000000", &["1CC88026#171C00000000E700"]),
+    Step::Line("14E72680#12FFFFFFFFFFFFFF", ACCEPTED),
+    SHOWN,
+];
+
+#[test]
+fn an_upload_in_packets(rt: HostRuntime) -> Result<(), Fail> {
+    expect_script(&rt, None, &IN_PACKETS)
+}
+
+// A second master message keeps what was uploaded, and the uploads of two sets are their own.
+const OF_TWO_SETS: [Step; 15] = [
+    CLAIMS,
+    IS_MASTER,
+    Step::Line("18EEFF81#0200000000800020", &[]),
+    Step::Line("18FE0D81#01FFFFFFFFFFFFFF", &[]),
+    Step::Pieces("80", "0000000001E803000000E8030100FFFF0100"),
+    Step::Pieces("81", "0000000001D007000000"),
+    IS_MASTER,
+    Step::Pieces("80", "64000A000500"),
+    Step::Pieces("81", "D0070100FFFF0000"),
+    Step::Line(
+        "14E72681#12FFFFFFFFFFFFFF",
+        &["14E68126#1200FFFFFFFF00FF", "14E6FF26#FE81D007FFFF00FF"],
+    ),
+    Step::Pieces("80", "64000332001400000000"),
+    Step::Line("14E72680#12FFFFFFFFFFFFFF", &["14E68026#1200FFFFFFFF00FF"]),
+    Step::Screen("screen 81 mask 2000\n"),
+    Step::Line("! set 80", &["14E6FF26#FE80E803FFFF00FF"]),
+    SHOWN,
+];
+
+// A fault in the first piece is answered at the end, and no sooner; a set that is closed has nothing uploaded.
+const LOST: [Step; 11] = [
+    CLAIMS,
+    IS_MASTER,
+    Step::Pieces("80", "010022"),
+    Step::Pieces("80", "0000000001D007000000"),
+    Step::Line("14E72680#12FFFFFFFFFFFFFF", &["14E68026#1201FFFFFFFF01FF"]),
+    Step::Pieces("80", "0000000001FFFF000000"),
+    Step::Line("18EEFF80#0000000000800020", &[]),
+    Step::Line("14E72680#12FFFFFFFFFFFFFF", &[]),
+    IS_MASTER,
+    Step::Line("14E72680#12FFFFFFFFFFFFFF", &["14E68026#1201FFFFFFFF04FF"]),
+    Step::Screen("screen none\n"),
+];
+
+#[test]
+fn uploads_of_two_sets_and_of_none(rt: HostRuntime) -> Result<(), Fail> {
+    expect_script(&rt, None, &OF_TWO_SETS)?;
+    expect_script(&rt, None, &LOST)
+}

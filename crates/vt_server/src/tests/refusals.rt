@@ -1,0 +1,150 @@
+//! What the operator is refused, in the order of the tests, and what is sent for what is not.
+
+use super::script::{Step, expect_script};
+use super::*;
+
+// Working Set 0; Data Mask 1000 with Input Strings 301 and 302, Input Numbers 600 and 601, Input Boolean 602, Input
+// List 603, Button 604 and the hidden Container 100, in it Input Boolean 605; Soft Key Mask 400 with Key 500.
+// 302 and 601 are disabled.
+const OPERATED: &[u8] = b"\x00\x00\x00\x00\x01\xE8\x03\x00\x00\x00\
+    \xE8\x03\x01\x00\x90\x01\x08\x00\
+    \x2D\x01\x00\x00\x00\x00\x2E\x01\x00\x00\x00\x00\x58\x02\x00\x00\x00\x00\x59\x02\x00\x00\x00\x00\
+    \x5A\x02\x00\x00\x00\x00\x5B\x02\x00\x00\x00\x00\x5C\x02\x00\x00\x00\x00\x64\x00\x00\x00\x00\x00\
+    \x64\x00\x03\x32\x00\x14\x00\x01\x01\x00\x5D\x02\x00\x00\x00\x00\
+    \x2D\x01\x08\x0A\x00\x05\x00\x00\xFF\xFF\xFF\xFF\x00\xFF\xFF\x00\x08        \x01\x00\
+    \x2E\x01\x08\x0A\x00\x05\x00\x00\xFF\xFF\xFF\xFF\x00\xFF\xFF\x00\x02  \x00\x00\
+    \x58\x02\x09\x0A\x00\x05\x00\x00\xFF\xFF\x00\xFF\xFF\x05\x00\x00\x00\x00\x00\x00\x00\x0A\x00\x00\x00\
+    \x00\x00\x00\x00\x00\x00\x80\x3F\x00\x00\x00\x01\x00\
+    \x59\x02\x09\x0A\x00\x05\x00\x00\xFF\xFF\x00\xFF\xFF\x05\x00\x00\x00\x00\x00\x00\x00\x0A\x00\x00\x00\
+    \x00\x00\x00\x00\x00\x00\x80\x3F\x00\x00\x00\x00\x00\
+    \x5A\x02\x07\x00\x0A\x00\xFF\xFF\xFF\xFF\x00\x01\x00\
+    \x5B\x02\x0A\x0A\x00\x05\x00\xFF\xFF\x00\x02\x01\x00\xFF\xFF\xFF\xFF\
+    \x5C\x02\x06\x0A\x00\x05\x00\x00\x00\x09\x00\x00\x00\
+    \x5D\x02\x07\x00\x0A\x00\xFF\xFF\xFF\xFF\x00\x01\x00\
+    \x90\x01\x04\x00\x01\x00\xF4\x01\
+    \xF4\x01\x05\x00\x07\x00\x00";
+
+// Without a set to act on, each is refused for that.
+const NO_SET: [Step; 9] = [
+    Step::Line("! press 1", &["9"]),
+    Step::Line("! release 1", &["9"]),
+    Step::Line("! select 1", &["9"]),
+    Step::Line("! number 1 1", &["9"]),
+    Step::Line("! text 1 A", &["9"]),
+    Step::Line("! text 1 ABCDEFGH", &["9"]),
+    Step::Line("! set 80", &["9"]),
+    Step::Line("! set 26", &["9"]),
+    Step::Line("! set FF", &["9"]),
+];
+
+// A set without a pool is none to act on.
+const NO_POOL: [Step; 5] = [
+    Step::Line("18EEFF80#0100000000800020", &[]),
+    Step::Line("18FE0D80#01FFFFFFFFFFFFFF", &[]),
+    Step::Line("! set 80", &["9"]),
+    Step::Line("! press 1", &["9"]),
+    Step::Line("! text 1 ABCDEFGH", &["9"]),
+];
+
+// Not shown comes first, then the kind, and then that a key is held.
+const KEYS: [Step; 14] = [
+    Step::Line("! release 500", &["6"]),
+    Step::Line("! press 1", &["1"]),
+    Step::Line("! press 605", &["1"]),
+    Step::Line("! press 400", &["1"]),
+    Step::Line("! press 301", &["5"]),
+    Step::Line("! press 500", &["14E68026#0001F401E80307FF"]),
+    Step::Line("! press 604", &["7"]),
+    Step::Line("! press 301", &["5"]),
+    Step::Line("! press 605", &["1"]),
+    Step::Line("! release 604", &["6"]),
+    Step::Line("! release 500", &["14E68026#0000F401E80307FF"]),
+    Step::Line("! release 500", &["6"]),
+    Step::Line("! press 604", &["14E68026#01015C02E80309FF"]),
+    Step::Line("! release 604", &["14E68026#01005C02E80309FF"]),
+];
+
+// Not shown, then the kind, then that the input is not enabled.
+const SELECTIONS: [Step; 6] = [
+    Step::Line("! select 605", &["1"]),
+    Step::Line("! select 604", &["5"]),
+    Step::Line("! select 302", &["2"]),
+    Step::Line("! select 601", &["2"]),
+    Step::Line("! select 301", &[]),
+    Step::Line("! select 301", &[]),
+];
+
+// And then the range.
+const NUMBERS: [Step; 12] = [
+    Step::Line("! number 605 9", &["1"]),
+    Step::Line("! number 301 9", &["5"]),
+    Step::Line("! number 604 9", &["5"]),
+    Step::Line("! number 601 11", &["2"]),
+    Step::Line("! number 600 11", &["3"]),
+    Step::Line("! number 602 2", &["3"]),
+    Step::Line("! number 603 2", &["3"]),
+    Step::Line("! number 600 10", &["14E68026#055802FF0A000000"]),
+    Step::Line("! number 600 0", &["14E68026#055802FF00000000"]),
+    Step::Line("! number 602 1", &["14E68026#055A02FF01000000"]),
+    Step::Line("! number 603 1", &["14E68026#055B02FF01000000"]),
+    Step::Line("! number 603 255", &["3"]),
+];
+
+// And then the length, and last that a message is being sent: only for a text of more than four bytes.
+const TEXTS: [Step; 15] = [
+    Step::Line("! text 605 A", &["1"]),
+    Step::Line("! text 600 A", &["5"]),
+    Step::Line("! text 302 ABC", &["2"]),
+    Step::Line("! text 301 ABCDEFGHI", &["4"]),
+    Step::Line("! text 301 ", &["14E68026#082D0100FFFFFFFF"]),
+    Step::Line("! text 301 AB", &["14E68026#082D01024142FFFF"]),
+    Step::Line("! text 301 ABCD", &["14E68026#082D010441424344"]),
+    Step::Line("! text 301 ABCDE", &["1CEC8026#10090002FF00E600"]),
+    Step::Line("! text 301 ABCDE", &["8"]),
+    Step::Line("! text 301 ABCDEFGHI", &["4"]),
+    Step::Line("! text 302 ABCDE", &["2"]),
+    Step::Line("! text 600 ABCDE", &["5"]),
+    Step::Line("! text 605 ABCDE", &["1"]),
+    Step::Line("! text 301 ABC", &["14E68026#082D0103414243FF"]),
+    Step::Line("! set 80", &[]),
+];
+
+#[test]
+fn actions_without_a_set(rt: HostRuntime) -> Result<(), Fail> {
+    expect_script(&rt, None, &NO_SET)?;
+    expect_script(&rt, None, &NO_POOL)
+}
+
+#[test]
+fn actions_and_their_refusals(rt: HostRuntime) -> Result<(), Fail> {
+    for steps in [&KEYS[..], &SELECTIONS, &NUMBERS, &TEXTS] {
+        expect_script(&rt, Some(OPERATED), steps)?;
+    }
+    Ok(())
+}
+
+const FAULTS: [OperatorFault; 9] = [
+    OperatorFault::NotShown,
+    OperatorFault::Disabled,
+    OperatorFault::Range,
+    OperatorFault::TooLong,
+    OperatorFault::WrongKind,
+    OperatorFault::NotPressed,
+    OperatorFault::Held,
+    OperatorFault::Busy,
+    OperatorFault::NoSet,
+];
+
+// The number of a fault is one more than its place in the type.
+#[test]
+fn faults_by_their_numbers(rt: HostRuntime) -> Result<(), Fail> {
+    for (place, fault) in FAULTS.iter().enumerate() {
+        assert_eq!(rt; *fault as usize, place);
+    }
+    let text = format!(in rt.alloc(); "{}", OperatorFault::Busy)?;
+    assert_eq!(rt;
+        text.as_str(),
+        "a message to the working set is still being sent"
+    );
+    Ok(())
+}

@@ -1,0 +1,52 @@
+//! The status, which goes out where the display is another than before the input.
+
+use super::script::{Step, expect_script};
+use super::*;
+
+// Working Set 0, Data Masks 1000 and 2000, Soft Key Mask 400, and macro 1, which activates mask 2000 and then
+// mask 1000.
+const TWO_MASKS: &[u8] = b"\x00\x00\x00\x00\x01\xE8\x03\x00\x00\x00\
+    \xE8\x03\x01\x00\xFF\xFF\x00\x00\
+    \xD0\x07\x01\x00\xFF\xFF\x00\x00\
+    \x90\x01\x04\x00\x00\x00\
+    \x01\x00\x1C\x10\x00\xAD\x00\x00\xD0\x07\xFF\xFF\xFF\xAD\x00\x00\xE8\x03\xFF\xFF\xFF";
+
+const CASES: [Step; 12] = [
+    // The active mask, and the same again.
+    Step::Line(
+        "14E72680#AD0000D007FFFFFF",
+        &["14E68026#ADD00700FFFFFFFF", "14E6FF26#FE80D007FFFF00FF"],
+    ),
+    Step::Line("14E72680#AD0000D007FFFFFF", &["14E68026#ADD00700FFFFFFFF"]),
+    Step::Line("14E72680#AD00009001FFFFFF", &["14E68026#AD900102FFFFFFFF"]),
+    // The soft key mask of the mask that is active, and of another.
+    Step::Line(
+        "14E72680#AE01D0079001FFFF",
+        &["14E68026#AED007900100FFFF", "14E6FF26#FE80D007900100FF"],
+    ),
+    Step::Line("14E72680#AE01E8039001FFFF", &["14E68026#AEE803900100FFFF"]),
+    Step::Line(
+        "14E72680#AFD00702FFFF0000",
+        &["14E68026#AFD0070200FFFFFF", "14E6FF26#FE80D007FFFF00FF"],
+    ),
+    Step::Line("14E72680#A7D00705FFFFFFFF", &["14E68026#A7D0070500FFFFFF"]),
+    // Both at once.
+    Step::Line(
+        "14E72680#AD0000E803FFFFFF",
+        &["14E68026#ADE80300FFFFFFFF", "14E6FF26#FE80E803900100FF"],
+    ),
+    // Another mask and back again in one input.
+    Step::Line("14E72680#BE0100FFFFFFFFFF", &["14E68026#BE010000FFFFFFFF"]),
+    // No active mask, by an update.
+    Step::Pieces("80", "0000000001FFFF000000"),
+    Step::Line(
+        "14E72680#12FFFFFFFFFFFFFF",
+        &["14E68026#1200FFFFFFFF00FF", "14E6FF26#FE80FFFFFFFF00FF"],
+    ),
+    Step::Screen("screen 80 mask none\n"),
+];
+
+#[test]
+fn statuses_of_the_set_that_is_shown(rt: HostRuntime) -> Result<(), Fail> {
+    expect_script(&rt, Some(TWO_MASKS), &CASES)
+}

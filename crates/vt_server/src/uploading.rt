@@ -1,0 +1,122 @@
+//! Messages of a set's master, and the uploads that they bring (docs/PROFILE.md, "Whole messages", "Object Pool Transfer (11)").
+
+ghost use Rattle.std.specs.Prelude.{◌≡◌, ℕ, List, true, is_some, IfOk, OnOk, length, slice_index, Some};
+ghost use Rattle.vt_can.specs.transport.Messages.{size_and_first_byte, Message};
+ghost use Rattle.vt_names.specs.Registry.{set_at};
+ghost use Rattle.vt_server.specs.Hearings.{IsReadyWith, IsReadyNow, IsEnd, Answers, IsReplyTo, RoomsStay};
+ghost use Rattle.vt_server.specs.States.{state_of};
+ghost use Rattle.vt_server.specs.Terminals as spec;
+ghost use Rattle.vt_server.specs.Uploads.{content_of, room_of};
+
+use crate::OutOfMemory;
+use crate::commands::reply_to;
+use crate::ending::Judgement;
+use crate::messages::{message_to, technical_reply};
+use crate::terminal::Terminal;
+use vt_can::Frame;
+use vt_objects::Command;
+
+/// The function of a piece of a pool.
+const TRANSFER: u8 = 0x11;
+
+/// The function of the end of a pool.
+const END_OF_POOL: u8 = 0x12;
+
+/// What was made ready for the message that a frame completes.
+#[derive(Drop)]
+pub(crate) enum Upload {
+    /// Nothing.
+    Nothing,
+    /// Room for a piece of a pool.
+    Room,
+    /// Room for the piece of a pool that a frame is, and the piece.
+    Piece(Vec<u8>),
+    /// What the end of a pool comes to.
+    End(Judgement),
+}
+
+impl Terminal {
+    /// Makes ready what a message of one frame wants. Nothing is changed but room.
+    pub(crate) fn prepare_frame(&mut self, source: u8, bytes: &[u8]) -> Result<Upload, OutOfMemory>
+        ensures same { state_of self.new ≡ state_of self.old }
+        ensures rooms { RoomsStay self.old self.new }
+        ensures ready { IfOk result (IsReadyNow (content_of self.new.contents source) (room_of self.new.contents source) bytes.now) }
+    {
+        match bytes.first() {
+            Some(&TRANSFER) => {
+                let piece = Vec::from_slice(self.alloc, bytes)?;
+                self.contents.reserve(self.alloc, source, bytes.len())?;
+                Ok(Upload::Piece(piece))
+            }
+            Some(&END_OF_POOL) => self.prepare_end(source),
+            _ => Ok(Upload::Nothing),
+        }
+    }
+
+    /// Makes ready what a message in packets wants, of which the size and the first byte are told.
+    pub(crate) fn prepare_told(
+        &mut self,
+        source: u8,
+        told: Option<(usize, u8)>,
+    ) -> Result<Upload, OutOfMemory>
+        ensures same { state_of self.new ≡ state_of self.old }
+        ensures rooms { RoomsStay self.old self.new }
+        ensures ready { (message : Message) → told ≡ size_and_first_byte (Some message)
+            → IfOk result (IsReadyWith (content_of self.new.contents source) (room_of self.new.contents source) message.bytes) }
+    {
+        match told {
+            Some((size, TRANSFER)) => {
+                self.contents.reserve(self.alloc, source, size)?;
+                Ok(Upload::Room)
+            }
+            Some((_, END_OF_POOL)) => self.prepare_end(source),
+            _ => Ok(Upload::Nothing),
+        }
+    }
+
+    /// Judges the upload of an address.
+    fn prepare_end(&self, source: u8) -> Result<Upload, OutOfMemory>
+        ensures { IfOk result (IsEnd (content_of self.now.contents source)) }
+    {
+        let judgement = self.contents.judge(self.alloc, source)?;
+        Ok(Upload::End(judgement))
+    }
+
+    /// The reply to a message from the master of a set, if it has one.
+    pub(crate) fn answer(&mut self, source: u8, bytes: &[u8], upload: Upload) -> Option<Frame>
+        requires { is_some (set_at source (state_of self.old).sets) ≡ true → IsReadyNow (content_of self.old.contents source) (room_of self.old.contents source) bytes.now upload }
+        ensures { Answers (state_of self.old) source bytes.now result (state_of self.new) }
+    {
+        if !self.registered(source) {
+            return None;
+        }
+        let own = self.node.own();
+        match upload {
+            Upload::Nothing => {
+                let reply = self.reply(source, bytes)?;
+                Some(message_to(own, source, reply))
+            }
+            Upload::Room => unreachable!(),
+            Upload::Piece(piece) => {
+                self.contents.feed(source, piece, 1);
+                None
+            }
+            Upload::End(judgement) => {
+                let reply = self.contents.end(source, judgement);
+                Some(message_to(own, source, reply))
+            }
+        }
+    }
+
+    /// The reply to a message that asks what the terminal is, or to a command, if it is one.
+    fn reply(&mut self, source: u8, bytes: &[u8]) -> Option<[u8; 8]>
+        ensures { IsReplyTo (state_of self.old) source bytes.now result (state_of self.new) }
+    {
+        if let Some(reply) = technical_reply(bytes) {
+            return Some(reply);
+        }
+        let command = Command::read(bytes)?;
+        let error = self.contents.apply(source, &command)?;
+        Some(reply_to(&command, error))
+    }
+}
