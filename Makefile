@@ -1,5 +1,5 @@
 # The program's words. Paths are those of the folder in which make runs.
-ARGS ?= examples/hide.log --pool examples/pool.iop --owner 80
+ARGS ?= examples/seeder.log
 
 .PHONY: run test build bench
 
@@ -15,7 +15,8 @@ test:
 build:
 	cd crates/vt_replay && rt run -- --version
 
-# Times the proved program on a million lines, read alone, and read and answered, and pools written and read.
+# Times the proved program on a million lines, read and ignored, answered with a new screen each, and answered with
+# macros, and pools written and read.
 bench: build
 	@bash scripts/bench.sh
 	@bash scripts/bench_pools.sh

@@ -1,7 +1,8 @@
 #!/usr/bin/env bash
 # Times the proved program, from its start to its end, on a million lines: first read and ignored
-# (vt_can::parse_line), then read, answered and written (vt_can::write_frame), and then with two macros that
-# each line sets off (vt_machine::Live::apply).
+# (vt_can::parse_line; the screen is drawn after each, and never changes), then read, answered and written
+# (vt_can::write_frame), each with another screen than the one before (vt_layout::draw), and then with two
+# macros that each line sets off (vt_machine::Live::apply).
 set -eu
 top=$(cd "$(dirname "$0")/.." && pwd)
 program="$top/crates/vt_replay/out/vt_replay"
