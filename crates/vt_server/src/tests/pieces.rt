@@ -1,43 +1,7 @@
 //! An upload in pieces, cut at any place, by frames and in packets.
 
-use super::script::{Step, expect_script, expect_step};
+use super::script::{Step, expect_script};
 use super::*;
-
-// The pool of 34 bytes, cut in two. Its second part comes in pieces of seven bytes: so it is cut at each place.
-const CUTS: [(&str, &str); 8] = [
-    (
-        "",
-        "0000000001E803000000E8030100FFFF010064000A00050064000332001400000000",
-    ),
-    (
-        "00",
-        "00000001E803000000E8030100FFFF010064000A00050064000332001400000000",
-    ),
-    (
-        "0000",
-        "000001E803000000E8030100FFFF010064000A00050064000332001400000000",
-    ),
-    (
-        "000000",
-        "0001E803000000E8030100FFFF010064000A00050064000332001400000000",
-    ),
-    (
-        "00000000",
-        "01E803000000E8030100FFFF010064000A00050064000332001400000000",
-    ),
-    (
-        "0000000001",
-        "E803000000E8030100FFFF010064000A00050064000332001400000000",
-    ),
-    (
-        "0000000001E8",
-        "03000000E8030100FFFF010064000A00050064000332001400000000",
-    ),
-    (
-        "0000000001E803000000E8030100FFFF010064000A000500640003320014000000",
-        "00",
-    ),
-];
 
 const CLAIMS: Step = Step::Line("18EEFF80#0100000000800020", &[]);
 
@@ -51,24 +15,6 @@ const DELETED: Step = Step::Line(
     "14E72680#B2FFFFFFFFFFFFFF",
     &["14E68026#B200FFFFFFFFFFFF", "14E6FF26#FEFEFFFFFFFF00FF"],
 );
-
-#[test]
-fn an_upload_cut_at_each_place(rt: HostRuntime) -> Result<(), Fail> {
-    let mut terminal = started(&rt, false)?;
-    for step in &[CLAIMS, IS_MASTER] {
-        expect_step(&rt, &mut terminal, step)?;
-    }
-    for (head, tail) in CUTS {
-        expect_step(&rt, &mut terminal, &Step::Pieces("80", head))?;
-        // An empty piece adds nothing.
-        expect_step(&rt, &mut terminal, &Step::Line("14E72680#11", &[]))?;
-        expect_step(&rt, &mut terminal, &Step::Pieces("80", tail))?;
-        expect_step(&rt, &mut terminal, &Step::Line("14E72680#12", ACCEPTED))?;
-        expect_step(&rt, &mut terminal, &SHOWN)?;
-        expect_step(&rt, &mut terminal, &DELETED)?;
-    }
-    Ok(())
-}
 
 const IN_PACKETS: [Step; 22] = [
     CLAIMS,

@@ -11,91 +11,6 @@ const CONTAINER: &str = "64000332001400000000";
 
 const ENDS: &str = "14E72680#12FFFFFFFFFFFFFF";
 
-// The records that a set without a pool uploads, and the reply to their end.
-const REFUSED: [(&[&str], &str); 24] = [
-    // No pool: cut, of a type that there is not or that is left out, of a NULL ID, of another scale, of eight decimals.
-    (&["0100"], "14E68026#1201FFFFFFFF04FF"),
-    (&[WORKING_SET, MASK, "640003"], "14E68026#1201FFFFFFFF04FF"),
-    (&["010022"], "14E68026#1201FFFFFFFF01FF"),
-    (&["01001D"], "14E68026#1201FFFFFFFF01FF"),
-    (&["010021"], "14E68026#1201FFFFFFFF01FF"),
-    (&["FFFF1500000000"], "14E68026#1201FFFFFFFF04FF"),
-    (
-        &["01000C0000000000FFFF00FFFF00000000000000000000003F00000000"],
-        "14E68026#1201FFFFFFFF04FF",
-    ),
-    (
-        &["01000C0000000000FFFF00FFFF00000000000000000000803F08000000"],
-        "14E68026#1201FFFFFFFF04FF",
-    ),
-    // The first faulty record is named.
-    (&["010022", "FFFF15"], "14E68026#1201FFFFFFFF01FF"),
-    // No working set, and two.
-    (&[], "14E68026#1201FFFFFFFF04FF"),
-    (&["01001500000000"], "14E68026#1201FFFFFFFF04FF"),
-    (
-        &[WORKING_SET, MASK, CONTAINER, "0100000000FFFF000000"],
-        "14E68026#1201FFFFFFFF04FF",
-    ),
-    // An object that is not there, NULL where an object has to be, and one of another kind.
-    (&[WORKING_SET, MASK], "14E68026#1201E803640002FF"),
-    (
-        &[WORKING_SET, "E8030100FFFF0100FFFF0A000500"],
-        "14E68026#1201E803FFFF02FF",
-    ),
-    (
-        &[WORKING_SET, MASK, "64001500000000"],
-        "14E68026#1201E803640004FF",
-    ),
-    // A container in itself.
-    (
-        &[WORKING_SET, MASK, "64000332001400000100640000000000"],
-        "14E68026#1201FFFFFFFF04FF",
-    ),
-    // A macro that ends inside a command, and one with a command that macros do not have.
-    (
-        &[WORKING_SET, MASK, CONTAINER, "01001C0200A432"],
-        "14E68026#1201FFFF010004FF",
-    ),
-    (
-        &[WORKING_SET, MASK, CONTAINER, "01001C0800A2FFFFFFFFFFFFFF"],
-        "14E68026#1201FFFF010004FF",
-    ),
-    // A macro, and an object of a macro's command, that are not there, or of another kind.
-    (
-        &[WORKING_SET, MASK, "640003320014000000010309"],
-        "14E68026#12016400090002FF",
-    ),
-    (
-        &[WORKING_SET, MASK, "640003320014000000010364"],
-        "14E68026#12016400640004FF",
-    ),
-    (
-        &[WORKING_SET, MASK, CONTAINER, "01001C0800A0C80001FFFFFFFF"],
-        "14E68026#12010100C80002FF",
-    ),
-    (
-        &[WORKING_SET, MASK, CONTAINER, "01001C0800A0E80301FFFFFFFF"],
-        "14E68026#12010100E80304FF",
-    ),
-    // An attribute that a container does not have.
-    (
-        &[WORKING_SET, MASK, CONTAINER, "01001C0800AF64000900000000"],
-        "14E68026#1201FFFF010004FF",
-    ),
-    // A macro that triggers itself.
-    (
-        &[
-            WORKING_SET,
-            MASK,
-            CONTAINER,
-            "05001700000000010B01",
-            "01001C0800AA050000000000FF",
-        ],
-        "14E68026#1201FFFF010004FF",
-    ),
-];
-
 const SIMPLE: [&str; 3] = [WORKING_SET, MASK, CONTAINER];
 
 const TAKEN: [&str; 2] = ["14E68026#1200FFFFFFFF00FF", "14E6FF26#FE80E803FFFF00FF"];
@@ -135,18 +50,6 @@ fn registered(rt: &(impl Abort + AllocGlobal)) -> Result<Terminal, Fail> {
     expect_line(rt, &mut terminal, "18EEFF80#0100000000800020", &[])?;
     expect_line(rt, &mut terminal, "18FE0D80#01FFFFFFFFFFFFFF", &[])?;
     Ok(terminal)
-}
-
-// Each is refused with its reply, and leaves nothing to the next one.
-#[test]
-fn uploads_that_are_refused(rt: HostRuntime) -> Result<(), Fail> {
-    let mut terminal = registered(&rt)?;
-    for (records, reply) in REFUSED {
-        take_records(&rt, &mut terminal, records)?;
-        expect_line(&rt, &mut terminal, ENDS, &[reply])?;
-        assert!(rt; terminal.set(0x80).is_none());
-    }
-    Ok(())
 }
 
 #[test]
