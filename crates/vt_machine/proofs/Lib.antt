@@ -30,3 +30,4 @@ pub mod Indexing
 pub mod IndexOrder
 pub mod Marking
 pub mod Pointing
+pub mod NullFree

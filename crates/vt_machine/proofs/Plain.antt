@@ -169,6 +169,14 @@ changed_shape : (m : Contents) (id : ℕ) (change : Seen → Seen) (found : Opti
 changed_shape m id change None is plain = refl
 changed_shape m id change (Some o) is plain = still_shaped m id o (change o) is (plain.slots o) (plain.same o) (plain.values o)
 
+changed_sound : (m : Contents) (id : ℕ) (change : Seen → Seen) (found : Option Seen) → finite.get m id ≡ found → IsPlain change
+    → IsSound m → IsSound (put_at m id change found)
+changed_sound m id change None is plain sound = sound
+changed_sound m id change (Some o) is plain sound = still_sound m id o (change o) is (plain.slots o) (plain.same o) (plain.values o) sound
+
+pub plain_sound : (m : Contents) (id : ℕ) (change : Seen → Seen) → IsPlain change → IsSound m → IsSound (put_at m id change (finite.get m id))
+plain_sound m id change plain sound = changed_sound m id change (finite.get m id) refl plain sound
+
 pub plain_runs : (m n : Contents) (id : ℕ) (change : Seen → Seen) (index : Index) (levels : Levels) → n ≡ put_at m id change (finite.get m id) → IsPlain change
     → CanRun index m levels → CanRun index n levels
 plain_runs m n id change index levels is plain can =

@@ -39,7 +39,7 @@ T_of : (b : Bool) → IsTrue b → T b
 T_of true is = tt
 T_of false is = absurd cc
 
-entries_are : (pool : Objects) → AreStored pool → finite.entries (map_of pool) ≡ pool
+pub entries_are : (pool : Objects) → AreStored pool → finite.entries (map_of pool) ≡ pool
 entries_are pool stored = finite.entries-from_sorted nat_cmp pool (T_of _ (AreStored.rising stored))
 
 get_is : (pool : Objects) (q : ℕ) → AreStored pool → finite.get (map_of pool) q ≡ object_at pool q
@@ -170,7 +170,7 @@ sound_of pool stored acceptable =
       shallow = subst (λ (es : Objects). IsShallow terminal.inclusions (included es)) (sym (entries_are pool stored)) (IsAcceptable.chains_short acceptable);
     }
 
-shape_is : (pool : Objects) → AreStored pool → shape_in (map_of pool) ≡ shape_of pool
+pub shape_is : (pool : Objects) → AreStored pool → shape_in (map_of pool) ≡ shape_of pool
 unfolding shape_in
 shape_is pool stored = ap shape_of (entries_are pool stored)
 

@@ -16,6 +16,7 @@ use Rattle.vt_machine.specs.Fields.{byte}
 use Rattle.vt_machine.specs.Lives.{SetState, with_objects}
 use Rattle.vt_machine.specs.Machines.{shape_in}
 use Rattle.vt_machine.specs.Operating.{Action, Refused, Acts}
+use Rattle.vt_machine.specs.Soundness.{IsSound}
 
 -- where a value is kept: in the variable of an object, if it has one
 abbrev pub kept_at : ℕ → ℕ → ℕ
@@ -151,3 +152,8 @@ enter_text true state id text = text_entered state id text (text_place state.obj
 pub record EntriesKeepShapes : Type 0 where
   pub numbers : (store : Contents) (at n : ℕ) → shape_in (put_at store at (with_number n) (finite.get store at)) ≡ shape_in store
   pub texts : (store : Contents) (at : ℕ) (text : List ℕ) → shape_in (put_at store at (with_text text) (finite.get store at)) ≡ shape_in store
+
+-- Nor does one break the order of a store.
+pub record EntriesKeepOrder : Type 0 where
+  pub numbers : (store : Contents) (at n : ℕ) → IsSound store → IsSound (put_at store at (with_number n) (finite.get store at))
+  pub texts : (store : Contents) (at : ℕ) (text : List ℕ) → IsSound store → IsSound (put_at store at (with_text text) (finite.get store at))

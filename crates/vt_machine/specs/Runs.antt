@@ -1,5 +1,6 @@
 -- Runs end (docs/PROFILE.md, "Steps", "Costs and budgets").
-use Rattle.std.specs.Prelude.{◌≡◌, ◌≤◌, ℕ, List}
+use Rattle.std.specs.Prelude.{◌≡◌, ◌≤◌, ℕ, List, None}
+use Rattle.std.specs.FinMap as finite
 use Rattle.vt_objects.specs.declared.raising.Raised.{Raised}
 use Rattle.vt_objects.specs.Stores.{Contents, Objects, AreStored, map_of}
 use Rattle.vt_verify.specs.Shapes.{shape_of}
@@ -33,3 +34,7 @@ pub record IsReady (pool : Objects) (store : Contents) : Type 0 where
 
 abbrev pub PoolsAreReady : Type 0
 PoolsAreReady = (pool : Objects) → AreStored pool → IsAcceptable terminal pool → IsReady pool (map_of pool)
+
+-- Nothing stands under NULL there.
+abbrev pub NullIsNoObject : Type 0
+NullIsNoObject = (pool : Objects) (store : Contents) → AreStored pool → IsReady pool store → finite.get store 0xFFFF ≡ None

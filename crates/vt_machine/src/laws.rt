@@ -1,9 +1,9 @@
 //! What commands leave of every object.
 
 ghost use Rattle.vt_machine.specs.Changes.{ChangesKeep, ReferencesMayStand};
-ghost use Rattle.vt_machine.specs.Entering.{EntriesKeepShapes};
+ghost use Rattle.vt_machine.specs.Entering.{EntriesKeepOrder, EntriesKeepShapes};
 ghost use Rattle.vt_machine.specs.Lives.{ActiveMasksAreOne};
-ghost use Rattle.vt_machine.specs.Runs.{PoolsAreReady, RunsEnd};
+ghost use Rattle.vt_machine.specs.Runs.{NullIsNoObject, PoolsAreReady, RunsEnd};
 ghost use Rattle.vt_machine.specs.Soundness.{CommandsKeepOrder, CommandsKeepShapes};
 
 /// The law that no command changes the kind of an object, the macros of its events, or the bytes of a macro.
@@ -42,10 +42,21 @@ pub fn pools_are_ready()
     ensures { PoolsAreReady }
 {}
 
+/// The law that nothing stands under NULL in the store of an acceptable pool, whatever commands and macros have done to it.
+pub fn null_is_no_object()
+    ensures { NullIsNoObject }
+{}
+
 /// The law that no number and no text that the operator enters changes a kind, a macro entry or a macro byte under any ID.
 /// docs/PROFILE.md, "The operator".
 pub fn entries_keep_shapes()
     ensures { EntriesKeepShapes }
+{}
+
+/// The law that no number and no text that the operator enters breaks the order of a store: its references stay in order, and its
+/// chains short. docs/PROFILE.md, "What every store keeps".
+pub fn entries_keep_order()
+    ensures { EntriesKeepOrder }
 {}
 
 /// The law that there is one active mask where there is one working set.

@@ -11,13 +11,13 @@ use Rattle.vt_verify.specs.declared.refusal.Refusal.{Refusal}
 use Rattle.vt_verify.specs.declared.refusal.Refusal.TheVariants as refusals
 use Rattle.vt_verify.specs.Lists.{first_failing}
 use Rattle.vt_verify.specs.Shapes.{Shape, shape_of}
-use Rattle.vt_objects.specs.Stores.{Objects}
+use Rattle.vt_objects.specs.Stores.{Objects, AreStored}
 use Rattle.vt_verify.specs.References.{references, is_there, fits, values_of}
 use Rattle.vt_verify.specs.Inclusions.{included, IsShallow, IsTooDeep}
 use Rattle.vt_verify.specs.Macros.{Piece, macros, is_whole, pieces, is_allowed}
 use Rattle.vt_verify.specs.Targets.{macro_references, has_attribute}
 use Rattle.vt_verify.specs.Triggers.{triggered}
-use Rattle.vt_verify.specs.Budgets.{cost, budget}
+use Rattle.vt_verify.specs.Budgets.{cost, budget, CostsAreTotals}
 
 -- ---- the first culprit of each pass
 
@@ -115,6 +115,13 @@ pub record IsAcceptable (limits : Limits) (objects : Objects) : Type 0 where
   pub attributes_there : Holds limits objects AttributesAreThere
   pub no_circle : Holds limits objects TriggersAreNoCircle
   pub within_budget : Holds limits objects BudgetsAreWithin
+
+-- The objects of an accepted pool: they stand by rising ID, none under NULL, and meet all rules of this terminal; and each macro
+-- costs what its commands cost.
+pub record IsVerified (objects : Objects) : Type 0 where
+  pub stored : AreStored objects
+  pub acceptable : IsAcceptable terminal objects
+  pub totals : CostsAreTotals (shape_of objects)
 
 -- ---- refusals
 

@@ -10,7 +10,7 @@ ghost use Rattle.vt_verify.specs.Macros.{cut_or_none, commands};
 ghost use Rattle.vt_verify.specs.TriggerGraphs.{AreListings};
 ghost use Rattle.vt_verify.specs.Budgets.{CostsAreTotals, budget};
 ghost use Rattle.vt_verify.specs.Orders.{IsByRank};
-ghost use Rattle.vt_verify.specs.Rules.{IsAcceptable, terminal};
+ghost use Rattle.vt_verify.specs.Rules.{IsAcceptable, IsVerified, terminal};
 ghost use Rattle.vt_verify.specs.Reports.{report_text, budget_line};
 
 use crate::budgets::Budgets;
@@ -53,6 +53,7 @@ impl Accepted {
         ensures acceptable { IsAcceptable terminal self.now }
         // Each macro costs what its commands cost.
         ensures totals { CostsAreTotals (shape_of self.now) }
+        ensures verified { IsVerified self.now }
     {
         self.objects.entries()
     }

@@ -8,7 +8,7 @@ ghost use Rattle.vt_verify.specs.Shapes.{shape_of};
 ghost use Rattle.vt_verify.specs.Budgets.{CostsAreTotals};
 ghost use Rattle.vt_verify.specs.TriggerGraphs.{AreTriggers};
 ghost use Rattle.vt_verify.specs.Updates.{updated};
-ghost use Rattle.vt_verify.specs.Rules.{IsAcceptable, IsRefused, IsWantOfMemory, RefusalsAreTrue, FirstRulesFail, GreaterLimitsAccept, HoldBefore, ReferencesAreThere, ChainsAreShort, MacrosAreWhole, TargetsAreThere, AttributesAreThere, TriggersAreNoCircle, BudgetsAreWithin, terminal};
+ghost use Rattle.vt_verify.specs.Rules.{IsAcceptable, IsVerified, IsRefused, IsWantOfMemory, RefusalsAreTrue, FirstRulesFail, GreaterLimitsAccept, HoldBefore, ReferencesAreThere, ChainsAreShort, MacrosAreWhole, TargetsAreThere, AttributesAreThere, TriggersAreNoCircle, BudgetsAreWithin, terminal};
 
 use crate::accepted::Accepted;
 use crate::budgets::Budgets;
@@ -32,6 +32,7 @@ use vt_rank::{Costs, OverBudget, Ranks, costs, rank};
 pub fn verify(alloc: Global, pool: &Pool<'_>) -> Result<Accepted, Refusal>
     // What is accepted are the objects of the pool, and they meet all rules.
     ensures accepted { IfOk result (λ accepted. (accepted ≡ by_rising_id pool.now) × IsAcceptable terminal accepted) }
+    ensures verified { IfOk result IsVerified }
     // A refusal names the first rule that fails, and its first culprit, or a chain or a circle.
     ensures refused { IfErr result (IsRefused terminal (by_rising_id pool.now)) }
 {
@@ -48,6 +49,7 @@ pub fn verify_update<S: Store>(
 ) -> Result<Accepted, Refusal>
     // What is accepted is the store with the update, and it meets all rules.
     ensures accepted { IfOk result (λ accepted. (accepted ≡ updated (S.contents store.now) update.now) × IsAcceptable terminal accepted) }
+    ensures verified { IfOk result IsVerified }
     // A refusal names the first rule that fails, and its first culprit, or a chain or a circle.
     ensures refused { IfErr result (IsRefused terminal (updated (S.contents store.now) update.now)) }
 {
@@ -58,6 +60,7 @@ pub fn verify_update<S: Store>(
 fn accept(alloc: Global, objects: SortedStore) -> Result<Accepted, Refusal>
     requires { AreStored objects }
     ensures accepted { IfOk result (λ accepted. (accepted ≡ objects) × IsAcceptable terminal accepted) }
+    ensures verified { IfOk result IsVerified }
     ensures refused { IfErr result (IsRefused terminal objects) }
 {
     check_working_sets(&objects)?;
