@@ -7,10 +7,12 @@ mod ClaimsHeard
 mod Counting
 mod Ended
 mod Expiring
+mod FewRuns
 mod Framed
 mod Happened
 mod Heard
 mod Held
+mod InForce
 mod Keeping
 mod Listing
 mod Overdue
@@ -30,5 +32,6 @@ mod Stepping
 mod Taking
 mod Timeless
 mod Unclaimed
+mod Unstuck
 mod Uploaded
 mod Writes

@@ -9,6 +9,7 @@ pub mod Ends
 pub mod Findings
 pub mod Handling
 pub mod Happenings
+pub mod Headline
 pub mod Hearings
 pub mod Holders
 pub mod Lapses

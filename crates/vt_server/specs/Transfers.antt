@@ -9,7 +9,7 @@ use Rattle.vt_pool.specs.Pools.{Entry, AreRecords, IsFault, IsInForce, joined}
 use Rattle.vt_verify.specs.declared.refusal.Refusal.{Refusal}
 use Rattle.vt_verify.specs.declared.refusal.Refusal.TheVariants as refusals
 use Rattle.vt_verify.specs.Rules as rules
-use Rattle.vt_verify.specs.Rules.{IsAcceptable, IsRefused, terminal}
+use Rattle.vt_verify.specs.Rules.{IsVerified, IsRefused, terminal}
 use Rattle.vt_verify.specs.Updates.{updated}
 use Rattle.vt_machine.specs.Lives.{SetState, renewed}
 use Rattle.vt_server.specs.Commands.{fresh}
@@ -38,7 +38,7 @@ merged (Some state) pool = updated state.objects pool
 pub record IsAccepted (content : Content) (objects : Contents) : Type 0 where
   pub pool : List Entry
   pub read : IsPool content.transfer pool
-  pub acceptable : IsAcceptable terminal (merged content.pool pool)
+  pub verified : IsVerified (merged content.pool pool)
   pub objects_are : objects ≡ map_of (merged content.pool pool)
 
 -- Want of memory is neither a fault nor a refusal.

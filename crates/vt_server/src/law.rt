@@ -4,11 +4,30 @@ ghost use Rattle.vt_names.specs.Claims.{IsRising};
 ghost use Rattle.vt_server.specs.ClaimsHeard.{HoldersOfRuns};
 ghost use Rattle.vt_server.specs.Sending.{SentAreAddressed};
 ghost use Rattle.vt_server.specs.Happenings.{EachTakesItsOwn, OwnHappeningsDecide, SetsHoldTheirAddress};
+ghost use Rattle.vt_server.specs.Headline.{NeverSticks};
 ghost use Rattle.vt_server.specs.SetLists.{SetsAfterSteps};
 ghost use Rattle.vt_server.specs.States.{state_of};
 
 use crate::terminal::Terminal;
 use vt_names::Name;
+
+/// The headline: whatever inputs a terminal takes after its pools were accepted, each set's objects, the outputs and the screens are
+/// those of the written machine, and that machine never sticks. Each command of a macro finds its object, of a kind that it may
+/// change, each event ends within the steps that the pool's report prints for it, and each reference that is shown leads to an
+/// object of its place's kind.
+pub fn the_machine_never_sticks()
+    ensures { NeverSticks }
+{
+    vt_machine::commands_keep_order();
+    vt_machine::commands_keep_shapes();
+    vt_machine::entries_keep_order();
+    vt_machine::entries_keep_shapes();
+    vt_machine::pools_are_ready();
+    vt_machine::runs_end();
+    vt_machine::null_is_no_object();
+    vt_layout::drawings_never_stick();
+    vt_layout::paths_are_chained();
+}
 
 /// The law that a step takes the part of each address through what happens there and no more, and sends the
 /// address just the frames of that.

@@ -1,6 +1,6 @@
 use Rattle.std.proofs.Common.{subst, ap}
 use Rattle.vt_objects.specs.Stores.{map_of}
-use Rattle.vt_verify.specs.Rules.{IsAcceptable, terminal}
+use Rattle.vt_verify.specs.Rules.{IsVerified}
 use Rattle.vt_server.specs.Transfers.{Accepts, Refuses}
 use Rattle.vt_server.proofs.ending.judge_first.Goals as goal
 
@@ -10,7 +10,7 @@ returns-in_ok-live-in-Ok c bytes is = record {
   right = record {
     pool = c.args.read.now;
     read = is;
-    acceptable = subst (IsAcceptable terminal) c.in-Ok.ensures.accepted.0 c.in-Ok.ensures.accepted.1;
+    verified = subst IsVerified c.in-Ok.ensures.accepted.0 c.in-Ok.ensures.verified;
     objects_are = ap map_of c.in-Ok.ensures.accepted.0;
   };
   carried_out = c.in_ok-live-in-Ok.ensures;

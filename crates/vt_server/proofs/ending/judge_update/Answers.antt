@@ -1,6 +1,6 @@
 use Rattle.std.proofs.Common.{◌≡◌, subst, ap, ◌∙◌}
 use Rattle.vt_objects.specs.Stores.{Contents, map_of}
-use Rattle.vt_verify.specs.Rules.{IsAcceptable, IsRefused, terminal}
+use Rattle.vt_verify.specs.Rules.{IsVerified, IsRefused, terminal}
 use Rattle.vt_verify.specs.Updates.{updated}
 use Rattle.vt_server.specs.Transfers.{Accepts, Refuses}
 use Rattle.vt_server.proofs.ending.judge_update.Goals as goal
@@ -13,9 +13,7 @@ returns-in_ok-live-in-Ok c bytes is =
       right = record {
         pool = pool;
         read = is;
-        acceptable =
-            subst (λ (o : Contents). IsAcceptable terminal (updated o pool)) store
-            (subst (IsAcceptable terminal) c.in-Ok.ensures.accepted.0 c.in-Ok.ensures.accepted.1);
+        verified = subst (λ (o : Contents). IsVerified (updated o pool)) store (subst IsVerified c.in-Ok.ensures.accepted.0 c.in-Ok.ensures.verified);
         objects_are = ap map_of c.in-Ok.ensures.accepted.0 ∙ ap (λ (o : Contents). map_of (updated o pool)) store;
       };
       carried_out = c.in_ok-live-in-Ok.ensures;

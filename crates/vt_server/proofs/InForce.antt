@@ -1,0 +1,279 @@
+-- A step leaves pools in force and its runs end, and so does every list of inputs.
+use Rattle.std.proofs.Common.{◌≡◌, ℕ, zero, suc, Bool, true, false, cond, not, nat_eq, eqb, List, [], ◌∷◌, ◌++◌, map, Option, Some, None, is_some, refl, sym, ap, subst, ◌∙◌, inl, inr, ◌⊎◌}
+use Rattle.std.specs.Prelude.{IfSome}
+use Rattle.std.specs.List.{AllByRecursion, filter}
+use Rattle.std.specs.Option.{option_eq}
+use Rattle.vt_can.specs.declared.frames.frame.Frame.{Frame}
+use Rattle.vt_can.specs.frames.Frame.{source_of}
+use Rattle.vt_can.specs.lines.Actions.{ActionValue, Press, Release, Select, Number, Text}
+use Rattle.vt_can.specs.lines.Actions as actions
+use Rattle.vt_can.specs.transport.Sessions.{is_overdue}
+use Rattle.vt_names.specs.Registry.{Set}
+use Rattle.vt_objects.specs.Stores.{Objects, map_of}
+use Rattle.vt_verify.specs.Rules.{IsVerified}
+use Rattle.vt_machine.specs.Lives.{SetState}
+use Rattle.vt_layout.specs.Drawings.{at_path, key_entries, mask_entries, origin}
+use Rattle.vt_server.specs.Bus.{notice_of}
+use Rattle.vt_server.specs.Choosing.{choosing, shown_now, selected_now, events_of_change, raised_at, ACTIVATE, DEACTIVATE}
+use Rattle.vt_server.specs.Findings.{IsJudged, IsFound, AreFound, ends_transfer}
+use Rattle.vt_server.specs.Headline.{IsInForce, AreInForce, Run, EndsInTime, AllEnd, DrawsWhatIsThere, Keeps, NeverSticks, runs_at, runs_of_acts, runs_of_settling, runs_of_hearing, runs_of_operating, runs}
+use Rattle.vt_server.specs.Lapses.{at_time, lapsed, silences, silent, tp_due, etp_due, sending_due, after_tp_timeouts, after_etp_timeouts, after_timeouts}
+use Rattle.vt_server.specs.Parts.{Part, Act, Hears, Rebinds, Preloads, TpExpires, EtpExpires, SendingExpires, FallsSilent, Operates, Raises, Outcome, outcome}
+use Rattle.vt_server.specs.Places.{empty, Place}
+use Rattle.vt_server.specs.States.{TakesInputs}
+use Rattle.vt_server.specs.Steps.{Event, FrameAt, ActionAt, step, after_all, before, acts, acted, answer_to, is_lost_by, changes, heard_at_source, settled, losing, acting, hearing, no_step, step_frame, selecting, at_shown, step_action, preloading}
+use Rattle.vt_server.specs.Terminals.{State, pool_of, pool_at, part, put, with_at, after_act, after_acts}
+use Rattle.vt_server.specs.Transfers.{Verdict, IsVerdict}
+use Rattle.vt_server.specs.declared.bus.Notice.{Notice}
+use Rattle.vt_server.specs.declared.bus.Notice.TheVariants.{Claim, ClaimRequest, Master, Member, Message, Tp, Etp, Nothing}
+use Rattle.vt_server.specs.declared.input.Input.{Input}
+use Rattle.vt_server.specs.declared.output.Output.{Output}
+use Rattle.vt_server.proofs.ActsAt.{AllAt, at-append, at-below, at-changes, at-heard}
+use Rattle.vt_server.proofs.FewRuns.{few-runs}
+use Rattle.vt_server.proofs.Puts.{by_eq, act-is, at-own, at-other}
+use Rattle.vt_server.proofs.Unstuck.{Laws, IsEach, MayHappen, all-append, act-keeps, act-runs}
+
+-- what may happen in every state
+abbrev IsPlain : ℕ → Act → Type 0
+IsPlain a (Hears (Claim name) f verdict) = Unit {0}
+IsPlain a (Hears n f verdict) = ⊥
+IsPlain a (Raises event) = (event ≡ 2) ⊎ (event ≡ 1)
+IsPlain a (Preloads contents) = ⊥
+IsPlain a _ = Unit {0}
+
+no-message : (o : Option Set) → ends_transfer o None ≡ true → ⊥
+no-message None e = cc
+no-message (Some set) e = cc
+
+plain-may : (now a : ℕ) (p : Part) (h : Act) → IsPlain a h → MayHappen now a p h
+plain-may now a p (Hears (Claim name) f verdict) plain = λ e. absurd (no-message p.set e)
+plain-may now a p (Hears ClaimRequest f verdict) plain = absurd plain
+plain-may now a p (Hears (Master count) f verdict) plain = absurd plain
+plain-may now a p (Hears (Member name) f verdict) plain = absurd plain
+plain-may now a p (Hears Message f verdict) plain = absurd plain
+plain-may now a p (Hears Tp f verdict) plain = absurd plain
+plain-may now a p (Hears Etp f verdict) plain = absurd plain
+plain-may now a p (Hears Nothing f verdict) plain = absurd plain
+plain-may now a p Rebinds plain = tt
+plain-may now a p (Preloads contents) plain = absurd plain
+plain-may now a p TpExpires plain = tt
+plain-may now a p EtpExpires plain = tt
+plain-may now a p SendingExpires plain = tt
+plain-may now a p FallsSilent plain = tt
+plain-may now a p (Operates action shown) plain = tt
+plain-may now a p (Raises event) plain = plain
+
+silences-plain : (sets : List Set) → AllAt IsPlain (map (λ set. (set.address, FallsSilent)) sets)
+silences-plain [] = tt
+silences-plain (set ∷ sets) = (tt, silences-plain sets)
+
+raised-plain : (o : Option ℕ) (event : ℕ) → (event ≡ 2) ⊎ (event ≡ 1) → AllAt IsPlain (raised_at o event)
+raised-plain None event is = tt
+raised-plain (Some a) event is = (is, tt)
+
+change-plain : (was now : Option ℕ) → AllAt IsPlain (events_of_change was now)
+change-plain was now = cases (option_eq nat_eq was now)
+  where
+    cases : (b : Bool) → AllAt IsPlain (cond b [] (raised_at was DEACTIVATE ++ raised_at now ACTIVATE))
+    cases true = tt
+    cases false = at-append IsPlain (raised_at was DEACTIVATE) (raised_at now ACTIVATE) (raised-plain was DEACTIVATE (inl refl)) (raised-plain now ACTIVATE (inr refl))
+
+operated-plain : (o : Option ℕ) (action : ActionValue) (shown : Bool) → AllAt IsPlain (at_shown o (Operates action shown))
+operated-plain None action shown = tt
+operated-plain (Some a) action shown = (tt, tt)
+
+if-some : {A : Type 0} {P : A → Type 0} (o : Option A) → ((x : A) → o ≡ Some x → P x) → IfSome o P
+if-some None each = tt
+if-some (Some x) each = each x refl
+
+module _ (laws : Laws) where
+  put-keeps : (s : State) (a : ℕ) (o : Outcome) → AreInForce s → IsEach o.place.content.pool → AreInForce (put a o s)
+  put-keeps s a o is each q =
+      by_eq q a
+      (λ same. subst (λ (p : Place). IsEach p.content.pool) (sym (ap (with_at a o.place s.places) same ∙ at-own a s.places o.place)) each)
+      (λ other. subst (λ (p : Place). IsEach p.content.pool) (sym (at-other a q s.places o.place other)) (is q))
+
+  act-in-force : (s : State) (a : ℕ) (h : Act) → MayHappen s.now a (part a s) h → AreInForce s → AreInForce (after_act s a h)
+  act-in-force s a h may is =
+      subst AreInForce (sym (act-is s a h)) (put-keeps s a (outcome s.now a (part a s) h) is (act-keeps laws s.now a (part a s) h may (is a)))
+
+  acts-in-force : (s : State) (hs : List (ℕ × Act)) → AllAt IsPlain hs → AreInForce s → AreInForce (after_acts s hs)
+  acts-in-force s [] plain is = is
+  acts-in-force s (h ∷ hs) plain is =
+      acts-in-force (after_act s h.0 h.1) hs plain.1 (act-in-force s h.0 h.1 (plain-may s.now h.0 (part h.0 s) h.1 plain.0) is)
+
+  acts-run : (s : State) (hs : List (ℕ × Act)) → AllAt IsPlain hs → AreInForce s → AllByRecursion EndsInTime (runs_of_acts s hs)
+  acts-run s [] plain is = tt
+  acts-run s (h ∷ hs) plain is =
+      all-append EndsInTime (runs_at s.now h.0 (part h.0 s) h.1) (runs_of_acts (after_act s h.0 h.1) hs)
+      (act-runs laws s.now h.0 (part h.0 s) h.1 (is h.0))
+      (acts-run (after_act s h.0 h.1) hs plain.1 (act-in-force s h.0 h.1 (plain-may s.now h.0 (part h.0 s) h.1 plain.0) is))
+
+  -- ---- the parts of a step
+
+  lapsed-in-force : (s : State) → AreInForce s → AreInForce (lapsed s)
+  unfolding lapsed
+  lapsed-in-force s is =
+      let t = after_tp_timeouts s in
+      let u = after_etp_timeouts s in
+      let v = after_timeouts s in
+      acts-in-force v (silences v) (silences-plain (filter (silent v) v.sets))
+      (acts-in-force u (sending_due u) (at-below IsPlain (λ a. is_overdue u.now (u.places a).sending) SendingExpires 256 (λ a lt. tt))
+      (acts-in-force t (etp_due t) (at-below IsPlain (λ a. is_overdue t.now (t.places a).etp) EtpExpires 256 (λ a lt. tt))
+      (acts-in-force s (tp_due s) (at-below IsPlain (λ a. is_overdue s.now (s.places a).tp) TpExpires 256 (λ a lt. tt)) is)))
+
+  settled-in-force : (s : State) → AreInForce s → AreInForce (settled s)
+  unfolding settled
+  settled-in-force s is = acts-in-force (choosing s) (events_of_change s.shown (shown_now s)) (change-plain s.shown (shown_now s)) is
+
+  settling-runs : (s : State) → AreInForce s → AllByRecursion EndsInTime (runs_of_settling s)
+  settling-runs s is = acts-run (choosing s) (events_of_change s.shown (shown_now s)) (change-plain s.shown (shown_now s)) is
+
+  -- what a frame makes happen, where its source is judged rightly
+  record Happens (s : State) (hs : List (ℕ × Act)) : Type 0 where
+    pub in_force : AreInForce (after_acts s hs)
+    pub run : AllByRecursion EndsInTime (runs_of_acts s hs)
+
+  plain-happen : (s : State) (hs : List (ℕ × Act)) → AllAt IsPlain hs → AreInForce s → Happens s hs
+  plain-happen s hs plain is = record { in_force = acts-in-force s hs plain is; run = acts-run s hs plain is }
+
+  one-happens : (s : State) (source : ℕ) (n : Notice) (f : Frame) (verdict : Verdict) → IsJudged s.now source (part source s) n f verdict → AreInForce s
+      → Happens s (heard_at_source s.claims.own source n f verdict)
+  one-happens s source n f verdict judged is = cases (eqb source s.claims.own)
+    where
+      cases : (b : Bool) → Happens s (cond b [] ((source, Hears n f verdict) ∷ []))
+      cases true = record { in_force = is; run = tt }
+      cases false = record {
+        in_force = act-in-force s source (Hears n f verdict) judged is;
+        run = all-append EndsInTime (runs_at s.now source (part source s) (Hears n f verdict)) [] (act-runs laws s.now source (part source s) (Hears n f verdict) (is source)) tt;
+      }
+
+  frame-happens : (s : State) (source : ℕ) (n : Notice) (f : Frame) (verdict : Verdict) → IsJudged s.now source (part source s) n f verdict → AreInForce s
+      → Happens (before s source n) (acts s source n f verdict)
+  frame-happens s source (Claim name) f verdict judged is =
+      plain-happen (before s source (Claim name)) (acts s source (Claim name) f verdict)
+      (at-append IsPlain (changes s source (Claim name)) (heard_at_source s.claims.own source (Claim name) f verdict)
+      (at-changes IsPlain (λ a. tt) s source (Claim name)) (at-heard IsPlain s.claims.own source (Claim name) f verdict tt))
+      is
+  frame-happens s source ClaimRequest f verdict judged is = one-happens s source ClaimRequest f verdict judged is
+  frame-happens s source (Master count) f verdict judged is = one-happens s source (Master count) f verdict judged is
+  frame-happens s source (Member name) f verdict judged is = one-happens s source (Member name) f verdict judged is
+  frame-happens s source Message f verdict judged is = one-happens s source Message f verdict judged is
+  frame-happens s source Tp f verdict judged is = one-happens s source Tp f verdict judged is
+  frame-happens s source Etp f verdict judged is = one-happens s source Etp f verdict judged is
+  frame-happens s source Nothing f verdict judged is = one-happens s source Nothing f verdict judged is
+
+  -- ---- a step
+
+  record Promised (runs : List Run) (after : State) : Type 0 where
+    pub ends : AllByRecursion EndsInTime runs
+    pub in_force : AreInForce after
+
+  hearing-promised : (old s : State) (source : ℕ) (n : Notice) (f : Frame) (verdict : Verdict) → IsJudged s.now source (part source s) n f verdict → AreInForce s
+      → Promised (runs_of_hearing s source n f verdict) (hearing old s source n f verdict).after
+  hearing-promised old s source n f verdict judged is = cases (is_lost_by (answer_to s source n))
+    where
+      happens : Happens (before s source n) (acts s source n f verdict)
+      happens = frame-happens s source n f verdict judged is
+
+      t : State
+      t = acted s source n f verdict
+
+      cases : (b : Bool) → Promised (cond b [] (runs_of_acts (before s source n) (acts s source n f verdict) ++ runs_of_settling t)) (cond b (losing s) (acting old s source n f verdict)).after
+      cases true = record { ends = tt; in_force = is }
+      cases false = record {
+        ends = all-append EndsInTime (runs_of_acts (before s source n) (acts s source n f verdict)) (runs_of_settling t) happens.run (settling-runs t happens.in_force);
+        in_force = settled-in-force t happens.in_force;
+      }
+
+  selecting-in-force : (s : State) (action : ActionValue) → AreInForce s → AreInForce (selecting s action)
+  selecting-in-force s (Press id) is = is
+  selecting-in-force s (Release id) is = is
+  selecting-in-force s (Select id) is = is
+  selecting-in-force s (Number id n) is = is
+  selecting-in-force s (Text id text) is = is
+  selecting-in-force s (actions.Set a) is = cases (is_some (pool_of s a))
+    where
+      cases : (b : Bool) → AreInForce (cond b (record s { selected = Some a }) s)
+      cases true = is
+      cases false = is
+
+  step-promised : (s : State) (e : Event) → IsFound s e → AreInForce s → Promised (runs s e) (step s e).after
+  step-promised s (FrameAt time f verdict) found is = cases s.lost found
+    where
+      t : State
+      t = lapsed (at_time s time)
+
+      n : Notice
+      n = notice_of s.claims.own s.claims.name f
+
+      cases : (b : Bool) → (b ≡ false → IsJudged t.now (source_of f) (part (source_of f) t) n f verdict)
+          → Promised (cond b [] (runs_of_hearing t (source_of f) n f verdict)) (cond b (no_step s) (step_frame s time f verdict)).after
+      cases true judged = record { ends = tt; in_force = is }
+      cases false judged = hearing-promised s t (source_of f) n f verdict (judged refl) (lapsed-in-force (at_time s time) is)
+  step-promised s (ActionAt action shown) found is = cases s.lost
+    where
+      u : State
+      u = selecting s action
+
+      hs : List (ℕ × Act)
+      hs = at_shown s.shown (Operates action shown)
+
+      happens : Happens u hs
+      happens = plain-happen u hs (operated-plain s.shown action shown) (selecting-in-force s action is)
+
+      cases : (b : Bool) → Promised (cond b [] (runs_of_operating u hs)) (cond b (no_step s) (step_action s action shown)).after
+      cases true = record { ends = tt; in_force = is }
+      cases false = record {
+        ends = all-append EndsInTime (runs_of_acts u hs) (runs_of_settling (after_acts u hs)) happens.run (settling-runs (after_acts u hs) happens.in_force);
+        in_force = settled-in-force (after_acts u hs) happens.in_force;
+      }
+
+  -- ---- lists of inputs
+
+  record AllPromised (s : State) (es : List Event) : Type 0 where
+    pub ends : AllEnd s es
+    pub in_force : AreInForce (after_all s es)
+
+  all-promised : (s : State) (es : List Event) → AreFound s es → AreInForce s → AllPromised s es
+  all-promised s [] found is = record { ends = tt; in_force = is }
+  all-promised s (e ∷ es) found is =
+      let first = step-promised s e found.0 is in
+      let rest = all-promised (step s e).after es found.1 first.in_force in
+      record { ends = (record { each = first.ends; few = few-runs s e }, rest.ends); in_force = rest.in_force }
+
+  drawn-in-force : (state : SetState) → IsInForce state → DrawsWhatIsThere state.objects
+  drawn-in-force state is =
+      let nameless = laws.nameless is.accepted state.objects is.verified.stored is.ready in record {
+        never_sticks = λ mask. laws.drawings state.objects mask is.ready.sound;
+        in_mask = λ mask path. if-some (at_path state.objects (mask_entries state.objects mask) origin path)
+            (λ e there. laws.paths.in_mask state.objects mask path e is.ready.sound nameless there);
+        of_keys = λ mask path. if-some (at_path state.objects (key_entries state.objects mask) origin path)
+            (λ e there. laws.paths.of_keys state.objects mask path e is.ready.sound nameless there);
+      }
+
+  each-drawn : (o : Option SetState) → IsEach o → IfSome o (λ state. DrawsWhatIsThere state.objects)
+  each-drawn None is = tt
+  each-drawn (Some state) is = drawn-in-force state is
+
+  none-yet : (s : State) → ((a : ℕ) → s.places a ≡ empty) → AreInForce s
+  none-yet s first q = subst (λ (p : Place). IsEach p.content.pool) (sym (first q)) tt
+
+  keeps : (old : State) (inputs : List Input) (new : State) (sent_before sent_after : List Output) → AreInForce old → TakesInputs old inputs new sent_before sent_after
+      → Keeps old inputs new sent_before sent_after
+  keeps old inputs new sent_before sent_after is takes =
+      let promised = all-promised old takes.events takes.found is in
+      let in-force : AreInForce new = subst AreInForce (sym takes.state) promised.in_force in
+      record {
+        takes = takes;
+        runs_end = promised.ends;
+        in_force = in-force;
+        drawn = λ address. each-drawn (pool_of new address) (in-force address);
+      }
+
+  pub never-sticks : NeverSticks
+  never-sticks = record {
+    first = none-yet;
+    preloaded = λ s address pool verified is. act-in-force s address (Preloads (map_of pool)) (pool, verified, refl) is;
+    inputs = keeps;
+  }
