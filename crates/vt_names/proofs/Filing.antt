@@ -4,7 +4,7 @@ use Rattle.std.specs.Map.{lookup, remove_entry, set_value, keys_of, values_of}
 use Rattle.indexmap.specs.IndexMap.{insert_entry}
 use Rattle.std.specs.List.{AllByRecursion, IsDistinct}
 use Rattle.std.proofs.lemmas.Map.Keys.{IsDistinct-head, IsDistinct-tail}
-use Rattle.vt_names.specs.Registry.{Set, Registered, AreFiled, set_at, with_set, without, has_place, joined, joining, bound, binding}
+use Rattle.vt_names.specs.Registry.{Set, Registered, AreApart, AreFiled, set_at, with_set, without, has_place, joined, joining, bound, binding}
 use Rattle.vt_names.proofs.Holding.{by_eq, some-is, none-some}
 
 -- ---- the first set, and those after it
@@ -109,6 +109,19 @@ values-removed a (e ∷ es) filed distinct =
     (λ ne.
     ap (λ b. values_of (left b)) (ne_eqb a e.0 ne) ∙ ap (λ l. e.1 ∷ l) rest
     ∙ sym (without-later a e.1 (values_of es) (λ h. ne (sym (filed.0 ∙ h)))))
+
+nowhere : (a : ℕ) (es : List (ℕ × Set)) → AllByRecursion (λ y. eqb a y ≡ false) (keys_of es) → AreFiled es → set_at a (values_of es) ≡ None
+nowhere a [] apart filed = refl
+nowhere a (e ∷ es) apart filed =
+    set_at-later a e.1 (values_of es) (λ h. true≢false (sym (eq-eqb a e.0 (sym (filed.0 ∙ h))) ∙ apart.0))
+    ∙ nowhere a es apart.1 filed.1
+
+pub apart-values : (es : List (ℕ × Set)) → AreFiled es → IsDistinct nat_eq (keys_of es) → AreApart (values_of es)
+apart-values [] filed distinct = tt
+apart-values (e ∷ es) filed distinct = (
+  subst (λ a. set_at a (values_of es) ≡ None) filed.0 (nowhere e.0 es (IsDistinct-head nat_eq e.0 (keys_of es) distinct) filed.1),
+  apart-values es filed.1 (IsDistinct-tail nat_eq e.0 (keys_of es) distinct),
+)
 
 -- ---- a set that is there, and what takes its place
 

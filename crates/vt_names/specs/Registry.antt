@@ -82,6 +82,11 @@ abbrev pub IsUnnamed : Option Set → Type 0
 IsUnnamed None = ⊥
 IsUnnamed (Some set) = set.name ≡ None
 
+-- no two sets have the same address
+abbrev pub AreApart : List Set → Type 0
+AreApart [] = Unit {0}
+AreApart (set ∷ sets) = (set_at set.address sets ≡ None) × AreApart sets
+
 -- ---- sets kept by address
 
 -- each is filed under its address

@@ -2,7 +2,7 @@
 
 ghost use Rattle.std.specs.Prelude.{◌≡◌, ◌≢◌, ◌<◌, ◌≤◌, None, Some, Ok, Err, [], length, slice_get, is_some, IsOk, IfOk, IfErr, IfSome, IfNone, OnOk, OnErr, ◌==◌, if◌then◌else◌};
 ghost use Rattle.std.specs.Option.{option_copied};
-ghost use Rattle.vt_names.specs.Registry.{set_at, with_set, without, registering, joining, binding, preloaded, has_place, IsUnnamed};
+ghost use Rattle.vt_names.specs.Registry.{set_at, with_set, without, registering, joining, binding, preloaded, has_place, AreApart, IsUnnamed};
 ghost use Rattle.vt_names.specs.declared.registry.RegistryFault.TheVariants as declared;
 
 use crate::OutOfMemory;
@@ -116,7 +116,9 @@ impl Registry {
 
     /// How many sets there are.
     pub fn len(&self) -> usize
-        ensures { result ≡ length self.now.sets }
+        ensures count { result ≡ length self.now.sets }
+        // No two have the same address.
+        ensures apart { AreApart self.now.sets }
     {
         self.sets.len()
     }

@@ -6,11 +6,11 @@ use Rattle.vt_can.specs.frames.Frame.{source_of}
 use Rattle.vt_can.specs.lines.Actions.{ActionValue, Press, Release, Select, Number, Text}
 use Rattle.vt_can.specs.lines.Actions as actions
 use Rattle.vt_names.specs.Claims.{Claimed, OtherHoldersStay}
-use Rattle.vt_names.specs.Registry.{Set, set_at, with_set, is_of}
+use Rattle.vt_names.specs.Registry.{AreApart, Set, set_at, with_set, is_of}
 use Rattle.vt_objects.specs.Stores.{Contents}
 use Rattle.vt_server.specs.Bus.{notice_of}
 use Rattle.vt_server.specs.Choosing.{choosing, shown_now, selected_now, events_of_change}
-use Rattle.vt_server.specs.Happenings.{AreApart, IsOrderly, IsOther}
+use Rattle.vt_server.specs.Happenings.{IsOrderly, IsOther}
 use Rattle.vt_server.specs.Lapses.{at_time, lapsed, silences, tp_due, etp_due, sending_due, after_tp_timeouts, after_etp_timeouts, after_timeouts}
 use Rattle.vt_server.specs.Parts.{Act, Operates, Preloads, outcome}
 use Rattle.vt_server.specs.Steps.{Event, FrameAt, ActionAt, step, before, acts, answer_to, is_lost_by, settled, losing, acted, acting, hearing, no_step, step_frame, selecting, at_shown, step_action, preloading}

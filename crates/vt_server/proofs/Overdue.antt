@@ -2,8 +2,7 @@
 use Rattle.std.proofs.Common.{◌≡◌, ◌≢◌, ◌<◌, ◌≤◌, ℕ, zero, suc, Bool, true, false, cond, ◌&&◌, eqb, List, [], ◌∷◌, ◌++◌, map, Option, None, is_some, refl, sym, ap, subst, ◌∙◌, eq-eqb, ne_eqb, append-nil, arith}
 use Rattle.std.specs.List.{filter}
 use Rattle.vt_can.specs.transport.Sessions.{each_below, is_overdue}
-use Rattle.vt_names.specs.Registry.{Set, set_at}
-use Rattle.vt_server.specs.Happenings.{AreApart}
+use Rattle.vt_names.specs.Registry.{AreApart, Set, set_at}
 use Rattle.vt_server.specs.Lapses.{is_silent, silences, tp_due, etp_due, sending_due, after_tp_timeouts, after_etp_timeouts, after_timeouts}
 use Rattle.vt_server.specs.Parts.{Part, Act, TpExpires, EtpExpires, SendingExpires, FallsSilent, outcome}
 use Rattle.vt_server.specs.Places.{Place}

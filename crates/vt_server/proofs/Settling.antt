@@ -5,10 +5,10 @@ use Rattle.vt_can.specs.declared.frames.frame.Frame.{Frame}
 use Rattle.vt_can.specs.frames.Frame.{source_of}
 use Rattle.vt_can.specs.lines.Actions.{ActionValue}
 use Rattle.vt_names.specs.Claims.{Claimed, OtherHoldersStay, answer, holder_of}
-use Rattle.vt_names.specs.Registry.{Set, set_at, with_set, without, registering, joining, mastered, joined, has_place, preloaded}
+use Rattle.vt_names.specs.Registry.{AreApart, Set, set_at, with_set, without, registering, joining, mastered, joined, has_place, preloaded}
 use Rattle.vt_server.specs.Bus.{notice_of, frame_notice, unless_echo}
 use Rattle.vt_server.specs.Choosing.{choosing, shown_now, events_of_change}
-use Rattle.vt_server.specs.Happenings.{loses, AreApart, IsOrderly, SetIsHeld}
+use Rattle.vt_server.specs.Happenings.{loses, IsOrderly, SetIsHeld}
 use Rattle.vt_server.specs.Lapses.{at_time, lapsed, silent, is_silent, after_timeouts}
 use Rattle.vt_server.specs.Parts.{Part, Act, Hears, Preloads, FallsSilent, Operates, after_master, after_member, after_message, outcome}
 use Rattle.vt_server.specs.Places.{Place, heard_at}

@@ -2,9 +2,9 @@
 use Rattle.std.proofs.Common.{◌≡◌, ◌<◌, ℕ, Bool, true, false, cond, ◌&&◌, List, [], ◌∷◌, ◌++◌, Option, Some, None, is_some, refl, sym, ap, subst, ◌∙◌, nat_eq, append_assoc, append-nil}
 use Rattle.std.specs.Option.{option_eq}
 use Rattle.vt_can.specs.transport.Sessions.{is_overdue}
-use Rattle.vt_names.specs.Registry.{set_at}
+use Rattle.vt_names.specs.Registry.{AreApart, set_at}
 use Rattle.vt_server.specs.Choosing.{choosing, shown_now, raised_at, events_of_change, display, status, same_display, Display, status_frame, ACTIVATE, DEACTIVATE}
-use Rattle.vt_server.specs.Happenings.{Happening, TpExpired, EtpExpired, SendingExpired, FellSilent, EventRaised, Response, without_effect, by_act, response, response_while, part_after_all, frames_of_all, if_so, is_at, lapses, events_at, frames_to, AreApart}
+use Rattle.vt_server.specs.Happenings.{Happening, TpExpired, EtpExpired, SendingExpired, FellSilent, EventRaised, Response, without_effect, by_act, response, response_while, part_after_all, frames_of_all, if_so, is_at, lapses, events_at, frames_to}
 use Rattle.vt_server.specs.Lapses.{silences, is_silent, tp_due, etp_due, sending_due, after_tp_timeouts, after_etp_timeouts, after_timeouts, lapsed, sent_by_lapses}
 use Rattle.vt_server.specs.Parts.{Part, Act, TpExpires, EtpExpires, SendingExpires, FallsSilent, Raises}
 use Rattle.vt_server.specs.Steps.{settled, sent_by_settling}

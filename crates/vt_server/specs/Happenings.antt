@@ -6,7 +6,7 @@ use Rattle.vt_can.specs.frames.Frame.{source_of}
 use Rattle.vt_can.specs.lines.Actions.{ActionValue}
 use Rattle.vt_can.specs.transport.Sessions.{is_overdue}
 use Rattle.vt_names.specs.Claims.{Claimed, IsRising, holder_of}
-use Rattle.vt_names.specs.Registry.{Set, set_at}
+use Rattle.vt_names.specs.Registry.{AreApart, Set, set_at}
 use Rattle.vt_objects.specs.Stores.{Contents}
 use Rattle.vt_server.specs.Bus.{notice_of, frame_notice}
 use Rattle.vt_server.specs.Choosing.{shown_now, ACTIVATE, DEACTIVATE}
@@ -156,11 +156,6 @@ frames_to address [] = []
 frames_to address (s ∷ sent) = frame_to address s ++ frames_to address sent
 
 -- ---- Each address takes its own happenings, and no other.
-
--- no two sets have the same address
-abbrev pub AreApart : List Set → Type 0
-AreApart [] = Unit {0}
-AreApart (set ∷ sets) = (set_at set.address sets ≡ None) × AreApart sets
 
 -- what every state of a terminal keeps
 pub record IsOrderly (s : State) : Type 0 where

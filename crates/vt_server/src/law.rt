@@ -1,9 +1,8 @@
 //! What the definitions of the step come to.
 
-ghost use Rattle.vt_names.specs.Claims.{IsRising};
 ghost use Rattle.vt_server.specs.ClaimsHeard.{HoldersOfRuns};
 ghost use Rattle.vt_server.specs.Sending.{SentAreAddressed};
-ghost use Rattle.vt_server.specs.Happenings.{EachTakesItsOwn, OwnHappeningsDecide, SetsHoldTheirAddress};
+ghost use Rattle.vt_server.specs.Happenings.{EachTakesItsOwn, IsOrderly, OwnHappeningsDecide, SetsHoldTheirAddress};
 ghost use Rattle.vt_server.specs.Headline.{NeverSticks};
 ghost use Rattle.vt_server.specs.SetLists.{SetsAfterSteps};
 ghost use Rattle.vt_server.specs.States.{state_of};
@@ -91,9 +90,11 @@ pub fn holders_are_of_runs()
     vt_names::holders_are_least();
 }
 
-/// What a terminal has heard of addresses stands by rising NAME, as the laws on its steps want.
-pub fn claims_are_rising(terminal: &Terminal)
-    ensures { IsRising (state_of terminal.now).claims.addresses }
+/// The law that what any terminal has heard of addresses stands by rising NAME, and that no two of its sets have the same
+/// address, as the laws on its steps want.
+pub fn terminals_are_orderly(terminal: &Terminal)
+    ensures { IsOrderly (state_of terminal.now) }
 {
     let _address = terminal.node.address_of(Name::default());
+    let _count = terminal.registry.len();
 }

@@ -25,8 +25,8 @@ mod watch;
 
 pub use input::Input;
 pub use law::{
-    claims_are_rising, each_takes_its_own, holders_are_of_runs, own_happenings_decide,
-    sent_are_addressed, sets_after_steps, sets_hold_their_address, the_machine_never_sticks,
+    each_takes_its_own, holders_are_of_runs, own_happenings_decide, sent_are_addressed,
+    sets_after_steps, sets_hold_their_address, terminals_are_orderly, the_machine_never_sticks,
 };
 pub use output::{OperatorFault, Output};
 pub use terminal::{RunFault, Terminal};
