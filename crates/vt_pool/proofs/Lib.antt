@@ -23,3 +23,4 @@ pub mod PartsPassed
 pub mod RecordsPassed
 pub mod ReadTo
 pub mod NoFaultYet
+pub mod OneReading

@@ -1,5 +1,5 @@
 -- A pool: records, joined, and the objects that they leave in force (docs/PROFILE.md, "Pools and faults").
-use Rattle.std.specs.Prelude.{◌≡◌, ◌≢◌, ◌<◌, ◌≤◌, ◌==◌, not, eqb, ℕ, ◌+◌, ◌⊎◌, List, [], ◌∷◌, ◌++◌, length, map, filter, reverse, drop, Some, None, slice_index}
+use Rattle.std.specs.Prelude.{◌≡◌, ◌≢◌, ◌<◌, ◌≤◌, ◌==◌, Bool, true, false, not, eqb, ℕ, ◌+◌, ◌⊎◌, List, [], ◌∷◌, ◌++◌, length, map, filter, reverse, drop, Some, None, slice_index}
 use Rattle.std.specs.List.{flat_map, AllByRecursion, IsDistinct}
 use Rattle.byteorder.specs.Endian.{little_number}
 use Rattle.vt_objects.specs.declared.kind.Kind.{Kind}
@@ -152,3 +152,18 @@ RecordsAreWhole = (a b : ℕ) (o p : Seen) (rest : List ℕ) → HasRecord a o �
 abbrev pub WrittenIsRead : Type 0
 WrittenIsRead = (written records objects : List Entry) → AreObjects written → AreRecords records → joined written ≡ joined records → IsInForce records objects
     → objects ≡ written
+
+-- the fault is of a type that this terminal does not have
+abbrev pub is_of_type : PoolFault → Bool
+is_of_type (UnknownType at) = true
+is_of_type (LeftOutType at) = true
+is_of_type fault = false
+
+-- The bytes of a pool have one reading: what they leave in force is one, where they are whole records nothing but want of
+-- memory is a fault of them, and of the other faults either all are of a type or none is.
+pub record ReadingsAreOne : Type 0 where
+  pub pools : (records others p q : List Entry) → AreRecords records → AreRecords others → joined records ≡ joined others
+      → IsInForce records p → IsInForce others q → p ≡ q
+  pub faults : (bytes : List ℕ) (records : List Entry) (fault : PoolFault) → AreRecords records → bytes ≡ joined records → IsFault bytes fault → IsWantOfMemory fault
+  pub types : (bytes : List ℕ) (f g : PoolFault) → IsFault bytes f → IsFault bytes g → (IsWantOfMemory f → ⊥) → (IsWantOfMemory g → ⊥)
+      → is_of_type f ≡ is_of_type g

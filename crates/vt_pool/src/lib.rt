@@ -19,7 +19,7 @@ mod write;
 pub use arriving::{Reading, faults_last};
 pub use fault::PoolFault;
 pub use pool::{Pool, read_pool};
-pub use record::{records_are_whole, written_is_read};
+pub use record::{readings_are_one, records_are_whole, written_is_read};
 pub use std::alloc::AllocError as OutOfMemory;
 pub use write::write_object;
 
