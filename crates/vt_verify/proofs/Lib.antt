@@ -14,6 +14,7 @@ pub mod ListedEvents
 pub mod Passes
 pub mod Pieces
 pub mod Refusals
+pub mod OneRefusal
 pub mod ReportLines
 pub mod Shapes
 pub mod Standing

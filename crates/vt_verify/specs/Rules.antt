@@ -209,6 +209,19 @@ pub record IsFirstToFail (limits : Limits) (objects : Objects) (rule : Rule) : T
 abbrev pub FirstRulesFail : Type 0
 FirstRulesFail = (limits : Limits) (objects : Objects) (refusal : Refusal) → IsRefused limits objects refusal → IfSome (rule_of refusal) (IsFirstToFail limits objects)
 
+-- ---- the refusal of a pool
+
+-- They say the same: any chain that is too long is one, and a circle is named by its first macro.
+abbrev pub SaysTheSame : Refusal → Refusal → Type 0
+SaysTheSame (refusals.TooDeep chain) (refusals.TooDeep other) = Unit {0}
+SaysTheSame (refusals.MacroCircle path) (refusals.MacroCircle other) = slice_index path.items 0 ≡ slice_index other.items 0
+SaysTheSame refusal other = refusal ≡ other
+
+-- But for want of memory, two refusals of a pool say the same.
+abbrev pub RefusalsAreOne : Type 0
+RefusalsAreOne = (limits : Limits) (objects : Objects) (r q : Refusal) → IsRefused limits objects r → IsRefused limits objects q
+    → (IsWantOfMemory r → ⊥) → (IsWantOfMemory q → ⊥) → SaysTheSame r q
+
 -- ---- greater limits
 
 -- What is acceptable stays so where the limits grow.

@@ -28,7 +28,8 @@ pub use listing::Listings;
 pub use objects::updates_replace;
 pub use refusal::Refusal;
 pub use verification::{
-    first_rules_fail, greater_limits_accept, refusals_are_true, verify, verify_update,
+    first_rules_fail, greater_limits_accept, refusals_are_one, refusals_are_true, verify,
+    verify_update,
 };
 
 /// A growth that was refused.
