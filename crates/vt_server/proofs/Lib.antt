@@ -15,6 +15,8 @@ mod Held
 mod InForce
 mod Keeping
 mod Listing
+mod OneStep
+mod OneVerdict
 mod Overdue
 mod Own
 mod Packets

@@ -1,6 +1,7 @@
 -- What the contracts of this crate cite.
 pub mod Acting
 pub mod Bus
+pub mod Certain
 pub mod Choosing
 pub mod ClaimsHeard
 pub mod Commands

@@ -1,5 +1,6 @@
 //! What the definitions of the step come to.
 
+ghost use Rattle.vt_server.specs.Certain.{StepsAreOne};
 ghost use Rattle.vt_server.specs.ClaimsHeard.{HoldersOfRuns};
 ghost use Rattle.vt_server.specs.Sending.{SentAreAddressed};
 ghost use Rattle.vt_server.specs.Happenings.{EachTakesItsOwn, IsOrderly, OwnHappeningsDecide, SetsHoldTheirAddress};
@@ -26,6 +27,16 @@ pub fn the_machine_never_sticks()
     vt_machine::null_is_no_object();
     vt_layout::drawings_never_stick();
     vt_layout::paths_are_chained();
+}
+
+/// The law that the step is a function of the input alone. Whatever verdict on a transfer is right, and whatever is rightly found
+/// to be shown, the step is one: a terminal that takes inputs from a state is in one state after them, and has sent the same.
+pub fn steps_are_one()
+    ensures { StepsAreOne }
+{
+    vt_pool::readings_are_one();
+    vt_verify::refusals_are_one();
+    vt_verify::refusals_are_true();
 }
 
 /// The law that a step takes the part of each address through what happens there and no more, and sends the

@@ -26,7 +26,8 @@ mod watch;
 pub use input::Input;
 pub use law::{
     each_takes_its_own, holders_are_of_runs, own_happenings_decide, sent_are_addressed,
-    sets_after_steps, sets_hold_their_address, terminals_are_orderly, the_machine_never_sticks,
+    sets_after_steps, sets_hold_their_address, steps_are_one, terminals_are_orderly,
+    the_machine_never_sticks,
 };
 pub use output::{OperatorFault, Output};
 pub use terminal::{RunFault, Terminal};
