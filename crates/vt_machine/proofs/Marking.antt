@@ -199,6 +199,19 @@ behind_case P m name other (Some (objects.ObjectPointer o)) null is here later =
     (subst (Contains (o.value ∷ [])) value.1 (Contains-head o.value [])))
 behind_case P m name other (Some _) null is here later = here (some_is name other is)
 
+-- an element that is named itself
+itself : (m : Contents) (name : ℕ) (o : Seen) → is_element (Some o) ≡ true → behind m name (Some o) ≡ Some name
+itself m name (objects.ObjectPointer o) is = absurd cc
+itself m name _ is = refl
+
+pub stands_itself : (m : Contents) (name place : ℕ) (at : IsPlace (finite.entries m) name place) → is_element (Some at.object) ≡ true
+    → IsTrue (is_element (finite.get m name)) × (stands_for m name ≡ Some name)
+stands_itself m name place at drawn =
+    let got : finite.get m name ≡ Some at.object = finite.get-entries m name ∙ at.found in (
+      subst (λ (o : Option Seen). IsTrue (is_element o)) (sym got) drawn,
+      ap (behind m name) got ∙ itself m name at.object drawn,
+    )
+
 pub is_there : (m : Contents) (name other : ℕ) (o : Option Seen) → finite.get m name ≡ o → behind m name o ≡ Some other → finite.get m 65535 ≡ None → eqb name 65535 ≡ false
 is_there m name other None at is null = absurd cc
 is_there m name other (Some o) at is null = ne_eqb name 65535 (λ e. let never = sym null ∙ ap (finite.get m) (sym e) ∙ at in absurd cc)

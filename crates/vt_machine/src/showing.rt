@@ -1,9 +1,10 @@
 //! Which objects a mask shows.
 
-ghost use Rattle.std.specs.Prelude.{◌≡◌, ◌≤◌, ◌<◌, ◌+◌, ◌∷◌, ℕ, [], false, true, length, slice_index, EachIndex, Some};
+ghost use Rattle.std.specs.Prelude.{◌≡◌, ◌≤◌, ◌<◌, ◌+◌, ◌∷◌, ℕ, [], false, true, length, slice_get, slice_index, EachIndex, IfSome, IsTrue, Some};
 ghost use Rattle.std.specs.Option.{option_map};
 ghost use Rattle.std.specs.FinMap as finite;
-ghost use Rattle.vt_objects.specs.Records.{seen};
+ghost use Rattle.vt_objects.specs.Records.{Seen, seen};
+ghost use Rattle.vt_objects.specs.Stores.{IsPlace};
 ghost use Rattle.vt_verify.specs.Depths.{ids_of, inclusions_of, Stands};
 ghost use Rattle.vt_machine.specs.Certificates.{IsCertificate};
 ghost use Rattle.vt_machine.specs.Marks.{Marks, AreMarked};
@@ -177,6 +178,40 @@ fn mark_named<S: Store>(store: &S, marks: &mut [bool], name: ObjectId)
     requires { length marks.old ≡ length (ids_of (S.contents store.now)) }
     ensures { Marks (S.contents store.now) (name ∷ []) marks.old marks.new }
 {
+    match element_place(store, name) {
+        Some(place) => marks[place] = true,
+        None => mark_behind(store, marks, name),
+    }
+}
+
+/// The place of an element that is named itself, which nearly all are.
+fn element_place<S: Store>(store: &S, name: ObjectId) -> Option<usize>
+    ensures { IfSome result (λ place. IsPlace (finite.entries (S.contents store.now)) name place
+        × IsTrue (showing.is_element (finite.get (S.contents store.now) name))
+        × (showing.stands_for (S.contents store.now) name ≡ Some name)) }
+{
+    let place = store.place(name)?;
+    if is_element_at(store, place) {
+        return Some(place);
+    }
+    None
+}
+
+/// Whether an element stands at a place.
+fn is_element_at<S: Store>(store: &S, place: usize) -> bool
+    ensures { (entry : ℕ × Seen) → slice_get (finite.entries (S.contents store.now)) place ≡ Some entry → result ≡ showing.is_element (Some entry.1) }
+{
+    match store.entry_at(place) {
+        Some((_, object)) => is_drawn(object),
+        None => false,
+    }
+}
+
+/// Marks what a name stands for, a pointer for its value, if that is an element.
+fn mark_behind<S: Store>(store: &S, marks: &mut [bool], name: ObjectId)
+    requires { length marks.old ≡ length (ids_of (S.contents store.now)) }
+    ensures { Marks (S.contents store.now) (name ∷ []) marks.old marks.new }
+{
     let Some(id) = stands_for(store, name) else {
         return;
     };
@@ -214,9 +249,18 @@ fn is_element<S: Store>(store: &S, id: ObjectId) -> bool
 {
     match store.get(id) {
         None => false,
-        Some(Object::ObjectPointer(_)) => false,
-        Some(Object::Container(o)) => o.hidden == 0,
-        Some(_) => true,
+        Some(object) => is_drawn(object),
+    }
+}
+
+/// Whether an object is neither a pointer nor a hidden container.
+fn is_drawn(object: &Object<Vec<u8>>) -> bool
+    ensures { result ≡ showing.is_element (Some (seen object.now)) }
+{
+    match object {
+        Object::ObjectPointer(_) => false,
+        Object::Container(o) => o.hidden == 0,
+        _ => true,
     }
 }
 

@@ -1,4 +1,4 @@
-//! A store that is searched by halves.
+//! A store by rising ID, which keeps where each ID stands.
 
 ghost use Rattle.std.specs.Prelude.{◌≡◌, None, IfOk, IfSome, IfNone, map, slice_get};
 ghost use Rattle.std.specs.Option.{option_map};
@@ -15,10 +15,13 @@ use crate::store::Store;
 use std::alloc::{AllocError, Global};
 use std::marker::Model;
 
-/// The objects by rising ID, searched by halves.
+/// The objects by rising ID. Where each ID stands is kept in 2 bytes for each number from the first ID to the last; an ID that is
+/// not there is searched by halves.
 #[derive(Drop)]
 pub struct SortedStore {
     entries: Vec<(ObjectId, Object<Vec<u8>>)>,
+    // Where to look for each ID, counted from the first one.
+    places: Vec<u16>,
 }
 
 impl Model for SortedStore {
@@ -41,7 +44,8 @@ impl SortedStore {
     {
         let mut entries = entries;
         sort(&mut entries)?;
-        Ok(SortedStore { entries })
+        let places = places_of(*entries.allocator(), &entries)?;
+        Ok(SortedStore { entries, places })
     }
 
     /// The objects with their IDs, by rising ID.
@@ -62,7 +66,8 @@ impl Store for SortedStore {
     ) -> Result<SortedStore, AllocError> {
         let mut entries = copies(alloc, objects)?;
         sort(&mut entries)?;
-        Ok(SortedStore { entries })
+        let places = places_of(alloc, &entries)?;
+        Ok(SortedStore { entries, places })
     }
 
     fn get(&self, id: ObjectId) -> Option<&Object<Vec<u8>>>
@@ -70,14 +75,14 @@ impl Store for SortedStore {
         ensures named { finite.get (map_of self.now) 0xFFFF ≡ None }
         ensures found { option_map (λ o. seen o.now) result ≡ object_at self.now id }
     {
-        match place_of(&self.entries, id) {
+        match place_of(&self.entries, &self.places, id) {
             None => None,
             Some(place) => Some(&self.entries[place].1),
         }
     }
 
     fn get_mut(&mut self, id: ObjectId) -> Option<&mut Object<Vec<u8>>> {
-        match place_of(&self.entries, id) {
+        match place_of(&self.entries, &self.places, id) {
             None => None,
             Some(place) => Some(&mut self.entries[place].1),
         }
@@ -100,17 +105,36 @@ impl Store for SortedStore {
         ensures stands { IfSome result (IsPlace self.now id) }
         ensures absent { IfNone result (object_at self.now id ≡ None) }
     {
-        place_of(&self.entries, id)
+        place_of(&self.entries, &self.places, id)
     }
 }
 
+/// Where each ID stands, counted from the first one. No contract rests on it: a place that is looked up is tested.
+fn places_of(
+    alloc: Global,
+    entries: &[(ObjectId, Object<Vec<u8>>)],
+) -> Result<Vec<u16>, AllocError> {
+    let (Some((first, _)), Some((last, _))) = (entries.first(), entries.last()) else {
+        return Ok(Vec::new(alloc));
+    };
+    let last = usize::from(last.raw().saturating_sub(first.raw()));
+    let mut places = Vec::from_elem(alloc, 0, last + 1)?;
+    for (place, (id, _)) in entries.iter().enumerate() {
+        let above = usize::from(id.raw().saturating_sub(first.raw()));
+        if let (Some(kept), Ok(place)) = (places.get_mut(above), u16::try_from(place)) {
+            *kept = place;
+        }
+    }
+    Ok(places)
+}
+
 /// The place of an ID among entries by rising ID, if it is there.
-fn place_of(entries: &[(ObjectId, Object<Vec<u8>>)], id: ObjectId) -> Option<usize>
+fn place_of(entries: &[(ObjectId, Object<Vec<u8>>)], places: &[u16], id: ObjectId) -> Option<usize>
     requires { AreStored (map shown entries.now) }
     ensures some { IfSome result (IsPlace (map shown entries.now) id) }
     ensures none { IfNone result (object_at (map shown entries.now) id ≡ None) }
 {
-    match place_from_end(entries, id) {
+    match kept_place(entries, places, id) {
         Some(place) => Some(place),
         None => entries
             .binary_search_by_key(&id.raw(), |entry| entry.0.raw())
@@ -118,34 +142,19 @@ fn place_of(entries: &[(ObjectId, Object<Vec<u8>>)], id: ObjectId) -> Option<usi
     }
 }
 
-/// The place of an ID, if each ID from the first one to it stands too, or each from it to the last one.
-fn place_from_end(entries: &[(ObjectId, Object<Vec<u8>>)], id: ObjectId) -> Option<usize>
-    requires { AreStored (map shown entries.now) }
-    ensures { IfSome result (IsPlace (map shown entries.now) id) }
-{
-    match place_from_first(entries, id) {
-        Some(place) => Some(place),
-        None => place_from_last(entries, id),
-    }
-}
-
-fn place_from_first(entries: &[(ObjectId, Object<Vec<u8>>)], id: ObjectId) -> Option<usize>
+/// The place that is kept for an ID, if the ID stands there.
+fn kept_place(
+    entries: &[(ObjectId, Object<Vec<u8>>)],
+    places: &[u16],
+    id: ObjectId,
+) -> Option<usize>
     requires { AreStored (map shown entries.now) }
     ensures { IfSome result (IsPlace (map shown entries.now) id) }
 {
     let (first, _) = entries.first()?;
     let above = id.raw().checked_sub(first.raw())?;
-    stands_at(entries, id, usize::from(above))
-}
-
-fn place_from_last(entries: &[(ObjectId, Object<Vec<u8>>)], id: ObjectId) -> Option<usize>
-    requires { AreStored (map shown entries.now) }
-    ensures { IfSome result (IsPlace (map shown entries.now) id) }
-{
-    let (last, _) = entries.last()?;
-    let below = last.raw().checked_sub(id.raw())?;
-    let place = (entries.len() - 1).checked_sub(usize::from(below))?;
-    stands_at(entries, id, place)
+    let place = places.get(usize::from(above))?;
+    stands_at(entries, id, usize::from(*place))
 }
 
 /// The place, if the ID stands there.

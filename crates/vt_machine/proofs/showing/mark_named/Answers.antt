@@ -1,8 +1,7 @@
-use Rattle.std.proofs.Common.{sym}
 use Rattle.vt_machine.proofs.Marking.{marks_one}
 use Rattle.vt_machine.proofs.showing.mark_named.Goals as goal
 
-pub returns-in-Some-place : goal.returns-in-Some-place
-returns-in-Some-place g c =
-    marks_one (g.S.Store.contents c.args.store.now) c.args.name c.in-Some.id c.in-Some-place.place c.args.marks.now c.requires
-    (sym c.in-Some.ensures) (sym c.if-not-is_element.ensures) c.in-Some-place.ensures.some
+pub returns-in-Some : goal.returns-in-Some
+returns-in-Some g c =
+    let found = c.in-Some.ensures in
+    marks_one (g.S.Store.contents c.args.store.now) c.args.name c.args.name c.in-Some.place c.args.marks.now c.requires found.2 found.1 found.0
