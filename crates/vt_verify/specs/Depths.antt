@@ -1,7 +1,8 @@
 -- How many inclusions in a row begin with each object at most: its depth.
 use Rattle.std.specs.Prelude.{◌≡◌, ◌≢◌, ◌≤◌, ◌<◌, ◌+◌, ℕ, suc, List, length, slice_get, slice_index, Some, Contains}
 use Rattle.std.specs.FinMap as finite
-use Rattle.vt_objects.specs.Stores.{Contents, ids}
+use Rattle.vt_objects.specs.Stores.{Contents, Objects, ids, map_of}
+use Rattle.vt_verify.specs.declared.limits.Limits.{Limits}
 use Rattle.vt_verify.specs.Inclusions.{included, IsChain}
 
 -- the IDs of a store, by rising ID, and what the object of each includes
@@ -41,6 +42,10 @@ pub record AreDepths (ids : List ℕ) (included : ℕ → List ℕ) (most : ℕ)
   pub each : length depths ≡ length ids
   pub within : (place : ℕ) → slice_index depths place ≤ most
   pub depth : (place id : ℕ) → Stands ids place id → IsDepth ids included depths id (slice_index depths place)
+
+-- the depths of objects by rising ID, at most the most inclusions in a row
+abbrev pub HasDepths : Limits → Objects → List ℕ → Type 0
+HasDepths limits objects depths = AreDepths (ids_of (map_of objects)) (inclusions_of (map_of objects)) limits.inclusions depths
 
 -- ---- while depths are found
 

@@ -7,6 +7,7 @@ ghost use Rattle.vt_objects.specs.Pieces.{cut};
 ghost use Rattle.vt_objects.specs.Stores.{shown, AreStored};
 ghost use Rattle.vt_verify.specs.Shapes.{shape_of};
 ghost use Rattle.vt_verify.specs.Macros.{cut_or_none, commands};
+ghost use Rattle.vt_verify.specs.Depths.{HasDepths};
 ghost use Rattle.vt_verify.specs.TriggerGraphs.{AreListings};
 ghost use Rattle.vt_verify.specs.Budgets.{CostsAreTotals, budget};
 ghost use Rattle.vt_verify.specs.Orders.{IsByRank};
@@ -24,14 +25,29 @@ use vt_objects::{Object, ObjectId, SortedStore};
 #[derive(Drop)]
 pub struct Accepted {
     pub(crate) objects: SortedStore,
+    pub(crate) depths: Vec<u8>,
     pub(crate) budgets: Budgets,
     pub(crate) order: Vec<u8>,
 }
 
+/// What was found of an accepted pool, for who goes on with it.
+#[derive(Drop)]
+pub struct AcceptedParts {
+    /// The objects by rising ID.
+    pub objects: SortedStore,
+    /// The depth of each, as `find_depths` finds it.
+    pub depths: Vec<u8>,
+    /// Which macros run at the events of the objects.
+    pub listings: Listings,
+}
+
 impl Model for Accepted {
     ghost use Rattle.vt_objects.specs.Stores.{Objects, AreStored};
+    ghost use Rattle.vt_rank.specs.Graphs.{lists};
     ghost use Rattle.vt_verify.specs.Shapes.{shape_of};
     ghost use Rattle.vt_verify.specs.Rules.{IsAcceptable, terminal};
+    ghost use Rattle.vt_verify.specs.Depths.{HasDepths};
+    ghost use Rattle.vt_verify.specs.TriggerGraphs.{AreListings};
     ghost use Rattle.vt_verify.specs.Budgets.{CostsAreTotals, AreBudgets};
     ghost use Rattle.vt_verify.specs.Orders.{IsByRank};
 
@@ -41,7 +57,8 @@ impl Model for Accepted {
 
     ghost invariant = { λ a. AreStored a.objects × IsAcceptable terminal a.objects
         × AreBudgets (shape_of a.objects) a.budgets.events.keys a.budgets.steps.items
-        × IsByRank (shape_of a.objects) a.order.items × CostsAreTotals (shape_of a.objects) };
+        × IsByRank (shape_of a.objects) a.order.items × CostsAreTotals (shape_of a.objects)
+        × HasDepths terminal a.objects a.depths.items × AreListings (shape_of a.objects) (a.budgets.events.keys, lists a.budgets.groups) };
 }
 
 impl Accepted {
@@ -56,6 +73,31 @@ impl Accepted {
         ensures verified { IsVerified self.now }
     {
         self.objects.entries()
+    }
+
+    /// Its parts, which are taken over and not copied.
+    pub fn into_parts(self) -> AcceptedParts
+        ensures objects { result.objects ≡ self }
+        // The IDs rise, and none is NULL.
+        ensures stored { AreStored self }
+        ensures acceptable { IsAcceptable terminal self }
+        // Each macro costs what its commands cost.
+        ensures totals { CostsAreTotals (shape_of self) }
+        ensures depths { HasDepths terminal self result.depths.items }
+        ensures listings { AreListings (shape_of self) result.listings }
+    {
+        let Accepted {
+            objects,
+            depths,
+            budgets,
+            ..
+        } = self;
+        let Budgets { events, groups, .. } = budgets;
+        AcceptedParts {
+            objects,
+            depths,
+            listings: Listings { events, groups },
+        }
     }
 
     /// The macros whose IDs are at most 255, each once, so that each triggers only macros before it.

@@ -2,8 +2,9 @@
 
 ghost use Rattle.std.specs.Prelude.{◌≡◌, IfOk};
 ghost use Rattle.vt_rank.specs.Costs.{AreCosts};
+ghost use Rattle.vt_rank.specs.Graphs.{lists};
 ghost use Rattle.vt_verify.specs.Shapes.{Shape};
-ghost use Rattle.vt_verify.specs.TriggerGraphs.{AreTriggers};
+ghost use Rattle.vt_verify.specs.TriggerGraphs.{AreTriggers, AreListings};
 ghost use Rattle.vt_verify.specs.Budgets.{AreBudgets};
 
 use crate::listing::Listing;
@@ -12,28 +13,34 @@ use indexmap::IndexSet;
 use std::alloc::{AllocError, Global};
 use vt_rank::Costs;
 
-/// The events at which macros run, and how many steps each can cost, at its place.
+/// The events at which macros run, and of each the macros and how many steps it can cost, at its place.
 #[derive(Drop)]
 pub(crate) struct Budgets {
     pub(crate) events: IndexSet<Listing>,
+    pub(crate) groups: Vec<Vec<u8>>,
     pub(crate) steps: Vec<u32>,
 }
 
 impl Budgets {
-    /// The budgets of the events of a graph. The graph is let go: it takes several times the bytes of the macros.
+    /// The budgets of the events of a graph. Its nodes are let go: they take several times the bytes of the macros.
     pub(crate) fn of_triggers(
         alloc: Global,
         triggers: Triggers,
         costs: &Costs,
     ) -> Result<Budgets, AllocError>
         requires { AreCosts triggers.graph costs.now }
-        ensures { IfOk result (λ budgets. (shape : Shape) → AreTriggers shape triggers.events.keys triggers.graph → AreBudgets shape budgets.events.keys budgets.steps.items) }
+        ensures budgets { IfOk result (λ budgets. (shape : Shape) → AreTriggers shape triggers.events.keys triggers.graph → AreBudgets shape budgets.events.keys budgets.steps.items) }
+        ensures listings { IfOk result (λ budgets. (shape : Shape) → AreTriggers shape triggers.events.keys triggers.graph → AreListings shape (budgets.events.keys, lists budgets.groups)) }
     {
         let Triggers { events, graph } = triggers;
         let mut steps = Vec::with_capacity(alloc, events.len())?;
         for group in 0..events.len() {
             steps.push(costs.group(&graph, group))?;
         }
-        Ok(Budgets { events, steps })
+        Ok(Budgets {
+            events,
+            groups: graph.groups,
+            steps,
+        })
     }
 }

@@ -21,7 +21,7 @@ mod targets;
 mod triggers;
 mod verification;
 
-pub use accepted::Accepted;
+pub use accepted::{Accepted, AcceptedParts};
 pub use chains::{Chain, find_depths};
 pub use limits::{Limits, TERMINAL_LIMITS};
 pub use listing::Listings;

@@ -42,9 +42,9 @@ pub(crate) const LAST_EVENT: u8 = 26;
 #[derive(Drop)]
 pub struct Listings {
     /// The events at which any run.
-    events: IndexSet<Listing>,
+    pub(crate) events: IndexSet<Listing>,
     /// The macros of each event, at its place.
-    groups: Vec<Vec<u8>>,
+    pub(crate) groups: Vec<Vec<u8>>,
 }
 
 impl Model for Listings {
@@ -57,6 +57,16 @@ impl Model for Listings {
 }
 
 impl Listings {
+    /// Those of no event. They take no memory.
+    pub fn new(alloc: Global) -> Listings
+        ensures { result ≡ ([], []) }
+    {
+        Listings {
+            events: IndexSet::new(alloc),
+            groups: Vec::new(alloc),
+        }
+    }
+
     /// Those of the objects of a pool.
     pub(crate) fn of_objects(alloc: Global, objects: &SortedStore) -> Result<Listings, AllocError>
         ensures { IfOk result (AreListings (shape_of objects.now)) }

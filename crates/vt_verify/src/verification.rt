@@ -6,6 +6,7 @@ ghost use Rattle.vt_rank.specs.Costs.{AreCosts};
 ghost use Rattle.vt_rank.specs.Paths.{AreRanks, HasNoCircle};
 ghost use Rattle.vt_verify.specs.Shapes.{shape_of};
 ghost use Rattle.vt_verify.specs.Budgets.{CostsAreTotals};
+ghost use Rattle.vt_verify.specs.Depths.{HasDepths};
 ghost use Rattle.vt_verify.specs.TriggerGraphs.{AreTriggers};
 ghost use Rattle.vt_verify.specs.Updates.{updated};
 ghost use Rattle.vt_verify.specs.Rules.{IsAcceptable, IsVerified, IsRefused, IsWantOfMemory, RefusalsAreTrue, RefusalsAreOne, FirstRulesFail, GreaterLimitsAccept, HoldBefore, ReferencesAreThere, ChainsAreShort, MacrosAreWhole, TargetsAreThere, AttributesAreThere, TriggersAreNoCircle, BudgetsAreWithin, terminal};
@@ -65,7 +66,7 @@ fn accept(alloc: Global, objects: SortedStore) -> Result<Accepted, Refusal>
 {
     check_working_sets(&objects)?;
     check_references(&objects)?;
-    check_inclusions(alloc, &objects, TERMINAL_LIMITS)?;
+    let depths = check_inclusions(alloc, &objects, TERMINAL_LIMITS)?;
     check_macros(&objects)?;
     check_targets(&objects)?;
     let triggers = Triggers::of_objects(alloc, &objects)?;
@@ -75,6 +76,7 @@ fn accept(alloc: Global, objects: SortedStore) -> Result<Accepted, Refusal>
     let budgets = Budgets::of_triggers(alloc, triggers, &costs)?;
     Ok(Accepted {
         objects,
+        depths,
         budgets,
         order,
     })
@@ -132,16 +134,22 @@ fn refuse_reference(objects: &SortedStore) -> Result<(), Refusal>
     }
 }
 
-fn check_inclusions(alloc: Global, objects: &SortedStore, limits: Limits) -> Result<(), Refusal>
+/// The depths of the objects, unless a chain is too long.
+fn check_inclusions(
+    alloc: Global,
+    objects: &SortedStore,
+    limits: Limits,
+) -> Result<Vec<u8>, Refusal>
     requires stored { AreStored objects.now }
     requires before { HoldBefore limits objects.now ChainsAreShort }
     requires inclusions { limits.inclusions ≤ 32 }
     ensures ok { OnOk result (HoldBefore limits objects.now MacrosAreWhole) }
+    ensures depths { IfOk result (λ depths. HasDepths limits objects.now depths.items) }
     ensures refused { IfErr result (IsRefused limits objects.now) }
 {
     let mut depths = Vec::from_elem(alloc, 0, objects.count())?;
     match find_depths(objects, &mut depths, limits.inclusions) {
-        Ok(()) => Ok(()),
+        Ok(()) => Ok(depths),
         Err(chain) => Err(Refusal::TooDeep { chain }),
     }
 }
