@@ -37,11 +37,27 @@ impl Index {
     pub(crate) fn new(alloc: Global, accepted: &Accepted) -> Result<Index, AllocError>
         ensures { IfOk result (IsIndexOf (shape_of accepted.now)) }
     {
-        let mut index = Index::without_commands(alloc, accepted.listings(alloc)?)?;
+        let index = Index::of_commands(alloc, accepted)?;
+        let listings = accepted.listings(alloc)?;
+        Ok(index.with_listings(listings))
+    }
+
+    /// The index of the commands of a pool's macros. None runs at an event.
+    pub(crate) fn of_commands(alloc: Global, accepted: &Accepted) -> Result<Index, AllocError>
+        ensures { IfOk result (λ index. (id : ℕ) → map (command_in index) (pieces_in index id) ≡ map Some (commands (shape_of accepted.now) id)) }
+    {
+        let mut index = Index::without_commands(alloc)?;
         for id in accepted.by_rank() {
             index.put_macro(*id, accepted.macro_bytes(*id))?;
         }
         Ok(index)
+    }
+
+    /// The index with what runs at the events of objects.
+    pub(crate) fn with_listings(self, listings: Listings) -> Index
+        ensures { result ≡ record { listings = listings; bytes = self.bytes; pieces = self.pieces; macros = self.macros } }
+    {
+        Index { listings, ..self }
     }
 
     /// The macros that run at an event of an object, in the order of its list: none at an ID that is not there, nor
@@ -70,15 +86,14 @@ impl Index {
         Command::read(part(&self.bytes, *piece))
     }
 
-    fn without_commands(alloc: Global, listings: Listings) -> Result<Index, AllocError>
-        ensures listings { IfOk result (λ index. index.listings ≡ listings) }
+    fn without_commands(alloc: Global) -> Result<Index, AllocError>
         ensures pieces { IfOk result (λ index. index.pieces.items ≡ []) }
         ensures within { IfOk result IsWithin }
     {
         let none = Span { start: 0, end: 0 };
         let macros = Vec::from_elem(alloc, none, 256)?;
         Ok(Index {
-            listings,
+            listings: Listings::new(alloc),
             bytes: Vec::new(alloc),
             pieces: Vec::new(alloc),
             macros,

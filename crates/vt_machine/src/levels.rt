@@ -1,7 +1,8 @@
 //! The certificate that no chain of inclusions is too long.
 
 ghost use Rattle.std.specs.Prelude.{◌≡◌, IfOk, true, false, length};
-ghost use Rattle.vt_verify.specs.Depths.{ids_of, inclusions_of, IsClosed};
+ghost use Rattle.vt_objects.specs.Stores.{Contents};
+ghost use Rattle.vt_verify.specs.Depths.{ids_of, inclusions_of, AreDepths, IsClosed};
 ghost use Rattle.vt_verify.specs.Inclusions.{IsShallow};
 ghost use Rattle.vt_verify.specs.Rules.{terminal};
 ghost use Rattle.vt_machine.specs.Certificates.{AreLevels, AreLevelsBut, HasLongChain, HasSameLevels};
@@ -33,6 +34,17 @@ impl Levels {
             Ok(()) => Ok(Levels { levels, spare }),
             Err(_chain) => unreachable!(),
         }
+    }
+
+    /// The levels of a store whose objects have these depths.
+    pub(crate) fn of_depths(alloc: Global, depths: Vec<u8>) -> Result<Levels, AllocError>
+        ensures { IfOk result (λ levels. (store : Contents) → AreDepths (ids_of store) (inclusions_of store) terminal.inclusions depths.items → AreLevels store levels) }
+    {
+        let spare = Vec::from_elem(alloc, 0, depths.len())?;
+        Ok(Levels {
+            levels: depths,
+            spare,
+        })
     }
 
     /// Takes up an inclusion that is new in the store, or answers that a chain is too long with it: then the levels are as they

@@ -11,6 +11,7 @@ ghost use Rattle.vt_verify.specs.Rules.{working_sets};
 ghost use Rattle.vt_verify.specs.Triggers.{listing};
 ghost use Rattle.vt_machine.specs.Effects.{kind_in};
 ghost use Rattle.vt_machine.specs.Machines.{shape_in, joined};
+ghost use Rattle.vt_machine.specs.Nested.{CanRun};
 ghost use Rattle.vt_machine.specs.Operating.{HasActed};
 ghost use Rattle.vt_machine.specs.Showing.{IsShown, soft_key_mask_of};
 ghost use Rattle.vt_machine.specs.Soundness.{IsSound};
@@ -25,8 +26,8 @@ use crate::showing::is_shown;
 use crate::working_set::{soft_key_mask, working_set};
 use std::alloc::{AllocError, Global};
 use std::marker::Model;
-use vt_objects::{Command, Object, ObjectId, Raised, Store};
-use vt_verify::Accepted;
+use vt_objects::{Command, Object, ObjectId, Raised, SortedStore, Store};
+use vt_verify::{Accepted, AcceptedParts};
 
 /// The key that an operator holds.
 #[derive(Clone, Copy, Debug, PartialEq, Eq)]
@@ -48,7 +49,7 @@ pub enum Outcome {
 
 /// The object pool of a working set as it is now, with the key that is held and the input that is selected. Its macros run to
 /// their ends: each event takes at most the steps that the pool's report prints, and a call the sum of those of the events that
-/// it raises, `apply` one more for its command. Only `new` and `renew` take memory
+/// it raises, `apply` one more for its command. Only the calls that make one take memory
 /// (ISO 11783-6; docs/PROFILE.md, "Runs", "Steps").
 #[derive(Drop)]
 pub struct Live<S: Store> {
@@ -87,15 +88,26 @@ impl<S: Store> Live<S> {
     pub fn new(alloc: Global, accepted: &Accepted) -> Result<Live<S>, AllocError>
         ensures { IfOk result (λ live. live ≡ record { objects = map_of accepted.now; key = None; input = None }) }
     {
-        let objects = accepted.objects();
-        let store = S::from_objects(alloc, objects)?;
+        let store = S::from_objects(alloc, accepted.objects())?;
         let levels = Levels::of_store(alloc, &store)?;
         let index = Index::new(alloc, accepted)?;
+        let working_set = working_set_of(accepted);
+        Live::of_parts(alloc, store, levels, index, working_set)
+    }
+
+    /// A working set of these parts. No key is held, and no input is selected.
+    fn of_parts(
+        alloc: Global,
+        store: S,
+        levels: Levels,
+        index: Index,
+        working_set: ObjectId,
+    ) -> Result<Live<S>, AllocError>
+        requires runs { CanRun index (S.contents store) levels }
+        requires set { kind_in (S.contents store) working_set ≡ Some kinds.WorkingSet }
+        ensures { IfOk result (λ live. live ≡ record { objects = S.contents store; key = None; input = None }) }
+    {
         let marks = Vec::from_elem(alloc, false, store.count())?;
-        let working_set = match working_set(objects) {
-            Some(id) => id,
-            None => unreachable!(),
-        };
         Ok(Live {
             store,
             levels,
@@ -113,10 +125,22 @@ impl<S: Store> Live<S> {
     pub fn renew(&self, accepted: &Accepted) -> Result<Live<S>, AllocError>
         ensures { IfOk result (λ live. live ≡ renewed self.now (map_of accepted.now)) }
     {
-        let mut live = Live::new(*self.levels.levels.allocator(), accepted)?;
-        live.key = kept_key(&self.store, &live.store, self.key);
-        live.input = kept_input(&self.store, &live.store, self.input);
-        Ok(live)
+        let live = Live::new(self.allocator(), accepted)?;
+        Ok(live.keeping(self))
+    }
+
+    /// This working set with the key held and the input selected in another one, where the object of their ID is of the kind that it
+    /// was of there.
+    fn keeping(self, old: &Live<S>) -> Live<S>
+        ensures { result ≡ renewed old.now self.objects }
+    {
+        let key = kept_key(&old.store, &self.store, old.key);
+        let input = kept_input(&old.store, &self.store, old.input);
+        Live { key, input, ..self }
+    }
+
+    fn allocator(&self) -> Global {
+        *self.levels.levels.allocator()
     }
 
     /// The objects.
@@ -203,6 +227,42 @@ impl<S: Store> Live<S> {
             }
             Err(bits) => Outcome::Refused { bits },
         }
+    }
+}
+
+impl Live<SortedStore> {
+    /// As `new`, but what the verifier has made is taken over: no object is copied, and no chain is searched again.
+    pub fn from_accepted(alloc: Global, accepted: Accepted) -> Result<Live<SortedStore>, AllocError>
+        ensures { IfOk result (λ live. live ≡ record { objects = map_of accepted; key = None; input = None }) }
+    {
+        let commands = Index::of_commands(alloc, &accepted)?;
+        let working_set = working_set_of(&accepted);
+        let AcceptedParts {
+            objects,
+            depths,
+            listings,
+        } = accepted.into_parts();
+        let levels = Levels::of_depths(alloc, depths)?;
+        let index = commands.with_listings(listings);
+        Live::of_parts(alloc, objects, levels, index, working_set)
+    }
+
+    /// As `renew`, but what the verifier has made is taken over.
+    pub fn renew_from(&self, accepted: Accepted) -> Result<Live<SortedStore>, AllocError>
+        ensures { IfOk result (λ live. live ≡ renewed self.now (map_of accepted)) }
+    {
+        let live = Live::from_accepted(self.allocator(), accepted)?;
+        Ok(live.keeping(self))
+    }
+}
+
+/// The working set of an accepted pool.
+fn working_set_of(accepted: &Accepted) -> ObjectId
+    ensures { kind_in (map_of accepted.now) result ≡ Some kinds.WorkingSet }
+{
+    match working_set(accepted.objects()) {
+        Some(id) => id,
+        None => unreachable!(),
     }
 }
 

@@ -55,7 +55,7 @@ fn judge_first(alloc: Global, read: &Pool<'_>) -> Result<Judgement, OutOfMemory>
 {
     match verify(alloc, read) {
         Ok(accepted) => {
-            let live = Live::new(alloc, &accepted)?;
+            let live = Live::from_accepted(alloc, accepted)?;
             Ok(Judgement::Accepted(live))
         }
         Err(refusal) => {
@@ -75,7 +75,7 @@ fn judge_update(
 {
     match verify_update(alloc, live.store(), read) {
         Ok(accepted) => {
-            let live = live.renew(&accepted)?;
+            let live = live.renew_from(accepted)?;
             Ok(Judgement::Accepted(live))
         }
         Err(refusal) => {

@@ -228,6 +228,24 @@ fn updates_take_the_place_of_objects(rt: HostRuntime) -> Result<(), Fail> {
     Ok(())
 }
 
+/// A working set that takes its accepted pool over.
+fn taken_over(alloc: Global, more: &[u8]) -> Result<Live<SortedStore>, Fail> {
+    let accepted = accepted(alloc, more)?;
+    let live = Live::from_accepted(alloc, accepted)?;
+    Ok(live)
+}
+
+#[test]
+fn accepted_pools_are_taken_over(rt: HostRuntime) -> Result<(), Fail> {
+    let alloc = rt.alloc();
+    let mut live = taken_over(alloc, POINTER)?;
+    assert!(rt; come_to(&mut live, CIRCLE_ROWS));
+    let mut renewed = live.renew_from(accepted(alloc, SHARED)?)?;
+    assert!(rt; renewed.raise(ObjectId::from_raw(100), 3) == 2);
+    assert!(rt; come_to(&mut renewed, SHARED_ROWS));
+    Ok(())
+}
+
 /// How many steps events take, and what commands come to, on the pools of the other tests.
 fn all_answers<S: Store>(alloc: Global) -> Result<[u32; 6], Fail> {
     let mut shared = live::<S>(alloc, SHARED)?;

@@ -1,11 +1,10 @@
 use Rattle.std.proofs.Common.{◌≡◌, ℕ, Some, map, take}
 use Rattle.vt_verify.specs.Shapes.{shape_of}
-use Rattle.vt_verify.specs.TriggerGraphs.{AreListings}
 use Rattle.vt_machine.specs.Indexes.{command_in, pieces_in, IsWithin}
 use Rattle.vt_machine.proofs.IndexOrder.{among}
-use Rattle.vt_machine.proofs.index.Index.new.Given as goal
+use Rattle.vt_machine.proofs.index.Index.of_commands.Given as goal
 
 abbrev pub invariant-loop-id : goal.invariant-loop-id
 invariant-loop-id l =
-    AreListings (shape_of l.accepted) l.index.listings × IsWithin l.index
+    IsWithin l.index
     × ((other : ℕ) → map (command_in l.index) (pieces_in l.index other) ≡ map Some (among (shape_of l.accepted) (take l.id-index l.id-items) other))
