@@ -1,6 +1,6 @@
 //! The sender.
 
-ghost use Rattle.std.specs.Prelude.{◌≡◌, ◌↔◌, ℕ, ◌%◌, ◌^◌, false, Some, None, Err, [], ◌∷◌, IsSome, IfOk, OnErr, IfSome, IfNone};
+ghost use Rattle.std.specs.Prelude.{◌≡◌, ◌↔◌, ℕ, ◌%◌, ◌^◌, false, Some, None, Err, [], ◌∷◌, is_some, IsSome, IfOk, OnErr, IfSome, IfNone};
 ghost use Rattle.std.specs.FinMap as finite;
 ghost use Rattle.vt_can.specs.transport.Sessions.{is_overdue, AreOfAddresses};
 ghost use Rattle.vt_can.specs.frames.Frame.{source_of};
@@ -93,6 +93,13 @@ impl Sender {
         let pgn = pgn % (1 << 24);
         self.sessions.put(to, now, Outgoing::new(pgn, bytes));
         Ok(wire::rts_frame(self.own_address, to, size as u16, pgn))
+    }
+
+    /// Whether a message is being sent to a destination.
+    pub fn is_sending(&self, to: u8) -> bool
+        ensures { result ≡ is_some (finite.get self.now.sessions to) }
+    {
+        self.sessions.get(to).is_some()
     }
 
     /// Hears a frame, and answers the frames to be sent to its source. It takes no memory.
