@@ -8,7 +8,7 @@ ghost use Rattle.vt_replay.specs.Taken.{Follows, FollowsEvent, TakesInputLine, i
 ghost use Rattle.vt_replay.specs.Texts.{with_line, no_counts, new_screen};
 ghost use Rattle.vt_replay.specs.Progress.{AtMost, HasNoNewline, IsLineFault, IsStepFault, Takes, TakesBytes, TakesOne, Writes, scene, stand};
 ghost use Rattle.vt_replay.specs.Replays.{TakesSome, HasLongLine};
-ghost use Rattle.vt_server.specs.Screens.{IsScreenOf};
+ghost use Rattle.vt_server.specs.Screens.{IsScreenOf, redraws};
 ghost use Rattle.vt_server.specs.States.{state_of};
 
 use crate::counts::Counts;
@@ -249,19 +249,21 @@ impl Progress {
         self.put_screen(terminal, writer)
     }
 
-    /// Prints the screen of the terminal, where it is another than the one that was printed last.
+    /// Prints the screen of the terminal, where it is another than the one that was printed last. It is drawn only where the
+    /// terminal tells that it may be.
     fn put_screen<W: Write>(
         &mut self,
         terminal: &Terminal,
         writer: &mut W,
     ) -> Result<(), ReplayFault>
+        requires kept { redraws terminal.now ≡ false → IsScreenOf (state_of terminal.now) self.old.screen.items }
         ensures drawn { OnOk result (IsScreenOf (state_of terminal.now) self.new.screen.items) }
         ensures text { OnOk result (Appends (W.contents writer.old) (W.contents writer.new) (new_screen self.old.screen.items self.new.screen.items)) }
         ensures counts { self.new.counts ≡ self.old.counts }
         ensures pending { self.new.pending ≡ self.old.pending }
         ensures fault { IfErr result IsStepFault }
     {
-        if !self.has_to_draw(terminal) {
+        if !terminal.redraws() {
             return Ok(());
         }
         self.drawn.clear();
@@ -271,13 +273,6 @@ impl Progress {
         }
         mem::swap(&mut self.screen, &mut self.drawn);
         put(&self.screen, writer)
-    }
-
-    /// Whether the screen has to be drawn. Where it has not, the one that was printed last is still the terminal's.
-    fn has_to_draw(&self, _terminal: &Terminal) -> bool
-        ensures { result ≡ false → IsScreenOf (state_of _terminal.now) self.now.screen.items }
-    {
-        true
     }
 }
 

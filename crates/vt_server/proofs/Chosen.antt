@@ -3,14 +3,15 @@ use Rattle.std.proofs.Common.{◌≡◌, ℕ, Bool, true, false, cond, not, List
 use Rattle.std.specs.Option.{option_map, option_eq}
 use Rattle.vt_machine.specs.Lives.{SetState}
 use Rattle.vt_can.specs.declared.frames.frame.Frame.{Frame}
-use Rattle.vt_server.specs.Choosing.{Display, display, display_at, display_of, pool_shown_by, with_pool_at, raised_at, events_of_change, choosing, shown_now, status, same_display, status_frame}
+use Rattle.vt_names.specs.Registry.{Set}
+use Rattle.vt_server.specs.Choosing.{Display, alarm_in, louder, loudest, first_with_pool, selected_now, or_selected, display, display_at, display_of, pool_shown_by, with_pool_at, raised_at, events_of_change, choosing, shown_now, status, same_display, status_frame}
 use Rattle.vt_server.specs.Outputs.{outputs_of}
 use Rattle.vt_server.specs.Steps.{settled, sent_by_settling}
 use Rattle.vt_server.specs.declared.output.Output.{Output}
 use Rattle.vt_server.specs.declared.output.Output.TheVariants as declared
 use Rattle.vt_server.specs.Parts.{Raises, with_place, raised_on}
 use Rattle.vt_server.specs.Places.{Place, with_pool}
-use Rattle.vt_server.specs.Terminals.{State, ToAll, part, after_acts, sent_by_act, sent_by_acts, with_at}
+use Rattle.vt_server.specs.Terminals.{State, ToAll, pool_of, pool_at, part, after_acts, sent_by_act, sent_by_acts, with_at}
 use Rattle.vt_server.proofs.Puts.{act-is, sent_by_one-is, none-some, some-is, acts-append, sent-append}
 use Rattle.vt_server.proofs.Writes.{put-place}
 
@@ -44,6 +45,27 @@ module _ (pools : ℕ → Option SetState) where
       cases (Some other) h =
           let same : ◌≡◌ {A = ℕ × SetState} (b, other) (a, state) = some-is (b, other) (a, state) (sym h) in
           ap (λ (d : ℕ × SetState). display_of d.0 (Some d.1)) same
+
+-- ---- where no set has a pool
+
+module _ (s : State) (none : (a : ℕ) → pool_of s a ≡ None) where
+  first-none : (sets : List Set) → first_with_pool (pool_of s) sets ≡ None
+  first-none [] = refl
+  first-none (set ∷ sets) = ap (λ (o : Option SetState). cond (is_some o) (Some set.address) (first_with_pool (pool_of s) sets)) (none set.address) ∙ first-none sets
+
+  loudest-none : (sets : List Set) → loudest (pool_of s) sets ≡ None
+  loudest-none [] = refl
+  loudest-none (set ∷ sets) = λ i. louder set.address (alarm_in (none set.address i)) (loudest-none sets i)
+
+  pool_at-none : (o : Option ℕ) → is_some (pool_at s o) ≡ false
+  pool_at-none None = refl
+  pool_at-none (Some a) = ap is_some (none a)
+
+  selected-none : selected_now s ≡ None
+  selected-none = ap (λ b. cond b s.selected (first_with_pool (pool_of s) s.sets)) (pool_at-none s.selected) ∙ first-none s.sets
+
+  pub chosen-none : record s { selected = None; shown = None } ≡ choosing s
+  chosen-none = λ i. record s { selected = sym selected-none i; shown = or_selected (sym (loudest-none s.sets) i) (sym selected-none i) }
 
 -- an event of the set of an address
 pub raised-place : (s : State) (a event : ℕ) (places : ℕ → Place)

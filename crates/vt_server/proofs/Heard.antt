@@ -16,6 +16,7 @@ use Rattle.vt_server.specs.Holders.{AreFormer}
 use Rattle.vt_server.specs.Lapses.{at_time, lapsed, sent_by_lapses}
 use Rattle.vt_server.specs.Outputs.{outputs_of, frames_of}
 use Rattle.vt_server.specs.Parts.{Part, Outcome, unchanged, after_message, after_master, after_member, after_notice, behind, with_other_set}
+use Rattle.vt_server.specs.Registries.{Watched}
 use Rattle.vt_server.specs.Places.{Content, Place, heard_at}
 use Rattle.vt_server.specs.Receiving.{taken}
 use Rattle.vt_server.specs.Rooms.{HasLapsed}
@@ -35,7 +36,6 @@ use Rattle.vt_server.specs.declared.output.Output.{Output}
 use Rattle.vt_server.specs.declared.terminal.Terminal.{Terminal}
 use Rattle.vt_server.specs.declared.uploading.Upload.{Upload}
 use Rattle.vt_server.specs.declared.uploading.Upload.TheVariants as uploads
-use Rattle.vt_server.specs.declared.watch.Watch.{Watch}
 use Rattle.vt_server.proofs.Answered.{piece-ends_none, other-ends_none}
 use Rattle.vt_server.proofs.Framed.{any_verdict, outputs-append, with_place_at}
 use Rattle.vt_server.proofs.Writes.{put-kept, put-set, heard-placed}
@@ -117,12 +117,14 @@ defence-none s a notices.Etp unclaimed other = refl
 defence-none s a notices.Nothing unclaimed other = refl
 
 -- the address of a frame is heard
-pub heard-state : (t : Terminal) (watch : Watch) (a b : ℕ) → a ≡ b → heard_of watch ≡ with_at a (Some t.time) (heard_of t.watch)
-    → state_of (record t { watch = watch }) ≡ with_place_at b (heard_at t.time ((state_of t).places b)) (state_of t)
-heard-state t watch a b is left =
-    ap (λ (places : ℕ → Place). record (state_of t) { places = places })
-    (ap (places_by (content_of t.contents) t.node) (left ∙ ap (λ c. with_at c (Some t.time) (heard_of t.watch)) is)
-    ∙ heard-placed (content_of t.contents) t.node (heard_of t.watch) b (Some t.time))
+pub heard-state : (t : Terminal) (registry : Watched) (a b : ℕ) → a ≡ b → registry.sets ≡ t.registry.sets
+    → heard_of registry.watch ≡ with_at a (Some t.time) (heard_of t.registry.watch)
+    → state_of (record t { registry = registry }) ≡ with_place_at b (heard_at t.time ((state_of t).places b)) (state_of t)
+heard-state t registry a b is sets left =
+    (λ i. record (state_of t) { sets = sets i; places = places_by (content_of t.contents) t.node (heard_of registry.watch) })
+    ∙ ap (λ (places : ℕ → Place). record (state_of t) { places = places })
+    (ap (places_by (content_of t.contents) t.node) (left ∙ ap (λ c. with_at c (Some t.time) (heard_of t.registry.watch)) is)
+    ∙ heard-placed (content_of t.contents) t.node (heard_of t.registry.watch) b (Some t.time))
 
 -- ---- registration
 

@@ -14,6 +14,7 @@ mod Heard
 mod Held
 mod InForce
 mod Keeping
+mod Kept
 mod Listing
 mod OneStep
 mod OneVerdict
@@ -34,6 +35,8 @@ mod Stepping
 mod Taking
 mod Timeless
 mod Unclaimed
+mod Undrawn
 mod Unstuck
 mod Uploaded
+mod Watching
 mod Writes

@@ -4,8 +4,6 @@ use Rattle.std.specs.List.{slice_get}
 use Rattle.vt_machine.specs.Lives.{SetState}
 use Rattle.vt_names.specs.Registry.{Set}
 use Rattle.vt_server.specs.Choosing.{alarm_in, louder, loudest, first_with_pool}
-use Rattle.vt_server.specs.Lapses.{first_silent, silent}
-use Rattle.vt_server.specs.Terminals.{State}
 use Rattle.vt_server.proofs.Puts.{none-some, some-is}
 
 -- what stands from a place on
@@ -27,17 +25,6 @@ module _ (pools : ℕ → Option SetState) (sets : List Set) (place : ℕ) (set 
 
   pub louder-next : louder set.address (alarm_in (pools set.address)) (loudest pools (drop (suc place) sets)) ≡ loudest pools (drop place sets)
   louder-next = sym (ap (loudest pools) (dropped sets place set there))
-
-module _ (s : State) (sets : List Set) (place : ℕ) (set : Set) (there : slice_get sets place ≡ Some set) where
-  pub silent-passed : silent s set ≡ false → first_silent s (drop place sets) ≡ first_silent s (drop (suc place) sets)
-  silent-passed none =
-      ap (first_silent s) (dropped sets place set there)
-      ∙ ap (λ b. cond b (Some set.address) (first_silent s (drop (suc place) sets))) none
-
-  pub silent-found : silent s set ≡ true → first_silent s (drop place sets) ≡ Some set.address
-  silent-found some =
-      ap (first_silent s) (dropped sets place set there)
-      ∙ ap (λ b. cond b (Some set.address) (first_silent s (drop (suc place) sets))) some
 
 -- Where nothing stands the list has ended.
 pub beyond : {X : Type 0} (xs : List X) (i : ℕ) → slice_get xs i ≡ None → length xs ≤ i

@@ -1,10 +1,11 @@
 -- The end of sets that are silent, one after the other.
 use Rattle.std.proofs.Common.{◌≡◌, ◌≢◌, ◌<◌, ◌≤◌, ℕ, Bool, true, false, cond, not, List, [], ◌∷◌, length, map, Some, None, refl, sym, ap, subst, ◌∙◌, inl, inr, arith}
 use Rattle.std.specs.List.{filter}
-use Rattle.vt_names.specs.Registry.{Registered, Set, is_of, set_at, without}
+use Rattle.vt_names.specs.Registry.{Set, is_of, set_at, without}
 use Rattle.vt_server.specs.Lapses.{first_silent, is_silent, silent, silences}
 use Rattle.vt_server.specs.Parts.{Act, FallsSilent}
 use Rattle.vt_server.specs.Places.{Content, Place, no_content, with_content}
+use Rattle.vt_server.specs.Registries.{Watched}
 use Rattle.vt_server.specs.Rooms.{ClosesSets}
 use Rattle.vt_server.specs.States.{state_of, places_by}
 use Rattle.vt_server.specs.Terminals.{State, after_act, after_acts, with_at}
@@ -176,15 +177,15 @@ module _ (s : State) where
 
 -- ---- terminals
 
-module _ (t : Terminal) (a : ℕ) (registry : Registered) (contents : Contents) where
+module _ (t : Terminal) (a : ℕ) (registry : Watched) (contents : Contents) where
   abbrev pub closing : Terminal
   closing = record t { registry = registry; contents = contents }
 
-  pub closing-is : registry.sets ≡ without a t.registry.sets → content_of contents ≡ with_at a no_content (content_of t.contents)
+  pub closing-is : registry.sets ≡ without a t.registry.sets → registry.watch ≡ t.registry.watch → content_of contents ≡ with_at a no_content (content_of t.contents)
       → state_of closing ≡ closed a (state_of t)
-  closing-is sets content = λ i. record (state_of t) {
+  closing-is sets watch content = λ i. record (state_of t) {
     sets = sets i;
-    places = (ap (λ (c : ℕ → Content). places_by c t.node (heard_of t.watch)) content ∙ content-placed (content_of t.contents) t.node (heard_of t.watch) a no_content) i;
+    places = ((λ j. places_by (content j) t.node (heard_of (watch j))) ∙ content-placed (content_of t.contents) t.node (heard_of t.registry.watch) a no_content) i;
   }
 
   -- beside what was closed before

@@ -5,7 +5,11 @@ use Rattle.std.specs.Option.{option_map, option_to_list}
 use Rattle.vt_can.specs.declared.frames.frame.Frame.{Frame}
 use Rattle.vt_can.specs.declared.transport.heard.Heard.{Heard}
 use Rattle.vt_can.specs.frames.Frame.{source_of}
+use Rattle.vt_can.specs.declared.transport.sessions.Timed.{Timed}
+use Rattle.vt_can.specs.transport.Messages.{Message}
 use Rattle.vt_names.specs.Registry.{Set, set_at}
+use Rattle.vt_transport.specs.Senders.{Answer, answered, unanswered}
+use Rattle.vt_transport.specs.Wire.{tp_frame}
 use Rattle.vt_server.specs.Ends.{IsEnded}
 use Rattle.vt_server.specs.Findings.{ends_transfer}
 use Rattle.vt_server.specs.Handling.{asked, transferred, end_handled, TRANSFER, END_OF_POOL}
@@ -42,8 +46,8 @@ with_contents t contents = record t { contents = contents }
 pub contents-state : (t : Terminal) (contents : Contents) (a : ℕ) (x : Content) → content_of contents ≡ with_at a x (content_of t.contents)
     → state_of (with_contents t contents) ≡ with_content_at a x (state_of t)
 contents-state t contents a x is =
-    ap (λ (f : ℕ → Content). record (state_of t) { places = places_by f t.node (heard_of t.watch) }) is
-    ∙ ap (λ (p : ℕ → Place). record (state_of t) { places = p }) (content-placed (content_of t.contents) t.node (heard_of t.watch) a x)
+    ap (λ (f : ℕ → Content). record (state_of t) { places = places_by f t.node (heard_of t.registry.watch) }) is
+    ∙ ap (λ (p : ℕ → Place). record (state_of t) { places = p }) (content-placed (content_of t.contents) t.node (heard_of t.registry.watch) a x)
 
 -- ---- the three kinds of messages
 
@@ -107,10 +111,10 @@ module _ (t : Terminal) (frame : Frame) (heard : Heard) (first second : NodeStat
   tp-given : sender_answer first t.time frame ≡ sender_answer t.node t.time frame
   tp-given = ap (λ (n : NodeState). sender_answer n t.time frame) rest
 
-  tp-placed : places_by (content_of t.contents) second (heard_of t.watch) ≡ with_at (source_of frame) tp_came.place (state_of t).places
+  tp-placed : places_by (content_of t.contents) second (heard_of t.registry.watch) ≡ with_at (source_of frame) tp_came.place (state_of t).places
   tp-placed =
       let a = source_of frame in
-      places-written a (state_of t).places (places_by (content_of t.contents) second (heard_of t.watch)) tp_came.place
+      places-written a (state_of t).places (places_by (content_of t.contents) second (heard_of t.registry.watch)) tp_came.place
       (λ i. record ((state_of t).places a) {
         tp = (ap (λ (n : NodeState). finite.get n.tp a) left ∙ taken.session) i;
         etp = (ap (λ (n : NodeState). finite.get n.etp a) left ∙ ap (λ (n : NodeState). finite.get n.etp a) rest) i;
@@ -139,6 +143,31 @@ module _ (t : Terminal) (frame : Frame) (heard : Heard) (first second : NodeStat
       (subst (λ m. TakesMessage (state_of (record t { node = second })) (source_of frame) (frames_in heard ++ frames) m u before after) (ap message_to_terminal taken.message)
       (subst (λ a. TakesMessage (state_of (record t { node = second })) a (frames_in heard ++ frames) (message_to_terminal (message_in heard)) u before after) is takes))))
 
+-- a sender without a session to an address answers nothing to it
+none-is : {X : Type 0} (o : Option X) → is_some o ≡ false → o ≡ None
+none-is None none = refl
+none-is (Some x) some = absurd (true≢false some)
+
+none-answered : (node : NodeState) (now : ℕ) (frame : Frame) → is_some (finite.get node.sending (source_of frame)) ≡ false
+    → HasAnswered (sender_answer node now frame) (source_of frame) node.sending node.sending []
+none-answered node now frame none =
+    let closed = none-is (finite.get node.sending (source_of frame)) none in
+    let given : sender_answer node now frame ≡ unanswered None =
+    ap (λ (o : Option (Timed Message)). answered node.claims.own (source_of frame) now o (tp_frame node.claims.own frame)) closed in record {
+      frames_are = ap (λ (g : Answer). g.frames) (sym given);
+      session = closed ∙ ap (λ (g : Answer). g.session) (sym given);
+      others = λ b ne. refl;
+    }
+
+pub tp-takes-alone : (t : Terminal) (frame : Frame) (heard : Heard) (node : NodeState) → node ≡ record t.node { tp = node.tp; tp_room = node.tp_room }
+    → HasTaken (tp_taken t.node t.time frame) (source_of frame) t.node.tp node.tp heard → is_some (finite.get node.sending (source_of frame)) ≡ false
+    → (u : State) (q : ℕ) (before after : List Output) → q ≡ source_of frame
+    → TakesMessage (state_of (record t { node = node })) q (frames_in heard) (message_to_terminal (message_in heard)) u before after
+    → TakesNotice (state_of t) notices.Tp frame u before after
+tp-takes-alone t frame heard node rest taken none u q before after is takes =
+    tp-takes t frame heard node node [] rest taken refl (none-answered node t.time frame none) u q before after is
+    (subst (λ l. TakesMessage (state_of (record t { node = node })) q l (message_to_terminal (message_in heard)) u before after) (sym (append-nil (frames_in heard))) takes)
+
 -- of the extended one
 module _ (t : Terminal) (frame : Frame) (heard : Heard) (node : NodeState)
     (rest : node ≡ record t.node { etp = node.etp; etp_room = node.etp_room })
@@ -146,10 +175,10 @@ module _ (t : Terminal) (frame : Frame) (heard : Heard) (node : NodeState)
   abbrev etp_came : Came
   etp_came = came_etp t.time t.node.claims.own (source_of frame) ((state_of t).places (source_of frame)) frame
 
-  etp-placed : places_by (content_of t.contents) node (heard_of t.watch) ≡ with_at (source_of frame) etp_came.place (state_of t).places
+  etp-placed : places_by (content_of t.contents) node (heard_of t.registry.watch) ≡ with_at (source_of frame) etp_came.place (state_of t).places
   etp-placed =
       let a = source_of frame in
-      places-written a (state_of t).places (places_by (content_of t.contents) node (heard_of t.watch)) etp_came.place
+      places-written a (state_of t).places (places_by (content_of t.contents) node (heard_of t.registry.watch)) etp_came.place
       (λ i. record ((state_of t).places a) {
         tp = ap (λ (n : NodeState). finite.get n.tp a) rest i;
         etp = taken.session i;
@@ -164,13 +193,12 @@ module _ (t : Terminal) (frame : Frame) (heard : Heard) (node : NodeState)
   etp-state : state_of (record t { node = node }) ≡ with_place_at (source_of frame) etp_came.place (state_of t)
   etp-state = λ i. record (state_of t) { claims = ap (λ (n : NodeState). n.claims) rest i; places = etp-placed i }
 
-  pub etp-takes : (u : State) (q : ℕ) (frames : List Frame) (before after : List Output) → q ≡ source_of frame → frames ≡ []
-      → TakesMessage (state_of (record t { node = node })) q (frames_in heard ++ frames) (message_to_terminal (message_in heard)) u before after
+  pub etp-takes : (u : State) (q : ℕ) (before after : List Output) → q ≡ source_of frame
+      → TakesMessage (state_of (record t { node = node })) q (frames_in heard) (message_to_terminal (message_in heard)) u before after
       → TakesNotice (state_of t) notices.Etp frame u before after
-  etp-takes u q frames before after is none takes =
+  etp-takes u q before after is takes =
       takes-came (state_of t) frame notices.Etp etp_came refl (λ p v. refl) refl u before after
       (subst (λ s. TakesMessage s (source_of frame) etp_came.frames etp_came.message u before after) etp-state
-      (subst (λ l. TakesMessage (state_of (record t { node = node })) (source_of frame) l etp_came.message u before after)
-      (ap (λ l. frames_in heard ++ l) none ∙ append-nil (frames_in heard) ∙ taken.frames)
-      (subst (λ m. TakesMessage (state_of (record t { node = node })) (source_of frame) (frames_in heard ++ frames) m u before after) (ap message_to_terminal taken.message)
-      (subst (λ a. TakesMessage (state_of (record t { node = node })) a (frames_in heard ++ frames) (message_to_terminal (message_in heard)) u before after) is takes))))
+      (subst (λ l. TakesMessage (state_of (record t { node = node })) (source_of frame) l etp_came.message u before after) taken.frames
+      (subst (λ m. TakesMessage (state_of (record t { node = node })) (source_of frame) (frames_in heard) m u before after) (ap message_to_terminal taken.message)
+      (subst (λ a. TakesMessage (state_of (record t { node = node })) a (frames_in heard) (message_to_terminal (message_in heard)) u before after) is takes))))

@@ -8,7 +8,7 @@ use Rattle.vt_server.specs.declared.ending.Judgement.TheVariants as judgements
 
 -- a verdict as it is carried out: with the pool that the set has from then on, or with the reply that refuses it
 abbrev pub CarriesOut : Content → Verdict → Judgement → Type 0
-CarriesOut content (Accepts objects) (judgements.Accepted pool) = pool ≡ with_objects_of content.pool objects
+CarriesOut content (Accepts objects) (judgements.Accepted pool) = pool.value ≡ with_objects_of content.pool objects
 CarriesOut content (Faulty fault) (judgements.Refused reply) = reply ≡ end_reply (Faulty fault)
 CarriesOut content (Refuses refusal) (judgements.Refused reply) = reply ≡ end_reply (Refuses refusal)
 CarriesOut content verdict judgement = ⊥

@@ -55,3 +55,8 @@ sent_by_lapses s =
 abbrev pub first_silent : State → List Set → Option ℕ
 first_silent s [] = None
 first_silent s (set ∷ sets) = if silent s set then Some set.address else first_silent s sets
+
+-- so by when the addresses were last heard
+abbrev pub first_silent_of : ℕ → (ℕ → Option ℕ) → List Set → Option ℕ
+first_silent_of now heard [] = None
+first_silent_of now heard (set ∷ sets) = if is_silent now (heard set.address) then Some set.address else first_silent_of now heard sets

@@ -21,6 +21,7 @@ pub mod Outputs
 pub mod Parts
 pub mod Places
 pub mod Receiving
+pub mod Registries
 pub mod Replies
 pub mod Rooms
 pub mod Screens

@@ -1,8 +1,10 @@
 -- The screen of the terminal (docs/PROFILE.md, "Form of the text").
-use Rattle.std.specs.Prelude.{◌≡◌, ℕ, List, ◌++◌, Option, Some, None, codes}
+use Rattle.std.specs.Prelude.{◌≡◌, ℕ, Bool, true, false, List, ◌++◌, Option, Some, None, is_some, codes}
 use Rattle.vt_machine.specs.Lives.{SetState}
 use Rattle.vt_layout.specs.Screens.{IsScreen}
-use Rattle.vt_server.specs.Terminals.{State, pool_of}
+use Rattle.vt_server.specs.States.{state_of}
+use Rattle.vt_server.specs.Terminals.{State, pool_of, pool_at}
+use Rattle.vt_server.specs.declared.terminal.Terminal.{Terminal}
 
 abbrev pub no_screen : List ℕ
 no_screen = codes "screen none\n"
@@ -24,3 +26,27 @@ pub record GainsScreenOf (s : State) (old new : List ℕ) : Type 0 where
   pub text : List ℕ
   pub is_screen : IsScreenOf s text
   pub gained : new ≡ old ++ text
+
+-- ---- whether it has to be drawn again
+
+-- what the terminal tells: whether the screen may be another than before the last input
+abbrev pub redraws : Terminal → Bool
+redraws t = t.redraws
+
+-- The screen of a state is that of another too.
+abbrev pub KeepsScreen : State → State → Type 0
+KeepsScreen old new = (text : List ℕ) → IsScreenOf old text → IsScreenOf new text
+
+-- The same set is shown, with the same pool.
+pub record ShowsSame (old new : State) : Type 0 where
+  pub shown : new.shown ≡ old.shown
+  pub pool : pool_at new new.shown ≡ pool_at old old.shown
+
+-- The same set is shown, with the same pool if it has one still.
+pub record ShowsWhatIsLeft (old new : State) : Type 0 where
+  pub shown : new.shown ≡ old.shown
+  pub pool : is_some (pool_at new new.shown) ≡ true → pool_at new new.shown ≡ pool_at old old.shown
+
+-- Where a terminal tells after a call that nothing has to be drawn, it told so before the call, and shows the same.
+abbrev pub TellsChanges : Terminal → Terminal → Type 0
+TellsChanges old new = redraws new ≡ false → (redraws old ≡ false) × ShowsSame (state_of old) (state_of new)

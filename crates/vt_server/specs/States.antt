@@ -27,7 +27,7 @@ abbrev pub state_of : Terminal → State
 state_of t = record {
   claims = t.node.claims;
   sets = t.registry.sets;
-  places = places_by (content_of t.contents) t.node (heard_of t.watch);
+  places = places_by (content_of t.contents) t.node (heard_of t.registry.watch);
   selected = t.selected;
   shown = t.shown;
   lost = t.lost;

@@ -1,9 +1,25 @@
 -- The pools and the uploads of addresses as the code has them (docs/PROFILE.md, "What a set has").
-use Rattle.std.specs.Prelude.{ℕ, List, [], Option, Some, None, get_or}
-use Rattle.vt_machine.specs.Lives.{SetState}
+use Rattle.std.specs.Prelude.{◌≡◌, ℕ, Bool, false, List, [], Option, Some, None, length, get_or, refl}
+use Rattle.std.specs.Coded.{Coded, code_by, coded×, coded_list, coded_option}
+use Rattle.vt_machine.specs.Lives.{SetState, state_code}
+use Rattle.vt_pool.specs.Arriving.{Arrived, arrived_code}
 use Rattle.vt_server.specs.Places.{Content}
-use Rattle.vt_server.specs.declared.contents.Contents.{Contents}
-use Rattle.vt_pool.specs.Arriving.{Arrived}
+
+-- the pool and the upload of each address, where it has one
+pub record Kept : Type 0 where
+  pub pools : List (Option SetState)
+  pub transfers : List (Option Arrived)
+
+abbrev pub kept_code : Coded Kept
+kept_code =
+    code_by (List (Option SetState) × List (Option Arrived)) (coded× (coded_list (coded_option state_code)) (coded_list (coded_option arrived_code)))
+    (λ k. (k.pools, k.transfers)) (λ p. record { pools = p.0; transfers = p.1 }) (λ _. refl)
+
+-- a place for each of the 256 addresses; and where no address may have a pool, none has
+pub record AreKept (pools : List (Option SetState)) (transfers : List (Option Arrived)) (may_have_pools : Bool) : Type 0 where
+  pub pools_each : length pools ≡ 256
+  pub transfers_each : length transfers ≡ 256
+  pub none : may_have_pools ≡ false → (address : ℕ) → get_or pools address None ≡ None
 
 abbrev pub bytes_of : Option Arrived → List ℕ
 bytes_of None = []
@@ -17,9 +33,9 @@ room_in (Some transfer) = transfer.room
 abbrev pub content_by : List (Option SetState) → List (Option Arrived) → ℕ → Content
 content_by pools transfers address = record { pool = get_or pools address None; transfer = bytes_of (get_or transfers address None) }
 
-abbrev pub content_of : Contents → ℕ → Content
+abbrev pub content_of : Kept → ℕ → Content
 content_of contents = content_by contents.pools contents.transfers
 
 -- the bytes for which the upload of an address has room
-abbrev pub room_of : Contents → ℕ → ℕ
+abbrev pub room_of : Kept → ℕ → ℕ
 room_of contents address = room_in (get_or contents.transfers address None)

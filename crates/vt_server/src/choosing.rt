@@ -1,12 +1,13 @@
 //! Which working set is shown (docs/PROFILE.md, "The shown set and the selected set").
 
-ghost use Rattle.std.specs.Prelude.{◌≡◌, ◌≤◌, ◌+◌, ◌++◌, ℕ, [], ◌∷◌, None, Some, is_some, vec_len, vec_capacity};
+ghost use Rattle.std.specs.Prelude.{◌≡◌, ◌≤◌, ◌+◌, ◌++◌, ℕ, [], ◌∷◌, None, Some, false, is_some, vec_len, vec_capacity};
 ghost use Rattle.std.specs.FinMap as finite;
 ghost use Rattle.std.specs.Option.{option_map};
 ghost use Rattle.vt_objects.specs.Records.{seen};
 ghost use Rattle.vt_server.specs.Choosing as choosing;
 ghost use Rattle.vt_server.specs.Displays.{display_value, found_pool};
 ghost use Rattle.vt_server.specs.Outputs.{outputs_of};
+ghost use Rattle.vt_server.specs.Screens.{TellsChanges, redraws};
 ghost use Rattle.vt_server.specs.States.{state_of};
 ghost use Rattle.vt_server.specs.Steps.{settled, sent_by_settling};
 ghost use Rattle.vt_server.specs.Terminals as spec;
@@ -47,6 +48,7 @@ impl Terminal {
         ensures state { state_of self.new ≡ settled (state_of self.old) }
         ensures sent { (s : spec.State) → display_value before.now ≡ choosing.display s
             → outputs.new.items ≡ outputs.old.items ++ outputs_of (sent_by_settling s (state_of self.old)) }
+        ensures tells { TellsChanges self.old self.new }
     {
         let was = self.shown;
         self.choose();
@@ -59,8 +61,14 @@ impl Terminal {
 
     /// Chooses the selected and the shown set.
     pub(crate) fn choose(&mut self)
-        ensures { state_of self.new ≡ choosing.choosing (state_of self.old) }
+        ensures state { state_of self.new ≡ choosing.choosing (state_of self.old) }
+        ensures rest { self.new ≡ record self.old { selected = self.new.selected; shown = self.new.shown } }
     {
+        if !self.contents.may_have_pools() {
+            self.selected = None;
+            self.shown = None;
+            return;
+        }
         self.selected = self.selected_now();
         self.shown = match self.loudest() {
             Some(alarm) => Some(alarm.address),
@@ -70,7 +78,8 @@ impl Terminal {
 
     /// Raises the events of another set's being shown than before.
     fn raise_change(&mut self, was: Option<u8>)
-        ensures { state_of self.new ≡ spec.after_acts (state_of self.old) (choosing.events_of_change was (state_of self.old).shown) }
+        ensures state { state_of self.new ≡ spec.after_acts (state_of self.old) (choosing.events_of_change was (state_of self.old).shown) }
+        ensures tells { redraws self.new ≡ false → (was ≡ (state_of self.old).shown) × (self.new ≡ self.old) }
     {
         let now = self.shown;
         if was == now {
@@ -78,6 +87,7 @@ impl Terminal {
         }
         self.raise_at(was, DEACTIVATE);
         self.raise_at(now, ACTIVATE);
+        self.redraws = true;
     }
 
     /// Raises an event of the Working Set of an address.
@@ -125,7 +135,8 @@ impl Terminal {
         self.first_with_pool()
     }
 
-    fn has_pool(&self, address: Option<u8>) -> bool
+    /// Whether there is a pool at an address.
+    pub(crate) fn has_pool(&self, address: Option<u8>) -> bool
         ensures { result ≡ is_some (spec.pool_at (state_of self.now) address) }
     {
         match address {

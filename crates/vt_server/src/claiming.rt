@@ -50,7 +50,7 @@ impl Terminal {
         self.rebind_left(former.left, former.left_holder);
         self.rebind(source, former.holder);
         if source != self.node.own() {
-            self.watch.hear(source, self.time);
+            self.registry.hear(source, self.time);
             self.bind(source);
         }
     }

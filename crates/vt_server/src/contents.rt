@@ -1,6 +1,6 @@
 //! The pool of each address, and the one that it uploads.
 
-ghost use Rattle.std.specs.Prelude.{◌≡◌, ◌≤◌, ◌+◌, ◌++◌, ◌∷◌, ◌≢◌, ℕ, [], None, Some, length, drop, IfOk, IfNone, IsSome, OnOk, OnErr};
+ghost use Rattle.std.specs.Prelude.{◌≡◌, ◌≤◌, ◌+◌, ◌++◌, ◌∷◌, ◌≢◌, ℕ, [], None, Some, false, length, drop, IfOk, IfNone, IsSome, OnOk, OnErr};
 ghost use Rattle.std.specs.Option.{option_map};
 ghost use Rattle.vt_objects.specs.Stores.{map_of};
 ghost use Rattle.vt_server.specs.Commands.{content_after, error_after};
@@ -17,6 +17,7 @@ use crate::commands::{deletes, error_byte};
 use crate::ending::{ACCEPTED, Judgement, judge};
 use crate::operating::{act, text_fault};
 use std::alloc::Global;
+use std::marker::Model;
 use vt_can::Action;
 use vt_machine::{Acted, Live, OperatorRefusal};
 use vt_objects::{Command, SortedStore};
@@ -27,6 +28,20 @@ use vt_pool::Reading;
 pub(crate) struct Contents {
     pools: [Option<Live<SortedStore>>; 256],
     transfers: [Option<Reading>; 256],
+    // Whether some address may have a pool.
+    may_have_pools: bool,
+}
+
+impl Model for Contents {
+    ghost use Rattle.vt_server.specs.Uploads.{Kept, kept_code, AreKept};
+
+    ghost Value = { Kept };
+
+    ghost coded = { kept_code };
+
+    ghost view = { λ c. record { pools = c.pools; transfers = c.transfers } };
+
+    ghost invariant = { λ c. AreKept c.pools c.transfers c.may_have_pools };
 }
 
 impl Contents {
@@ -36,7 +51,15 @@ impl Contents {
         Contents {
             pools: Default::default(),
             transfers: Default::default(),
+            may_have_pools: false,
         }
+    }
+
+    /// Whether some address may have a pool. Where it answers that none does, none has.
+    pub(crate) fn may_have_pools(&self) -> bool
+        ensures { result ≡ false → (address : ℕ) → (content_of self.now address).pool ≡ None }
+    {
+        self.may_have_pools
     }
 
     pub(crate) fn pool(&self, address: u8) -> Option<&Live<SortedStore>>
@@ -49,6 +72,7 @@ impl Contents {
     pub(crate) fn put(&mut self, address: u8, pool: Live<SortedStore>)
         ensures { content_of self.new ≡ with_at address (record { pool = Some pool; transfer = [] }) (content_of self.old) }
     {
+        self.may_have_pools = true;
         self.pools[usize::from(address)] = Some(pool);
         self.transfers[usize::from(address)] = None;
     }
@@ -105,12 +129,12 @@ impl Contents {
         requires room { length piece.items ≤ from + room_of self.old address }
         ensures { content_of self.new ≡ with_at address (with_piece (content_of self.old address) (drop from piece.items)) (content_of self.old) }
     {
-        match &mut self.transfers[usize::from(address)] {
-            Some(transfer) => match transfer.feed(piece, from) {
-                Ok(()) => {}
-                Err(_) => unreachable!(),
-            },
-            None => {}
+        let Some(transfer) = self.transfers[usize::from(address)].as_mut() else {
+            return;
+        };
+        match transfer.feed(piece, from) {
+            Ok(()) => {}
+            Err(_) => unreachable!(),
         }
     }
 
@@ -131,7 +155,8 @@ impl Contents {
         ensures { IsEnded (content_of self.old) address judgement result (content_of self.new) }
     {
         match judgement {
-            Judgement::Accepted(pool) => {
+            Judgement::Accepted(boxed) => {
+                let pool = Box::into_inner(boxed);
                 self.put(address, pool);
                 ACCEPTED
             }
@@ -163,10 +188,10 @@ impl Contents {
     ) -> Option<Result<Acted, OperatorRefusal>>
         ensures { IsActedOn (content_of self.old) address (action_value action.now) result (content_of self.new) }
     {
-        match &mut self.pools[usize::from(address)] {
-            Some(live) => act(live, action),
-            None => None,
-        }
+        let Some(live) = &mut self.pools[usize::from(address)] else {
+            return None;
+        };
+        act(live, action)
     }
 
     /// Why the text would be refused on the set of an address, if it would. Nothing is changed. One that would not be has at

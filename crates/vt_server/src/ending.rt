@@ -20,7 +20,7 @@ use vt_verify::{Refusal, verify, verify_update};
 #[derive(Drop)]
 pub(crate) enum Judgement {
     /// The pool that the set has from then on.
-    Accepted(Live<SortedStore>),
+    Accepted(Box<Live<SortedStore>>),
     /// The reply that refuses it.
     Refused([u8; 8]),
 }
@@ -56,7 +56,8 @@ fn judge_first(alloc: Global, read: &Pool<'_>) -> Result<Judgement, OutOfMemory>
     match verify(alloc, read) {
         Ok(accepted) => {
             let live = Live::from_accepted(alloc, accepted)?;
-            Ok(Judgement::Accepted(live))
+            let pool = Box::new(alloc, live)?;
+            Ok(Judgement::Accepted(pool))
         }
         Err(refusal) => {
             let reply = refusal_reply(&refusal)?;
@@ -76,7 +77,8 @@ fn judge_update(
     match verify_update(alloc, live.store(), read) {
         Ok(accepted) => {
             let live = live.renew_from(accepted)?;
-            Ok(Judgement::Accepted(live))
+            let pool = Box::new(alloc, live)?;
+            Ok(Judgement::Accepted(pool))
         }
         Err(refusal) => {
             let reply = refusal_reply(&refusal)?;

@@ -8,6 +8,7 @@ ghost use Rattle.vt_server.specs.Displays.{display_value};
 ghost use Rattle.vt_server.specs.Hearings.{IsPrepared, IsReady, IsNoClaim, HasRoom, HasUpload, Hears, TakesFrame, TakesNotice};
 ghost use Rattle.vt_server.specs.Outputs.{outputs_of};
 ghost use Rattle.vt_server.specs.Parts as parts;
+ghost use Rattle.vt_server.specs.Screens.{KeepsScreen, ShowsWhatIsLeft, TellsChanges, redraws};
 ghost use Rattle.vt_server.specs.States.{state_of, TakesInput};
 ghost use Rattle.vt_server.specs.Steps as steps;
 ghost use Rattle.vt_server.specs.Terminals as spec;
@@ -54,8 +55,10 @@ impl Terminal {
         ensures err_sent { OnErr result (outputs.new.items ≡ outputs.old.items) }
         // A terminal without its address asks for no memory.
         ensures lost { (state_of self.old).lost ≡ true → IsOk result }
+        ensures same { OnOk result (redraws self.new ≡ false → KeepsScreen (state_of self.old) (state_of self.new)) }
     {
         if self.lost {
+            self.redraws = false;
             return Ok(());
         }
         outputs.reserve(MOST_OUTPUTS)?;
@@ -63,8 +66,10 @@ impl Terminal {
         let notice = notice_of(self.node.own(), self.node.name(), frame);
         let ready = self.prepare(now, &notice, frame)?;
         let before = self.display();
+        let had_pool = self.has_pool(self.shown);
         self.lapse(now, outputs);
         self.finish(&notice, frame, ready, &before, outputs);
+        self.redraws |= self.has_pool(self.shown) != had_pool;
         Ok(())
     }
 
@@ -116,16 +121,23 @@ impl Terminal {
     )
         requires room { vec_len outputs.old + 258 ≤ vec_capacity outputs.old }
         requires ready { (s : spec.State) × IsReady s self.old notice.now frame.now ready }
-        ensures { (old s : spec.State) → display_value before.now ≡ display old → IsReady s self.old notice.now frame.now ready
+        ensures hears { (old s : spec.State) → display_value before.now ≡ display old → IsReady s self.old notice.now frame.now ready
             → Hears old s notice.now frame.now (state_of self.new) outputs.old.items outputs.new.items }
+        ensures tells { redraws self.new ≡ false → ShowsWhatIsLeft (state_of self.old) (state_of self.new) }
     {
         match ready {
-            Ready::Loses => self.lose(outputs),
+            Ready::Loses => {
+                self.lose(outputs);
+                self.redraws = true;
+            }
             Ready::Claimed(former) => {
                 self.take_claim(frame.id.source(), &former, outputs);
+                // A claim may close a set, but no pool is another by it.
+                self.redraws = false;
                 self.settle(before, outputs);
             }
             Ready::Prepared(upload) => {
+                self.redraws = false;
                 self.take(notice, frame, upload, outputs);
                 self.settle(before, outputs);
             }
@@ -152,6 +164,7 @@ impl Terminal {
         requires rooms { HasRoom self.old notice.now frame.now }
         requires upload { HasUpload self.old notice.now frame.now upload }
         ensures takes { TakesFrame (state_of self.old) notice.now frame.now (state_of self.new) outputs.old.items outputs.new.items }
+        ensures tells { TellsChanges self.old self.new }
         ensures left { vec_capacity outputs.old + vec_len outputs.new ≤ vec_capacity outputs.new + vec_len outputs.old + 257 }
     {
         if matches!(*notice, Notice::ClaimRequest) {
@@ -162,7 +175,7 @@ impl Terminal {
         if source == self.node.own() {
             return;
         }
-        self.watch.hear(source, self.time);
+        self.registry.hear(source, self.time);
         self.take_notice(notice, frame, upload, outputs);
     }
 
@@ -170,6 +183,7 @@ impl Terminal {
     fn answer_request(&mut self, frame: &Frame, outputs: &mut Vec<Output>)
         requires room { vec_len outputs.old + 1 ≤ vec_capacity outputs.old }
         ensures takes { TakesFrame (state_of self.old) notices.ClaimRequest frame.now (state_of self.new) outputs.old.items outputs.new.items }
+        ensures tells { TellsChanges self.old self.new }
         ensures left { vec_capacity outputs.old + vec_len outputs.new ≤ vec_capacity outputs.new + vec_len outputs.old + 1 }
     {
         send(outputs, self.own_claim());
@@ -177,7 +191,7 @@ impl Terminal {
         if source == self.node.own() {
             return;
         }
-        self.watch.hear(source, self.time);
+        self.registry.hear(source, self.time);
     }
 
     /// Does what a frame of another node says.
@@ -193,6 +207,7 @@ impl Terminal {
         requires rooms { HasRoom self.old notice.now frame.now }
         requires upload { HasUpload self.old notice.now frame.now upload }
         ensures takes { TakesNotice (state_of self.old) notice.now frame.now (state_of self.new) outputs.old.items outputs.new.items }
+        ensures tells { TellsChanges self.old self.new }
         ensures left { vec_capacity outputs.old + vec_len outputs.new ≤ vec_capacity outputs.new + vec_len outputs.old + 257 }
     {
         let source = frame.id.source();
@@ -211,7 +226,8 @@ impl Terminal {
     // There is room, so only an address without a holder is refused, and then nothing is registered.
     fn register(&mut self, source: u8, count: u8)
         requires room { 0 < self.old.registry.room }
-        ensures { state_of self.new ≡ spec.put source (parts.after_master source (spec.part source (state_of self.old)) (spec.part source (state_of self.old)).holder count) (state_of self.old) }
+        ensures state { state_of self.new ≡ spec.put source (parts.after_master source (spec.part source (state_of self.old)) (spec.part source (state_of self.old)).holder count) (state_of self.old) }
+        ensures tells { TellsChanges self.old self.new }
     {
         let _refused = self
             .registry

@@ -24,7 +24,7 @@ impl Terminal {
         ensures lapsed { HasLapsed self.old self.new now }
     {
         self.time = now;
-        self.watch.begin(now);
+        self.registry.begin(now);
         self.expire_tp(outputs);
         self.expire_etp(outputs);
         self.expire_sending(outputs);
@@ -74,24 +74,9 @@ impl Terminal {
         ensures state { state_of self.new ≡ spec.after_acts (state_of self.old) (lapses.silences (state_of self.old)) }
         ensures closes { ClosesSets self.old self.new }
     {
-        while let Some(address) = self.first_silent() {
+        while let Some(address) = self.registry.first_silent(self.time) {
             self.registry.close(address);
             self.contents.remove(address);
         }
-    }
-
-    /// The first set that is silent for too long, in the order of registration.
-    fn first_silent(&self) -> Option<u8>
-        ensures { result ≡ lapses.first_silent (state_of self.now) (state_of self.now).sets }
-    {
-        for place in 0..self.registry.len() {
-            if let Some(set) = self.registry.at(place) {
-                let address = set.address();
-                if self.watch.is_silent(address, self.time) {
-                    return Some(address);
-                }
-            }
-        }
-        None
     }
 }

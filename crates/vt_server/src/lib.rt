@@ -22,6 +22,7 @@ mod receiving;
 mod terminal;
 mod uploading;
 mod watch;
+mod watched;
 
 pub use input::Input;
 pub use law::{

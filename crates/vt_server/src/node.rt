@@ -1,6 +1,6 @@
 //! The terminal as a node of the bus.
 
-ghost use Rattle.std.specs.Prelude.{◌≡◌, ◌≢◌, ◌↔◌, [], true, None, Some, length, IfOk, IfSome, IfNone, IsSome, OnOk, OnErr, Err};
+ghost use Rattle.std.specs.Prelude.{◌≡◌, ◌≢◌, ◌↔◌, [], true, None, Some, is_some, length, IfOk, IfSome, IfNone, IsSome, OnOk, OnErr, Err};
 ghost use Rattle.std.specs.FinMap as finite;
 ghost use Rattle.vt_can.specs.frames.Frame.{source_of};
 ghost use Rattle.vt_can.specs.transport.Messages.{size_and_first_byte};
@@ -157,6 +157,13 @@ impl Node {
             Ok(heard) => heard,
             Err(_) => unreachable!(),
         }
+    }
+
+    /// Whether a message is being sent to an address.
+    pub(crate) fn is_sending(&self, address: u8) -> bool
+        ensures { result ≡ is_some (finite.get self.now.sending address) }
+    {
+        self.sender.is_sending(address)
     }
 
     /// Hears a frame of the transport protocol as the one that sends.

@@ -1,11 +1,12 @@
 //! What the terminal does with an action of the operator (docs/PROFILE.md, "The operator").
 
-ghost use Rattle.std.specs.Prelude.{◌≡◌, ◌+◌, ◌<◌, ◌≤◌, true, length, OnOk, OnErr, IsOk, vec_len, vec_capacity};
+ghost use Rattle.std.specs.Prelude.{◌≡◌, ◌+◌, ◌<◌, ◌≤◌, true, false, length, OnOk, OnErr, IsOk, vec_len, vec_capacity};
 ghost use Rattle.std.specs.Option.{option_map};
 ghost use Rattle.vt_can.specs.lines.Actions.{action_value};
 ghost use Rattle.vt_can.specs.lines.Actions as actions;
 ghost use Rattle.vt_server.specs.Acting.{TakesAction, IsShort};
 ghost use Rattle.vt_server.specs.Choosing as choosing;
+ghost use Rattle.vt_server.specs.Screens.{KeepsScreen, TellsChanges, redraws};
 ghost use Rattle.vt_server.specs.States.{state_of, TakesInput};
 ghost use Rattle.vt_server.specs.declared.input.Input.TheVariants as inputs;
 
@@ -33,12 +34,15 @@ impl Terminal {
         ensures err_sent { OnErr result (outputs.new.items ≡ outputs.old.items) }
         // A terminal without its address asks for no memory.
         ensures lost { (state_of self.old).lost ≡ true → IsOk result }
+        ensures same { OnOk result (redraws self.new ≡ false → KeepsScreen (state_of self.old) (state_of self.new)) }
     {
         if self.lost {
+            self.redraws = false;
             return Ok(());
         }
         outputs.reserve(MOST_OUTPUTS)?;
         let before = self.display();
+        self.redraws = false;
         match action {
             Action::Set(address) => self.select_set(*address, outputs),
             Action::Text(id, text) if text.len() > SHORT_TEXT => {
@@ -54,6 +58,7 @@ impl Terminal {
     fn select_set(&mut self, address: u8, outputs: &mut Vec<Output>)
         requires room { vec_len outputs.old + 1 ≤ vec_capacity outputs.old }
         ensures takes { TakesAction (state_of self.old) (actions.Set address) (state_of self.new) outputs.old.items outputs.new.items }
+        ensures tells { TellsChanges self.old self.new }
         ensures left { vec_capacity outputs.old + vec_len outputs.new ≤ vec_capacity outputs.new + vec_len outputs.old + 1 }
     {
         if self.contents.pool(address).is_none() {
@@ -68,6 +73,7 @@ impl Terminal {
         requires room { vec_len outputs.old + 1 ≤ vec_capacity outputs.old }
         requires short { IsShort (action_value action.now) }
         ensures takes { TakesAction (state_of self.old) (action_value action.now) (state_of self.new) outputs.old.items outputs.new.items }
+        ensures tells { TellsChanges self.old self.new }
         ensures left { vec_capacity outputs.old + vec_len outputs.new ≤ vec_capacity outputs.new + vec_len outputs.old + 1 }
     {
         let Some(address) = self.shown_address() else {
@@ -78,6 +84,7 @@ impl Terminal {
             None => {}
             Some(Err(refusal)) => refuse(outputs, OperatorFault::from(refusal)),
             Some(Ok(acted)) => {
+                self.redraws = true;
                 if !acted.message.is_empty() {
                     let bytes = filled(acted.message.as_slice());
                     send(outputs, message_to(self.node.own(), address, bytes));
@@ -96,6 +103,7 @@ impl Terminal {
         requires room { vec_len outputs.old + 1 ≤ vec_capacity outputs.old }
         requires long { 4 < length text.now }
         ensures takes { OnOk result (TakesAction (state_of self.old) (actions.Text id text.now) (state_of self.new) outputs.old.items outputs.new.items) }
+        ensures tells { TellsChanges self.old self.new }
         ensures left { vec_capacity outputs.old + vec_len outputs.new ≤ vec_capacity outputs.new + vec_len outputs.old + 1 }
         ensures err { OnErr result (state_of self.new ≡ state_of self.old) }
         ensures err_sent { OnErr result (outputs.new.items ≡ outputs.old.items) }
@@ -112,6 +120,7 @@ impl Terminal {
         match self.node.start(self.time, address, message.as_slice()) {
             Ok(request) => {
                 let _done = self.contents.act(address, &Action::Text(id, text));
+                self.redraws = true;
                 send(outputs, request);
                 Ok(())
             }

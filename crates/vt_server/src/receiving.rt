@@ -12,6 +12,7 @@ ghost use Rattle.vt_server.specs.Hearings.{IsReadyForMessage, IsReadyWith, IsRea
 ghost use Rattle.vt_server.specs.Handling.{TRANSFER};
 ghost use Rattle.vt_server.specs.Receiving.{frames_in, message_in};
 ghost use Rattle.vt_server.specs.Sessions.{message_to_terminal};
+ghost use Rattle.vt_server.specs.Screens.{TellsChanges};
 ghost use Rattle.vt_server.specs.States.{state_of};
 ghost use Rattle.vt_server.specs.Terminals as spec;
 ghost use Rattle.vt_server.specs.Uploads.{content_of, room_of};
@@ -31,6 +32,7 @@ impl Terminal {
         requires ready { is_some (set_at (source_of frame.now) (state_of self.old).sets) ≡ true
             → IsReadyNow (content_of self.old.contents (source_of frame.now)) (room_of self.old.contents (source_of frame.now)) frame.now.bytes.items upload }
         ensures takes { TakesNotice (state_of self.old) notices.Message frame.now (state_of self.new) outputs.old.items outputs.new.items }
+        ensures tells { TellsChanges self.old self.new }
         ensures left { vec_capacity outputs.old + vec_len outputs.new ≤ vec_capacity outputs.new + vec_len outputs.old + 1 }
     {
         if let Some(reply) = self.answer(frame.id.source(), frame.bytes.as_slice(), upload) {
@@ -46,11 +48,34 @@ impl Terminal {
             → IsReadyForMessage (content_of self.old.contents (source_of frame.now)) (room_of self.old.contents (source_of frame.now))
             (message_by self.old self.old.time ((state_of self.old).places (source_of frame.now)) notices.Tp frame.now) upload }
         ensures takes { TakesNotice (state_of self.old) notices.Tp frame.now (state_of self.new) outputs.old.items outputs.new.items }
+        ensures tells { TellsChanges self.old self.new }
         ensures left { vec_capacity outputs.old + vec_len outputs.new ≤ vec_capacity outputs.new + vec_len outputs.old + 257 }
     {
+        let source = frame.id.source();
+        if self.node.is_sending(source) {
+            self.take_tp_as_sender(frame, upload, outputs);
+            return;
+        }
+        let heard = self.node.hear_tp(self.time, frame);
+        self.receive_alone(source, heard, upload, outputs);
+    }
+
+    // Takes a frame of an address to which a message is being sent: what answers it has places for 255 frames, and only here
+    // are they paid for.
+    fn take_tp_as_sender(&mut self, frame: &Frame, upload: Upload, outputs: &mut Vec<Output>)
+        requires room { vec_len outputs.old + 257 ≤ vec_capacity outputs.old }
+        requires session { IsReadyFor tp.protocol (tp_frame self.old.node.claims.own frame.now) self.old.node.tp_room }
+        requires ready { is_some (set_at (source_of frame.now) (state_of self.old).sets) ≡ true
+            → IsReadyForMessage (content_of self.old.contents (source_of frame.now)) (room_of self.old.contents (source_of frame.now))
+            (message_by self.old self.old.time ((state_of self.old).places (source_of frame.now)) notices.Tp frame.now) upload }
+        ensures tells { TellsChanges self.old self.new }
+        ensures takes { TakesNotice (state_of self.old) notices.Tp frame.now (state_of self.new) outputs.old.items outputs.new.items }
+        ensures left { vec_capacity outputs.old + vec_len outputs.new ≤ vec_capacity outputs.new + vec_len outputs.old + 257 }
+    {
+        let source = frame.id.source();
         let heard = self.node.hear_tp(self.time, frame);
         let sent = self.node.hear_as_sender(self.time, frame);
-        self.receive(frame.id.source(), heard, sent, upload, outputs);
+        self.receive(source, heard, sent, upload, outputs);
     }
 
     /// Takes a frame of the extended transport protocol.
@@ -61,10 +86,37 @@ impl Terminal {
             → IsReadyForMessage (content_of self.old.contents (source_of frame.now)) (room_of self.old.contents (source_of frame.now))
             (message_by self.old self.old.time ((state_of self.old).places (source_of frame.now)) notices.Etp frame.now) upload }
         ensures takes { TakesNotice (state_of self.old) notices.Etp frame.now (state_of self.new) outputs.old.items outputs.new.items }
+        ensures tells { TellsChanges self.old self.new }
         ensures left { vec_capacity outputs.old + vec_len outputs.new ≤ vec_capacity outputs.new + vec_len outputs.old + 2 }
     {
         let heard = self.node.hear_etp(self.time, frame);
-        self.receive(frame.id.source(), heard, ArrayVec::new(), upload, outputs);
+        self.receive_alone(frame.id.source(), heard, upload, outputs);
+    }
+
+    /// Sends what a receiver answers where the sender answers nothing, and handles the message that is whole.
+    fn receive_alone(&mut self, source: u8, heard: Heard, upload: Upload, outputs: &mut Vec<Output>)
+        requires room { vec_len outputs.old + 2 ≤ vec_capacity outputs.old }
+        requires ready { is_some (set_at source (state_of self.old).sets) ≡ true
+            → IsReadyForMessage (content_of self.old.contents source) (room_of self.old.contents source) (message_to_terminal (message_in heard)) upload }
+        ensures tells { TellsChanges self.old self.new }
+        ensures takes { TakesMessage (state_of self.old) source (frames_in heard) (message_to_terminal (message_in heard)) (state_of self.new) outputs.old.items outputs.new.items }
+        ensures left { vec_capacity outputs.old + vec_len outputs.new ≤ vec_capacity outputs.new + vec_len outputs.old + 2 }
+    {
+        match heard {
+            Heard::Nothing => {}
+            Heard::Reply(reply) => send(outputs, reply),
+            Heard::Message {
+                pgn,
+                bytes: message,
+                reply,
+                ..
+            } => {
+                send(outputs, reply);
+                if pgn == ECU_TO_VT {
+                    self.take_whole(source, message, upload, outputs);
+                }
+            }
+        }
     }
 
     /// Sends what a receiver and the sender answer, and handles the message that is whole. The end of its session goes out before
@@ -81,6 +133,7 @@ impl Terminal {
         requires ready { is_some (set_at source (state_of self.old).sets) ≡ true
             → IsReadyForMessage (content_of self.old.contents source) (room_of self.old.contents source) (message_to_terminal (message_in heard)) upload }
         ensures takes { TakesMessage (state_of self.old) source (frames_in heard ++ sent.items) (message_to_terminal (message_in heard)) (state_of self.new) outputs.old.items outputs.new.items }
+        ensures tells { TellsChanges self.old self.new }
         ensures left { vec_capacity outputs.old + vec_len outputs.new ≤ vec_capacity outputs.new + vec_len outputs.old + length sent.items + 2 }
     {
         match heard {
@@ -110,6 +163,7 @@ impl Terminal {
         requires ready { is_some (set_at source (state_of self.old).sets) ≡ true
             → IsReadyWith (content_of self.old.contents source) (room_of self.old.contents source) bytes upload }
         ensures takes { TakesMessage (state_of self.old) source [] (Some bytes) (state_of self.new) outputs.old.items outputs.new.items }
+        ensures tells { TellsChanges self.old self.new }
         ensures left { vec_capacity outputs.old + vec_len outputs.new ≤ vec_capacity outputs.new + vec_len outputs.old + 1 }
     {
         let bytes = bytes.into_vec();
@@ -127,7 +181,8 @@ impl Terminal {
     fn take_piece(&mut self, source: u8, piece: Vec<u8>)
         requires { is_some (set_at source (state_of self.old).sets) ≡ true
             → begins_with TRANSFER piece.items × (length piece.items ≤ 1 + room_of self.old.contents source) }
-        ensures { Answers (state_of self.old) source piece.items None (state_of self.new) }
+        ensures answers { Answers (state_of self.old) source piece.items None (state_of self.new) }
+        ensures tells { TellsChanges self.old self.new }
     {
         if self.registered(source) {
             self.contents.feed(source, piece, 1);

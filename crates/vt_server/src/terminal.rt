@@ -5,7 +5,7 @@ ghost use Rattle.std.specs.Option.{option_map};
 ghost use Rattle.vt_names.specs.Registry.{set_at};
 ghost use Rattle.vt_objects.specs.Stores.{map_of};
 ghost use Rattle.vt_server.specs.Places.{empty};
-ghost use Rattle.vt_server.specs.Screens.{GainsScreenOf};
+ghost use Rattle.vt_server.specs.Screens.{GainsScreenOf, KeepsScreen, redraws};
 ghost use Rattle.vt_server.specs.States.{state_of, TakesInput, TakesInputs};
 ghost use Rattle.vt_server.specs.Steps.{preloading};
 
@@ -14,12 +14,12 @@ use crate::contents::Contents;
 use crate::input::Input;
 use crate::node::Node;
 use crate::output::Output;
-use crate::watch::Watch;
+use crate::watched::WatchedRegistry;
 use std::alloc::Global;
 use thiserror::Error;
 use vt_layout::draw;
 use vt_machine::Live;
-use vt_names::{Name, Registry};
+use vt_names::Name;
 use vt_objects::SortedStore;
 use vt_verify::Accepted;
 
@@ -29,14 +29,15 @@ use vt_verify::Accepted;
 pub struct Terminal {
     pub(crate) alloc: Global,
     pub(crate) node: Node,
-    pub(crate) registry: Registry,
+    pub(crate) registry: WatchedRegistry,
     pub(crate) contents: Contents,
-    pub(crate) watch: Watch,
     // The working set that the operator has chosen, and the one that is shown, by their addresses.
     pub(crate) selected: Option<u8>,
     pub(crate) shown: Option<u8>,
     // Whether a lower NAME has claimed the own address.
     pub(crate) lost: bool,
+    // Whether the screen may be another than before the last input.
+    pub(crate) redraws: bool,
     // The latest time so far, in microseconds.
     pub(crate) time: u64,
 }
@@ -64,12 +65,12 @@ impl Terminal {
         Terminal {
             alloc,
             node: Node::new(alloc, own, name),
-            registry: Registry::new(alloc),
+            registry: WatchedRegistry::new(alloc),
             contents: Contents::new(),
-            watch: Watch::new(),
             selected: None,
             shown: None,
             lost: false,
+            redraws: true,
             time: 0,
         }
     }
@@ -93,6 +94,14 @@ impl Terminal {
         ensures { result ≡ (state_of self.now).shown }
     {
         self.shown
+    }
+
+    /// Whether the screen may be another than before the last input, so that it has to be drawn again. It may be after
+    /// `new` and `preload`.
+    pub fn redraws(&self) -> bool
+        ensures { result ≡ redraws self.now }
+    {
+        self.redraws
     }
 
     /// Appends the screen of the working set that is shown as text, or that none is. After `OutOfMemory` the vector is as it was.
@@ -120,8 +129,8 @@ impl Terminal {
         let live = Live::new(self.alloc, pool)?;
         self.registry.preload(address)?;
         self.contents.put(address, live);
-        self.watch.preload(address);
         self.choose();
+        self.redraws = true;
         Ok(())
     }
 
@@ -133,6 +142,8 @@ impl Terminal {
         ensures err_sent { OnErr result (outputs.new.items ≡ outputs.old.items) }
         // A terminal without its address asks for no memory.
         ensures lost { (state_of self.old).lost ≡ true → IsOk result }
+        // Where it tells of no other screen, the text is the same.
+        ensures same { OnOk result (redraws self.new ≡ false → KeepsScreen (state_of self.old) (state_of self.new)) }
     {
         match input {
             Input::Frame { time, frame } => self.hear(*time, frame, outputs),

@@ -4,13 +4,14 @@ ghost use Rattle.std.specs.Prelude.{◌≡◌, ℕ, List, true, is_some, IfOk, O
 ghost use Rattle.vt_can.specs.transport.Messages.{size_and_first_byte, Message};
 ghost use Rattle.vt_names.specs.Registry.{set_at};
 ghost use Rattle.vt_server.specs.Hearings.{IsReadyWith, IsReadyNow, IsEnd, Answers, IsReplyTo, RoomsStay};
+ghost use Rattle.vt_server.specs.Screens.{TellsChanges};
 ghost use Rattle.vt_server.specs.States.{state_of};
 ghost use Rattle.vt_server.specs.Terminals as spec;
 ghost use Rattle.vt_server.specs.Uploads.{content_of, room_of};
 
 use crate::OutOfMemory;
 use crate::commands::reply_to;
-use crate::ending::Judgement;
+use crate::ending::{ACCEPTED, Judgement};
 use crate::messages::{message_to, technical_reply};
 use crate::terminal::Terminal;
 use vt_can::Frame;
@@ -85,7 +86,8 @@ impl Terminal {
     /// The reply to a message from the master of a set, if it has one.
     pub(crate) fn answer(&mut self, source: u8, bytes: &[u8], upload: Upload) -> Option<Frame>
         requires { is_some (set_at source (state_of self.old).sets) ≡ true → IsReadyNow (content_of self.old.contents source) (room_of self.old.contents source) bytes.now upload }
-        ensures { Answers (state_of self.old) source bytes.now result (state_of self.new) }
+        ensures answers { Answers (state_of self.old) source bytes.now result (state_of self.new) }
+        ensures tells { TellsChanges self.old self.new }
     {
         if !self.registered(source) {
             return None;
@@ -103,6 +105,7 @@ impl Terminal {
             }
             Upload::End(judgement) => {
                 let reply = self.contents.end(source, judgement);
+                self.redraws |= reply == ACCEPTED && self.shown == Some(source);
                 Some(message_to(own, source, reply))
             }
         }
@@ -110,13 +113,15 @@ impl Terminal {
 
     /// The reply to a message that asks what the terminal is, or to a command, if it is one.
     fn reply(&mut self, source: u8, bytes: &[u8]) -> Option<[u8; 8]>
-        ensures { IsReplyTo (state_of self.old) source bytes.now result (state_of self.new) }
+        ensures replies { IsReplyTo (state_of self.old) source bytes.now result (state_of self.new) }
+        ensures tells { TellsChanges self.old self.new }
     {
         if let Some(reply) = technical_reply(bytes) {
             return Some(reply);
         }
         let command = Command::read(bytes)?;
         let error = self.contents.apply(source, &command)?;
+        self.redraws |= error == 0 && self.shown == Some(source);
         Some(reply_to(&command, error))
     }
 }

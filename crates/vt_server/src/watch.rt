@@ -8,7 +8,7 @@ ghost use Rattle.vt_server.specs.Watches.{heard_of, heard_in};
 use std::marker::Model;
 
 /// More than so many microseconds without a frame close a set.
-const SILENCE: u64 = 3_000_000;
+pub(crate) const SILENCE: u64 = 3_000_000;
 
 /// The time of the last frame of each of the 256 addresses, in microseconds. An address that was preloaded has none until
 /// the next frame line, whose time counts then.
@@ -69,6 +69,16 @@ impl Watch {
     {
         self.awaits = true;
         self.awaited[usize::from(address)] = true;
+    }
+
+    /// When an address was last heard.
+    pub(crate) fn last_heard(&self, address: u8) -> Option<u64>
+        ensures { result ≡ heard_of self.now address }
+    {
+        if self.awaited[usize::from(address)] {
+            return None;
+        }
+        Some(self.last[usize::from(address)])
     }
 
     /// Whether an address was silent for too long.

@@ -1,11 +1,11 @@
-use Rattle.std.proofs.Common.{subst, ap}
+use Rattle.std.proofs.Common.{subst, ap, ◌∙◌}
 use Rattle.vt_objects.specs.Stores.{map_of}
 use Rattle.vt_verify.specs.Rules.{IsVerified}
 use Rattle.vt_server.specs.Transfers.{Accepts, Refuses}
 use Rattle.vt_server.proofs.ending.judge_first.Goals as goal
 
-pub returns-in_ok-live-in-Ok : goal.returns-in_ok-live-in-Ok
-returns-in_ok-live-in-Ok c bytes is = record {
+pub returns-in_ok-pool-in-Ok : goal.returns-in_ok-pool-in-Ok
+returns-in_ok-pool-in-Ok c bytes is = record {
   verdict = Accepts (map_of c.in-Ok.accepted);
   right = record {
     pool = c.args.read.now;
@@ -13,7 +13,7 @@ returns-in_ok-live-in-Ok c bytes is = record {
     verified = subst IsVerified c.in-Ok.ensures.accepted.0 c.in-Ok.ensures.verified;
     objects_are = ap map_of c.in-Ok.ensures.accepted.0;
   };
-  carried_out = c.in_ok-live-in-Ok.ensures;
+  carried_out = c.in_ok-pool-in-Ok.ensures.ok ∙ c.in_ok-live-in-Ok.ensures;
 }
 
 pub returns-in_ok-reply-in-Err : goal.returns-in_ok-reply-in-Err

@@ -5,8 +5,8 @@ use Rattle.vt_verify.specs.Updates.{updated}
 use Rattle.vt_server.specs.Transfers.{Accepts, Refuses}
 use Rattle.vt_server.proofs.ending.judge_update.Goals as goal
 
-pub returns-in_ok-live-in-Ok : goal.returns-in_ok-live-in-Ok
-returns-in_ok-live-in-Ok c bytes is =
+pub returns-in_ok-pool-in-Ok : goal.returns-in_ok-pool-in-Ok
+returns-in_ok-pool-in-Ok c bytes is =
     let pool = c.args.read.now in
     let store : map_of c.store.result.now ≡ c.args.live.now.objects = c.store.ensures.objects in record {
       verdict = Accepts (map_of c.in-Ok.accepted);
@@ -16,7 +16,7 @@ returns-in_ok-live-in-Ok c bytes is =
         verified = subst (λ (o : Contents). IsVerified (updated o pool)) store (subst IsVerified c.in-Ok.ensures.accepted.0 c.in-Ok.ensures.verified);
         objects_are = ap map_of c.in-Ok.ensures.accepted.0 ∙ ap (λ (o : Contents). map_of (updated o pool)) store;
       };
-      carried_out = c.in_ok-live-in-Ok.ensures;
+      carried_out = c.in_ok-pool-in-Ok.ensures.ok ∙ c.in_ok-live-in-Ok.ensures;
     }
 
 pub returns-in_ok-reply-in-Err : goal.returns-in_ok-reply-in-Err

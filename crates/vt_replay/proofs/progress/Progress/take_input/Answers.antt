@@ -10,3 +10,6 @@ returns-clause-takes g c =
     c.clear.new.self.items c.step.new.outputs.items (held c.args.writer.now) (held c.put_outputs.new.writer) (held c.put_screen.new.writer) c.clear.ensures.items
     c.in_ok-step.ensures.ok (rw c.deref.ensures.value at c.in_ok-put_outputs.ensures.text))
     c.put_screen.ensures.drawn c.put_screen.ensures.text
+
+pub put_screen-requires : goal.put_screen-requires
+put_screen-requires g c = record { kept = λ none. c.in_ok-step.ensures.same none c.args.self.now.screen.items c.requires.drawn }

@@ -1,18 +1,26 @@
-use Rattle.std.proofs.Common.{◌<◌, get_or, length, Some, None, rules, ap, sym, ◌∙◌}
+use Rattle.std.proofs.Common.{◌<◌, get_or, length, Some, None, sym, ap, subst, ◌∙◌, arith}
 use Rattle.std.proofs.lemmas.List.{get_or_default}
 use Rattle.vt_can.specs.lines.Actions.{action_value}
+use Rattle.vt_server.specs.Acting.{PerformsAt}
+use Rattle.vt_server.specs.Terminals.{with_at}
+use Rattle.vt_server.specs.Uploads.{Kept, content_of}
 use Rattle.vt_server.proofs.Performed.{performed-at, pools-written}
 use Rattle.vt_server.proofs.contents.Contents.act.Goals as goal
 
-pub returns-in-Some : goal.returns-in-Some
-returns-in-Some c =
-    let pools = c.args.self.now.pools in
-    let within : c.args.address < length pools = search rules in
+pub returns : goal.returns
+returns c =
+    let a = c.args.address in
+    let pools = c.self.inside.pools in
+    let live = c.act.new.live in
+    let within : a < length pools = omega (arith, c.self.invariant.pools_each) in
     record {
-      pool = Some c.act.new.live;
+      pool = Some live;
       performs =
-          performed-at (get_or pools c.args.address None) c.in-Some.live c.act.new.live (action_value c.args.action.now) c.act.result
-          (get_or_default pools c.args.address None c.index-self-from.result within ∙ ap (λ k. get_or pools k c.index-self-from.result) (sym c.from.ensures) ∙ c.in-Some.is)
-          c.act.ensures;
-      content = pools-written pools c.args.self.now.transfers c.args.address c.from.result (Some c.act.new.live) c.from.ensures within;
+          subst (λ (k : Kept). PerformsAt (get_or k.pools a None) (action_value c.args.action.now) c.act.result (Some live)) c.self.view_is
+          (performed-at (get_or pools a None) c.in-Some.live live (action_value c.args.action.now) c.act.result
+          (get_or_default pools a None c.index-self-from.result within ∙ ap (λ k. get_or pools k c.index-self-from.result) (sym c.from.ensures) ∙ c.in-Some.is)
+          c.act.ensures);
+      content =
+          pools-written pools c.self.inside.transfers a c.from.result (Some live) c.from.ensures within
+          ∙ ap (λ (k : Kept). with_at a (record (content_of k a) { pool = Some live }) (content_of k)) c.self.view_is;
     }

@@ -3,6 +3,13 @@ use Rattle.vt_server.specs.Uploads.{bytes_of}
 use Rattle.vt_server.proofs.Writes.{all-default}
 use Rattle.vt_server.proofs.contents.Contents.new.Goals as goal
 
+pub invariant_of-result : goal.invariant_of-result
+invariant_of-result c = record {
+  pools_each = c.default.ensures.long;
+  transfers_each = c.default-2.ensures.long;
+  none = λ _. all-default c.default.result None c.default.ensures.long (λ q h. c.default.ensures.at q None h);
+}
+
 pub returns : goal.returns
 returns c address = λ i. record {
   pool = all-default c.default.result None c.default.ensures.long (λ q h. c.default.ensures.at q None h) address i;

@@ -1,8 +1,12 @@
-use Rattle.std.proofs.Common.{◌≡◌, ◌++◌, [], ◌∷◌, Some, true, false, length, sym, ap, refl, ◌∙◌, append-nil}
-use Rattle.std.specs.Prelude.{◌==◌}
+use Rattle.std.proofs.Common.{◌≡◌, ◌++◌, [], ◌∷◌, Option, Some, true, false, length, sym, ap, subst, refl, ◌∙◌, append-nil}
+use Rattle.std.specs.Prelude.{◌==◌, Result}
 use Rattle.vt_can.specs.lines.Actions.{action_value}
+use Rattle.vt_machine.specs.declared.operator.Acted.{Acted}
+use Rattle.vt_machine.specs.declared.operator.OperatorRefusal.{OperatorRefusal}
+use Rattle.vt_server.specs.Acting.{PerformsAt}
 use Rattle.vt_server.specs.Messages.{message_to}
 use Rattle.vt_server.specs.Operators.{filled}
+use Rattle.vt_server.specs.Places.{Content}
 use Rattle.vt_server.specs.States.{state_of}
 use Rattle.vt_server.specs.Terminals.{pool_of}
 use Rattle.vt_server.specs.Uploads.{content_of}
@@ -11,6 +15,7 @@ use Rattle.vt_server.specs.declared.output.OperatorFault.{OperatorFault}
 use Rattle.vt_server.specs.declared.output.Output.TheVariants as declared
 use Rattle.vt_can.specs.declared.frames.frame.Frame.{Frame}
 use Rattle.vt_server.proofs.Performed.{shown-at, short-selects, takes-none, takes-act-refused, takes-act-done, one-frame, no-frame}
+use Rattle.vt_server.proofs.Undrawn.{refused-pool, same-pool}
 use Rattle.vt_server.proofs.terminal.Terminal.act.Goals as goal
 
 pub returns-in_default-clause-takes : goal.returns-in_default-clause-takes
@@ -21,7 +26,7 @@ returns-in_default-clause-takes c =
 pub returns-in-Some-Err-clause-takes : goal.returns-in-Some-Err-clause-takes
 returns-in-Some-Err-clause-takes c =
     let s = state_of c.args.self.now in let action = action_value c.args.action.now in
-    takes-act-refused s (content_of c.args.self.now.contents) (content_of c.act.new.self) c.args.self.now.node (heard_of c.args.self.now.watch) refl action c.requires.short
+    takes-act-refused s (content_of c.args.self.now.contents) (content_of c.act.new.self) c.args.self.now.node (heard_of c.args.self.now.registry.watch) refl action c.requires.short
     c.in-Some.address (shown-at (pool_of s) s.shown c.in-Some.address c.in-Some.ensures) c.act.result c.act.ensures
     c.in-Some-Err.refusal (c.in-Some-Err.is ∙ ap Some c.in-Some-Err.field-0-is) c.args.outputs.now.items c.refuse-in-Some-Err.new.outputs.items
     (c.refuse-in-Some-Err.ensures.items ∙ ap (λ (f : OperatorFault). c.args.outputs.now.items ++ declared.Refused f ∷ []) c.from.ensures)
@@ -31,7 +36,7 @@ returns-then-not-is_empty-clause-takes c =
     let s = state_of c.args.self.now in let action = action_value c.args.action.now in
     let a = c.in-Some.address in
     let some : (length c.in-Some-Ok.acted.message.items == 0) ≡ false = cc in
-    takes-act-done s (content_of c.args.self.now.contents) (content_of c.act.new.self) c.args.self.now.node (heard_of c.args.self.now.watch) refl action c.requires.short
+    takes-act-done s (content_of c.args.self.now.contents) (content_of c.act.new.self) c.args.self.now.node (heard_of c.args.self.now.registry.watch) refl action c.requires.short
     a (shown-at (pool_of s) s.shown a c.in-Some.ensures) c.act.result c.act.ensures
     c.in-Some-Ok.acted (c.in-Some-Ok.is ∙ ap Some c.in-Some-Ok.field-0-is) (c.message_to.result ∷ [])
     (λ short.
@@ -44,7 +49,20 @@ returns-else-not-is_empty-clause-takes c =
     let s = state_of c.args.self.now in let action = action_value c.args.action.now in
     let a = c.in-Some.address in
     let none : (length c.in-Some-Ok.acted.message.items == 0) ≡ true = cc in
-    takes-act-done s (content_of c.args.self.now.contents) (content_of c.act.new.self) c.args.self.now.node (heard_of c.args.self.now.watch) refl action c.requires.short
+    takes-act-done s (content_of c.args.self.now.contents) (content_of c.act.new.self) c.args.self.now.node (heard_of c.args.self.now.registry.watch) refl action c.requires.short
     a (shown-at (pool_of s) s.shown a c.in-Some.ensures) c.act.result c.act.ensures
     c.in-Some-Ok.acted (c.in-Some-Ok.is ∙ ap Some c.in-Some-Ok.field-0-is) [] (λ short. no-frame s.claims.own a c.in-Some-Ok.acted.message.items none)
     c.args.outputs.now.items c.args.outputs.now.items (sym (append-nil c.args.outputs.now.items))
+
+pub returns-in-Some-Err-clause-tells : goal.returns-in-Some-Err-clause-tells
+returns-in-Some-Err-clause-tells c none =
+    let t = c.args.self.now in
+    let a = c.in-Some.address in
+    let before : Content = content_of t.contents a in
+    let action = action_value c.args.action.now in
+    let acted = c.act.ensures in (
+      none,
+      same-pool t c.act.new.self a (record before { pool = acted.pool }) acted.content
+          (refused-pool before.pool action c.in-Some-Err.refusal acted.pool
+          (subst (λ (r : Option (Result Acted OperatorRefusal)). PerformsAt before.pool action r acted.pool) (c.in-Some-Err.is ∙ ap Some c.in-Some-Err.field-0-is) acted.performs)),
+    )

@@ -1,22 +1,25 @@
-use Rattle.std.proofs.Common.{◌≡◌, ℕ, List, drop, Option, Some, None, sym, ap, subst, ◌∙◌}
+use lib.Pointwise.{pointwise}
+use Rattle.std.proofs.Common.{◌≡◌, ℕ, List, drop, Option, Some, None, nat_eq, true≢false, refl, sym, ap, subst, ◌∙◌}
 use Rattle.vt_can.specs.declared.frames.frame.Frame.{Frame}
 use Rattle.vt_server.specs.Hearings.{Answers, IsReadyNow}
 use Rattle.vt_server.specs.Messages.{message_to}
-use Rattle.vt_server.specs.Places.{with_piece}
+use Rattle.vt_server.specs.Places.{Content, with_piece}
 use Rattle.vt_server.specs.States.{state_of}
 use Rattle.vt_server.specs.Terminals.{with_at}
-use Rattle.vt_server.specs.Transfers.{ended}
+use Rattle.vt_server.specs.Transfers.{ended, end_of_pool}
 use Rattle.vt_server.specs.Uploads.{content_of, room_of}
 use Rattle.vt_server.proofs.Answered.{answers-none}
 use Rattle.vt_server.proofs.Framed.{any_verdict}
+use Rattle.vt_server.proofs.Undrawn.{end-same, neither, same-elsewhere, same-pool}
 use Rattle.vt_server.proofs.Uploaded.{contents-state, piece-answered, end-answered, other-answered}
 use Rattle.vt_server.proofs.terminal.Terminal.answer.Goals as goal
+use Rattle.vt_server.proofs.terminal.Terminal.answer.Goals.{then-eq, else-eq}
 
-pub returns-then-not-registered : goal.returns-then-not-registered
-returns-then-not-registered c = answers-none (state_of c.args.self.now) c.args.source c.args.bytes.now any_verdict c.if-not-registered.ensures
+pub returns-then-not-registered-clause-answers : goal.returns-then-not-registered-clause-answers
+returns-then-not-registered-clause-answers c = answers-none (state_of c.args.self.now) c.args.source c.args.bytes.now any_verdict c.if-not-registered.ensures
 
-pub returns-in_err-reply-in-Nothing : goal.returns-in_err-reply-in-Nothing
-returns-in_err-reply-in-Nothing c =
+pub returns-in_err-reply-in-Nothing-clause-answers : goal.returns-in_err-reply-in-Nothing-clause-answers
+returns-in_err-reply-in-Nothing-clause-answers c =
     let t = c.args.self.now in
     let a = c.args.source in
     let some = c.if-not-registered.ensures in
@@ -24,10 +27,10 @@ returns-in_err-reply-in-Nothing c =
     subst (λ (r : Option Frame). Answers (state_of t) a c.args.bytes.now r (state_of c.reply.new.self)) none
     (other-answered (state_of t) a c.args.bytes.now some (state_of c.reply.new.self) None
     (subst (IsReadyNow (content_of t.contents a) (room_of t.contents a) c.args.bytes.now) c.in-Nothing.is (c.requires (sym some)))
-    c.in_err-reply-in-Nothing.ensures)
+    c.in_err-reply-in-Nothing.ensures.replies)
 
-pub returns-in_ok-reply-in-Nothing : goal.returns-in_ok-reply-in-Nothing
-returns-in_ok-reply-in-Nothing c =
+pub returns-in_ok-reply-in-Nothing-clause-answers : goal.returns-in_ok-reply-in-Nothing-clause-answers
+returns-in_ok-reply-in-Nothing-clause-answers c =
     let t = c.args.self.now in
     let a = c.args.source in
     let some = c.if-not-registered.ensures in
@@ -35,10 +38,10 @@ returns-in_ok-reply-in-Nothing c =
     (ap (λ own. message_to own a c.in_ok-reply-in-Nothing.reply) (sym c.own-own.ensures) ∙ sym c.message_to.ensures)
     (other-answered (state_of t) a c.args.bytes.now some (state_of c.reply.new.self) (Some c.in_ok-reply-in-Nothing.reply)
     (subst (IsReadyNow (content_of t.contents a) (room_of t.contents a) c.args.bytes.now) c.in-Nothing.is (c.requires (sym some)))
-    c.in_ok-reply-in-Nothing.ensures)
+    c.in_ok-reply-in-Nothing.ensures.replies)
 
-pub returns-in-Piece : goal.returns-in-Piece
-returns-in-Piece c =
+pub returns-in-Piece-clause-answers : goal.returns-in-Piece-clause-answers
+returns-in-Piece-clause-answers c =
     let t = c.args.self.now in
     let a = c.args.source in
     let some = c.if-not-registered.ensures in
@@ -47,8 +50,8 @@ returns-in-Piece c =
     (contents-state t c.feed.new.self a (with_piece (content_of t.contents a) (drop 1 c.args.bytes.now))
     (c.feed.ensures ∙ ap (λ (b : List ℕ). with_at a (with_piece (content_of t.contents a) (drop 1 b)) (content_of t.contents)) ready.1))
 
-pub returns-in-End : goal.returns-in-End
-returns-in-End c =
+pub returns-after-eq-clause-answers : goal.returns-after-eq-clause-answers
+returns-after-eq-clause-answers c =
     let t = c.args.self.now in
     let a = c.args.source in
     let some = c.if-not-registered.ensures in
@@ -58,3 +61,27 @@ returns-in-End c =
     (end-answered (state_of t) a c.args.bytes.now some (state_of (record t { contents = c.end-reply.new.self })) c.in-End.judgement c.end-reply.result
     (content_of c.end-reply.new.self) ready.0 c.end-reply.ensures
     (contents-state t c.end-reply.new.self a (ended (content_of t.contents a) c.end-reply.ensures.verdict) c.end-reply.ensures.content))
+
+pub returns-in-Piece-clause-tells : goal.returns-in-Piece-clause-tells
+returns-in-Piece-clause-tells c none =
+    let t = c.args.self.now in
+    let a = c.args.source in
+    (none, same-pool t c.feed.new.self a _ c.feed.ensures refl)
+
+pub returns-after-eq-clause-tells : goal.returns-after-eq-clause-tells
+returns-after-eq-clause-tells c none =
+    let t = c.args.self.now in
+    let a = c.args.source in
+    let ended-by = c.end-reply.ensures in
+    let left : Content = ended (content_of t.contents a) ended-by.verdict in
+    let told = neither t.redraws c.if-eq.self none in (
+      told.0,
+      elim c.if-eq.branch [
+        | then-eq w ↦ same-elsewhere t c.end-reply.new.self a left ended-by.content (sym w.eq-then-eq.ensures ∙ sym w.self-is ∙ told.1)
+        | else-eq w ↦
+            same-pool t c.end-reply.new.self a left ended-by.content
+            (end-same (content_of t.contents a) ended-by.verdict
+            (λ h. true≢false
+            (sym (ap (λ r. pointwise nat_eq r (end_of_pool 0 0xFFFF 0xFFFF 0)) (ended-by.reply_is ∙ h)) ∙ sym c.eq.ensures ∙ w.if-eq.false)))
+      ],
+    )

@@ -1,6 +1,7 @@
 use Rattle.std.proofs.Common.{sym, ◌∙◌}
 use Rattle.vt_server.specs.States.{state_of}
 use Rattle.vt_server.proofs.Claimed.{some-name, no-name, bind-none, bind-named, bind-unheld, bind-held}
+use Rattle.vt_server.proofs.Watching.{registry-state}
 use Rattle.vt_server.proofs.terminal.Terminal.bind.Goals as goal
 
 pub returns-in_default : goal.returns-in_default
@@ -13,7 +14,8 @@ returns-then-is_some c =
 
 pub returns-in-Some-holder : goal.returns-in-Some-holder
 returns-in-Some-holder c =
-    bind-held (state_of c.args.self.now) c.args.address c.in-Some.set.now c.in-Some-holder.holder c.bind.new.self.sets
+    registry-state c.args.self.now c.bind.new.self c.bind.ensures.watch
+    ∙ bind-held (state_of c.args.self.now) c.args.address c.in-Some.set.now c.in-Some-holder.holder c.bind.new.self.sets
     c.in-Some.ensures (sym c.name.ensures ∙ no-name c.name.result c.if-is_some.ensures) c.in-Some-holder.ensures c.bind.ensures.sets
 
 pub returns-in_default-holder : goal.returns-in_default-holder

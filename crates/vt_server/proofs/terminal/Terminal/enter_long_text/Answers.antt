@@ -25,8 +25,8 @@ returns-in-Some-text_fault-clause-takes c =
     let s = state_of c.args.self.now in
     let a = c.in-Some.address in
     takes-fault s a (shown-at (pool_of s) s.shown a c.in-Some.ensures) c.args.id c.args.text.now c.in-Some-text_fault.refusal c.in-Some-text_fault.ensures.fault
-    (record s { places = places_by (content_of c.text_fault.new.self) c.args.self.now.node (heard_of c.args.self.now.watch) })
-    (ap (λ (k : ℕ → Content). record s { places = places_by k c.args.self.now.node (heard_of c.args.self.now.watch) }) c.text_fault.ensures.same)
+    (record s { places = places_by (content_of c.text_fault.new.self) c.args.self.now.node (heard_of c.args.self.now.registry.watch) })
+    (ap (λ (k : ℕ → Content). record s { places = places_by k c.args.self.now.node (heard_of c.args.self.now.registry.watch) }) c.text_fault.ensures.same)
     c.args.outputs.now.items c.refuse-in-Some-text_fault.new.outputs.items
     (c.refuse-in-Some-text_fault.ensures.items ∙ ap (λ (f : OperatorFault). c.args.outputs.now.items ++ declared.Refused f ∷ []) c.from.ensures)
 
@@ -41,7 +41,7 @@ returns-in-Ok-clause-takes c =
     let s = state_of c.args.self.now in
     let a = c.in-Some.address in
     let node = c.args.self.now.node in
-    let heard = heard_of c.args.self.now.watch in
+    let heard = heard_of c.args.self.now.registry.watch in
     let there = shown-at (pool_of s) s.shown a c.in-Some.ensures in
     let bytes : c.as_slice.result.now ≡ _ = c.as_slice.ensures.value ∙ c.text_message-message.ensures in
     let pool = c.act-done.ensures.pool in
@@ -61,7 +61,7 @@ pub returns-in-Err-Busy-clause-takes : goal.returns-in-Err-Busy-clause-takes
 returns-in-Err-Busy-clause-takes c =
     let s = state_of c.args.self.now in
     let a = c.in-Some.address in
-    let heard = heard_of c.args.self.now.watch in
+    let heard = heard_of c.args.self.now.registry.watch in
     takes-busy s a (shown-at (pool_of s) s.shown a c.in-Some.ensures) c.args.id c.args.text.now c.in_default-text_fault.ensures.fault c.requires.long
     (c.in-Err-Busy.ensures.busy.0 (λ i. Err (c.in-Err-Busy.field-0-is i)))
     (record s { claims = c.start.new.self.claims; places = places_by (content_of c.text_fault.new.self) c.start.new.self heard })

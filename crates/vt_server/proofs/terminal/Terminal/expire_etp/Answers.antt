@@ -41,11 +41,11 @@ module _ (old now : Terminal) (node : NodeState) (old_out out : List Output) (fr
           ∙ ap (λ (t : Terminal). record t { node = record t.node { etp = node.etp } }) so_far.rest;
       state =
           ap (λ (s : State). after_acts s (etp_due s)) state-is
-          ∙ next-etp (state_of now) (content_of now.contents) now.node (heard_of now.watch) refl node.etp frame expired
+          ∙ next-etp (state_of now) (content_of now.contents) now.node (heard_of now.registry.watch) refl node.etp frame expired
           ∙ so_far.state;
       sent =
           (λ i. out-is i ++ outputs_of (sent_by_acts (state-is i) (etp_due (state-is i))))
-          ∙ next-sent-etp (state_of now) (content_of now.contents) now.node (heard_of now.watch) refl node.etp frame expired out
+          ∙ next-sent-etp (state_of now) (content_of now.contents) now.node (heard_of now.registry.watch) refl node.etp frame expired out
           ∙ so_far.sent;
       timely = λ address.
           ap (λ time. alive time (finite.get node.etp address)) (sym time-is)
@@ -57,7 +57,7 @@ module _ (old now : Terminal) (node : NodeState) (old_out out : List Output) (fr
 
   module _ (none : NoneExpires now.node.etp node.etp now.time) where
     none-due : etp_due (state_of now) ≡ []
-    none-due = none-etp (state_of now) (content_of now.contents) now.node (heard_of now.watch) refl node.etp none
+    none-due = none-etp (state_of now) (content_of now.contents) now.node (heard_of now.registry.watch) refl node.etp none
 
     state-ends : state_of next ≡ after_acts (state_of old) (etp_due (state_of old))
     state-ends =

@@ -41,11 +41,11 @@ module _ (old now : Terminal) (node : NodeState) (old_out out : List Output) (fr
           ∙ ap (λ (t : Terminal). record t { node = record t.node { sending = node.sending } }) so_far.rest;
       state =
           ap (λ (s : State). after_acts s (sending_due s)) state-is
-          ∙ next-sending (state_of now) (content_of now.contents) now.node (heard_of now.watch) refl node.sending frame expired
+          ∙ next-sending (state_of now) (content_of now.contents) now.node (heard_of now.registry.watch) refl node.sending frame expired
           ∙ so_far.state;
       sent =
           (λ i. out-is i ++ outputs_of (sent_by_acts (state-is i) (sending_due (state-is i))))
-          ∙ next-sent-sending (state_of now) (content_of now.contents) now.node (heard_of now.watch) refl node.sending frame expired out
+          ∙ next-sent-sending (state_of now) (content_of now.contents) now.node (heard_of now.registry.watch) refl node.sending frame expired out
           ∙ so_far.sent;
       timely = λ address.
           ap (λ time. alive time (finite.get node.sending address)) (sym time-is)
@@ -57,7 +57,7 @@ module _ (old now : Terminal) (node : NodeState) (old_out out : List Output) (fr
 
   module _ (none : NoneExpires now.node.sending node.sending now.time) where
     none-due : sending_due (state_of now) ≡ []
-    none-due = none-sending (state_of now) (content_of now.contents) now.node (heard_of now.watch) refl node.sending none
+    none-due = none-sending (state_of now) (content_of now.contents) now.node (heard_of now.registry.watch) refl node.sending none
 
     state-ends : state_of next ≡ after_acts (state_of old) (sending_due (state_of old))
     state-ends =

@@ -41,11 +41,11 @@ module _ (old now : Terminal) (node : NodeState) (old_out out : List Output) (fr
           ∙ ap (λ (t : Terminal). record t { node = record t.node { tp = node.tp } }) so_far.rest;
       state =
           ap (λ (s : State). after_acts s (tp_due s)) state-is
-          ∙ next-tp (state_of now) (content_of now.contents) now.node (heard_of now.watch) refl node.tp frame expired
+          ∙ next-tp (state_of now) (content_of now.contents) now.node (heard_of now.registry.watch) refl node.tp frame expired
           ∙ so_far.state;
       sent =
           (λ i. out-is i ++ outputs_of (sent_by_acts (state-is i) (tp_due (state-is i))))
-          ∙ next-sent-tp (state_of now) (content_of now.contents) now.node (heard_of now.watch) refl node.tp frame expired out
+          ∙ next-sent-tp (state_of now) (content_of now.contents) now.node (heard_of now.registry.watch) refl node.tp frame expired out
           ∙ so_far.sent;
       timely = λ address.
           ap (λ time. alive time (finite.get node.tp address)) (sym time-is)
@@ -57,7 +57,7 @@ module _ (old now : Terminal) (node : NodeState) (old_out out : List Output) (fr
 
   module _ (none : NoneExpires now.node.tp node.tp now.time) where
     none-due : tp_due (state_of now) ≡ []
-    none-due = none-tp (state_of now) (content_of now.contents) now.node (heard_of now.watch) refl node.tp none
+    none-due = none-tp (state_of now) (content_of now.contents) now.node (heard_of now.registry.watch) refl node.tp none
 
     state-ends : state_of next ≡ after_acts (state_of old) (tp_due (state_of old))
     state-ends =

@@ -1,10 +1,12 @@
-use Rattle.std.proofs.Common.{◌++◌, ◌∙◌}
+use mathlib.Core.Bool.{beq}
+use Rattle.std.proofs.Common.{◌++◌, not, sym, ◌∙◌}
 use Rattle.vt_server.specs.Bus.{notice_of}
 use Rattle.vt_server.specs.Lapses.{at_time, lapsed}
 use Rattle.vt_server.specs.Outputs.{outputs_of}
 use Rattle.vt_server.specs.States.{state_of}
 use Rattle.vt_server.proofs.Heard.{takes-line, takes-lost}
 use Rattle.vt_server.proofs.Prepared.{ready-then, prepared-display, prepared-sent}
+use Rattle.vt_server.proofs.Undrawn.{line-kept, neither, prepared-shows, same-flag}
 use Rattle.vt_server.proofs.terminal.Terminal.hear.Goals as goal
 
 pub returns-then-self-clause-ok : goal.returns-then-self-clause-ok
@@ -32,5 +34,17 @@ returns-clause-ok c =
     takes-line s c.args.time frame n (state_of c.finish.new.self) before c.lapse.new.outputs.items c.finish.new.outputs.items c.if-self.false
     (c.notice_of-notice.ensures ∙ (λ i. notice_of (c.own.ensures i) (c.name.ensures i) frame))
     (c.lapse.ensures.sent ∙ (λ i. c.reserve.ensures.items i ++ outputs_of (prepared-sent s t c.args.time now n frame c.max-now.ensures ready prepared i)))
-    (c.finish.ensures s (lapsed (at_time s c.args.time)) (c.display-before.ensures ∙ prepared-display s t c.args.time now n frame c.max-now.ensures ready prepared)
+    (c.finish.ensures.hears s (lapsed (at_time s c.args.time)) (c.display-before.ensures ∙ prepared-display s t c.args.time now n frame c.max-now.ensures ready prepared)
     (ready-then s t c.args.time now n frame c.max-now.ensures c.lapse.new.self c.lapse.ensures.state c.lapse.ensures.lapsed ready prepared))
+
+pub returns-clause-same : goal.returns-clause-same
+returns-clause-same c none =
+    let s = state_of c.args.self.now in
+    let t = c.prepare.new.self in
+    let now = c.max-now.result in
+    let has = c.has_pool.result in
+    let had = c.has_pool-had_pool.result in
+    let told = neither c.finish.new.self.redraws (not (beq has had)) none in
+    line-kept s (state_of t) (state_of c.lapse.new.self) (state_of c.finish.new.self) now
+    (prepared-shows s t now c.notice_of-notice.result c.args.frame.now c.in_ok-ready.ready c.in_ok-ready.ensures.ok)
+    c.lapse.ensures.state (c.finish.ensures.tells told.0) (sym c.has_pool.ensures ∙ same-flag has had told.1 ∙ c.has_pool-had_pool.ensures)

@@ -4,19 +4,21 @@ use Rattle.vt_server.specs.Outputs.{outputs_of}
 use Rattle.vt_server.specs.Places.{watched}
 use Rattle.vt_server.specs.States.{state_of}
 use Rattle.vt_server.specs.Terminals.{State, Sent, after_acts, sent_by_acts}
-use Rattle.vt_server.specs.Watches.{Times, heard_of}
+use Rattle.vt_server.specs.Registries.{Watched}
+use Rattle.vt_server.specs.Watches.{heard_of}
 use Rattle.vt_server.specs.declared.output.Output.{Output}
 use Rattle.vt_server.specs.declared.terminal.Terminal.{Terminal}
 use Rattle.vt_server.proofs.Expiring.{outputs-append}
 use Rattle.vt_server.proofs.terminal.Terminal.lapse.Goals as goal
 
 -- the state at the frame line's time
-begun : (t : Terminal) (now : ℕ) (watch : Times) → t.time ≤ now → ((address : ℕ) → heard_of watch address ≡ Some (unwrap_or (heard_of t.watch address) now))
-    → state_of (record t { time = now; watch = watch }) ≡ at_time (state_of t) now
-begun t now watch later heard =
+begun : (t : Terminal) (now : ℕ) (registry : Watched) → t.time ≤ now → registry.sets ≡ t.registry.sets
+    → ((address : ℕ) → heard_of registry.watch address ≡ Some (unwrap_or (heard_of t.registry.watch address) now))
+    → state_of (record t { time = now; registry = registry }) ≡ at_time (state_of t) now
+begun t now registry later sets heard =
     let s : State = state_of t in
     let latest : max t.time now ≡ now = omega arith in
-    (λ i. record s { now = now; places = λ address. record (s.places address) { heard = heard address i } })
+    (λ i. record s { sets = sets i; now = now; places = λ address. record (s.places address) { heard = heard address i } })
     ∙ ap (λ n. record s { now = n; places = λ address. watched n (s.places address) }) (sym latest)
 
 grouped : (out : List Output) (x y z : List Sent) → ((out ++ outputs_of x) ++ outputs_of y) ++ outputs_of z ≡ out ++ outputs_of (x ++ (y ++ z))
@@ -57,18 +59,18 @@ module _ (s s0 s1 s2 s3 : State) (zeroth : s0 ≡ s) (first : s1 ≡ after_tp_ti
 pub returns-clause-state : goal.returns-clause-state
 returns-clause-state c =
     let old = c.args.self.now in
-    all (at_time (state_of old) c.args.now) (state_of (record old { time = c.args.now; watch = c.begin.new.self }))
+    all (at_time (state_of old) c.args.now) (state_of (record old { time = c.args.now; registry = c.begin.new.self }))
     (state_of c.expire_tp.new.self) (state_of c.expire_etp.new.self) (state_of c.expire_sending.new.self)
-    (begun old c.args.now c.begin.new.self c.requires.later c.begin.ensures)
+    (begun old c.args.now c.begin.new.self c.requires.later c.begin.ensures.sets c.begin.ensures.heard)
     c.expire_tp.ensures.state c.expire_etp.ensures.state c.expire_sending.ensures.state
     (state_of c.close_silent.new.self) c.close_silent.ensures.state
 
 pub returns-clause-sent : goal.returns-clause-sent
 returns-clause-sent c =
     let old = c.args.self.now in
-    all-sent (at_time (state_of old) c.args.now) (state_of (record old { time = c.args.now; watch = c.begin.new.self }))
+    all-sent (at_time (state_of old) c.args.now) (state_of (record old { time = c.args.now; registry = c.begin.new.self }))
     (state_of c.expire_tp.new.self) (state_of c.expire_etp.new.self) (state_of c.expire_sending.new.self)
-    (begun old c.args.now c.begin.new.self c.requires.later c.begin.ensures)
+    (begun old c.args.now c.begin.new.self c.requires.later c.begin.ensures.sets c.begin.ensures.heard)
     c.expire_tp.ensures.state c.expire_etp.ensures.state c.expire_sending.ensures.state
     c.args.outputs.now.items c.expire_tp.new.outputs.items c.expire_etp.new.outputs.items c.expire_sending.new.outputs.items
     c.expire_tp.ensures.sent c.expire_etp.ensures.sent c.expire_sending.ensures.sent

@@ -8,5 +8,5 @@ returns-clause-places c address = λ i. record {
   tp = (ap (λ m. finite.get m address) c.new.ensures.tp ∙ finite.get-empty nat_cmp address) i;
   etp = (ap (λ m. finite.get m address) c.new.ensures.etp ∙ finite.get-empty nat_cmp address) i;
   sending = (ap (λ m. finite.get m address) c.new.ensures.sending ∙ finite.get-empty nat_cmp address) i;
-  heard = c.new-4.ensures address i;
+  heard = c.new-2.ensures.heard address i;
 }

@@ -1,10 +1,12 @@
-use Rattle.std.proofs.Common.{refl, sym, ap}
+use Rattle.std.proofs.Common.{false, refl, sym, ap}
 use Rattle.vt_can.specs.lines.Actions.{action_value}
 use Rattle.vt_can.specs.lines.Actions as actions
 use Rattle.vt_server.specs.Acting.{TakesAction}
+use Rattle.vt_server.specs.Screens.{ShowsSame}
 use Rattle.vt_server.specs.States.{state_of}
 use Rattle.vt_server.specs.declared.terminal.Terminal.{Terminal}
 use Rattle.vt_server.proofs.Performed.{takes-lost, takes-input, takes-same}
+use Rattle.vt_server.proofs.Undrawn.{same-text, shows-then, told-through}
 use Rattle.vt_server.proofs.terminal.Terminal.operate.Goals as goal
 use Rattle.vt_server.proofs.terminal.Terminal.operate.Goals.{in-Set, in-Text+in_ok-enter_long_text-in-Text, in_default}
 
@@ -32,3 +34,16 @@ returns-clause-ok c =
     ] in
     takes-input s t (state_of c.settle.new.self) c.args.action.now c.args.outputs.now.items c.match-action.outputs.items c.settle.new.outputs.items c.if-self.false taken
     c.settle.ensures.state (c.settle.ensures.sent s c.display-before.ensures)
+
+pub returns-clause-same : goal.returns-clause-same
+returns-clause-same c none =
+    let t : Terminal = record c.args.self.now { redraws = false } in
+    let m : Terminal = c.match-action.self in
+    let settles = c.settle.ensures.tells none in
+    let acted : ShowsSame (state_of t) (state_of m) =
+    elim c.match-action.branch [
+      | in-Set w ↦ told-through t m w.select_set.new.self w.self-is w.select_set.ensures.tells settles.0
+      | in-Text+in_ok-enter_long_text-in-Text w ↦ told-through t m w.enter_long_text.new.self w.self-is w.enter_long_text.ensures.tells settles.0
+      | in_default w ↦ told-through t m w.act.new.self w.self-is w.act.ensures.tells settles.0
+    ] in
+    same-text (state_of t) (state_of c.settle.new.self) (shows-then (state_of t) (state_of m) (state_of c.settle.new.self) acted settles.1)

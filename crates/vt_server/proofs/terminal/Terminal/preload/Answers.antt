@@ -12,9 +12,9 @@ pub returns-clause-ok : goal.returns-clause-ok
 returns-clause-ok c =
     let t = c.args.self.now in
     let s = state_of t in
-    c.choose.ensures
+    c.choose.ensures.state
     ∙ ap choosing
     (ap (λ (places : ℕ → Place). record s { sets = c.preload.new.self.sets; places = places })
-    (λ i. places_by (c.put.ensures i) t.node (c.preload-2.ensures i))
-    ∙ preloaded-state (content_of t.contents) t.node (heard_of t.watch) c.args.address (map_of c.args.pool.now) c.in_ok-live.live c.in_ok-live.ensures
-    s c.preload.new.self.sets refl c.in_ok-preload.ensures.ok)
+    (λ i. places_by (c.put.ensures i) t.node (c.in_ok-preload.ensures.heard i))
+    ∙ preloaded-state (content_of t.contents) t.node (heard_of t.registry.watch) c.args.address (map_of c.args.pool.now) c.in_ok-live.live c.in_ok-live.ensures
+    s c.preload.new.self.sets refl c.in_ok-preload.ensures.sets)

@@ -16,8 +16,8 @@ returns-in-Some c =
     let t = c.args.self.now in
     let a = c.in-Some.address in
     let contents : ℕ → Content = content_of t.contents in
-    raised-place (state_of t) a c.args.event (places_by (content_of c.raise.new.self) t.node (heard_of t.watch))
-    (ap (λ (f : ℕ → Content). places_by f t.node (heard_of t.watch)) c.raise.ensures
-    ∙ content-placed contents t.node (heard_of t.watch) a
+    raised-place (state_of t) a c.args.event (places_by (content_of c.raise.new.self) t.node (heard_of t.registry.watch))
+    (ap (λ (f : ℕ → Content). places_by f t.node (heard_of t.registry.watch)) c.raise.ensures
+    ∙ content-placed contents t.node (heard_of t.registry.watch) a
     (record (contents a) { pool = option_map (λ state. raised_on state c.args.event) (contents a).pool }))
     ∙ ap (λ o. after_acts (state_of t) (raised_at o c.args.event)) (sym c.in-Some.is)

@@ -25,8 +25,8 @@ returns c =
     let t = c.args.self.now in
     rebind-closed (state_of t) c.args.address c.args.was
     (ap (option_eq nat_eq c.args.was) (sym c.holder-holder.ensures) ∙ sym c.if-eq.ensures) c.in-Some.set.now c.close.new.self.sets
-    (places_by (content_of c.remove.new.self) t.node (heard_of t.watch)) c.in-Some.ensures
+    (places_by (content_of c.remove.new.self) t.node (heard_of c.close.new.self.watch)) c.in-Some.ensures
     (sym (λ i. stays_under (c.name.ensures i) (c.holder-holder.ensures i)) ∙ sym c.if-stays_under.ensures)
     c.close.ensures.sets
-    (ap (λ contents. places_by contents t.node (heard_of t.watch)) c.remove.ensures.content
-    ∙ content-placed (content_of t.contents) t.node (heard_of t.watch) c.args.address no_content)
+    ((λ i. places_by (c.remove.ensures.content i) t.node (heard_of (c.close.ensures.watch i)))
+    ∙ content-placed (content_of t.contents) t.node (heard_of t.registry.watch) c.args.address no_content)

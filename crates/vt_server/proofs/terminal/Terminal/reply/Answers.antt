@@ -6,35 +6,66 @@ use Rattle.vt_server.specs.States.{state_of, places_by}
 use Rattle.vt_server.specs.Uploads.{content_of}
 use Rattle.vt_server.specs.Watches.{heard_of}
 use Rattle.vt_server.proofs.Answered.{is-ignored, is-commanded}
+use Rattle.vt_server.proofs.Puts.{none-some, some-is}
+use Rattle.vt_server.proofs.Undrawn.{command-same, neither, same-elsewhere, same-pool}
 use Rattle.vt_server.proofs.Writes.{content-placed}
 use Rattle.vt_server.proofs.terminal.Terminal.reply.Goals as goal
+use Rattle.vt_server.proofs.terminal.Terminal.reply.Goals.{then-error-eq0, else-error-eq0}
 
-pub returns-in_err-command : goal.returns-in_err-command
-returns-in_err-command c =
+pub returns-in_err-command-clause-replies : goal.returns-in_err-command-clause-replies
+returns-in_err-command-clause-replies c =
     let s = state_of c.args.self.now in
     let none : None ≡ c.from_residual.result = cc in
     subst (λ (r : Option (List ℕ)). IsReplyTo s c.args.source c.args.bytes.now r s) none
     (is-ignored s c.args.source c.args.bytes.now c.in_default.ensures c.in_err-command.ensures)
 
-pub returns-in_err-error : goal.returns-in_err-error
-returns-in_err-error c =
+pub returns-in_err-error-clause-replies : goal.returns-in_err-error-clause-replies
+returns-in_err-error-clause-replies c =
     let t = c.args.self.now in
     let a = c.args.source in
     let none : None ≡ c.from_residual-in_err-error.result = cc in
     subst (λ (r : Option (List ℕ)). IsReplyTo (state_of t) a c.args.bytes.now r (state_of (record t { contents = c.apply.new.self }))) none
     (is-commanded (state_of t) a c.args.bytes.now c.in_default.ensures c.in_ok-command.command
-    (places_by (content_of c.apply.new.self) t.node (heard_of t.watch)) None c.in_ok-command.ensures
-    (ap (λ (f : ℕ → Content). places_by f t.node (heard_of t.watch)) c.in_err-error.ensures.content
-    ∙ content-placed (content_of t.contents) t.node (heard_of t.watch) a (content_after c.in_ok-command.command (content_of t.contents a)))
+    (places_by (content_of c.apply.new.self) t.node (heard_of t.registry.watch)) None c.in_ok-command.ensures
+    (ap (λ (f : ℕ → Content). places_by f t.node (heard_of t.registry.watch)) c.in_err-error.ensures.content
+    ∙ content-placed (content_of t.contents) t.node (heard_of t.registry.watch) a (content_after c.in_ok-command.command (content_of t.contents a)))
     c.in_err-error.ensures.error)
 
-pub returns : goal.returns
-returns c =
+pub returns-clause-replies : goal.returns-clause-replies
+returns-clause-replies c =
     let t = c.args.self.now in
     let a = c.args.source in
     subst (λ (r : List ℕ). IsReplyTo (state_of t) a c.args.bytes.now (Some r) (state_of (record t { contents = c.apply.new.self }))) (sym c.reply_to.ensures)
     (is-commanded (state_of t) a c.args.bytes.now c.in_default.ensures c.in_ok-command.command
-    (places_by (content_of c.apply.new.self) t.node (heard_of t.watch)) (Some c.in_ok-error.error) c.in_ok-command.ensures
-    (ap (λ (f : ℕ → Content). places_by f t.node (heard_of t.watch)) c.in_ok-error.ensures.content
-    ∙ content-placed (content_of t.contents) t.node (heard_of t.watch) a (content_after c.in_ok-command.command (content_of t.contents a)))
+    (places_by (content_of c.apply.new.self) t.node (heard_of t.registry.watch)) (Some c.in_ok-error.error) c.in_ok-command.ensures
+    (ap (λ (f : ℕ → Content). places_by f t.node (heard_of t.registry.watch)) c.in_ok-error.ensures.content
+    ∙ content-placed (content_of t.contents) t.node (heard_of t.registry.watch) a (content_after c.in_ok-command.command (content_of t.contents a)))
     c.in_ok-error.ensures.error)
+
+pub returns-in_err-error-clause-tells : goal.returns-in_err-error-clause-tells
+returns-in_err-error-clause-tells c none =
+    let t = c.args.self.now in
+    let a = c.args.source in
+    let command = c.in_ok-command.command in
+    let before : Content = content_of t.contents a in (
+      none,
+      same-pool t c.apply.new.self a (content_after command before) c.in_err-error.ensures.content
+          (command-same command before (λ h. none-some (c.in_err-error.ensures.error ∙ h))),
+    )
+
+pub returns-clause-tells : goal.returns-clause-tells
+returns-clause-tells c none =
+    let t = c.args.self.now in
+    let a = c.args.source in
+    let command = c.in_ok-command.command in
+    let before : Content = content_of t.contents a in
+    let told = neither t.redraws c.if-error-eq0.self none in (
+      told.0,
+      elim c.if-error-eq0.branch [
+        | then-error-eq0 w ↦
+            same-elsewhere t c.apply.new.self a (content_after command before) c.in_ok-error.ensures.content (sym w.eq.ensures ∙ sym w.self-is ∙ told.1)
+        | else-error-eq0 w ↦
+            same-pool t c.apply.new.self a (content_after command before) c.in_ok-error.ensures.content
+            (command-same command before (λ h. w.if-error-eq0.false (some-is c.in_ok-error.error 0 (c.in_ok-error.ensures.error ∙ h))))
+      ],
+    )

@@ -1,12 +1,16 @@
-use Rattle.std.proofs.Common.{◌≡◌, List, ◌++◌, true≢false, sym, ap, subst, ◌∙◌, append-nil}
+use Rattle.std.proofs.Common.{◌≡◌, ◌<◌, List, ◌++◌, is_some, true≢false, refl, sym, ap, subst, ◌∙◌, append-nil}
 use Rattle.vt_can.specs.frames.Frame.{source_of}
-use Rattle.vt_server.specs.Hearings.{TakesNotice}
+use Rattle.vt_names.specs.Registry.{Set, set_at}
+use Rattle.vt_server.specs.Hearings.{IsReadyBy, TakesNotice}
 use Rattle.vt_server.specs.Outputs.{outputs_of}
+use Rattle.vt_server.specs.Places.{Place}
 use Rattle.vt_server.specs.States.{state_of}
 use Rattle.vt_server.specs.Terminals.{State, Sent}
+use Rattle.vt_server.specs.Uploads.{content_of, room_of}
+use Rattle.vt_server.specs.Watches.{heard_of}
 use Rattle.vt_server.specs.declared.bus.Notice.TheVariants as notices
 use Rattle.vt_server.proofs.Framed.{takes-echo, takes-heard}
-use Rattle.vt_server.proofs.Heard.{upload-judges, defence-none, heard-state, accepted}
+use Rattle.vt_server.proofs.Heard.{upload-judges, came-reads, defence-none, heard-state, accepted}
 use Rattle.vt_server.proofs.terminal.Terminal.take.Goals as goal
 use Rattle.vt_server.proofs.terminal.Terminal.take.Goals.{in-ClaimRequest, in_default}
 
@@ -23,6 +27,24 @@ returns-then-source-own-clause-takes c =
     let judged = upload-judges c.args.self.now n frame c.args.upload c.requires.upload in
     takes-echo s frame n c.requires.no_claim judged.0 before before (sym c.source-source.ensures ∙ c.if-source-own.true ∙ c.own.ensures) judged.1
     (sym (append-nil before) ∙ ap (λ (l : List Sent). before ++ outputs_of l) (sym (defence-none s (source_of frame) n c.requires.no_claim other)))
+
+pub take_notice-requires-clause-rooms : goal.take_notice-requires-clause-rooms
+take_notice-requires-clause-rooms c = record {
+  tp = c.requires.rooms.tp;
+  etp = c.requires.rooms.etp;
+  sets = λ count is. subst (λ n. 0 < n) (sym c.hear.ensures.room) (c.requires.rooms.sets count is);
+}
+
+pub take_notice-requires-clause-upload : goal.take_notice-requires-clause-upload
+take_notice-requires-clause-upload c some =
+    let t = c.args.self.now in
+    let n = c.args.notice.now in
+    let frame = c.args.frame.now in
+    let a = source_of frame in
+    let place : Place = (state_of t).places a in
+    subst (λ m. IsReadyBy n (content_of t.contents a) (room_of t.contents a) m c.args.upload)
+    (came-reads t.time t.node.claims.own a place (record place { heard = heard_of c.hear.new.self.watch a }) n frame refl refl)
+    (c.requires.upload (ap (λ (l : List Set). is_some (set_at a l)) (sym c.hear.ensures.sets) ∙ some))
 
 pub returns-clause-takes : goal.returns-clause-takes
 returns-clause-takes c =
@@ -41,5 +63,5 @@ returns-clause-takes c =
     takes-heard s frame n c.requires.no_claim u before before after
     (λ e. c.if-source-own.false (c.source-source.ensures ∙ e ∙ sym c.own.ensures))
     (sym (append-nil before) ∙ ap (λ (l : List Sent). before ++ outputs_of l) (sym (defence-none s a n c.requires.no_claim other)))
-    (subst (λ (x : State). TakesNotice x n frame u before after) (heard-state t c.hear.new.self c.source-source.result a c.source-source.ensures c.hear.ensures) c.take_notice.ensures.takes)
+    (subst (λ (x : State). TakesNotice x n frame u before after) (heard-state t c.hear.new.self c.source-source.result a c.source-source.ensures c.hear.ensures.sets c.hear.ensures.heard) c.take_notice.ensures.takes)
     (accepted s.now a n frame c.requires.no_claim)

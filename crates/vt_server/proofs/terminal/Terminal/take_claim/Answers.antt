@@ -1,4 +1,4 @@
-use Rattle.std.proofs.Common.{◌≡◌, ℕ, Option, Some, sym, ap, ◌∙◌}
+use Rattle.std.proofs.Common.{◌≡◌, ℕ, Some, sym, ap, ◌∙◌}
 use Rattle.vt_server.specs.Places.{Place}
 use Rattle.vt_server.specs.States.{state_of, places_by}
 use Rattle.vt_server.specs.Steps.{before, changes}
@@ -20,10 +20,10 @@ returns-then-source-own-clause-takes c s name frame verdict from former defended
     after-changes s (state_of c.args.self.now) (state_of c.rebind_left.new.self) v c.args.source name f.left f.left_holder f.holder
     is former.left former.left_holder former.holder c.rebind_left.ensures c.rebind.ensures in (
       acted-other s v c.args.source name frame verdict changed
-          (record v { places = places_by (content_of t.contents) t.node (heard_of c.hear.new.self) }) (state_of c.bind.new.self)
+          (record v { sets = c.hear.new.self.sets; places = places_by (content_of t.contents) t.node (heard_of c.hear.new.self.watch) }) (state_of c.bind.new.self)
           (λ e. c.if-source-own.true (e ∙ sym c.own.ensures))
-          (ap (λ (heard : ℕ → Option ℕ). record v { places = places_by (content_of t.contents) t.node heard }) c.hear.ensures
-          ∙ ap (λ (places : ℕ → Place). record v { places = places }) (heard-placed (content_of t.contents) t.node (heard_of t.watch) c.args.source (Some t.time)))
+          ((λ i. record v { sets = c.hear.ensures.sets i; places = places_by (content_of t.contents) t.node (c.hear.ensures.heard i) })
+          ∙ ap (λ (places : ℕ → Place). record v { places = places }) (heard-placed (content_of t.contents) t.node (heard_of t.registry.watch) c.args.source (Some t.time)))
           c.bind.ensures,
       elim c.if-former.branch [
         | then-former w ↦ ap (λ outputs. outputs.items) w.outputs-is ∙ sent-defence s c.args.source name frame verdict f.is_defended defended (state_of c.args.self.now) w.own_claim.result c.args.outputs.now.items w.send.new.outputs.items is w.own_claim.ensures w.if-former.true w.send.ensures.items

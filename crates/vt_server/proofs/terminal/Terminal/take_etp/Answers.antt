@@ -7,4 +7,4 @@ returns-clause-takes c =
     let received = c.hear_etp-heard in
     etp-takes c.args.self.now c.args.frame.now received.result received.new.self
     received.ensures.rest received.ensures.taken
-    (state_of c.receive.new.self) c.source.result c.new.result.items c.args.outputs.now.items c.receive.new.outputs.items c.source.ensures c.new.ensures c.receive.ensures.takes
+    (state_of c.receive_alone.new.self) c.source.result c.args.outputs.now.items c.receive_alone.new.outputs.items c.source.ensures c.receive_alone.ensures.takes

@@ -3,9 +3,11 @@ use Rattle.vt_names.specs.Registry.{set_at, joining}
 use Rattle.vt_server.specs.Hearings.{TakesNotice}
 use Rattle.vt_server.specs.Parts.{after_master}
 use Rattle.vt_server.specs.States.{state_of}
-use Rattle.vt_server.specs.Terminals.{part, put}
+use Rattle.vt_server.specs.Terminals.{State, part, put}
 use Rattle.vt_server.specs.declared.bus.Notice.{Notice}
+use Rattle.vt_server.specs.declared.bus.Notice.TheVariants.{Member}
 use Rattle.vt_server.proofs.Heard.{takes-master, takes-member, takes-nothing, idle-by}
+use Rattle.vt_server.proofs.Watching.{registry-state}
 use Rattle.vt_server.proofs.terminal.Terminal.take_notice.Goals as goal
 
 pub returns-in-Master-clause-takes : goal.returns-in-Master-clause-takes
@@ -16,17 +18,19 @@ returns-in-Master-clause-takes c =
     let count = c.in-Master.count in
     subst (λ (n : Notice). TakesNotice s n c.args.frame.now t outputs outputs) (sym c.in-Master.is)
     (takes-master s t count c.args.frame.now outputs
-    (c.register.ensures ∙ ap (λ (a : ℕ). put a (after_master a (part a s) (part a s).holder count) s) c.source-source.ensures))
+    (c.register.ensures.state ∙ ap (λ (a : ℕ). put a (after_master a (part a s) (part a s).holder count) s) c.source-source.ensures))
 
 pub returns-in-Member-clause-takes : goal.returns-in-Member-clause-takes
 returns-in-Member-clause-takes c =
     let s = state_of c.args.self.now in
     let outputs = c.args.outputs.now.items in
     let name = c.in-Member.name in
-    let sets = c.member-refused.new.self.sets in
-    subst (λ (n : Notice). TakesNotice s n c.args.frame.now (record s { sets = sets }) outputs outputs) (sym c.in-Member.is)
+    let registry = c.member-refused.new.self in
+    let sets = registry.sets in
+    subst (λ (n : Notice). TakesNotice s n c.args.frame.now (state_of (record c.args.self.now { registry = registry })) outputs outputs) (sym c.in-Member.is)
+    (subst (λ (x : State). TakesNotice s (Member name) c.args.frame.now x outputs outputs) (sym (registry-state c.args.self.now registry c.member-refused.ensures.watch))
     (takes-member s name c.args.frame.now outputs sets
-    (c.member-refused.ensures.sets ∙ ap (λ (a : ℕ). joining (set_at a s.sets) name s.sets) c.source-source.ensures))
+    (c.member-refused.ensures.sets ∙ ap (λ (a : ℕ). joining (set_at a s.sets) name s.sets) c.source-source.ensures)))
 
 pub returns-in_default-clause-takes : goal.returns-in_default-clause-takes
 returns-in_default-clause-takes c =
