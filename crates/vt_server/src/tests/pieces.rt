@@ -1,6 +1,6 @@
 //! An upload in pieces, cut at any place, by frames and in packets.
 
-use super::script::{Step, expect_script};
+use super::script::{Step, expect_script, expect_steps, take_pieces};
 use super::*;
 
 const CLAIMS: Step = Step::Line("18EEFF80#0100000000800020", &[]);
@@ -15,6 +15,42 @@ const DELETED: Step = Step::Line(
     "14E72680#B2FFFFFFFFFFFFFF",
     &["14E68026#B200FFFFFFFFFFFF", "14E6FF26#FEFEFFFFFFFF00FF"],
 );
+
+// What each upload in two pieces ends with: its pool is accepted, shown, and deleted for the next one.
+const ENDS: [Step; 3] = [Step::Line("14E72680#12", ACCEPTED), SHOWN, DELETED];
+
+// Uploads a pool cut in two at each place, both parts in pieces of seven bytes.
+fn expect_cuts(
+    rt: &(impl Abort + AllocGlobal),
+    terminal: &mut Terminal,
+    pool: &[u8],
+) -> Result<(), Fail> {
+    for at in 0..=pool.len() {
+        let (head, tail) = pool.split_at(at);
+        take_bytes(rt, terminal, head)?;
+        // An empty piece adds nothing.
+        expect_steps(rt, terminal, &[Step::Line("14E72680#11", &[])])?;
+        take_bytes(rt, terminal, tail)?;
+        expect_steps(rt, terminal, &ENDS)?;
+    }
+    Ok(())
+}
+
+fn take_bytes(
+    rt: &(impl Abort + AllocGlobal),
+    terminal: &mut Terminal,
+    bytes: &[u8],
+) -> Result<(), Fail> {
+    let digits = hex::encode_upper(rt.alloc(), bytes)?;
+    take_pieces(rt, terminal, "80", &digits)
+}
+
+#[test]
+fn an_upload_cut_at_each_place(rt: HostRuntime) -> Result<(), Fail> {
+    let mut terminal = started(&rt, false)?;
+    expect_steps(&rt, &mut terminal, &[CLAIMS, IS_MASTER])?;
+    expect_cuts(&rt, &mut terminal, POOL)
+}
 
 const IN_PACKETS: [Step; 22] = [
     CLAIMS,

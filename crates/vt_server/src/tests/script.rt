@@ -24,8 +24,16 @@ pub(super) fn expect_script(
         Some(bytes) => preloaded_with(rt, bytes)?,
         None => started(rt, false)?,
     };
-    for step in script {
-        expect_step(rt, &mut terminal, step)?;
+    expect_steps(rt, &mut terminal, script)
+}
+
+pub(super) fn expect_steps(
+    rt: &(impl Abort + AllocGlobal),
+    terminal: &mut Terminal,
+    steps: &[Step],
+) -> Result<(), Fail> {
+    for step in steps {
+        expect_step(rt, terminal, step)?;
     }
     Ok(())
 }
@@ -79,7 +87,8 @@ pub(super) fn take_line(
     Ok(())
 }
 
-fn take_pieces(
+// Takes the pieces of a pool, of which the digits are given.
+pub(super) fn take_pieces(
     rt: &(impl Abort + AllocGlobal),
     terminal: &mut Terminal,
     source: &str,
