@@ -1,6 +1,6 @@
 //! The events of a change of the set that is shown.
 
-use super::script::{Step, expect_script, expect_step};
+use super::script::{Step, expect_script, expect_steps, take_pieces};
 use super::*;
 
 // Working Set 0 with macro 1 on Activate and macro 2 on Deactivate; Data Mask 1000 with Output Numbers 300 and 301
@@ -77,12 +77,15 @@ const ACTIVATED: [Step; 7] = [
     Step::Screen("screen 81 mask 2000\n"),
 ];
 
-fn uploaded(rt: &(impl Abort + AllocGlobal), terminal: &mut Terminal) -> Result<(), Fail> {
-    for step in &[CLAIMS, IS_MASTER] {
-        expect_step(rt, terminal, step)?;
-    }
-    for record in UPLOADED {
-        expect_step(rt, terminal, &Step::Pieces("81", record))?;
+// A set at 81 that has uploaded these records, and has not ended them.
+fn upload(
+    rt: &(impl Abort + AllocGlobal),
+    terminal: &mut Terminal,
+    records: &[&str],
+) -> Result<(), Fail> {
+    expect_steps(rt, terminal, &[CLAIMS, IS_MASTER])?;
+    for record in records {
+        take_pieces(rt, terminal, "81", record)?;
     }
     Ok(())
 }
@@ -90,18 +93,20 @@ fn uploaded(rt: &(impl Abort + AllocGlobal), terminal: &mut Terminal) -> Result<
 #[test]
 fn events_of_a_change(rt: HostRuntime) -> Result<(), Fail> {
     let mut terminal = preloaded_with(&rt, COUNTED)?;
-    for step in &PRELOADED {
-        expect_step(&rt, &mut terminal, step)?;
-    }
-    uploaded(&rt, &mut terminal)?;
-    for step in &CHANGES {
-        expect_step(&rt, &mut terminal, step)?;
-    }
-    let mut empty = started(&rt, false)?;
-    uploaded(&rt, &mut empty)?;
-    for step in &FIRST {
-        expect_step(&rt, &mut empty, step)?;
-    }
+    expect_steps(&rt, &mut terminal, &PRELOADED)?;
+    upload(&rt, &mut terminal, &UPLOADED)?;
+    expect_steps(&rt, &mut terminal, &CHANGES)
+}
+
+#[test]
+fn events_of_the_first_pool(rt: HostRuntime) -> Result<(), Fail> {
+    let mut terminal = started(&rt, false)?;
+    upload(&rt, &mut terminal, &UPLOADED)?;
+    expect_steps(&rt, &mut terminal, &FIRST)
+}
+
+#[test]
+fn an_event_that_activates_a_mask(rt: HostRuntime) -> Result<(), Fail> {
     expect_script(&rt, None, &ACTIVATED)
 }
 

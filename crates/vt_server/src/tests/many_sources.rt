@@ -1,6 +1,6 @@
 //! Sessions and sets of all addresses at once.
 
-use super::script::{expect_line, take_line};
+use super::script::{Step, expect_line, expect_step, take_line};
 use super::*;
 
 // Each of the 252 addresses other than the terminal's and 80 asks to send 1,785 bytes, and is answered.
@@ -16,27 +16,41 @@ fn ask_from_each(rt: &(impl Abort + AllocGlobal), terminal: &mut Terminal) -> Re
     Ok(())
 }
 
+// A session of 80, each frame of which comes after one from each other address.
+const BESIDE: [Step; 3] = [
+    Step::Line("1CEC2680#10090002FF00E700", &["1CEC8026#110201FFFF00E700"]),
+    Step::Line("1CEB2680#01B4E8036400FFFF", &[]),
+    Step::Line(
+        "1CEB2680#020500FFFFFFFFFF",
+        &["1CEC8026#13090002FF00E700", "14E68026#B4E803640000FFFF"],
+    ),
+];
+
+fn expect_beside(
+    rt: &(impl Abort + AllocGlobal),
+    terminal: &mut Terminal,
+    steps: &[Step],
+) -> Result<(), Fail> {
+    for step in steps {
+        ask_from_each(rt, terminal)?;
+        expect_step(rt, terminal, step)?;
+    }
+    Ok(())
+}
+
+// All sessions end at once, by rising source.
+fn expect_ends(rt: &(impl Abort + AllocGlobal), terminal: &mut Terminal) -> Result<(), Fail> {
+    let mut outputs = Vec::new(rt.alloc());
+    take_line(rt, terminal, "(2.250001) can0 18FFFF55#00", &mut outputs)?;
+    assert_eq!(rt; outputs.len(), 252);
+    expect_aborts(rt, &outputs)
+}
+
 #[test]
 fn a_session_beside_252_others(rt: HostRuntime) -> Result<(), Fail> {
     let mut terminal = started(&rt, true)?;
-    ask_from_each(&rt, &mut terminal)?;
-    let asks = "1CEC2680#10090002FF00E700";
-    expect_line(&rt, &mut terminal, asks, &["1CEC8026#110201FFFF00E700"])?;
-    ask_from_each(&rt, &mut terminal)?;
-    expect_line(&rt, &mut terminal, "1CEB2680#01B4E8036400FFFF", &[])?;
-    ask_from_each(&rt, &mut terminal)?;
-    let sent = ["1CEC8026#13090002FF00E700", "14E68026#B4E803640000FFFF"];
-    expect_line(&rt, &mut terminal, "1CEB2680#020500FFFFFFFFFF", &sent)?;
-    // All end at once, by rising source.
-    let mut outputs = Vec::new(rt.alloc());
-    take_line(
-        &rt,
-        &mut terminal,
-        "(2.250001) can0 18FFFF55#00",
-        &mut outputs,
-    )?;
-    assert_eq!(rt; outputs.len(), 252);
-    expect_aborts(&rt, &outputs)
+    expect_beside(&rt, &mut terminal, &BESIDE)?;
+    expect_ends(&rt, &mut terminal)
 }
 
 fn expect_aborts(rt: &(impl Abort + AllocGlobal), outputs: &[Output]) -> Result<(), Fail> {

@@ -1,6 +1,6 @@
 //! Texts of the operator that go out in packets.
 
-use super::script::Step;
+use super::script::{Step, expect_line, expect_script, expect_steps};
 use super::*;
 
 // Working Set 0, Data Mask 1000 and in it Input String 301, of 20 bytes.
@@ -95,17 +95,21 @@ const BEFORE_THE_FIRST: [Step; 3] = [
     Step::Screen("screen 80 mask 1000\ninput 301 0 0 \"ABCDE               \"\n"),
 ];
 
+// The steps of a terminal whose first frame was at one second.
+fn expect_timed(rt: &(impl Abort + AllocGlobal), steps: &[Step]) -> Result<(), Fail> {
+    let mut terminal = preloaded_with(rt, LONG)?;
+    expect_line(rt, &mut terminal, "18FFFF80#00", &[])?;
+    expect_steps(rt, &mut terminal, steps)
+}
+
 #[test]
 fn texts_in_packets(rt: HostRuntime) -> Result<(), Fail> {
-    // The first line of time is at one second.
-    let first = Step::Line("18FFFF80#00", &[]);
-    for steps in [SENT, ENDED] {
-        let mut terminal = preloaded_with(&rt, LONG)?;
-        script::expect_step(&rt, &mut terminal, &first)?;
-        for step in &steps {
-            script::expect_step(&rt, &mut terminal, step)?;
-        }
-    }
-    script::expect_script(&rt, Some(LONG), &AFTER_A_CLAIM)?;
-    script::expect_script(&rt, Some(LONG), &BEFORE_THE_FIRST)
+    expect_timed(&rt, &SENT)?;
+    expect_timed(&rt, &ENDED)
+}
+
+#[test]
+fn texts_after_a_claim_and_before_the_first_frame(rt: HostRuntime) -> Result<(), Fail> {
+    expect_script(&rt, Some(LONG), &AFTER_A_CLAIM)?;
+    expect_script(&rt, Some(LONG), &BEFORE_THE_FIRST)
 }
