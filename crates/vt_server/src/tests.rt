@@ -7,6 +7,7 @@ mod linux_logs;
 mod many_sources;
 mod messages_of_sets;
 mod pieces;
+mod redrawing;
 mod refusals;
 mod script;
 mod sets;
