@@ -181,33 +181,6 @@ takes-member s name frame outputs sets is = record {
     silent None = refl
     silent (Some set) = refl
 
--- ---- no notice refuses an action of the operator
-
-message-accepted : (a : ℕ) (p : Part) (v : Verdict) (o : Option Set) (m : Option (List ℕ)) → (after_message a p v o m).refused ≡ None
-message-accepted a p v None m = refl
-message-accepted a p v (Some set) None = refl
-message-accepted a p v (Some set) (Some bytes) = refl
-
-pub accepted : (now a : ℕ) (n : Notice) (frame : Frame) → IsNoClaim n → (p : Part) (v : Verdict) → (after_notice now a p n frame v).refused ≡ None
-accepted now a (notices.Claim name) frame unclaimed p v = absurd (unclaimed name refl)
-accepted now a notices.ClaimRequest frame unclaimed p v = message-accepted a p v p.set None
-accepted now a (notices.Master count) frame unclaimed p v = cases p.holder
-  where
-    cases : (o : Option ℕ) → (after_master a p o count).refused ≡ None
-    cases None = refl
-    cases (Some h) = refl
-accepted now a (notices.Member name) frame unclaimed p v = cases p.set
-  where
-    cases : (o : Option Set) → (after_member p o name).refused ≡ None
-    cases None = refl
-    cases (Some set) = refl
-accepted now a notices.Message frame unclaimed p v = message-accepted a p v p.set (Some frame.bytes.items)
-accepted now a notices.Tp frame unclaimed p v =
-    let c = came now p.terminal a p.place notices.Tp frame in message-accepted a (record p { place = c.place }) v p.set c.message
-accepted now a notices.Etp frame unclaimed p v =
-    let c = came now p.terminal a p.place notices.Etp frame in message-accepted a (record p { place = c.place }) v p.set c.message
-accepted now a notices.Nothing frame unclaimed p v = message-accepted a p v p.set None
-
 -- ---- what was made ready judges the upload that a message ends
 
 now-with : (content : Content) (room : ℕ) (bytes : List ℕ) (upload : Upload) → IsReadyNow content room bytes upload → IsReadyWith content room bytes upload

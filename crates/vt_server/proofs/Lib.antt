@@ -1,3 +1,4 @@
+mod Accepted
 mod ActsAt
 mod Answered
 mod Changes
@@ -16,6 +17,7 @@ mod InForce
 mod Keeping
 mod Kept
 mod Listing
+mod Messaged
 mod OneStep
 mod OneVerdict
 mod Overdue

@@ -39,7 +39,7 @@ use Rattle.vt_server.proofs.ActsAt.{AllAt, at-append, at-below, at-changes, at-h
 use Rattle.vt_server.proofs.Changes.{option-same, shown-acts}
 use Rattle.vt_server.proofs.Framed.{any_verdict}
 use Rattle.vt_server.proofs.Keeping.{lapsed-keeps}
-use Rattle.vt_server.proofs.Performed.{refused-is}
+use Rattle.vt_server.proofs.Messaged.{refused-is}
 use Rattle.vt_server.proofs.Puts.{by_eq, act-is, at-own, at-other}
 
 -- ---- the text

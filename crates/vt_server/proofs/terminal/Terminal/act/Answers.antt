@@ -14,7 +14,8 @@ use Rattle.vt_server.specs.Watches.{heard_of}
 use Rattle.vt_server.specs.declared.output.OperatorFault.{OperatorFault}
 use Rattle.vt_server.specs.declared.output.Output.TheVariants as declared
 use Rattle.vt_can.specs.declared.frames.frame.Frame.{Frame}
-use Rattle.vt_server.proofs.Performed.{shown-at, short-selects, takes-none, takes-act-refused, takes-act-done, one-frame, no-frame}
+use Rattle.vt_server.proofs.Performed.{shown-at, short-selects, takes-none, takes-act-refused, takes-act-done}
+use Rattle.vt_server.proofs.Messaged.{one-frame, no-frame}
 use Rattle.vt_server.proofs.Undrawn.{refused-pool, same-pool}
 use Rattle.vt_server.proofs.terminal.Terminal.act.Goals as goal
 

@@ -11,7 +11,8 @@ use Rattle.vt_server.specs.Transfers.{IsVerdict}
 use Rattle.vt_server.specs.declared.bus.Notice.TheVariants as notices
 use Rattle.vt_server.specs.declared.output.Output.TheVariants as declared
 use Rattle.vt_server.proofs.Framed.{any_verdict, with_place_at, takes-echo, takes-heard}
-use Rattle.vt_server.proofs.Heard.{none-ends, takes-nothing, request-unclaimed, heard-state, accepted}
+use Rattle.vt_server.proofs.Heard.{none-ends, takes-nothing, request-unclaimed, heard-state}
+use Rattle.vt_server.proofs.Accepted.{accepted}
 use Rattle.vt_server.proofs.terminal.Terminal.answer_request.Goals as goal
 
 pub returns-then-source-own-clause-takes : goal.returns-then-source-own-clause-takes

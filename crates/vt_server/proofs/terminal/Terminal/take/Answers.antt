@@ -10,7 +10,8 @@ use Rattle.vt_server.specs.Uploads.{content_of, room_of}
 use Rattle.vt_server.specs.Watches.{heard_of}
 use Rattle.vt_server.specs.declared.bus.Notice.TheVariants as notices
 use Rattle.vt_server.proofs.Framed.{takes-echo, takes-heard}
-use Rattle.vt_server.proofs.Heard.{upload-judges, came-reads, defence-none, heard-state, accepted}
+use Rattle.vt_server.proofs.Heard.{upload-judges, came-reads, defence-none, heard-state}
+use Rattle.vt_server.proofs.Accepted.{accepted}
 use Rattle.vt_server.proofs.terminal.Terminal.take.Goals as goal
 use Rattle.vt_server.proofs.terminal.Terminal.take.Goals.{in-ClaimRequest, in_default}
 

@@ -1,0 +1,35 @@
+-- No notice refuses an action of the operator.
+use Rattle.std.proofs.Common.{◌≡◌, ℕ, List, Option, Some, None, refl}
+use Rattle.vt_can.specs.declared.frames.frame.Frame.{Frame}
+use Rattle.vt_names.specs.Registry.{Set}
+use Rattle.vt_server.specs.Hearings.{IsNoClaim}
+use Rattle.vt_server.specs.Parts.{Part, after_message, after_master, after_member, after_notice}
+use Rattle.vt_server.specs.Sessions.{came}
+use Rattle.vt_server.specs.Transfers.{Verdict}
+use Rattle.vt_server.specs.declared.bus.Notice.{Notice}
+use Rattle.vt_server.specs.declared.bus.Notice.TheVariants as notices
+
+message-accepted : (a : ℕ) (p : Part) (v : Verdict) (o : Option Set) (m : Option (List ℕ)) → (after_message a p v o m).refused ≡ None
+message-accepted a p v None m = refl
+message-accepted a p v (Some set) None = refl
+message-accepted a p v (Some set) (Some bytes) = refl
+
+pub accepted : (now a : ℕ) (n : Notice) (frame : Frame) → IsNoClaim n → (p : Part) (v : Verdict) → (after_notice now a p n frame v).refused ≡ None
+accepted now a (notices.Claim name) frame unclaimed p v = absurd (unclaimed name refl)
+accepted now a notices.ClaimRequest frame unclaimed p v = message-accepted a p v p.set None
+accepted now a (notices.Master count) frame unclaimed p v = cases p.holder
+  where
+    cases : (o : Option ℕ) → (after_master a p o count).refused ≡ None
+    cases None = refl
+    cases (Some h) = refl
+accepted now a (notices.Member name) frame unclaimed p v = cases p.set
+  where
+    cases : (o : Option Set) → (after_member p o name).refused ≡ None
+    cases None = refl
+    cases (Some set) = refl
+accepted now a notices.Message frame unclaimed p v = message-accepted a p v p.set (Some frame.bytes.items)
+accepted now a notices.Tp frame unclaimed p v =
+    let c = came now p.terminal a p.place notices.Tp frame in message-accepted a (record p { place = c.place }) v p.set c.message
+accepted now a notices.Etp frame unclaimed p v =
+    let c = came now p.terminal a p.place notices.Etp frame in message-accepted a (record p { place = c.place }) v p.set c.message
+accepted now a notices.Nothing frame unclaimed p v = message-accepted a p v p.set None
