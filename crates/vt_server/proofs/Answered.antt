@@ -23,12 +23,6 @@ pub same-content : (a : ℕ) (s : State) → with_content_at a (s.places a).cont
 same-content a s = ap (λ (p : ℕ → Place). record s { places = p }) (places-same a s.places (s.places a) refl)
 
 module _ (s : State) (a : ℕ) (bytes : List ℕ) where
-  pub is-technical : (r : List ℕ) → Some r ≡ technical_reply bytes → IsReplyTo s a bytes (Some r) s
-  is-technical r is = record {
-    state = sym (ap (λ o. with_content_at a (asked (s.places a).content bytes o).content s) (sym is) ∙ same-content a s);
-    reply_is = ap (λ o. (asked (s.places a).content bytes o).reply) is;
-  }
-
   module _ (none : None ≡ technical_reply bytes) where
     asked-is : asked (s.places a).content bytes (technical_reply bytes) ≡ commanded (s.places a).content (command_at bytes)
     asked-is = ap (asked (s.places a).content bytes) (sym none)

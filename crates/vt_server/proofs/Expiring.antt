@@ -1,6 +1,5 @@
 -- The end of sessions that are overdue, one after the other.
 use Rattle.std.proofs.Common.{◌≡◌, ◌≢◌, ℕ, ◌+◌, true, false, cond, List, [], ◌∷◌, ◌++◌, map, Option, Some, None, refl, sym, ap, ◌∙◌, append_assoc}
-use Rattle.std.proofs.lemmas.List.{map-append}
 use Rattle.std.specs.FinMap as finite
 use Rattle.vt_can.specs.declared.frames.frame.Frame.{Frame}
 use Rattle.vt_can.specs.declared.transport.sessions.Timed.{Timed}
@@ -19,14 +18,12 @@ use Rattle.vt_server.specs.Parts.{Act, TpExpires, EtpExpires, SendingExpires, wi
 use Rattle.vt_server.specs.Places.{Content, Place}
 use Rattle.vt_server.specs.Sessions.{timeout_of, sending_timeout}
 use Rattle.vt_server.specs.States.{places_by}
-use Rattle.vt_server.specs.Terminals.{State, Sent, ToOne, part, after_act, after_acts, sent_by_act, sent_by_acts, with_at}
+use Rattle.vt_server.specs.Terminals.{State, ToOne, part, after_act, after_acts, sent_by_act, sent_by_acts, with_at}
 use Rattle.vt_server.specs.declared.output.Output.{Output}
 use Rattle.vt_server.specs.declared.output.Output.TheVariants as declared
+use Rattle.vt_server.proofs.Framed.{outputs-append}
 use Rattle.vt_server.proofs.Puts.{by_eq, act-is, sent_by_one-is}
 use Rattle.vt_server.proofs.Writes.{places-written, put-place}
-
-pub outputs-append : (xs ys : List Sent) → outputs_of (xs ++ ys) ≡ outputs_of xs ++ outputs_of ys
-outputs-append xs ys = map-append _ xs ys
 
 module _ {S : Type 0} (now : ℕ) where
   overdue-is : (o : Option (Timed S)) → is_overdue now o ≡ true → alive now o ≡ None

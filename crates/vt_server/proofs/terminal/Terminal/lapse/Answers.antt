@@ -8,7 +8,7 @@ use Rattle.vt_server.specs.Registries.{Watched}
 use Rattle.vt_server.specs.Watches.{heard_of}
 use Rattle.vt_server.specs.declared.output.Output.{Output}
 use Rattle.vt_server.specs.declared.terminal.Terminal.{Terminal}
-use Rattle.vt_server.proofs.Expiring.{outputs-append}
+use Rattle.vt_server.proofs.Framed.{outputs-append}
 use Rattle.vt_server.proofs.terminal.Terminal.lapse.Goals as goal
 
 -- the state at the frame line's time
