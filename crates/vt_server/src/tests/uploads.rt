@@ -1,6 +1,6 @@
 //! What the end of an upload is answered.
 
-use super::script::{Step, expect_line, expect_script, expect_step};
+use super::script::{Step, expect_line, expect_script, take_pieces};
 use super::*;
 
 const WORKING_SET: &str = "0000000001E803000000";
@@ -10,6 +10,127 @@ const MASK: &str = "E8030100FFFF010064000A000500";
 const CONTAINER: &str = "64000332001400000000";
 
 const ENDS: &str = "14E72680#12FFFFFFFFFFFFFF";
+
+// The records that a set without a pool uploads, and the reply to their end.
+#[derive(Clone, Copy)]
+struct Refused {
+    records: &'static [&'static str],
+    reply: &'static str,
+}
+
+const REFUSED: [Refused; 24] = [
+    // No pool: cut, of a type that there is not or that is left out, of a NULL ID, of another scale, of eight decimals.
+    Refused {
+        records: &["0100"],
+        reply: "14E68026#1201FFFFFFFF04FF",
+    },
+    Refused {
+        records: &[WORKING_SET, MASK, "640003"],
+        reply: "14E68026#1201FFFFFFFF04FF",
+    },
+    Refused {
+        records: &["010022"],
+        reply: "14E68026#1201FFFFFFFF01FF",
+    },
+    Refused {
+        records: &["01001D"],
+        reply: "14E68026#1201FFFFFFFF01FF",
+    },
+    Refused {
+        records: &["010021"],
+        reply: "14E68026#1201FFFFFFFF01FF",
+    },
+    Refused {
+        records: &["FFFF1500000000"],
+        reply: "14E68026#1201FFFFFFFF04FF",
+    },
+    Refused {
+        records: &["01000C0000000000FFFF00FFFF00000000000000000000003F00000000"],
+        reply: "14E68026#1201FFFFFFFF04FF",
+    },
+    Refused {
+        records: &["01000C0000000000FFFF00FFFF00000000000000000000803F08000000"],
+        reply: "14E68026#1201FFFFFFFF04FF",
+    },
+    // The first faulty record is named.
+    Refused {
+        records: &["010022", "FFFF15"],
+        reply: "14E68026#1201FFFFFFFF01FF",
+    },
+    // No working set, and two.
+    Refused {
+        records: &[],
+        reply: "14E68026#1201FFFFFFFF04FF",
+    },
+    Refused {
+        records: &["01001500000000"],
+        reply: "14E68026#1201FFFFFFFF04FF",
+    },
+    Refused {
+        records: &[WORKING_SET, MASK, CONTAINER, "0100000000FFFF000000"],
+        reply: "14E68026#1201FFFFFFFF04FF",
+    },
+    // An object that is not there, NULL where an object has to be, and one of another kind.
+    Refused {
+        records: &[WORKING_SET, MASK],
+        reply: "14E68026#1201E803640002FF",
+    },
+    Refused {
+        records: &[WORKING_SET, "E8030100FFFF0100FFFF0A000500"],
+        reply: "14E68026#1201E803FFFF02FF",
+    },
+    Refused {
+        records: &[WORKING_SET, MASK, "64001500000000"],
+        reply: "14E68026#1201E803640004FF",
+    },
+    // A container in itself.
+    Refused {
+        records: &[WORKING_SET, MASK, "64000332001400000100640000000000"],
+        reply: "14E68026#1201FFFFFFFF04FF",
+    },
+    // A macro that ends inside a command, and one with a command that macros do not have.
+    Refused {
+        records: &[WORKING_SET, MASK, CONTAINER, "01001C0200A432"],
+        reply: "14E68026#1201FFFF010004FF",
+    },
+    Refused {
+        records: &[WORKING_SET, MASK, CONTAINER, "01001C0800A2FFFFFFFFFFFFFF"],
+        reply: "14E68026#1201FFFF010004FF",
+    },
+    // A macro, and an object of a macro's command, that are not there, or of another kind.
+    Refused {
+        records: &[WORKING_SET, MASK, "640003320014000000010309"],
+        reply: "14E68026#12016400090002FF",
+    },
+    Refused {
+        records: &[WORKING_SET, MASK, "640003320014000000010364"],
+        reply: "14E68026#12016400640004FF",
+    },
+    Refused {
+        records: &[WORKING_SET, MASK, CONTAINER, "01001C0800A0C80001FFFFFFFF"],
+        reply: "14E68026#12010100C80002FF",
+    },
+    Refused {
+        records: &[WORKING_SET, MASK, CONTAINER, "01001C0800A0E80301FFFFFFFF"],
+        reply: "14E68026#12010100E80304FF",
+    },
+    // An attribute that a container does not have.
+    Refused {
+        records: &[WORKING_SET, MASK, CONTAINER, "01001C0800AF64000900000000"],
+        reply: "14E68026#1201FFFF010004FF",
+    },
+    // A macro that triggers itself.
+    Refused {
+        records: &[
+            WORKING_SET,
+            MASK,
+            CONTAINER,
+            "05001700000000010B01",
+            "01001C0800AA050000000000FF",
+        ],
+        reply: "14E68026#1201FFFF010004FF",
+    },
+];
 
 const SIMPLE: [&str; 3] = [WORKING_SET, MASK, CONTAINER];
 
@@ -37,10 +158,10 @@ const COSTLY: [&str; 10] = [
 fn take_records(
     rt: &(impl Abort + AllocGlobal),
     terminal: &mut Terminal,
-    records: &[&'static str],
+    records: &[&str],
 ) -> Result<(), Fail> {
     for record in records {
-        expect_step(rt, terminal, &Step::Pieces("80", *record))?;
+        take_pieces(rt, terminal, "80", record)?;
     }
     Ok(())
 }
@@ -52,17 +173,50 @@ fn registered(rt: &(impl Abort + AllocGlobal)) -> Result<Terminal, Fail> {
     Ok(terminal)
 }
 
+fn expect_refused(
+    rt: &(impl Abort + AllocGlobal),
+    terminal: &mut Terminal,
+    uploads: &[Refused],
+) -> Result<(), Fail> {
+    for upload in uploads {
+        take_records(rt, terminal, upload.records)?;
+        expect_line(rt, terminal, ENDS, &[upload.reply])?;
+        assert!(rt; terminal.set(0x80).is_none());
+    }
+    Ok(())
+}
+
+// Each is refused with its reply, and leaves nothing to the next one.
+#[test]
+fn uploads_that_are_refused(rt: HostRuntime) -> Result<(), Fail> {
+    let mut terminal = registered(&rt)?;
+    expect_refused(&rt, &mut terminal, &REFUSED)
+}
+
+fn expect_upload(
+    rt: &(impl Abort + AllocGlobal),
+    terminal: &mut Terminal,
+    parts: &[&[&str]],
+    sent: &[&str],
+) -> Result<(), Fail> {
+    for records in parts {
+        take_records(rt, terminal, records)?;
+    }
+    expect_line(rt, terminal, ENDS, sent)
+}
+
 #[test]
 fn an_upload_over_its_budget(rt: HostRuntime) -> Result<(), Fail> {
     let mut terminal = registered(&rt)?;
-    take_records(&rt, &mut terminal, &SIMPLE)?;
-    take_records(&rt, &mut terminal, &COSTLY)?;
-    take_records(&rt, &mut terminal, &[COSTLIEST])?;
-    expect_line(&rt, &mut terminal, ENDS, &["14E68026#1201FFFF010004FF"])?;
+    let refused = &["14E68026#1201FFFF010004FF"];
+    expect_upload(
+        &rt,
+        &mut terminal,
+        &[&SIMPLE, &COSTLY, &[COSTLIEST]],
+        refused,
+    )?;
     // Without its first macro it is accepted.
-    take_records(&rt, &mut terminal, &SIMPLE)?;
-    take_records(&rt, &mut terminal, &COSTLY)?;
-    expect_line(&rt, &mut terminal, ENDS, &TAKEN)
+    expect_upload(&rt, &mut terminal, &[&SIMPLE, &COSTLY], &TAKEN)
 }
 
 const ACCEPTED: [Step; 8] = [
