@@ -8,6 +8,7 @@ mod ClaimsHeard
 mod Counting
 mod Ended
 mod Expiring
+mod FewRaised
 mod FewRuns
 mod Framed
 mod Happened

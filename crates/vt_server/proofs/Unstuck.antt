@@ -9,7 +9,6 @@ use Rattle.vt_can.specs.lines.Actions.{ActionValue, Press, Release, Select, Numb
 use Rattle.vt_can.specs.lines.Actions as actions
 use Rattle.vt_names.specs.Registry.{Set}
 use Rattle.vt_objects.specs.declared.command.Command.{Command}
-use Rattle.vt_objects.specs.declared.command.Command.TheVariants as commands
 use Rattle.vt_objects.specs.declared.event.Event.{Event}
 use Rattle.vt_objects.specs.declared.event.Event.TheVariants as events
 use Rattle.vt_objects.specs.declared.raising.Raised.{Raised}
@@ -25,9 +24,9 @@ use Rattle.vt_machine.specs.declared.operator.OperatorRefusal.{OperatorRefusal}
 use Rattle.vt_machine.specs.declared.operator.OperatorRefusal.TheVariants as refusals
 use Rattle.vt_machine.specs.Changes.{left}
 use Rattle.vt_machine.specs.Effects.{effect, after}
-use Rattle.vt_machine.specs.Entering.{EntriesKeepOrder, EntriesKeepShapes, entry_events, number_entered, number_place, put_at, with_number, with_text, text_entered, text_place}
+use Rattle.vt_machine.specs.Entering.{EntriesKeepOrder, EntriesKeepShapes, number_entered, number_place, put_at, with_number, with_text, text_entered, text_place}
 use Rattle.vt_machine.specs.Lives.{SetState, active_in, with_objects, working_set_in}
-use Rattle.vt_machine.specs.Machines.{End, Ended, shape_in, mask_of, total_budget, events_of, joined, run, run_of}
+use Rattle.vt_machine.specs.Machines.{End, shape_in, total_budget, events_of, joined, run, run_of}
 use Rattle.vt_machine.specs.Operating as operating
 use Rattle.vt_machine.specs.Runs.{Ends, IsReady, NullIsNoObject, RunsEnd, PoolsAreReady}
 use Rattle.vt_machine.specs.Soundness.{CommandsKeepOrder, CommandsKeepShapes, IsSound}
@@ -35,15 +34,16 @@ use Rattle.vt_layout.specs.Drawings.{DrawingsNeverStick, PathsAreChained}
 use Rattle.vt_server.specs.Commands.{store_of, after_done, content_after, deletes, state_after}
 use Rattle.vt_server.specs.Findings.{IsJudged, ends_transfer}
 use Rattle.vt_server.specs.Handling.{handled, ends_pool, transferred, end_handled, asked, commanded, TRANSFER, END_OF_POOL}
-use Rattle.vt_server.specs.Headline.{IsInForce, Run, EndsInTime, runs_of_effect, runs_of_command, runs_of_message, runs_of_action, runs_of_operator, runs_of_event, runs_at, named}
+use Rattle.vt_server.specs.Headline.{IsInForce, EndsInTime, runs_of_effect, runs_of_command, runs_of_message, runs_of_action, runs_of_operator, runs_of_event, runs_at, named}
 use Rattle.vt_server.specs.Messages.{technical_reply}
-use Rattle.vt_server.specs.Operators.{action_on, is_busy, ran}
+use Rattle.vt_server.specs.Operators.{action_on, is_busy}
 use Rattle.vt_server.specs.Parts.{Part, Act, Hears, Rebinds, Preloads, TpExpires, EtpExpires, SendingExpires, FallsSilent, Operates, Raises, Outcome, outcome, after_action, after_change, after_claim_heard, after_master, after_member, after_message, after_operator, raised_on, stays_under}
 use Rattle.vt_server.specs.Places.{Content, heard_at}
 use Rattle.vt_server.specs.Sessions.{came}
-use Rattle.vt_server.specs.Transfers.{Verdict, Accepts, Faulty, Refuses, IsVerdict, IsAccepted, ended, merged, with_objects_of}
+use Rattle.vt_server.specs.Transfers.{Verdict, Accepts, Faulty, Refuses, IsVerdict, ended, merged, with_objects_of}
 use Rattle.vt_server.specs.declared.bus.Notice.{Notice}
 use Rattle.vt_server.specs.declared.bus.Notice.TheVariants.{Claim, ClaimRequest, Master, Member, Message, Tp, Etp, Nothing}
+use Rattle.vt_server.proofs.FewRaised.{few-events, few-selected, few-entered, few-named}
 
 -- what the crates below promise
 pub record Laws : Type 0 where
@@ -75,45 +75,6 @@ MayHappen now a p (Hears n f verdict) = IsJudged now a p n f verdict
 MayHappen now a p (Raises event) = (event ≡ 2) ⊎ (event ≡ 1)
 MayHappen now a p (Preloads contents) = (pool : Objects) × IsVerified pool × (contents ≡ map_of pool)
 MayHappen now a p _ = Unit {0}
-
--- ---- few events are raised at once
-
-few-state : (b c : Bool) (x y : Raised) → length (cond b (x ∷ []) (cond c (y ∷ []) [])) ≤ 3
-few-state true c x y = omega arith
-few-state false true x y = omega arith
-few-state false false x y = omega arith
-
-few-hidden : (b : Bool) (x y z : Raised) → length (cond b [] (x ∷ []) ++ y ∷ z ∷ []) ≤ 3
-few-hidden true x y z = omega arith
-few-hidden false x y z = omega arith
-
-few-masks : (b c : Bool) (w x y z : Raised) → length (cond b (w ∷ []) (cond c [] (x ∷ []) ++ y ∷ z ∷ [])) ≤ 3
-few-masks true c w x y z = omega arith
-few-masks false c w x y z = few-hidden c x y z
-
-few-events : (store : Contents) (command : Command) → length (events_of store command) ≤ 3
-few-events store (commands.HideShow id state) = few-state (eqb state 1) (eqb state 0) (raise id events.Show) (raise id events.Hide)
-few-events store (commands.EnableDisable id state) = few-state (eqb state 1) (eqb state 0) (raise id events.Enable) (raise id events.Disable)
-few-events store (commands.ChangeActiveMask set mask) =
-    let old = mask_of (finite.get store set) in
-    few-masks (eqb old mask) (eqb old 0xFFFF) (raise set events.ActiveMask) (raise old events.Hide) (raise set events.ActiveMask) (raise mask events.Show)
-few-events store _ = omega arith
-
-few-selected : (id : ℕ) (o : Option ℕ) → length (operating.select_events id o) ≤ 3
-few-selected id None = omega arith
-few-selected id (Some old) = cases (eqb old id)
-  where
-    cases : (b : Bool) → length (cond b [] (raise old events.InputDeselected ∷ raise id events.InputSelected ∷ [])) ≤ 3
-    cases true = omega arith
-    cases false = omega arith
-
-few-entered : (id : ℕ) (b : Bool) → length (entry_events id b) ≤ 3
-few-entered id true = omega arith
-few-entered id false = omega arith
-
-few-named : (id : ℕ) (o : Option Event) → length (named id o) ≤ 3
-few-named id None = omega arith
-few-named id (Some event) = omega arith
 
 module _ (laws : Laws) where
   -- ---- runs
