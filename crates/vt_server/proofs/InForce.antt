@@ -1,5 +1,5 @@
 -- A step leaves pools in force and its runs end, and so does every list of inputs.
-use Rattle.std.proofs.Common.{◌≡◌, ℕ, zero, suc, Bool, true, false, cond, not, nat_eq, eqb, List, [], ◌∷◌, ◌++◌, map, Option, Some, None, is_some, refl, sym, ap, subst, ◌∙◌, inl, inr, ◌⊎◌}
+use Rattle.std.proofs.Common.{◌≡◌, ℕ, Bool, true, false, cond, nat_eq, eqb, List, [], ◌∷◌, ◌++◌, map, Option, Some, None, is_some, refl, sym, ap, subst, ◌∙◌, inl, inr, ◌⊎◌}
 use Rattle.std.specs.Prelude.{IfSome}
 use Rattle.std.specs.List.{AllByRecursion, filter}
 use Rattle.std.specs.Option.{option_eq}
@@ -9,21 +9,20 @@ use Rattle.vt_can.specs.lines.Actions.{ActionValue, Press, Release, Select, Numb
 use Rattle.vt_can.specs.lines.Actions as actions
 use Rattle.vt_can.specs.transport.Sessions.{is_overdue}
 use Rattle.vt_names.specs.Registry.{Set}
-use Rattle.vt_objects.specs.Stores.{Objects, map_of}
-use Rattle.vt_verify.specs.Rules.{IsVerified}
+use Rattle.vt_objects.specs.Stores.{map_of}
 use Rattle.vt_machine.specs.Lives.{SetState}
 use Rattle.vt_layout.specs.Drawings.{at_path, key_entries, mask_entries, origin}
 use Rattle.vt_server.specs.Bus.{notice_of}
-use Rattle.vt_server.specs.Choosing.{choosing, shown_now, selected_now, events_of_change, raised_at, ACTIVATE, DEACTIVATE}
+use Rattle.vt_server.specs.Choosing.{choosing, shown_now, events_of_change, raised_at, ACTIVATE, DEACTIVATE}
 use Rattle.vt_server.specs.Findings.{IsJudged, IsFound, AreFound, ends_transfer}
 use Rattle.vt_server.specs.Headline.{IsInForce, AreInForce, Run, EndsInTime, AllEnd, DrawsWhatIsThere, Keeps, NeverSticks, runs_at, runs_of_acts, runs_of_settling, runs_of_hearing, runs_of_operating, runs}
 use Rattle.vt_server.specs.Lapses.{at_time, lapsed, silences, silent, tp_due, etp_due, sending_due, after_tp_timeouts, after_etp_timeouts, after_timeouts}
 use Rattle.vt_server.specs.Parts.{Part, Act, Hears, Rebinds, Preloads, TpExpires, EtpExpires, SendingExpires, FallsSilent, Operates, Raises, Outcome, outcome}
 use Rattle.vt_server.specs.Places.{empty, Place}
 use Rattle.vt_server.specs.States.{TakesInputs}
-use Rattle.vt_server.specs.Steps.{Event, FrameAt, ActionAt, step, after_all, before, acts, acted, answer_to, is_lost_by, changes, heard_at_source, settled, losing, acting, hearing, no_step, step_frame, selecting, at_shown, step_action, preloading}
-use Rattle.vt_server.specs.Terminals.{State, pool_of, pool_at, part, put, with_at, after_act, after_acts}
-use Rattle.vt_server.specs.Transfers.{Verdict, IsVerdict}
+use Rattle.vt_server.specs.Steps.{Event, FrameAt, ActionAt, step, after_all, before, acts, acted, answer_to, is_lost_by, changes, heard_at_source, settled, losing, acting, hearing, no_step, step_frame, selecting, at_shown, step_action}
+use Rattle.vt_server.specs.Terminals.{State, pool_of, part, put, with_at, after_act, after_acts}
+use Rattle.vt_server.specs.Transfers.{Verdict}
 use Rattle.vt_server.specs.declared.bus.Notice.{Notice}
 use Rattle.vt_server.specs.declared.bus.Notice.TheVariants.{Claim, ClaimRequest, Master, Member, Message, Tp, Etp, Nothing}
 use Rattle.vt_server.specs.declared.input.Input.{Input}
