@@ -1,89 +1,136 @@
--- The holders kept beside the addresses, after a claim.
-use Rattle.std.proofs.Common.{◌≡◌, ◌≢◌, ℕ, true, false, true≢false, eqb, eq-eqb, ◌<◌, List, [], Option, Some, None, get_or, set, refl, sym, ap, subst, ◌∙◌, replicate, length-set, get_or-set_same, get_or-set_other}
-use Rattle.std.proofs.lemmas.List.{get_or-replicate}
+-- The NAMEs kept for each address, after a claim.
+use Rattle.std.proofs.Common.{◌≡◌, ◌≢◌, ℕ, ◌<◌, Bool, true, false, true≢false, cond, ◌&&◌, eqb, eq-eqb, ne_eqb, List, [], ◌∷◌, length, get_or, Option, Some, None, refl, sym, ap, ◌∙◌, arith}
 use Rattle.std.proofs.lemmas.Bool.{eqb-true}
+use Rattle.std.proofs.lemmas.List.{get_or_default}
+use Rattle.std.proofs.lemmas.Map.Keys.{le_from_not_gt}
+use Rattle.std.specs.List.{list_any}
 use Rattle.std.specs.Option.{option_eq}
-use Rattle.vt_names.specs.Claims.{Addresses, AreHolders, ArePartly, with_address, address_of, holder_of, lesser}
-use Rattle.vt_names.proofs.Holding.{by_eq, some-is, none-some, holder-address, holder-inserted}
-use Rattle.vt_names.proofs.Histories.{stays-with, Rising-with}
+use Rattle.std.specs.Ordering.{nat_cmp, is_gt}
+use Rattle.std.specs.Map.{remove_entry}
+use Rattle.std.specs.BTreeMap.{insert_entry, is_at}
+use Rattle.std.specs.BTreeSet.{BTreeSet, contains}
+use Rattle.vt_names.specs.Claims.{Addresses, IsRising, NameSets, AreHolders, ChangesOnly, has_name, with_address, address_of, holder_of}
+use Rattle.vt_names.proofs.Holding.{by_eq, some-is, none-some, inserted, removed, address-first, address-later, Above-less, Above-address, holder-address, no-holder, least-holder}
+use Rattle.vt_names.proofs.Histories.{Rising-with, address-with}
 
--- nothing has to be done where the NAME held no address that it leaves
-pub partly-kept : (holders : List (Option ℕ)) (before : Addresses) (name : ℕ) (claimed : Option ℕ) → AreHolders holders before
-    → ((q : ℕ) → q < 256 → claimed ≢ Some q → holder_of before q ≢ Some name) → ArePartly holders before name claimed
-partly-kept holders before name claimed are held = record {
-  all = are.0;
-  rising = are.1;
-  others = λ q h ne. are.2 q h ∙ sym (stays-with before name claimed q ne (held q h ne));
-  at_claimed = λ q h _. are.2 q h;
+pub same_option : (o p : Option ℕ) → option_eq eqb o p ≡ true → o ≡ p
+same_option None None e = refl
+same_option None (Some y) e = absurd (true≢false (sym e))
+same_option (Some x) None e = absurd (true≢false (sym e))
+same_option (Some x) (Some y) e = ap Some (eqb-true x y e)
+
+pub option_same : (o : Option ℕ) → option_eq eqb o o ≡ true
+option_same None = refl
+option_same (Some x) = eq-eqb x x refl
+
+-- ---- before the first claim
+
+pub no-holders : (sets : NameSets) → ((q : ℕ) → q < 256 → (get_or sets q (record { keys = [] })).keys ≡ []) → AreHolders sets []
+no-holders sets none = record { rising = tt; exact = λ q n small. ap (list_any (is_at (nat_cmp n))) (none q small) }
+
+-- ---- a claim of the address that the NAME has already
+
+removed-none : (n : ℕ) (es : Addresses) → address_of es n ≡ None → remove_entry (is_at (nat_cmp n)) es ≡ es
+removed-none n [] none = refl
+removed-none n (e ∷ es) none =
+    let rest = removed-none n es in
+    removed (λ l. l ≡ e ∷ es) n e es
+    (λ is. none-some (sym none ∙ address-first n e es is))
+    (λ ne. ap (λ l. e ∷ l) (rest (sym (address-later n e es ne) ∙ none)))
+
+inserted-same : (n a : ℕ) (es : Addresses) → IsRising es → address_of es n ≡ Some a → insert_entry nat_cmp es n a ≡ es
+inserted-same n a [] rising found = none-some found
+inserted-same n a (e ∷ es) rising found =
+    let rest = inserted-same n a es rising.1 in
+    inserted (λ l. l ≡ e ∷ es) n a e es
+    (λ h. none-some (sym (address-later n e es (λ is. omega arith) ∙ Above-address n es (Above-less n e.0 es h rising.0)) ∙ found))
+    (λ is. ap (λ x. (e.0, x) ∷ es) (some-is a e.1 (sym found ∙ address-first n e es is)))
+    (λ h. ap (λ l. e ∷ l) (rest (sym (address-later n e es (λ is. omega arith)) ∙ found)))
+
+pub with-same : (es : Addresses) (n : ℕ) (o : Option ℕ) → IsRising es → address_of es n ≡ o → with_address es n o ≡ es
+with-same es n None rising is = removed-none n es is
+with-same es n (Some a) rising is = inserted-same n a es rising is
+
+-- ---- the holder is the least of the set
+
+-- a set as it is read, at any default
+read : (sets : NameSets) (q n : ℕ) (d : BTreeSet ℕ) → q < length sets → contains nat_cmp (get_or sets q d) n ≡ has_name sets q n
+read sets q n d small = ap (λ s. contains nat_cmp s n) (get_or_default sets q d (record { keys = [] }) small)
+
+no-keys : (p : ℕ → Bool) (keys : List ℕ) → (0 < length keys → ⊥) → list_any p keys ≡ false
+no-keys p [] none = refl
+no-keys p (k ∷ keys) none = absurd (none (omega arith))
+
+has-address : (sets : NameSets) (es : Addresses) (q n : ℕ) → AreHolders sets es → q < 256 → has_name sets q n ≡ true → address_of es n ≡ Some q
+has-address sets es q n are small has = same_option (address_of es n) (Some q) (sym (are.exact q n small) ∙ has)
+
+address-has : (sets : NameSets) (es : Addresses) (q n : ℕ) → AreHolders sets es → q < 256 → address_of es n ≡ Some q → has_name sets q n ≡ true
+address-has sets es q n are small is = are.exact q n small ∙ ap (λ o. option_eq eqb o (Some q)) is ∙ option_same (Some q)
+
+pub holder-none : (sets : NameSets) (es : Addresses) (q : ℕ) (d : BTreeSet ℕ) → AreHolders sets es → length sets ≡ 256 → q < 256
+    → (0 < length (get_or sets q d).keys → ⊥) → None ≡ holder_of es q
+holder-none sets es q d are long small none = cases (holder_of es q) refl
+  where
+    cases : (o : Option ℕ) → holder_of es q ≡ o → None ≡ o
+    cases None is = refl
+    cases (Some h) is =
+        let kept = address-has sets es q h are small (holder-address q h es are.rising is) in
+        absurd (true≢false (sym kept ∙ sym (read sets q h d (omega arith)) ∙ no-keys (is_at (nat_cmp h)) (get_or sets q d).keys none))
+
+pub holder-some : (sets : NameSets) (es : Addresses) (q h : ℕ) (d : BTreeSet ℕ) → AreHolders sets es → length sets ≡ 256 → q < 256
+    → contains nat_cmp (get_or sets q d) h ≡ true → ((n : ℕ) → contains nat_cmp (get_or sets q d) n ≡ true → is_gt (nat_cmp h n) ≡ false)
+    → Some h ≡ holder_of es q
+holder-some sets es q h d are long small is least = cases (holder_of es q) refl
+  where
+    claimed : address_of es h ≡ Some q
+    claimed = has-address sets es q h are small (sym (read sets q h d (omega arith)) ∙ is)
+
+    cases : (o : Option ℕ) → holder_of es q ≡ o → Some h ≡ o
+    cases None none = absurd (no-holder q es none h claimed)
+    cases (Some x) first =
+        let kept = address-has sets es q x are small (holder-address q x es are.rising first) in
+        let above = le_from_not_gt h x (least x (read sets q x d (omega arith) ∙ kept)) in
+        let below = least-holder q x es are.rising first h claimed in
+        ap Some (omega arith)
+
+-- ---- a NAME that goes from one address to another
+
+moved : (left claimed : Option ℕ) (q : ℕ) → claimed ≢ left
+    → cond (option_eq eqb left (Some q)) false (cond (option_eq eqb claimed (Some q)) true (option_eq eqb left (Some q))) ≡ option_eq eqb claimed (Some q)
+moved left claimed q ne = cases (option_eq eqb left (Some q)) (option_eq eqb claimed (Some q)) refl refl
+  where
+    cases : (l c : Bool) → option_eq eqb left (Some q) ≡ l → option_eq eqb claimed (Some q) ≡ c → cond l false (cond c true l) ≡ c
+    cases true true l c = absurd (ne (same_option claimed (Some q) c ∙ sym (same_option left (Some q) l)))
+    cases true false l c = refl
+    cases false true l c = refl
+    cases false false l c = refl
+
+at-name : (l c b : Bool) → b ≡ l → cond (l && true) false (cond (c && true) true b) ≡ cond l false (cond c true l)
+at-name true c b is = refl
+at-name false true b is = refl
+at-name false false b is = is
+
+at-other : (l c b : Bool) → cond (l && false) false (cond (c && false) true b) ≡ b
+at-other true true b = refl
+at-other true false b = refl
+at-other false true b = refl
+at-other false false b = refl
+
+pub goes : (sets entered gone : NameSets) (before : Addresses) (name : ℕ) (left claimed : Option ℕ) → AreHolders sets before
+    → address_of before name ≡ left → claimed ≢ left → ChangesOnly sets entered claimed name true → ChangesOnly entered gone left name false
+    → AreHolders gone (with_address before name claimed)
+goes sets entered gone before name left claimed are was ne enters leaves = record {
+  rising = Rising-with before name claimed are.rising;
+  exact = λ q m small.
+      rw (address-with before name claimed m are.rising, leaves q m small, enters q m small, are.exact q m small) (each q m);
 }
-
-pub partly-none : (holders : List (Option ℕ)) (before : Addresses) (name : ℕ) (claimed : Option ℕ) → AreHolders holders before
-    → address_of before name ≡ None → ArePartly holders before name claimed
-partly-none holders before name claimed are none =
-    partly-kept holders before name claimed are
-    (λ q h ne. λ e. none-some (sym none ∙ holder-address q name before are.1 e))
-
-pub partly-same : (holders : List (Option ℕ)) (before : Addresses) (name : ℕ) (claimed : Option ℕ) → AreHolders holders before
-    → address_of before name ≡ claimed → ArePartly holders before name claimed
-partly-same holders before name claimed are same =
-    partly-kept holders before name claimed are
-    (λ q h ne. λ e. ne (sym same ∙ holder-address q name before are.1 e))
-
-pub partly-other : (holders : List (Option ℕ)) (before : Addresses) (name left : ℕ) (claimed : Option ℕ) → AreHolders holders before
-    → address_of before name ≡ Some left → get_or holders left None ≢ Some name → ArePartly holders before name claimed
-partly-other holders before name left claimed are was other =
-    partly-kept holders before name claimed are
-    (λ q h ne. λ e.
-    let here = some-is left q (sym was ∙ holder-address q name before are.1 e) in
-    other (ap (λ x. get_or holders x None) here ∙ are.2 q h ∙ e))
-
--- the address that the NAME held and leaves is searched
-pub partly-searched : (holders : List (Option ℕ)) (before : Addresses) (name left : ℕ) (claimed : Option ℕ) → AreHolders holders before → left < 256
-    → address_of before name ≡ Some left → claimed ≢ Some left
-    → ArePartly (set holders left (holder_of (with_address before name claimed) left)) before name claimed
-partly-searched holders before name left claimed are small was other = record {
-  all = length-set holders left _ ∙ are.0;
-  rising = are.1;
-  others = λ q h ne. by_eq q left
-      (λ is. subst (λ (x : ℕ). get_or (set holders left (holder_of (with_address before name claimed) left)) x None ≡ holder_of (with_address before name claimed) x)
-      (sym is) (get_or-set_same holders left (holder_of (with_address before name claimed) left) None (subst (λ n. left < n) (sym are.0) small)))
-      (λ apart.
-      get_or-set_other holders left q (holder_of (with_address before name claimed) left) None apart ∙ are.2 q h
-      ∙ sym (stays-with before name claimed q ne
-      (λ e. apart (sym (some-is left q (sym was ∙ holder-address q name before are.1 e))))));
-  at_claimed = λ q h is.
-      get_or-set_other holders left q (holder_of (with_address before name claimed) left) None (λ same. other (is ∙ ap Some same)) ∙ are.2 q h;
-}
-
-pub whole-none : (holders : List (Option ℕ)) (before : Addresses) (name : ℕ) → ArePartly holders before name None → AreHolders holders (with_address before name None)
-whole-none holders before name partly =
-    (partly.all, Rising-with before name None partly.rising, λ q h. partly.others q h (λ e. none-some e))
-
-pub whole-some : (holders : List (Option ℕ)) (before : Addresses) (name address : ℕ) → address < 256 → ArePartly holders before name (Some address)
-    → AreHolders (set holders address (Some (lesser (get_or holders address None) name))) (with_address before name (Some address))
-whole-some holders before name address small partly = (
-  length-set holders address _ ∙ partly.all,
-  Rising-with before name (Some address) partly.rising,
-  λ q h. by_eq q address
-      (λ is. subst (λ (x : ℕ). get_or (set holders address (Some (lesser (get_or holders address None) name))) x None ≡ holder_of (with_address before name (Some address)) x)
-      (sym is)
-      (get_or-set_same holders address (Some (lesser (get_or holders address None) name)) None (subst (λ n. address < n) (sym partly.all) small)
-      ∙ ap (λ o. Some (lesser o name)) (partly.at_claimed address small refl)
-      ∙ sym (holder-inserted name address before partly.rising)))
-      (λ apart.
-      get_or-set_other holders address q (Some (lesser (get_or holders address None) name)) None apart
-      ∙ partly.others q h (λ e. apart (sym (some-is address q e)))),
-)
-
--- before the first claim
-pub empty-holders : (holders : List (Option ℕ)) (entries : Addresses) → holders ≡ replicate 256 None → entries ≡ [] → AreHolders holders entries
-empty-holders holders entries all none =
-    subst (λ hs. AreHolders hs entries) (sym all)
-    (subst (λ es. AreHolders (replicate 256 None) es) (sym none) (refl, tt, λ q h. get_or-replicate 256 q None None h))
-
-pub same_option : (o : Option ℕ) (x : ℕ) → true ≡ option_eq eqb o (Some x) → o ≡ Some x
-same_option None x e = absurd (true≢false e)
-same_option (Some y) x e = ap Some (eqb-true y x (sym e))
-
-pub other_option : (o : Option ℕ) (x : ℕ) → false ≡ option_eq eqb o (Some x) → o ≢ Some x
-other_option o x e = λ is. true≢false (sym (ap (λ p. option_eq eqb p (Some x)) is ∙ eq-eqb x x refl) ∙ sym e)
+  where
+    each : (q m : ℕ) → cond (option_eq eqb left (Some q) && eqb m name) false (cond (option_eq eqb claimed (Some q) && eqb m name) true (option_eq eqb (address_of before m) (Some q)))
+        ≡ option_eq eqb (cond (eqb m name) claimed (address_of before m)) (Some q)
+    each q m =
+        let l = option_eq eqb left (Some q) in
+        let c = option_eq eqb claimed (Some q) in
+        let b = option_eq eqb (address_of before m) (Some q) in
+        by_eq m name
+        (λ is. rw (eq-eqb m name is) (at-name l c b (ap (λ o. option_eq eqb o (Some q)) (ap (address_of before) is ∙ was)) ∙ moved left claimed q ne))
+        (λ other. rw (ne_eqb m name other) (at-other l c b))

@@ -11,7 +11,7 @@ pub Rising-claims : (claims : List Claim) → IsRising (after_claims claims)
 Rising-claims [] = tt
 Rising-claims (c ∷ earlier) = Rising-with (after_claims earlier) c.name (claimed_address c.address) (Rising-claims earlier)
 
-address-with : (es : Addresses) (n : ℕ) (o : Option ℕ) (m : ℕ) → IsRising es → address_of (with_address es n o) m ≡ cond (eqb m n) o (address_of es m)
+pub address-with : (es : Addresses) (n : ℕ) (o : Option ℕ) (m : ℕ) → IsRising es → address_of (with_address es n o) m ≡ cond (eqb m n) o (address_of es m)
 address-with es n None m rising =
     by_eq m n
     (λ is. ap (address_of (with_address es n None)) is ∙ address-removed n es rising ∙ sym (ap (λ b. cond b None (address_of es m)) (eq-eqb m n is)))

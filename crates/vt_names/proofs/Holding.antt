@@ -1,13 +1,13 @@
 -- The addresses of NAMEs by rising NAME, after a claim.
-use Rattle.std.proofs.Common.{◌≡◌, ◌≢◌, ℕ, ◌<◌, ◌≤◌, Bool, true, false, cond, eqb, [], ◌∷◌, Option, Some, None, is_some, unwrap_or, true≢false, inl, inr, refl, sym, ap, subst, ◌∙◌, arith, eq-eqb, ne_eqb}
-use Rattle.std.proofs.lemmas.Bool.{eqb-true, lt-ltb, le-ltb, cases_order, false≢true}
+use Rattle.std.proofs.Common.{◌≡◌, ◌≢◌, ℕ, ◌<◌, ◌≤◌, Bool, true, false, cond, eqb, [], ◌∷◌, Some, None, is_some, unwrap_or, true≢false, inl, inr, refl, sym, ap, subst, ◌∙◌, arith, eq-eqb, ne_eqb}
+use Rattle.std.proofs.lemmas.Bool.{eqb-true, cases_order, false≢true}
 use Rattle.std.specs.Ordering.{nat_cmp, match_ordering}
 use Rattle.std.specs.declared.cmp.Ordering.{Ordering}
 use Rattle.std.specs.declared.cmp.Ordering.TheVariants.{Less, Equal, Greater}
 use Rattle.std.specs.Cmp.{nat_cmp_is, unsigned_tied}
 use Rattle.std.specs.Map.{remove_entry}
 use Rattle.std.specs.BTreeMap.{insert_entry, is_at}
-use Rattle.vt_names.specs.Claims.{Addresses, AllAbove, IsRising, address_of, holder_of, lesser}
+use Rattle.vt_names.specs.Claims.{Addresses, AllAbove, IsRising, address_of, holder_of}
 
 -- ---- two cases of two numbers, and three
 
@@ -204,30 +204,6 @@ holder-removed_other n q (e ∷ es) not =
     (λ _. by_eq e.1 q
     (λ h. holder-first q e (remove_entry (is_at (nat_cmp n)) es) h ∙ sym (holder-first q e es h))
     (λ h. holder-later q e (remove_entry (is_at (nat_cmp n)) es) h ∙ rest (λ x. not (holder-later q e es h ∙ x)) ∙ sym (holder-later q e es h)))
-
-lesser-least : (n : ℕ) (o : Option ℕ) → ((x : ℕ) → o ≡ Some x → n ≤ x) → n ≡ lesser o n
-lesser-least n None above = refl
-lesser-least n (Some x) above = sym (ap (λ b. cond b x n) (le-ltb x n (above x refl)))
-
-first-least : (q x : ℕ) (e : ℕ × ℕ) (es : Addresses) → AllAbove e.0 es → holder_of (e ∷ es) q ≡ Some x → e.0 ≤ x
-first-least q x e es above is =
-    by_eq e.1 q
-    (λ h. subst (λ y. e.0 ≤ y) (some-is e.0 x (sym (holder-first q e es h) ∙ is)) (omega arith))
-    (λ h. let more = Above-holder e.0 q x es above (sym (holder-later q e es h) ∙ is) in omega arith)
-
-pub holder-inserted : (n a : ℕ) (es : Addresses) → IsRising es → holder_of (insert_entry nat_cmp es n a) a ≡ Some (lesser (holder_of es a) n)
-holder-inserted n a [] rising = holder-first a (n, a) [] refl
-holder-inserted n a (e ∷ es) rising =
-    let rest = holder-inserted n a es rising.1 in
-    inserted (λ l. holder_of l a ≡ Some (lesser (holder_of (e ∷ es) a) n)) n a e es
-    (λ h. holder-first a (n, a) (e ∷ es) refl
-    ∙ ap Some (lesser-least n (holder_of (e ∷ es) a) (λ x is. let least = first-least a x e es rising.0 is in omega arith)))
-    (λ same. holder-first a (e.0, a) es refl
-    ∙ ap Some (sym same ∙ lesser-least n (holder_of (e ∷ es) a) (λ x is. let least = first-least a x e es rising.0 is in omega arith)))
-    (λ h. by_eq e.1 a
-    (λ is. holder-first a e (insert_entry nat_cmp es n a) is
-    ∙ sym (ap (λ o. Some (lesser o n)) (holder-first a e es is) ∙ ap (λ b. Some (cond b e.0 n)) (lt-ltb e.0 n h)))
-    (λ ne. holder-later a e (insert_entry nat_cmp es n a) ne ∙ rest ∙ ap (λ o. Some (lesser o n)) (sym (holder-later a e es ne))))
 
 -- ---- least
 

@@ -1,8 +1,10 @@
 -- Address claims (ISO 11783-5; docs/PROFILE.md, "The holder of an address").
-use Rattle.std.specs.Prelude.{◌≡◌, ◌≢◌, ◌≤◌, ◌<◌, ℕ, length, get_or, ◌==◌, nat_lt, if◌then◌else◌, List, [], ◌∷◌, Option, Some, None, refl}
+use Rattle.std.specs.Prelude.{◌≡◌, ◌≢◌, ◌≤◌, ◌<◌, ℕ, Bool, get_or, ◌==◌, nat_eq, nat_lt, ◌&&◌, if◌then◌else◌, List, [], ◌∷◌, Option, Some, None, refl}
 use Rattle.std.specs.Ordering.{nat_cmp}
 use Rattle.std.specs.Map.{lookup, remove_entry}
+use Rattle.std.specs.Option.{option_eq}
 use Rattle.std.specs.BTreeMap.{insert_entry, is_at}
+use Rattle.std.specs.BTreeSet.{BTreeSet, contains}
 use Rattle.std.specs.Coded.{Coded, code_by, coded×, coded_ℕ, coded_list}
 use Rattle.vt_names.specs.declared.claims.Heard.{Heard}
 use Rattle.vt_names.specs.declared.claims.Heard.TheVariants.{Nothing, Defend, Lost}
@@ -100,20 +102,21 @@ pub record OtherHoldersStay : Type 0 where
       → other ≢ address → address_of addresses name ≢ Some other
       → holder_of (after_claim addresses address name) other ≡ holder_of addresses other
 
--- ---- the holder of each address, kept beside
+-- ---- the NAMEs that have each address, kept beside
 
-abbrev pub AreHolders : List (Option ℕ) → Addresses → Type 0
-AreHolders holders addresses =
-    (length holders ≡ 256) × IsRising addresses
-    × ((address : ℕ) → address < 256 → get_or holders address None ≡ holder_of addresses address)
+-- a set for each address
+abbrev pub NameSets : Type 0
+NameSets = List (BTreeSet ℕ)
 
-abbrev pub lesser : Option ℕ → ℕ → ℕ
-lesser None name = name
-lesser (Some holder) name = if nat_lt holder name then holder else name
+abbrev pub has_name : NameSets → ℕ → ℕ → Bool
+has_name sets address name = contains nat_cmp (get_or sets address (record { keys = [] })) name
 
--- the holders are right but for the address that is claimed, whose holder is that of before
-pub record ArePartly (holders : List (Option ℕ)) (before : Addresses) (name : ℕ) (claimed : Option ℕ) : Type 0 where
-  pub all : length holders ≡ 256
-  pub rising : IsRising before
-  pub others : (q : ℕ) → q < 256 → claimed ≢ Some q → get_or holders q None ≡ holder_of (with_address before name claimed) q
-  pub at_claimed : (q : ℕ) → q < 256 → claimed ≡ Some q → get_or holders q None ≡ holder_of before q
+-- the set of each address has exactly the NAMEs that have that address
+pub record AreHolders (sets : NameSets) (addresses : Addresses) : Type 0 where
+  pub rising : IsRising addresses
+  pub exact : (address name : ℕ) → address < 256 → has_name sets address name ≡ option_eq nat_eq (address_of addresses name) (Some address)
+
+-- one NAME comes into the set of an address, or goes out of it; without an address nothing changes
+abbrev pub ChangesOnly : NameSets → NameSets → Option ℕ → ℕ → Bool → Type 0
+ChangesOnly old new at name has = (address other : ℕ) → address < 256 → has_name new address other
+    ≡ (if option_eq nat_eq at (Some address) && other == name then has else has_name old address other)

@@ -1,7 +1,7 @@
 //! Address claims (ISO 11783-5).
 
 ghost use Rattle.std.specs.Prelude.{◌≡◌, None, Some, [], IfOk, OnOk, OnErr};
-ghost use Rattle.vt_names.specs.Claims.{IsRising, answer, heard, address_of, holder_of, claimed_address};
+ghost use Rattle.vt_names.specs.Claims.{IsRising, answer, heard, address_of, holder_of, claimed_address, with_address};
 
 use crate::OutOfMemory;
 use crate::holders::Holders;
@@ -27,9 +27,8 @@ pub enum Heard {
 /// What a node has heard of the addresses of others, seen as its own address and NAME, and the address
 /// of each NAME that has one.
 ///
-/// A claim is taken in time that grows with the logarithm of the NAMEs heard, except where the holder of
-/// an address leaves it: then the NAMEs are searched once for the next. docs/PROFILE.md, "The holder of an
-/// address".
+/// A claim is taken in time that grows with the logarithm of the NAMEs heard. docs/PROFILE.md, "The holder
+/// of an address".
 #[derive(Drop)]
 pub struct Claims {
     own: u8,
@@ -47,7 +46,7 @@ impl Model for Claims {
 
     ghost view = { λ c. record { own = c.own; name = c.name; addresses = c.addresses.entries } };
 
-    ghost invariant = { λ c. AreHolders c.holders.least c.addresses.entries };
+    ghost invariant = { λ c. AreHolders c.holders.names c.addresses.entries };
 }
 
 impl Claims {
@@ -59,7 +58,7 @@ impl Claims {
             own,
             name,
             addresses: BTreeMap::new(alloc),
-            holders: Holders::new(),
+            holders: Holders::new(alloc),
         }
     }
 
@@ -72,12 +71,16 @@ impl Claims {
     {
         let said = self.answer(address, name);
         let claimed = claimed_address(address);
-        let left = match claimed {
-            Some(address) => self.addresses.insert(name.raw(), address)?,
-            None => self.addresses.remove(&name.raw()),
-        };
-        self.holders.leave(name, left, claimed, &self.addresses);
-        self.holders.take(name, claimed);
+        let left = self.address_of(name);
+        if claimed == left {
+            return Ok(said);
+        }
+        self.holders.enter(name, claimed)?;
+        if let Err(refused) = record(&mut self.addresses, name, claimed) {
+            self.holders.leave(name, claimed);
+            return Err(refused);
+        }
+        self.holders.leave(name, left);
         Ok(said)
     }
 
@@ -132,4 +135,24 @@ fn claimed_address(address: u8) -> Option<u8>
     ensures { result ≡ claimed_address address }
 {
     (address != NULL_ADDRESS).then_some(address)
+}
+
+// Records the address of a NAME, or that it has none.
+fn record(
+    addresses: &mut BTreeMap<u64, u8>,
+    name: Name,
+    claimed: Option<u8>,
+) -> Result<(), OutOfMemory>
+    ensures ok { OnOk result (addresses.new.entries ≡ with_address addresses.old.entries name claimed) }
+    ensures err { OnErr result (addresses.new.entries ≡ addresses.old.entries) }
+{
+    match claimed {
+        Some(address) => {
+            addresses.insert(name.raw(), address)?;
+        }
+        None => {
+            addresses.remove(&name.raw());
+        }
+    }
+    Ok(())
 }

@@ -1,85 +1,55 @@
 //! The holder of each address, kept beside the addresses of NAMEs.
 
-ghost use Rattle.std.specs.Prelude.{◌≡◌, None, Some, get_or, replicate};
-ghost use Rattle.vt_names.specs.Claims.{Addresses, AreHolders, ArePartly, address_of, holder_of, with_address, lesser};
+ghost use Rattle.std.specs.Prelude.{◌≡◌, true, false, [], OnOk, OnErr};
+ghost use Rattle.vt_names.specs.Claims.{Addresses, AreHolders, ChangesOnly, holder_of};
 
+use crate::OutOfMemory;
 use crate::name::Name;
-use std::collections::BTreeMap;
+use std::alloc::Global;
+use std::array;
+use std::collections::BTreeSet;
 
-/// The least NAME that has each address.
+/// The NAMEs that have each address. The least of them is its holder.
 #[derive(Drop)]
 pub(crate) struct Holders {
-    least: [Option<Name>; 256],
+    names: [BTreeSet<u64>; 256],
 }
 
 impl Holders {
-    pub(crate) fn new() -> Holders
-        ensures { result.least ≡ replicate 256 None }
+    /// No address has a holder. It takes no memory.
+    pub(crate) fn new(alloc: Global) -> Holders
+        ensures { AreHolders result.names [] }
     {
-        Holders { least: [None; 256] }
+        Holders {
+            names: array::from_fn(|_| BTreeSet::new(alloc)),
+        }
     }
 
+    /// The holder of an address.
     pub(crate) fn get(&self, address: u8) -> Option<Name>
-        ensures { result ≡ get_or self.now.least address None }
+        ensures { (addresses : Addresses) → AreHolders self.now.names addresses → result ≡ holder_of addresses address }
     {
-        self.least[usize::from(address)]
-    }
-
-    /// A NAME that had an address, `left`, has claimed another, or none. Where it was the holder of the one
-    /// that it left, the NAMEs are searched for the next.
-    pub(crate) fn leave(
-        &mut self,
-        name: Name,
-        left: Option<u8>,
-        claimed: Option<u8>,
-        addresses: &BTreeMap<u64, u8>,
-    )
-        ensures { (before : Addresses) → AreHolders self.old.least before → left ≡ address_of before name
-            → addresses.now.entries ≡ with_address before name claimed → ArePartly self.new.least before name claimed }
-    {
-        let Some(left) = left else {
-            return;
-        };
-        if claimed == Some(left) {
-            return;
-        }
-        if self.get(left) != Some(name) {
-            return;
-        }
-        self.least[usize::from(left)] = first_of(addresses, left);
+        let raw = self.names[usize::from(address)].first()?;
+        Some(Name::from_raw(*raw))
     }
 
     /// A NAME has claimed an address, or none.
-    pub(crate) fn take(&mut self, name: Name, claimed: Option<u8>)
-        ensures { (before : Addresses) → ArePartly self.old.least before name claimed
-            → AreHolders self.new.least (with_address before name claimed) }
+    pub(crate) fn enter(&mut self, name: Name, claimed: Option<u8>) -> Result<(), OutOfMemory>
+        ensures ok { OnOk result (ChangesOnly self.old.names self.new.names claimed name true) }
+        ensures err { OnErr result ((addresses : Addresses) → AreHolders self.old.names addresses → AreHolders self.new.names addresses) }
     {
-        let Some(address) = claimed else {
-            return;
-        };
-        let holder = least(self.get(address), name);
-        self.least[usize::from(address)] = Some(holder);
-    }
-}
-
-// The least NAME that has an address.
-fn first_of(addresses: &BTreeMap<u64, u8>, address: u8) -> Option<Name>
-    ensures { result ≡ holder_of addresses.now.entries address }
-{
-    for (name, claimed) in addresses {
-        if *claimed == address {
-            return Some(Name::from_raw(*name));
+        if let Some(address) = claimed {
+            self.names[usize::from(address)].insert(name.raw())?;
         }
+        Ok(())
     }
-    None
-}
 
-// The lesser of the holder and another NAME.
-fn least(holder: Option<Name>, name: Name) -> Name
-    ensures { result ≡ lesser holder name }
-{
-    match holder {
-        Some(holder) if holder < name => holder,
-        _ => name,
+    /// A NAME no longer has the address that it had, or had none.
+    pub(crate) fn leave(&mut self, name: Name, left: Option<u8>)
+        ensures { ChangesOnly self.old.names self.new.names left name false }
+    {
+        if let Some(address) = left {
+            self.names[usize::from(address)].remove(&name.raw());
+        }
     }
 }

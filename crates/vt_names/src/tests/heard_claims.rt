@@ -85,3 +85,65 @@ fn holders_of_addresses(rt: HostRuntime) -> Result<(), Fail> {
     }
     Ok(())
 }
+
+// A NAME that has claimed 80, as `NAMES_OF_80` have, what it claims then, and who holds 80 after it.
+type Leaving = (u64, u8, Option<u64>);
+
+const NAMES_OF_80: [u64; 4] = [7, 3, 9, 5];
+
+const LEAVINGS: [[Leaving; 4]; 5] = [
+    [
+        (3, 0x81, Some(5)),
+        (5, 254, Some(7)),
+        (7, 0x82, Some(9)),
+        (9, 254, None),
+    ],
+    [
+        (9, 254, Some(3)),
+        (7, 0x81, Some(3)),
+        (5, 254, Some(3)),
+        (3, 0x81, None),
+    ],
+    [
+        (5, 0x81, Some(3)),
+        (3, 0x81, Some(7)),
+        (9, 0x81, Some(7)),
+        (7, 0x81, None),
+    ],
+    [
+        (7, 254, Some(3)),
+        (9, 254, Some(3)),
+        (3, 254, Some(5)),
+        (5, 254, None),
+    ],
+    // One that comes back.
+    [
+        (3, 0x81, Some(5)),
+        (3, 0x80, Some(3)),
+        (3, 254, Some(5)),
+        (3, 0x80, Some(3)),
+    ],
+];
+
+/// Whether 80 has these holders, after each that leaves it.
+fn has_holders(alloc: Global, leavings: &[Leaving]) -> Result<bool, OutOfMemory> {
+    let mut claims = Claims::new(alloc, OWN, Name::from_raw(NAME));
+    for raw in NAMES_OF_80 {
+        claims.hear(0x80, Name::from_raw(raw))?;
+    }
+    for (raw, address, holder) in leavings {
+        claims.hear(*address, Name::from_raw(*raw))?;
+        if claims.holder(0x80).map(Name::raw) != *holder {
+            return Ok(false);
+        }
+    }
+    Ok(true)
+}
+
+#[test]
+fn holders_that_leave(rt: HostRuntime) -> Result<(), Fail> {
+    for leavings in LEAVINGS {
+        assert!(rt; has_holders(rt.alloc(), &leavings)?);
+    }
+    Ok(())
+}
