@@ -1,5 +1,5 @@
 -- Marks of the objects of a store, at their places by rising ID.
-use Rattle.std.specs.Prelude.{◌≡◌, ◌≤◌, ◌⊎◌, ℕ, Bool, true, false, List, length, slice_index, slice_index_or}
+use Rattle.std.specs.Prelude.{◌≡◌, ◌≤◌, ◌⊎◌, ℕ, Bool, true, false, List, [], ◌∷◌, length, slice_index, slice_index_or}
 use Rattle.std.specs.FinMap as finite
 use Rattle.vt_objects.specs.Stores.{Contents}
 use Rattle.vt_verify.specs.Depths.{ids_of, Stands}
@@ -17,6 +17,10 @@ pub record Marks (store : Contents) (names : List ℕ) (old new : List Bool) : T
   pub kept : (id : ℕ) → IsMarked store old id → IsMarked store new id
   pub added : (id : ℕ) → IsNamed store names id → IsMarked store new id
   pub only : (id : ℕ) → IsMarked store new id → IsMarked store old id ⊎ IsNamed store names id
+
+-- The elements that some names stand for are marked: the names are done.
+abbrev pub AreDone : Contents → List Bool → List Bool → Type 0
+AreDone store named marks = (name : ℕ) → slice_index_or named name false ≡ true → (id : ℕ) → IsNamed store (name ∷ []) id → IsMarked store marks id
 
 -- What a mask draws and its soft keys are marked, and of what is shown whatever an object of at least a level draws.
 pub record AreMarked (store : Contents) (levels : List ℕ) (mask level : ℕ) (marks : List Bool) : Type 0 where

@@ -1,13 +1,13 @@
 //! Which objects a mask shows.
 
-ghost use Rattle.std.specs.Prelude.{◌≡◌, ◌≤◌, ◌<◌, ◌+◌, ◌∷◌, ℕ, [], false, true, length, slice_get, slice_index, EachIndex, IfSome, IsTrue, Some};
+ghost use Rattle.std.specs.Prelude.{◌≡◌, ◌≤◌, ◌<◌, ◌+◌, ◌∷◌, ℕ, [], false, true, length, slice_get, slice_index, slice_index_or, EachIndex, IfSome, IsTrue, Some};
 ghost use Rattle.std.specs.Option.{option_map};
 ghost use Rattle.std.specs.FinMap as finite;
 ghost use Rattle.vt_objects.specs.Records.{Seen, seen};
 ghost use Rattle.vt_objects.specs.Stores.{IsPlace};
 ghost use Rattle.vt_verify.specs.Depths.{ids_of, inclusions_of, Stands};
 ghost use Rattle.vt_machine.specs.Certificates.{IsCertificate};
-ghost use Rattle.vt_machine.specs.Marks.{Marks, AreMarked};
+ghost use Rattle.vt_machine.specs.Marks.{Marks, AreDone, AreMarked};
 ghost use Rattle.vt_machine.specs.Showing as showing;
 ghost use Rattle.vt_machine.specs.Showing.{IsShown};
 
@@ -35,30 +35,49 @@ pub(crate) fn is_shown<S: Store>(
     if !is_element(store, id) {
         return false;
     }
-    mark_mask(store, levels, marks, mask);
-    mark_within(store, levels, marks, mask);
+    let mut named = [false; 65_536];
+    mark_mask(store, levels, marks, &mut named, mask);
+    mark_within(store, levels, marks, &mut named, mask);
     marks[place]
 }
 
 /// Marks what a mask draws and its soft keys, and nothing else.
-fn mark_mask<S: Store>(store: &S, levels: &[u8], marks: &mut [bool], mask: ObjectId)
+fn mark_mask<S: Store>(
+    store: &S,
+    levels: &[u8],
+    marks: &mut [bool],
+    named: &mut [bool],
+    mask: ObjectId,
+)
     requires levels { IsCertificate (ids_of (S.contents store.now)) (inclusions_of (S.contents store.now)) levels.now }
     requires marks { length marks.old ≡ length (ids_of (S.contents store.now)) }
-    ensures { AreMarked (S.contents store.now) levels.now mask 33 marks.new }
+    requires all { length named.old ≡ 65536 }
+    requires none { (name : ℕ) → slice_index_or named.old name false ≡ false }
+    ensures marks { AreMarked (S.contents store.now) levels.now mask 33 marks.new }
+    ensures all { length named.new ≡ 65536 }
+    ensures named { AreDone (S.contents store.now) named.new marks.new }
 {
     marks.fill(false);
-    mark_drawing(store, marks, mask);
+    mark_drawing(store, marks, named, mask);
     mark_soft_keys(store, marks, mask);
 }
 
 /// Marks all that stands within what is marked.
-fn mark_within<S: Store>(store: &S, levels: &[u8], marks: &mut [bool], mask: ObjectId)
+fn mark_within<S: Store>(
+    store: &S,
+    levels: &[u8],
+    marks: &mut [bool],
+    named: &mut [bool],
+    mask: ObjectId,
+)
     requires levels { IsCertificate (ids_of (S.contents store.now)) (inclusions_of (S.contents store.now)) levels.now }
     requires marks { AreMarked (S.contents store.now) levels.now mask 33 marks.old }
+    requires all { length named.old ≡ 65536 }
+    requires named { AreDone (S.contents store.now) named.old marks.old }
     ensures { AreMarked (S.contents store.now) levels.now mask 0 marks.new }
 {
     for level in (0..level_count(levels)).rev() {
-        mark_level(store, levels, marks, mask, level);
+        mark_level(store, levels, marks, named, mask, level);
     }
 }
 
@@ -77,64 +96,101 @@ fn level_count(levels: &[u8]) -> u8
 }
 
 /// Marks what the marked objects of a level draw, where that of the levels above is marked.
-fn mark_level<S: Store>(store: &S, levels: &[u8], marks: &mut [bool], mask: ObjectId, level: u8)
+fn mark_level<S: Store>(
+    store: &S,
+    levels: &[u8],
+    marks: &mut [bool],
+    named: &mut [bool],
+    mask: ObjectId,
+    level: u8,
+)
     requires levels { IsCertificate (ids_of (S.contents store.now)) (inclusions_of (S.contents store.now)) levels.now }
     requires marks { AreMarked (S.contents store.now) levels.now mask (level + 1) marks.old }
-    ensures { AreMarked (S.contents store.now) levels.now mask level marks.new }
+    requires all { length named.old ≡ 65536 }
+    requires named { AreDone (S.contents store.now) named.old marks.old }
+    ensures marks { AreMarked (S.contents store.now) levels.now mask level marks.new }
+    ensures all { length named.new ≡ 65536 }
+    ensures named { AreDone (S.contents store.now) named.new marks.new }
 {
     for place in 0..store.count() {
         if marks[place] && levels[place] == level {
-            mark_drawing_at(store, marks, place);
+            mark_drawing_at(store, marks, named, place);
         }
     }
 }
 
 /// Marks the elements that the object at a place draws.
-fn mark_drawing_at<S: Store>(store: &S, marks: &mut [bool], place: usize)
-    requires { length marks.old ≡ length (ids_of (S.contents store.now)) }
-    ensures { (id : ℕ) → Stands (ids_of (S.contents store.now)) place id → Marks (S.contents store.now) (showing.drawn_in (S.contents store.now) (finite.get (S.contents store.now) id)) marks.old marks.new }
+fn mark_drawing_at<S: Store>(store: &S, marks: &mut [bool], named: &mut [bool], place: usize)
+    requires marks { length marks.old ≡ length (ids_of (S.contents store.now)) }
+    requires all { length named.old ≡ 65536 }
+    requires named { AreDone (S.contents store.now) named.old marks.old }
+    ensures marks { (id : ℕ) → Stands (ids_of (S.contents store.now)) place id → Marks (S.contents store.now) (showing.drawn_in (S.contents store.now) (finite.get (S.contents store.now) id)) marks.old marks.new }
+    ensures all { length named.new ≡ 65536 }
+    ensures named { AreDone (S.contents store.now) named.new marks.new }
 {
     match store.entry_at(place) {
-        Some((_, object)) => mark_drawn(store, marks, object),
+        Some((_, object)) => mark_drawn(store, marks, named, object),
         None => {}
     }
 }
 
 /// Marks the elements that the object of an ID draws.
-fn mark_drawing<S: Store>(store: &S, marks: &mut [bool], id: ObjectId)
-    requires { length marks.old ≡ length (ids_of (S.contents store.now)) }
-    ensures { Marks (S.contents store.now) (showing.drawn_in (S.contents store.now) (finite.get (S.contents store.now) id)) marks.old marks.new }
+fn mark_drawing<S: Store>(store: &S, marks: &mut [bool], named: &mut [bool], id: ObjectId)
+    requires marks { length marks.old ≡ length (ids_of (S.contents store.now)) }
+    requires all { length named.old ≡ 65536 }
+    requires named { AreDone (S.contents store.now) named.old marks.old }
+    ensures marks { Marks (S.contents store.now) (showing.drawn_in (S.contents store.now) (finite.get (S.contents store.now) id)) marks.old marks.new }
+    ensures all { length named.new ≡ 65536 }
+    ensures named { AreDone (S.contents store.now) named.new marks.new }
 {
     match store.get(id) {
-        Some(object) => mark_drawn(store, marks, object),
+        Some(object) => mark_drawn(store, marks, named, object),
         None => {}
     }
 }
 
 /// Marks the elements that an object draws.
-fn mark_drawn<S: Store>(store: &S, marks: &mut [bool], object: &Object<Vec<u8>>)
-    requires { length marks.old ≡ length (ids_of (S.contents store.now)) }
-    ensures { Marks (S.contents store.now) (showing.drawn_in (S.contents store.now) (Some (seen object.now))) marks.old marks.new }
+fn mark_drawn<S: Store>(store: &S, marks: &mut [bool], named: &mut [bool], object: &Object<Vec<u8>>)
+    requires marks { length marks.old ≡ length (ids_of (S.contents store.now)) }
+    requires all { length named.old ≡ 65536 }
+    requires named { AreDone (S.contents store.now) named.old marks.old }
+    ensures marks { Marks (S.contents store.now) (showing.drawn_in (S.contents store.now) (Some (seen object.now))) marks.old marks.new }
+    ensures all { length named.new ≡ 65536 }
+    ensures named { AreDone (S.contents store.now) named.new marks.new }
 {
     match object {
-        Object::WorkingSet(o) => mark_children(store, marks, &o.children),
-        Object::DataMask(o) => mark_children(store, marks, &o.children),
-        Object::AlarmMask(o) => mark_children(store, marks, &o.children),
-        Object::Container(o) if o.hidden == 0 => mark_children(store, marks, &o.children),
-        Object::Key(o) => mark_children(store, marks, &o.children),
-        Object::Button(o) => mark_children(store, marks, &o.children),
+        Object::WorkingSet(o) => mark_children(store, marks, named, &o.children),
+        Object::DataMask(o) => mark_children(store, marks, named, &o.children),
+        Object::AlarmMask(o) => mark_children(store, marks, named, &o.children),
+        Object::Container(o) if o.hidden == 0 => mark_children(store, marks, named, &o.children),
+        Object::Key(o) => mark_children(store, marks, named, &o.children),
+        Object::Button(o) => mark_children(store, marks, named, &o.children),
         Object::InputList(o) => mark_item(store, marks, o),
         _ => {}
     }
 }
 
-/// Marks the elements that children stand for.
-fn mark_children<S: Store>(store: &S, marks: &mut [bool], children: &Entries<Child>)
-    requires { length marks.old ≡ length (ids_of (S.contents store.now)) }
-    ensures { Marks (S.contents store.now) (showing.ids_in children.now) marks.old marks.new }
+/// Marks the elements that children stand for. What was named before is done, and costs no look-up: lists name the same objects
+/// again and again.
+fn mark_children<S: Store>(
+    store: &S,
+    marks: &mut [bool],
+    named: &mut [bool],
+    children: &Entries<Child>,
+)
+    requires marks { length marks.old ≡ length (ids_of (S.contents store.now)) }
+    requires all { length named.old ≡ 65536 }
+    requires named { AreDone (S.contents store.now) named.old marks.old }
+    ensures marks { Marks (S.contents store.now) (showing.ids_in children.now) marks.old marks.new }
+    ensures all { length named.new ≡ 65536 }
+    ensures named { AreDone (S.contents store.now) named.new marks.new }
 {
     for child in children.as_slice() {
-        mark_named(store, marks, child.id);
+        let name = usize::from(child.id.raw());
+        if !named[name] {
+            named[name] = true;
+            mark_named(store, marks, child.id);
+        }
     }
 }
 
