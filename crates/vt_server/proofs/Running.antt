@@ -1,10 +1,10 @@
 -- A run of inputs, one more at a time.
-use Rattle.std.proofs.Common.{◌≡◌, ◌<◌, ℕ, suc, ◌+◌, List, [], ◌∷◌, ◌++◌, length, take, get_or, refl, sym, ap, subst, ◌∙◌, append-nil, append_assoc, arith}
+use Rattle.std.proofs.Common.{◌≡◌, true, cond, ◌<◌, ℕ, suc, ◌+◌, List, [], ◌∷◌, ◌++◌, length, take, get_or, refl, sym, ap, subst, ◌∙◌, append-nil, append_assoc, arith}
 use Rattle.std.proofs.Math.Seq.{take-suc}
 use Rattle.vt_server.specs.Findings.{IsEventOf, AreEventsOf, IsFound, AreFound}
 use Rattle.vt_server.specs.Outputs.{outputs_of}
 use Rattle.vt_server.specs.States.{TakesInput, TakesInputs}
-use Rattle.vt_server.specs.Steps.{Event, step, after_all, sent_by_all}
+use Rattle.vt_server.specs.Steps.{Event, FrameAt, ActionAt, step, no_step, step_frame, step_action, after_all, sent_by_all}
 use Rattle.vt_server.specs.Terminals.{State}
 use Rattle.vt_server.specs.declared.input.Input.{Input}
 use Rattle.vt_server.specs.declared.output.Output.{Output}
@@ -33,6 +33,14 @@ events-more (y ∷ xs) (d ∷ es) x e are is = (are.0, events-more xs es x e are
 -- none yet
 pub run-none : (s : State) (outputs : List Output) → TakesInputs s [] s outputs outputs
 run-none s outputs = record { events = []; are_inputs = tt; found = tt; state = refl; sent = sym (append-nil outputs) }
+
+-- a terminal without its address stays as it is
+pub lost-stays : (s t : State) (x : Input) (old new : List Output) → s.lost ≡ true → TakesInput s x t old new → t.lost ≡ true
+lost-stays s t x old new lost takes = ap (λ (r : State). r.lost) (takes.state ∙ still takes.event) ∙ lost
+  where
+    still : (e : Event) → (step s e).after ≡ s
+    still (FrameAt time frame verdict) = ap (λ b. (cond b (no_step s) (step_frame s time frame verdict)).after) lost
+    still (ActionAt action shown) = ap (λ b. (cond b (no_step s) (step_action s action shown)).after) lost
 
 next-place : (n : ℕ) → n + 1 ≡ suc n
 next-place n = omega arith

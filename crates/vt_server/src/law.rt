@@ -13,8 +13,8 @@ use vt_names::Name;
 
 /// The headline: whatever inputs a terminal takes after its pools were accepted, each set's objects, the outputs and the screens are
 /// those of the written machine, and that machine never sticks. Each command of a macro finds its object, of a kind that it may
-/// change, each event ends within the steps that the pool's report prints for it, and each reference that is shown leads to an
-/// object of its place's kind.
+/// change, each run ends within the steps that the pool's report prints for the events that it raises, and each reference that is
+/// shown leads to an object of its place's kind.
 pub fn the_machine_never_sticks()
     ensures { NeverSticks }
 {

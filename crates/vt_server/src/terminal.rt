@@ -61,6 +61,7 @@ impl Terminal {
         ensures shown { (state_of result).shown ≡ None }
         ensures lost { (state_of result).lost ≡ false }
         ensures now { (state_of result).now ≡ 0 }
+        ensures redraws { redraws result ≡ true }
     {
         Terminal {
             alloc,
@@ -125,6 +126,7 @@ impl Terminal {
         requires other { address ≢ (state_of self.old).claims.own }
         ensures ok { OnOk result (state_of self.new ≡ preloading (state_of self.old) address (map_of pool.now)) }
         ensures err { OnErr result (state_of self.new ≡ state_of self.old) }
+        ensures redraws { OnOk result (redraws self.new ≡ true) }
     {
         let live = Live::new(self.alloc, pool)?;
         self.registry.preload(address)?;
@@ -157,6 +159,8 @@ impl Terminal {
         ensures ok { OnOk result (TakesInputs (state_of self.old) inputs.now (state_of self.new) outputs.old.items outputs.new.items) }
         ensures within { IfErr result (λ fault. fault.at < length inputs.now) }
         ensures fault { IfErr result (λ fault. TakesInputs (state_of self.old) (take fault.at inputs.now) (state_of self.new) outputs.old.items outputs.new.items) }
+        // A terminal without its address asks for no memory.
+        ensures lost { (state_of self.old).lost ≡ true → IsOk result }
     {
         for (at, input) in inputs.iter().enumerate() {
             match self.step(input, outputs) {

@@ -1,6 +1,9 @@
-use Rattle.std.proofs.Common.{take}
+use Rattle.std.proofs.Common.{◌≡◌, true, take}
 use Rattle.vt_server.specs.States.{state_of, TakesInputs}
 use Rattle.vt_server.proofs.terminal.Terminal.run.Given as goal
 
 abbrev pub invariant-loop-at : goal.invariant-loop-at
-invariant-loop-at l = TakesInputs (state_of l.fn.self) (take l.at l.inputs) (state_of l.self) l.fn.outputs.items l.outputs.items
+invariant-loop-at l = record {
+  taken : TakesInputs (state_of l.fn.self) (take l.at l.inputs) (state_of l.self) l.fn.outputs.items l.outputs.items;
+  lost : (state_of l.fn.self).lost ≡ true → (state_of l.self).lost ≡ true;
+}
