@@ -1,7 +1,7 @@
 # The program's words. Paths are those of the folder in which make runs.
 ARGS ?= examples/seeder.log
 
-.PHONY: run test build bench
+.PHONY: run test build bench bench-hostile
 
 # Runs the program by the toolchain's quick build, which proves nothing.
 run:
@@ -20,3 +20,8 @@ build:
 bench: build
 	@bash scripts/bench.sh
 	@bash scripts/bench_pools.sh
+
+# Times the proved program on the dearest inputs of their kind, each at two lengths: updates of a large pool, NAMEs that leave
+# an address, macros of pointer changes, long screens, and sessions of all sources. OTHER may name a program to compare with.
+bench-hostile: build
+	@python3 scripts/bench_hostile.py crates/vt_replay/out/vt_replay $(OTHER)
