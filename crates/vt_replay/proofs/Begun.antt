@@ -1,19 +1,19 @@
--- Where a replay ends before its end, the terminal has taken the first lines.
+-- Where a replay ends before its end, the terminal has taken the first lines, and what stands written is the front of what they print.
 use Rattle.std.proofs.Common.{◌≡◌, ℕ, ◌+◌, List, [], ◌∷◌, ◌++◌, ◌⊎◌, inl, inr, Option, Some, None, refl, sym, ap, subst, ◌∙◌, append_assoc}
-use Rattle.std.specs.Prelude.{IfSome, Result, Ok, Err, OnErr}
+use Rattle.std.specs.Prelude.{Result, Ok, Err, OnErr}
 use Rattle.std.proofs.lemmas.List.{append-nil}
-use Rattle.std.specs.Io.KnownBytes.{Consumes, IsAtEnd}
-use Rattle.std.proofs.KnownBytes.{Consumes-trans, Consumes-whole}
+use Rattle.std.specs.Io.KnownBytes.{Appends, Keeps}
+use Rattle.std.proofs.KnownBytes.{Appends-trans}
 use Rattle.vt_can.specs.lines.Line.{Reads}
 use Rattle.vt_can.specs.lines.Readings.{FrameAt, OperatorAction, SkippedFrame, CommentLine}
 use Rattle.vt_replay.specs.Lines.{lines_of}
 use Rattle.vt_replay.specs.Taken.{Follows, Reaches, Scene, TakesReading, TakesReadings}
 use Rattle.vt_replay.specs.Texts.{Reading}
 use Rattle.vt_replay.specs.Replays.{TakesSome}
+use Rattle.vt_replay.specs.Begun.{Begins, MayBegin, IsPrintOf, IsPrintOfSome, Stops}
 use Rattle.vt_replay.specs.Progress.{Stand, Takes, HasNoNewline, TakesBytes}
-use Rattle.vt_replay.proofs.Taking.{AllZip-append, lines_of-line, HasNoNewline-append}
-use Rattle.vt_replay.proofs.Midway.{IsMidway, IsUnderWay}
-use Rattle.vt_replay.proofs.LongLines.{begun}
+use Rattle.vt_replay.proofs.Taking.{AllZip-append, readings-append, takes-lines, lines_of-line, HasNoNewline-append}
+use Rattle.vt_replay.proofs.Midway.{IsMidway}
 use Rattle.vt_server.specs.Terminals.{State}
 
 -- ---- the terminal alone
@@ -33,13 +33,40 @@ reaches-append : (s t u : State) (rs qs : List Reading) → Reaches s rs t → R
 reaches-append s t u [] qs p q = subst (λ (from : State). Reaches from qs u) p q
 reaches-append s t u (r ∷ rs) qs p q = (p.0, p.1, reaches-append p.0 t u rs qs p.2 q)
 
+-- ---- what stands written
+
+keeps-appends : (a b : Option (List ℕ)) → Keeps a b → Appends a b []
+keeps-appends None b p = tt
+keeps-appends (Some x) None p = absurd p
+keeps-appends (Some x) (Some y) p = p ∙ sym (append-nil x)
+
+pub begins_none : (a b : Option (List ℕ)) (text : List ℕ) → Keeps a b → Begins a b text
+begins_none a b text keeps = record { front = []; rest = text; parts = refl; written = keeps-appends a b keeps }
+
+-- a part of a text is written, and the next is begun
+pub begins_later : (a b c : Option (List ℕ)) (done text : List ℕ) → Appends a b done → Begins b c text → Begins a c (done ++ text)
+begins_later a b c done text p q = record {
+  front = done ++ q.front;
+  rest = q.rest;
+  parts = ap (λ (t : List ℕ). done ++ t) q.parts ∙ sym (append_assoc done q.front q.rest);
+  written = Appends-trans a b c done q.front p q.written;
+}
+
+-- a longer text is begun too
+pub begins_more : (a b : Option (List ℕ)) (text more : List ℕ) → Begins a b text → Begins a b (text ++ more)
+begins_more a b text more p = record {
+  front = p.front;
+  rest = p.rest ++ more;
+  parts = ap (λ (t : List ℕ). t ++ more) p.parts ∙ append_assoc p.front p.rest more;
+  written = p.written;
+}
+
 -- ---- the first of some lines
 
-pub some_none : (s : State) (lines : List (List ℕ)) → TakesSome s lines s
+some_none : (s : State) (lines : List (List ℕ)) → TakesSome s lines s
 some_none s lines = record { front = []; back = lines; readings = []; whole = refl; read = tt; after = refl }
 
--- a line of which nothing came, or all
-pub some_one : (s t : State) (line : List ℕ) (r : Reading) → Reads line r → (t ≡ s) ⊎ Follows s r t → TakesSome s (line ∷ []) t
+some_one : (s t : State) (line : List ℕ) (r : Reading) → Reads line r → (t ≡ s) ⊎ Follows s r t → TakesSome s (line ∷ []) t
 some_one s t line r reads (inl same) = record { front = []; back = line ∷ []; readings = []; whole = refl; read = tt; after = same }
 some_one s t line r reads (inr taken) = record { front = line ∷ []; back = []; readings = r ∷ []; whole = refl; read = (reads, tt); after = (t, taken, refl) }
 
@@ -73,66 +100,131 @@ some_later a b t done lines takes p = record {
   after = reaches-append a.scene.state b.scene.state t takes.readings p.readings (reaches a.scene b.scene a.counts.lines takes.readings takes.printed takes.takes) p.after;
 }
 
-later_bytes : (a b : Stand) (t : State) (before bytes pending : List ℕ) → TakesBytes a before bytes b pending → (rest : List ℕ) → TakesSome b.scene.state (lines_of (pending ++ rest)) t
-    → TakesSome a.scene.state (lines_of (before ++ bytes ++ rest)) t
-later_bytes a b t before bytes pending taken rest later =
-    subst (λ (ls : List (List ℕ)). TakesSome a.scene.state ls t) (sym (taken.split rest)) (some_later a b t taken.lines (lines_of (pending ++ rest)) taken.takes later)
+-- ---- what the first of some lines print
+
+print_none : (s : Scene) (n : ℕ) (lines : List (List ℕ)) → IsPrintOfSome s n lines []
+print_none s n lines = record { front = []; back = lines; readings = []; to = s; whole = refl; read = tt; takes = (refl, refl) }
+
+print_one : (s : Scene) (n : ℕ) (line text : List ℕ) (r : Reading) → Reads line r → IsPrintOf (TakesReading s (n + 1) r) text → IsPrintOfSome s n (line ∷ []) text
+print_one s n line text r reads print = record {
+  front = line ∷ [];
+  back = [];
+  readings = r ∷ [];
+  to = print.0;
+  whole = refl;
+  read = (reads, tt);
+  takes = record { middle = print.0; first = text; rest = []; takes = print.1; next = (refl, refl); whole = sym (append-nil text) };
+}
+
+print_more : (s : Scene) (n : ℕ) (lines more : List (List ℕ)) (text : List ℕ) → IsPrintOfSome s n lines text → IsPrintOfSome s n (lines ++ more) text
+print_more s n lines more text p = record {
+  front = p.front;
+  back = p.back ++ more;
+  readings = p.readings;
+  to = p.to;
+  whole = ap (λ (ls : List (List ℕ)). ls ++ more) p.whole ∙ append_assoc p.front p.back more;
+  read = p.read;
+  takes = p.takes;
+}
+
+print_later : (a b : Stand) (done lines : List (List ℕ)) (text : List ℕ) (takes : Takes a done b) → IsPrintOfSome b.scene b.counts.lines lines text
+    → IsPrintOfSome a.scene a.counts.lines (done ++ lines) (takes.printed ++ text)
+print_later a b done lines text takes p = record {
+  front = done ++ p.front;
+  back = p.back;
+  readings = takes.readings ++ p.readings;
+  to = p.to;
+  whole = ap (λ (ls : List (List ℕ)). done ++ ls) p.whole ∙ sym (append_assoc done p.front p.back);
+  read = AllZip-append Reads done takes.readings p.front p.readings takes.read p.read;
+  takes = readings-append a.scene b.scene p.to a.counts.lines b.counts.lines takes.readings p.readings takes.printed text takes.takes (takes-lines a b done takes) p.takes;
+}
+
+-- ---- where not all lines are taken
+
+-- none is
+pub stops_none : (a : Stand) (lines : List (List ℕ)) (held : Option (List ℕ)) → Keeps a.held held → Stops a lines a.scene.state held
+stops_none a lines held keeps = record {
+  taken = some_none a.scene.state lines;
+  text = [];
+  text_is = print_none a.scene a.counts.lines lines;
+  begun = begins_none a.held held [] keeps;
+}
+
+-- a line of which nothing came, or all
+pub stops_one : (a : Stand) (t : State) (line : List ℕ) (r : Reading) (held : Option (List ℕ)) → Reads line r → (t ≡ a.scene.state) ⊎ Follows a.scene.state r t
+    → MayBegin (IsPrintOf (TakesReading a.scene (a.counts.lines + 1) r)) a.held held → Stops a (line ∷ []) t held
+stops_one a t line r held reads taken (inl keeps) = record {
+  taken = some_one a.scene.state t line r reads taken;
+  text = [];
+  text_is = print_none a.scene a.counts.lines (line ∷ []);
+  begun = begins_none a.held held [] keeps;
+}
+stops_one a t line r held reads taken (inr (text, is, begun)) = record {
+  taken = some_one a.scene.state t line r reads taken;
+  text = text;
+  text_is = print_one a.scene a.counts.lines line text r reads is;
+  begun = begun;
+}
+
+-- all are
+pub stops_all : (a b : Stand) (lines : List (List ℕ)) → Takes a lines b → Stops a lines b.scene.state b.held
+stops_all a b lines takes = record {
+  taken = some_all a b lines takes;
+  text = takes.printed;
+  text_is = record { front = lines; back = []; readings = takes.readings; to = b.scene; whole = sym (append-nil lines); read = takes.read; takes = takes.takes };
+  begun = record { front = takes.printed; rest = []; parts = sym (append-nil takes.printed); written = takes.text };
+}
+
+stops_more : (a : Stand) (t : State) (lines more : List (List ℕ)) (held : Option (List ℕ)) → Stops a lines t held → Stops a (lines ++ more) t held
+stops_more a t lines more held p = record {
+  taken = some_more a.scene.state t lines more p.taken;
+  text = p.text;
+  text_is = print_more a.scene a.counts.lines lines more p.text p.text_is;
+  begun = p.begun;
+}
+
+stops_later : (a b : Stand) (t : State) (done lines : List (List ℕ)) (held : Option (List ℕ)) → Takes a done b → Stops b lines t held → Stops a (done ++ lines) t held
+stops_later a b t done lines held takes p = record {
+  taken = some_later a b t done lines takes p.taken;
+  text = takes.printed ++ p.text;
+  text_is = print_later a b done lines p.text takes p.text_is;
+  begun = begins_later a.held b.held held takes.printed p.text takes.text p.begun;
+}
+
+pub later_bytes : (a b : Stand) (t : State) (held : Option (List ℕ)) (before bytes pending : List ℕ) → TakesBytes a before bytes b pending → (rest : List ℕ) → Stops b (lines_of (pending ++ rest)) t held
+    → Stops a (lines_of (before ++ bytes ++ rest)) t held
+later_bytes a b t held before bytes pending taken rest later =
+    subst (λ (ls : List (List ℕ)). Stops a ls t held) (sym (taken.split rest)) (stops_later a b t taken.lines (lines_of (pending ++ rest)) held taken.takes later)
 
 -- ---- in a chunk
 
 -- its next line is not taken to its end
-pub midway_some : (a b : Stand) (t : State) (before chunk pending rest line after : List ℕ) → IsMidway a before chunk b pending rest → HasNoNewline line → rest ≡ line ++ 10 ∷ after
-    → TakesSome b.scene.state ((pending ++ line) ∷ []) t → (r : List ℕ) → TakesSome a.scene.state (lines_of (before ++ chunk ++ r)) t
-midway_some a b t before chunk pending rest line after mid lacks cut one r =
+pub midway_stops : (a b : Stand) (t : State) (held : Option (List ℕ)) (before chunk pending rest line after : List ℕ) → IsMidway a before chunk b pending rest → HasNoNewline line → rest ≡ line ++ 10 ∷ after
+    → Stops b ((pending ++ line) ∷ []) t held → (r : List ℕ) → Stops a (lines_of (before ++ chunk ++ r)) t held
+midway_stops a b t held before chunk pending rest line after mid lacks cut one r =
     let cut_here : lines_of (pending ++ (line ++ 10 ∷ (after ++ r))) ≡ (pending ++ line) ∷ lines_of (after ++ r) =
     ap lines_of (sym (append_assoc pending line (10 ∷ (after ++ r)))) ∙ lines_of-line (pending ++ line) (after ++ r) (HasNoNewline-append pending line mid.whole lacks) in
-    let here : TakesSome b.scene.state (lines_of (pending ++ (line ++ 10 ∷ (after ++ r)))) t =
-    subst (λ (ls : List (List ℕ)). TakesSome b.scene.state ls t) (sym cut_here) (some_more b.scene.state t ((pending ++ line) ∷ []) (lines_of (after ++ r)) one) in
-    let all = later_bytes a b t before mid.front pending mid.taken (line ++ 10 ∷ (after ++ r)) here in
+    let here : Stops b (lines_of (pending ++ (line ++ 10 ∷ (after ++ r)))) t held =
+    subst (λ (ls : List (List ℕ)). Stops b ls t held) (sym cut_here) (stops_more b t ((pending ++ line) ∷ []) (lines_of (after ++ r)) held one) in
+    let all = later_bytes a b t held before mid.front pending mid.taken (line ++ 10 ∷ (after ++ r)) here in
     let joined : before ++ chunk ++ r ≡ before ++ mid.front ++ (line ++ 10 ∷ (after ++ r)) =
     ap (λ (text : List ℕ). before ++ text ++ r) (mid.parts ∙ ap (λ (text : List ℕ). mid.front ++ text) cut) ∙ simp append_assoc in
-    subst (λ (text : List ℕ). TakesSome a.scene.state (lines_of text) t) (sym joined) all
+    subst (λ (text : List ℕ). Stops a (lines_of text) t held) (sym joined) all
 
 -- its rest is not kept
-pub midway_stop : (a b : Stand) (before chunk pending rest : List ℕ) → IsMidway a before chunk b pending rest → (r : List ℕ) → TakesSome a.scene.state (lines_of (before ++ chunk ++ r)) b.scene.state
-midway_stop a b before chunk pending rest mid r =
-    let all = later_bytes a b b.scene.state before mid.front pending mid.taken (rest ++ r) (some_none b.scene.state (lines_of (pending ++ (rest ++ r)))) in
+pub midway_stop : (a b : Stand) (held : Option (List ℕ)) (before chunk pending rest : List ℕ) → IsMidway a before chunk b pending rest → Keeps b.held held → (r : List ℕ)
+    → Stops a (lines_of (before ++ chunk ++ r)) b.scene.state held
+midway_stop a b held before chunk pending rest mid keeps r =
+    let all = later_bytes a b b.scene.state held before mid.front pending mid.taken (rest ++ r) (stops_none b (lines_of (pending ++ (rest ++ r))) held keeps) in
     let joined : before ++ chunk ++ r ≡ before ++ mid.front ++ (rest ++ r) = ap (λ (text : List ℕ). before ++ text ++ r) mid.parts ∙ simp append_assoc in
-    subst (λ (text : List ℕ). TakesSome a.scene.state (lines_of text) b.scene.state) (sym joined) all
-
--- ---- in a replay
-
-pub some_given : (given : Option (List ℕ)) (s : State) → IfSome given (λ input. TakesSome s (lines_of input) s)
-some_given None s = tt
-some_given (Some input) s = some_none s (lines_of input)
-
--- nothing more is read
-pub way_stop : (a b : Stand) (given left : Option (List ℕ)) (pending : List ℕ) (reads : ℕ) → IsUnderWay a given left b pending reads → IfSome given (λ input. TakesSome a.scene.state (lines_of input) b.scene.state)
-way_stop a b given left pending reads way =
-    begun given left way.input (λ input. TakesSome a.scene.state (lines_of input) b.scene.state) way.consumed (λ rest. later_bytes a b b.scene.state [] way.input pending way.taken rest (some_none b.scene.state (lines_of (pending ++ rest))))
-
--- a chunk is not taken to its end
-pub way_some : (a b : Stand) (t : State) (given left after : Option (List ℕ)) (pending chunk : List ℕ) (reads : ℕ) → IsUnderWay a given left b pending reads → Consumes left after chunk
-    → ((rest : List ℕ) → TakesSome b.scene.state (lines_of (pending ++ chunk ++ rest)) t) → IfSome given (λ input. TakesSome a.scene.state (lines_of input) t)
-way_some a b t given left after pending chunk reads way consumed some =
-    let P : List ℕ → Type 0 = λ input. TakesSome a.scene.state (lines_of input) t in
-    begun given after (way.input ++ chunk) P (Consumes-trans given left after way.input chunk way.consumed consumed) (λ rest.
-    let here : TakesSome b.scene.state (lines_of (pending ++ (chunk ++ rest))) t = subst (λ (text : List ℕ). TakesSome b.scene.state (lines_of text) t) (append_assoc pending chunk rest) (some rest) in
-    subst P (sym (append_assoc way.input chunk rest)) (later_bytes a b t [] way.input pending way.taken (chunk ++ rest) here))
-
--- the reader is at its end, and what is pending is not taken to its end
-pub way_last : (a b : Stand) (t : State) (given left after : Option (List ℕ)) (pending chunk : List ℕ) (reads : ℕ) → IsUnderWay a given left b pending reads → Consumes left after chunk
-    → chunk ≡ [] → IsAtEnd after → TakesSome b.scene.state (lines_of pending) t → IfSome given (λ input. TakesSome a.scene.state (lines_of input) t)
-way_last a b t given left after pending chunk reads way consumed empty end some =
-    let P : List ℕ → Type 0 = λ input. TakesSome a.scene.state (lines_of input) t in
-    let lines : lines_of way.input ≡ way.taken.lines ++ lines_of pending =
-    ap lines_of (sym (append-nil way.input)) ∙ way.taken.split [] ∙ ap (λ (text : List ℕ). way.taken.lines ++ lines_of text) (append-nil pending) in
-    let all : P way.input = subst (λ (ls : List (List ℕ)). TakesSome a.scene.state ls t) (sym lines) (some_later a b t way.taken.lines (lines_of pending) way.taken.takes some) in
-    let joined : way.input ≡ way.input ++ chunk = sym (append-nil way.input) ∙ ap (λ (text : List ℕ). way.input ++ text) (sym empty) in
-    Consumes-whole given after (way.input ++ chunk) P (Consumes-trans given left after way.input chunk way.consumed consumed) end (subst P joined all)
+    subst (λ (text : List ℕ). Stops a (lines_of text) b.scene.state held) (sym joined) all
 
 -- ---- results
 
 pub on_any_err : {T E P : Type 0} (r : Result T E) → P → OnErr r P
 on_any_err (Ok x) p = tt
 on_any_err (Err e) p = p
+
+pub on_err_both : {T E P Q S : Type 0} (r : Result T E) → (P → Q → S) → OnErr r P → OnErr r Q → OnErr r S
+on_err_both (Ok x) both p q = tt
+on_err_both (Err e) both p q = both p q

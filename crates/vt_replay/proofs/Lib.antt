@@ -4,5 +4,6 @@ pub mod Stepping
 pub mod Midway
 pub mod LongLines
 pub mod Begun
+pub mod Ended
 pub mod Chains
 pub mod Loading

@@ -45,7 +45,7 @@ with_lines-lines c (r ∷ rs) =
     omega arith
 
 -- the next line is line n + 1, after n others
-readings-append : (a b c : Scene) (n m : ℕ) (rs qs : List Reading) (t u : List ℕ) → TakesReadings a n rs b t → m ≡ n + length rs → TakesReadings b m qs c u
+pub readings-append : (a b c : Scene) (n m : ℕ) (rs qs : List Reading) (t u : List ℕ) → TakesReadings a n rs b t → m ≡ n + length rs → TakesReadings b m qs c u
     → TakesReadings a n (rs ++ qs) c (t ++ u)
 readings-append a b c n m [] qs t u p place q =
     let here : m ≡ n = place ∙ add-zero n in
@@ -93,9 +93,13 @@ takes_one a b line r reads short one = record {
   text = one.text;
 }
 
+-- the lines taken are counted
+pub takes-lines : (a b : Stand) (lines : List (List ℕ)) (takes : Takes a lines b) → b.counts.lines ≡ a.counts.lines + length takes.readings
+takes-lines a b lines takes = ap (λ (k : Counts). k.lines) takes.counts ∙ with_lines-lines a.counts takes.readings
+
 pub takes_more : (a b c : Stand) (xs ys : List (List ℕ)) → Takes a xs b → Takes b ys c → Takes a (xs ++ ys) c
 takes_more a b c xs ys p q =
-    let n : b.counts.lines ≡ a.counts.lines + length p.readings = ap (λ (k : Counts). k.lines) p.counts ∙ with_lines-lines a.counts p.readings in record {
+    let n = takes-lines a b xs p in record {
       readings = p.readings ++ q.readings;
       read = AllZip-append Reads xs p.readings ys q.readings p.read q.read;
       short = All-joined (λ line. length line ≤ 4096) xs ys p.short q.short;

@@ -5,3 +5,4 @@ pub mod Replays
 pub mod Progress
 pub mod Words
 pub mod Runs
+pub mod Begun

@@ -1,20 +1,26 @@
 //! What a replay writes.
 
-ghost use Rattle.std.specs.Prelude.{◌≡◌, ◌++◌, OnOk, IfErr};
+ghost use Rattle.std.specs.Prelude.{◌≡◌, ◌++◌, OnOk, OnErr, IfErr};
 ghost use Rattle.std.specs.Fmt.{decimal};
 ghost use Rattle.std.specs.List.{flat_map};
 ghost use Rattle.std.specs.Io.KnownBytes.{Appends, Keeps};
+ghost use Rattle.vt_replay.specs.Begun.{Begins};
 ghost use Rattle.vt_replay.specs.Texts.{output_text, refusal_name, fault_text, fault_name, counts_text};
 
 use crate::counts::Counts;
 use crate::fault::ReplayFault;
-use std::io::Write;
+use itoa::Buffer;
+use std::io::{ErrorKind, Write};
 use vt_can::{LineFault, write_frame};
 use vt_server::{OperatorFault, Output};
+
+/// After how many writes a text that is not written whole is given up.
+const WRITES: u32 = 1_000_000_000;
 
 /// Writes what the terminal sends, in its order.
 pub fn put_outputs<W: Write>(outputs: &[Output], writer: &mut W) -> Result<(), ReplayFault>
     ensures text { OnOk result (Appends (W.contents writer.old) (W.contents writer.new) (flat_map output_text outputs.now)) }
+    ensures front { OnErr result (Begins (W.contents writer.old) (W.contents writer.new) (flat_map output_text outputs.now)) }
     ensures fault { IfErr result (λ fault. fault ≡ ReplayFault.Write) }
 {
     for output in outputs {
@@ -26,6 +32,7 @@ pub fn put_outputs<W: Write>(outputs: &[Output], writer: &mut W) -> Result<(), R
 /// Writes a frame, or a refusal to the operator, on a line of its own.
 fn put_output<W: Write>(output: &Output, writer: &mut W) -> Result<(), ReplayFault>
     ensures text { OnOk result (Appends (W.contents writer.old) (W.contents writer.new) (output_text output.now)) }
+    ensures front { OnErr result (Begins (W.contents writer.old) (W.contents writer.new) (output_text output.now)) }
     ensures fault { IfErr result (λ fault. fault ≡ ReplayFault.Write) }
 {
     match output {
@@ -34,8 +41,9 @@ fn put_output<W: Write>(output: &Output, writer: &mut W) -> Result<(), ReplayFau
             put(b"\n", writer)
         }
         Output::Refused(fault) => {
-            let name = refusal_name(*fault);
-            writeln!(writer, "operator {name}").map_err(|_| ReplayFault::Write)
+            put(b"operator ", writer)?;
+            put(refusal_name(*fault).as_bytes(), writer)?;
+            put(b"\n", writer)
         }
     }
 }
@@ -60,15 +68,20 @@ fn refusal_name(fault: OperatorFault) -> &'static str
 /// Writes that line `number` is faulty.
 pub fn put_fault<W: Write>(number: u64, fault: LineFault, writer: &mut W) -> Result<(), ReplayFault>
     ensures text { OnOk result (Appends (W.contents writer.old) (W.contents writer.new) (fault_text number fault)) }
+    ensures front { OnErr result (Begins (W.contents writer.old) (W.contents writer.new) (fault_text number fault)) }
     ensures fault { IfErr result (λ fault. fault ≡ ReplayFault.Write) }
 {
-    let name = fault_name(fault);
-    writeln!(writer, "line {number} {name}").map_err(|_| ReplayFault::Write)
+    put(b"line ", writer)?;
+    put_number(number, writer)?;
+    put(b" ", writer)?;
+    put(fault_name(fault).as_bytes(), writer)?;
+    put(b"\n", writer)
 }
 
 /// Writes the counts.
 pub fn put_counts<W: Write>(counts: &Counts, writer: &mut W) -> Result<(), ReplayFault>
     ensures text { OnOk result (Appends (W.contents writer.old) (W.contents writer.new) (counts_text counts.now)) }
+    ensures front { OnErr result (Begins (W.contents writer.old) (W.contents writer.new) (counts_text counts.now)) }
     ensures fault { IfErr result (λ fault. fault ≡ ReplayFault.Write) }
 {
     put_count("lines ", counts.lines, writer)?;
@@ -82,17 +95,41 @@ pub fn put_counts<W: Write>(counts: &Counts, writer: &mut W) -> Result<(), Repla
 
 fn put_count<W: Write>(label: &str, count: u64, writer: &mut W) -> Result<(), ReplayFault>
     ensures text { OnOk result (Appends (W.contents writer.old) (W.contents writer.new) (label.now ++ decimal count)) }
+    ensures front { OnErr result (Begins (W.contents writer.old) (W.contents writer.new) (label.now ++ decimal count)) }
     ensures fault { IfErr result (λ fault. fault ≡ ReplayFault.Write) }
 {
-    write!(writer, "{label}{count}").map_err(|_| ReplayFault::Write)
+    put(label.as_bytes(), writer)?;
+    put_number(count, writer)
 }
 
-/// Writes bytes as they are.
-pub fn put<W: Write>(bytes: &[u8], writer: &mut W) -> Result<(), ReplayFault>
-    ensures text { OnOk result (Appends (W.contents writer.old) (W.contents writer.new) bytes.now) }
+fn put_number<W: Write>(number: u64, writer: &mut W) -> Result<(), ReplayFault>
+    ensures text { OnOk result (Appends (W.contents writer.old) (W.contents writer.new) (decimal number)) }
+    ensures front { OnErr result (Begins (W.contents writer.old) (W.contents writer.new) (decimal number)) }
     ensures fault { IfErr result (λ fault. fault ≡ ReplayFault.Write) }
 {
-    writer.write_all(bytes).map_err(|_| ReplayFault::Write)
+    put(Buffer::new().format(number).as_bytes(), writer)
+}
+
+/// Writes bytes as they are. It writes piece by piece, so that also after a fault it is known what stands written: the
+/// first of them.
+pub fn put<W: Write>(bytes: &[u8], writer: &mut W) -> Result<(), ReplayFault>
+    ensures text { OnOk result (Appends (W.contents writer.old) (W.contents writer.new) bytes.now) }
+    ensures front { OnErr result (Begins (W.contents writer.old) (W.contents writer.new) bytes.now) }
+    ensures fault { IfErr result (λ fault. fault ≡ ReplayFault.Write) }
+{
+    let mut rest = bytes;
+    for _ in 0..WRITES {
+        if rest.is_empty() {
+            return Ok(());
+        }
+        match writer.write(rest) {
+            Ok(0) => return Err(ReplayFault::Write),
+            Ok(count) => rest = &rest[count..],
+            Err(fault) if fault.kind() == ErrorKind::Interrupted => {}
+            Err(_) => return Err(ReplayFault::Write),
+        }
+    }
+    Err(ReplayFault::Write)
 }
 
 /// Writes out what the writer holds back.

@@ -1,13 +1,14 @@
 //! How far a replay has come, and the lines that it takes.
 
-ghost use Rattle.std.specs.Prelude.{◌≡◌, ◌^◌, ◌+◌, ◌++◌, ◌⊎◌, [], ◌∷◌, ◌≤◌, ◌<◌, length, false, List, ℕ, OnOk, OnErr, IfErr, IsErrOf, MatchOption};
+ghost use Rattle.std.specs.Prelude.{◌≡◌, ◌^◌, ◌+◌, ◌++◌, ◌⊎◌, [], ◌∷◌, ◌≤◌, ◌<◌, length, false, List, ℕ, OnOk, OnErr, IfOk, IfErr, IsErrOf, MatchOption, if◌then◌else◌};
 ghost use Rattle.std.specs.Io.KnownBytes.{Appends};
 ghost use Rattle.vt_can.specs.lines.Readings.{reading_of};
 ghost use Rattle.vt_replay.specs.Lines.{lines_of};
-ghost use Rattle.vt_replay.specs.Taken.{Follows, FollowsEvent, TakesInputLine, input_line};
+ghost use Rattle.vt_replay.specs.Begun.{IsPrintOf, MayBegin, Stops};
+ghost use Rattle.vt_replay.specs.Taken.{Follows, FollowsEvent, TakesInputLine, TakesReading, input_line};
 ghost use Rattle.vt_replay.specs.Texts.{with_line, no_counts, new_screen};
 ghost use Rattle.vt_replay.specs.Progress.{AtMost, HasNoNewline, IsLineFault, IsStepFault, Takes, TakesBytes, TakesOne, Writes, scene, stand};
-ghost use Rattle.vt_replay.specs.Replays.{TakesSome, HasLongLine};
+ghost use Rattle.vt_replay.specs.Replays.{HasLongLine};
 ghost use Rattle.vt_server.specs.Screens.{IsScreenOf, redraws};
 ghost use Rattle.vt_server.specs.States.{state_of};
 
@@ -66,6 +67,7 @@ impl Progress {
         ensures text { OnOk result (Appends (W.contents writer.old) (W.contents writer.new) self.new.screen.items) }
         ensures counts { self.new.counts ≡ self.old.counts }
         ensures pending { self.new.pending ≡ self.old.pending }
+        ensures front { OnErr result (MayBegin (IsScreenOf (state_of terminal.now)) (W.contents writer.old) (W.contents writer.new)) }
         ensures fault { IfErr result IsStepFault }
     {
         terminal.screen(&mut self.screen)?;
@@ -87,7 +89,8 @@ impl Progress {
             self.old.pending.items chunk.now
             (stand terminal.new self.new.screen.items self.new.counts (W.contents writer.new)) self.new.pending.items) }
         ensures whole { OnOk result (HasNoNewline self.new.pending.items) }
-        ensures stopped { OnErr result ((rest : List ℕ) → TakesSome (state_of terminal.old) (lines_of (self.old.pending.items ++ chunk.now ++ rest)) (state_of terminal.new)) }
+        ensures stopped { OnErr result ((rest : List ℕ) → Stops (stand terminal.old self.old.screen.items self.old.counts (W.contents writer.old))
+            (lines_of (self.old.pending.items ++ chunk.now ++ rest)) (state_of terminal.new) (W.contents writer.new)) }
         ensures too_long { IsErrOf result ReplayFault.TooLong → (rest : List ℕ) → HasLongLine (self.old.pending.items ++ chunk.now ++ rest) }
         ensures fault { IfErr result IsLineFault }
     {
@@ -111,7 +114,8 @@ impl Progress {
         ensures takes { OnOk result (Takes (stand terminal.old self.old.screen.items self.old.counts (W.contents writer.old))
             (lines_of self.old.pending.items)
             (stand terminal.new self.new.screen.items self.new.counts (W.contents writer.new))) }
-        ensures stopped { OnErr result (TakesSome (state_of terminal.old) (lines_of self.old.pending.items) (state_of terminal.new)) }
+        ensures stopped { OnErr result (Stops (stand terminal.old self.old.screen.items self.old.counts (W.contents writer.old))
+            (lines_of self.old.pending.items) (state_of terminal.new) (W.contents writer.new)) }
         ensures too_long { IsErrOf result ReplayFault.TooLong → 4096 < length self.old.pending.items }
         ensures fault { IfErr result IsLineFault }
     {
@@ -148,7 +152,8 @@ impl Progress {
             ((self.old.pending.items ++ part.now) ∷ [])
             (stand terminal.new self.new.screen.items self.new.counts (W.contents writer.new))) }
         ensures empty { OnOk result (self.new.pending.items ≡ []) }
-        ensures stopped { OnErr result (TakesSome (state_of terminal.old) ((self.old.pending.items ++ part.now) ∷ []) (state_of terminal.new)) }
+        ensures stopped { OnErr result (Stops (stand terminal.old self.old.screen.items self.old.counts (W.contents writer.old))
+            ((self.old.pending.items ++ part.now) ∷ []) (state_of terminal.new) (W.contents writer.new)) }
         ensures too_long { IsErrOf result ReplayFault.TooLong → 4096 < length (self.old.pending.items ++ part.now) }
         ensures fault { IfErr result IsLineFault }
     {
@@ -176,7 +181,8 @@ impl Progress {
             (line.now ∷ [])
             (stand terminal.new self.new.screen.items self.new.counts (W.contents writer.new))) }
         ensures pending { self.new.pending ≡ self.old.pending }
-        ensures stopped { OnErr result (TakesSome (state_of terminal.old) (line.now ∷ []) (state_of terminal.new)) }
+        ensures stopped { OnErr result (Stops (stand terminal.old self.old.screen.items self.old.counts (W.contents writer.old))
+            (line.now ∷ []) (state_of terminal.new) (W.contents writer.new)) }
         ensures fault { IfErr result IsStepFault }
     {
         let reading = parse_line(line);
@@ -198,6 +204,8 @@ impl Progress {
             (stand terminal.new self.new.screen.items self.new.counts (W.contents writer.new))) }
         ensures stopped { OnErr result ((state_of terminal.new ≡ state_of terminal.old)
             ⊎ Follows (state_of terminal.old) (reading_of reading.entry) (state_of terminal.new)) }
+        ensures front { OnErr result (MayBegin (IsPrintOf (TakesReading (scene terminal.old self.old.screen.items) (self.old.counts.lines + 1) (reading_of reading.entry)))
+            (W.contents writer.old) (W.contents writer.new)) }
         ensures counts { self.new.counts ≡ with_line self.old.counts (reading_of reading.entry) }
         ensures pending { self.new.pending ≡ self.old.pending }
         ensures fault { IfErr result IsStepFault }
@@ -239,40 +247,43 @@ impl Progress {
             (W.contents writer.old) (W.contents writer.new)) }
         ensures stopped { OnErr result ((state_of terminal.new ≡ state_of terminal.old)
             ⊎ FollowsEvent (state_of terminal.old) (input_line input.now) (state_of terminal.new)) }
+        ensures front { OnErr result (MayBegin (IsPrintOf (TakesInputLine (scene terminal.old self.old.screen.items) (input_line input.now)))
+            (W.contents writer.old) (W.contents writer.new)) }
         ensures counts { self.new.counts ≡ self.old.counts }
         ensures pending { self.new.pending ≡ self.old.pending }
         ensures fault { IfErr result IsStepFault }
     {
         self.outputs.clear();
         terminal.step(input, &mut self.outputs)?;
+        let is_new = self.draw(terminal)?;
         put_outputs(&self.outputs, writer)?;
-        self.put_screen(terminal, writer)
+        if is_new {
+            put(&self.screen, writer)?;
+        }
+        Ok(())
     }
 
-    /// Prints the screen of the terminal, where it is another than the one that was printed last. It is drawn only where the
+    /// Draws the screen of the terminal, and tells whether it is another than the one before. It is drawn only where the
     /// terminal tells that it may be.
-    fn put_screen<W: Write>(
-        &mut self,
-        terminal: &Terminal,
-        writer: &mut W,
-    ) -> Result<(), ReplayFault>
+    fn draw(&mut self, terminal: &Terminal) -> Result<bool, ReplayFault>
         requires kept { redraws terminal.now ≡ false → IsScreenOf (state_of terminal.now) self.old.screen.items }
         ensures drawn { OnOk result (IsScreenOf (state_of terminal.now) self.new.screen.items) }
-        ensures text { OnOk result (Appends (W.contents writer.old) (W.contents writer.new) (new_screen self.old.screen.items self.new.screen.items)) }
+        ensures told { IfOk result (λ is_new. new_screen self.old.screen.items self.new.screen.items ≡ (if is_new then self.new.screen.items else [])) }
+        ensures outputs { self.new.outputs ≡ self.old.outputs }
         ensures counts { self.new.counts ≡ self.old.counts }
         ensures pending { self.new.pending ≡ self.old.pending }
-        ensures fault { IfErr result IsStepFault }
+        ensures fault { IfErr result (λ fault. fault ≡ ReplayFault.Memory) }
     {
         if !terminal.redraws() {
-            return Ok(());
+            return Ok(false);
         }
         self.drawn.clear();
         terminal.screen(&mut self.drawn)?;
         if self.drawn == self.screen {
-            return Ok(());
+            return Ok(false);
         }
         mem::swap(&mut self.screen, &mut self.drawn);
-        put(&self.screen, writer)
+        Ok(true)
     }
 }
 

@@ -1,13 +1,14 @@
 use Rattle.std.proofs.Common.{◌≡◌, ◌≤◌, ◌<◌, ℕ, length, length-take, take, refl, sym, ap, subst, ◌∙◌, arith}
 use Rattle.std.proofs.lemmas.Result.{err_from_is_err_and}
 use Rattle.std.specs.Io.KnownBytes.{Consumes}
+use Rattle.std.proofs.KnownBytes.{Keeps-refl}
 use Rattle.vt_server.specs.States.{state_of}
-use Rattle.vt_replay.specs.Lines.{lines_of}
 use Rattle.vt_replay.specs.Texts.{no_counts}
 use Rattle.vt_replay.specs.Progress.{scene, stand, Stand}
 use Rattle.vt_replay.proofs.Midway.{way_drawn, way_flushed, way_start, way_more, way_end, read_front}
 use Rattle.vt_replay.proofs.LongLines.{way_long, end_long}
-use Rattle.vt_replay.proofs.Begun.{on_any_err, some_given, some_all, way_stop, way_some, way_last}
+use Rattle.vt_replay.proofs.Begun.{on_any_err}
+use Rattle.vt_replay.proofs.Ended.{begun_none, begun_first, way_stop, way_stops, way_last, way_counts}
 use Rattle.vt_replay.proofs.replay.replay.Goals as goal
 
 pub loop-init : goal.loop-init
@@ -86,18 +87,21 @@ returns-in_err-take_chunk-clause-too_long g c =
 
 pub returns-in_err-chunk-clause-stopped : goal.returns-in_err-chunk-clause-stopped
 returns-in_err-chunk-clause-stopped g c =
-    on_any_err c.from_residual.result (some_given (g.R.Read.remaining c.args.reader.now) (state_of c.args.terminal.now))
+    let held = g.W.Write.contents c.args.writer.now in
+    on_any_err c.from_residual.result (begun_none (g.R.Read.remaining c.args.reader.now) (state_of c.args.terminal.now) held held (Keeps-refl held))
 
 pub returns-in_err-begin-clause-stopped : goal.returns-in_err-begin-clause-stopped
 returns-in_err-begin-clause-stopped g c =
-    on_any_err c.from_residual-in_err-begin.result (some_given (g.R.Read.remaining c.args.reader.now) (state_of c.args.terminal.now))
+    on_any_err c.from_residual-in_err-begin.result
+    (begun_first (g.R.Read.remaining c.args.reader.now) (state_of c.args.terminal.now) (g.W.Write.contents c.args.writer.now) (g.W.Write.contents c.begin.new.writer) c.in_err-begin.ensures.front)
 
 pub returns-in_err-flush-clause-stopped : goal.returns-in_err-flush-clause-stopped
 returns-in_err-flush-clause-stopped g c =
     let start : Stand = stand c.args.terminal.now c.begin.new.self.screen.items no_counts (g.W.Write.contents c.begin.new.writer) in
     let now : Stand = stand c.loop.terminal c.loop.progress.screen.items c.loop.progress.counts (g.W.Write.contents c.loop.writer) in
     on_any_err c.from_residual-in_err-flush.result
-    (way_stop start now (g.R.Read.remaining c.args.reader.now) (g.R.Read.remaining c.loop.reader) c.loop.progress.pending.items c.loop.counter c.loop.invariant.way)
+    (way_stop start now (g.R.Read.remaining c.args.reader.now) (g.R.Read.remaining c.loop.reader) (g.W.Write.contents c.args.writer.now) (g.W.Write.contents c.flush.new.writer) c.loop.progress.pending.items c.loop.counter
+    refl c.in_ok-begin.ensures.drawn c.in_ok-begin.ensures.text c.loop.invariant.way c.flush.ensures.kept)
 
 pub returns-in_err-end_log-clause-stopped : goal.returns-in_err-end_log-clause-stopped
 returns-in_err-end_log-clause-stopped g c =
@@ -105,12 +109,11 @@ returns-in_err-end_log-clause-stopped g c =
     let now : Stand = stand c.loop.terminal c.loop.progress.screen.items c.loop.progress.counts (g.W.Write.contents c.flush.new.writer) in
     let way = way_flushed start (scene c.loop.terminal c.loop.progress.screen.items) c.loop.progress.counts (g.W.Write.contents c.loop.writer) (g.W.Write.contents c.flush.new.writer)
     (g.R.Read.remaining c.args.reader.now) (g.R.Read.remaining c.loop.reader) c.loop.progress.pending.items c.loop.counter c.loop.invariant.way c.flush.ensures.kept in
-    let to = state_of c.end_log.new.terminal in
     let items = c.loop.chunk in
     let room : 0 < length c.read.new.buf = omega (arith, c.read.auto.buf, c.deref_mut.ensures.len, items.ok.0, c.loop.invariant.chunk) in
     on_any_err c.from_residual-in_err-end_log.result
-    (way_last start now to (g.R.Read.remaining c.args.reader.now) (g.R.Read.remaining c.loop.reader) (g.R.Read.remaining c.read.new.self) c.loop.progress.pending.items (take c.in-Ok.count c.read.new.buf)
-    c.loop.counter way c.in-Ok.ensures.bytes.0 (ap (λ (n : ℕ). take n c.read.new.buf) c.if-count-eq0.true) (c.in-Ok.ensures.bytes.1 c.if-count-eq0.true room) c.in_err-end_log.ensures.stopped)
+    (way_last start now (state_of c.end_log.new.terminal) (g.R.Read.remaining c.args.reader.now) (g.R.Read.remaining c.loop.reader) (g.R.Read.remaining c.read.new.self) (g.W.Write.contents c.args.writer.now) (g.W.Write.contents c.end_log.new.writer) c.loop.progress.pending.items (take c.in-Ok.count c.read.new.buf)
+    c.loop.counter refl c.in_ok-begin.ensures.drawn c.in_ok-begin.ensures.text way c.in-Ok.ensures.bytes.0 (ap (λ (n : ℕ). take n c.read.new.buf) c.if-count-eq0.true) (c.in-Ok.ensures.bytes.1 c.if-count-eq0.true room) c.in_err-end_log.ensures.stopped)
 
 pub returns-in_err-put_counts-clause-stopped : goal.returns-in_err-put_counts-clause-stopped
 returns-in_err-put_counts-clause-stopped g c =
@@ -122,9 +125,8 @@ returns-in_err-put_counts-clause-stopped g c =
     let items = c.loop.chunk in
     let room : 0 < length c.read.new.buf = omega (arith, c.read.auto.buf, c.deref_mut.ensures.len, items.ok.0, c.loop.invariant.chunk) in
     on_any_err c.from_residual-in_err-put_counts.result
-    (way_last start now done.scene.state (g.R.Read.remaining c.args.reader.now) (g.R.Read.remaining c.loop.reader) (g.R.Read.remaining c.read.new.self) c.loop.progress.pending.items (take c.in-Ok.count c.read.new.buf)
-    c.loop.counter way c.in-Ok.ensures.bytes.0 (ap (λ (n : ℕ). take n c.read.new.buf) c.if-count-eq0.true) (c.in-Ok.ensures.bytes.1 c.if-count-eq0.true room)
-    (some_all now done (lines_of c.loop.progress.pending.items) c.in_ok-end_log.ensures.takes))
+    (way_counts start now done (g.R.Read.remaining c.args.reader.now) (g.R.Read.remaining c.loop.reader) (g.R.Read.remaining c.read.new.self) (g.W.Write.contents c.args.writer.now) (g.W.Write.contents c.put_counts.new.writer) c.loop.progress.pending.items (take c.in-Ok.count c.read.new.buf)
+    c.loop.counter refl c.in_ok-begin.ensures.drawn c.in_ok-begin.ensures.text way c.in-Ok.ensures.bytes.0 (ap (λ (n : ℕ). take n c.read.new.buf) c.if-count-eq0.true) (c.in-Ok.ensures.bytes.1 c.if-count-eq0.true room) c.in_ok-end_log.ensures.takes c.in_err-put_counts.ensures.front)
 
 pub returns-in_err-take_chunk-clause-stopped : goal.returns-in_err-take_chunk-clause-stopped
 returns-in_err-take_chunk-clause-stopped g c =
@@ -132,23 +134,24 @@ returns-in_err-take_chunk-clause-stopped g c =
     let now : Stand = stand c.loop.terminal c.loop.progress.screen.items c.loop.progress.counts (g.W.Write.contents c.flush.new.writer) in
     let way = way_flushed start (scene c.loop.terminal c.loop.progress.screen.items) c.loop.progress.counts (g.W.Write.contents c.loop.writer) (g.W.Write.contents c.flush.new.writer)
     (g.R.Read.remaining c.args.reader.now) (g.R.Read.remaining c.loop.reader) c.loop.progress.pending.items c.loop.counter c.loop.invariant.way c.flush.ensures.kept in
-    let to = state_of c.take_chunk.new.terminal in
     let items = c.loop.chunk in
     let full : length c.read.new.buf ≡ items.len = omega (arith, c.read.auto.buf, c.deref_mut.ensures.len) in
     let front = read_front c.in-Ok.count items.len c.read.new.buf items.items c.deref.result.now c.deref.ensures.value full in
     let consumed = subst (Consumes (g.R.Read.remaining c.loop.reader) (g.R.Read.remaining c.read.new.self)) front c.in-Ok.ensures.bytes.0 in
     on_any_err c.from_residual-in_err-take_chunk.result
-    (way_some start now to (g.R.Read.remaining c.args.reader.now) (g.R.Read.remaining c.loop.reader) (g.R.Read.remaining c.read.new.self) c.loop.progress.pending.items (take c.in-Ok.count c.deref.result.now)
-    c.loop.counter way consumed c.in_err-take_chunk.ensures.stopped)
+    (way_stops start now (state_of c.take_chunk.new.terminal) (g.R.Read.remaining c.args.reader.now) (g.R.Read.remaining c.loop.reader) (g.R.Read.remaining c.read.new.self) (g.W.Write.contents c.args.writer.now) (g.W.Write.contents c.take_chunk.new.writer) c.loop.progress.pending.items (take c.in-Ok.count c.deref.result.now)
+    c.loop.counter refl c.in_ok-begin.ensures.drawn c.in_ok-begin.ensures.text way consumed c.in_err-take_chunk.ensures.stopped)
 
 pub returns-in_default-clause-stopped : goal.returns-in_default-clause-stopped
 returns-in_default-clause-stopped g c =
     let start : Stand = stand c.args.terminal.now c.begin.new.self.screen.items no_counts (g.W.Write.contents c.begin.new.writer) in
-    let now : Stand = stand c.loop.terminal c.loop.progress.screen.items c.loop.progress.counts (g.W.Write.contents c.loop.writer) in
-    way_stop start now (g.R.Read.remaining c.args.reader.now) (g.R.Read.remaining c.loop.reader) c.loop.progress.pending.items c.loop.counter c.loop.invariant.way
+    let now : Stand = stand c.loop.terminal c.loop.progress.screen.items c.loop.progress.counts (g.W.Write.contents c.flush.new.writer) in
+    let way = way_flushed start (scene c.loop.terminal c.loop.progress.screen.items) c.loop.progress.counts (g.W.Write.contents c.loop.writer) (g.W.Write.contents c.flush.new.writer)
+    (g.R.Read.remaining c.args.reader.now) (g.R.Read.remaining c.loop.reader) c.loop.progress.pending.items c.loop.counter c.loop.invariant.way c.flush.ensures.kept in
+    way_stop start now (g.R.Read.remaining c.args.reader.now) (g.R.Read.remaining c.loop.reader) (g.W.Write.contents c.args.writer.now) now.held c.loop.progress.pending.items c.loop.counter refl c.in_ok-begin.ensures.drawn c.in_ok-begin.ensures.text way (Keeps-refl now.held)
 
 pub returns-clause-stopped : goal.returns-clause-stopped
 returns-clause-stopped g c =
     let start : Stand = stand c.args.terminal.now c.begin.new.self.screen.items no_counts (g.W.Write.contents c.begin.new.writer) in
     let now : Stand = stand c.loop.terminal c.loop.progress.screen.items c.loop.progress.counts (g.W.Write.contents c.loop.writer) in
-    way_stop start now (g.R.Read.remaining c.args.reader.now) (g.R.Read.remaining c.loop.reader) c.loop.progress.pending.items c.loop.counter c.loop.invariant.way
+    way_stop start now (g.R.Read.remaining c.args.reader.now) (g.R.Read.remaining c.loop.reader) (g.W.Write.contents c.args.writer.now) now.held c.loop.progress.pending.items c.loop.counter refl c.in_ok-begin.ensures.drawn c.in_ok-begin.ensures.text c.loop.invariant.way (Keeps-refl now.held)

@@ -1,7 +1,7 @@
 use Rattle.std.proofs.Common.{List, ℕ, subst}
 use Rattle.std.specs.Prelude.{OnOk, OnErr}
 use Rattle.vt_server.specs.States.{state_of}
-use Rattle.vt_replay.specs.Replays.{TakesSome}
+use Rattle.vt_replay.specs.Begun.{Stops}
 use Rattle.vt_replay.specs.Progress.{stand, Stand, Takes}
 use Rattle.vt_replay.proofs.Midway.{last_line}
 use Rattle.vt_replay.proofs.progress.Progress.end_log.Goals as goal
@@ -15,6 +15,7 @@ returns-clause-takes g c =
 
 pub returns-clause-stopped : goal.returns-clause-stopped
 returns-clause-stopped g c =
-    let from : State = state_of c.args.terminal.now in
+    let from : Stand = stand c.args.terminal.now c.args.self.now.screen.items c.args.self.now.counts (g.W.Write.contents c.args.writer.now) in
     let to : State = state_of c.end_line.new.terminal in
-    subst (λ (ls : List (List ℕ)). OnErr c.end_line.result (TakesSome from ls to)) (last_line c.args.self.now.pending.items c.requires.whole c.if-is_empty.ensures) c.end_line.ensures.stopped
+    subst (λ (ls : List (List ℕ)). OnErr c.end_line.result (Stops from ls to (g.W.Write.contents c.end_line.new.writer)))
+    (last_line c.args.self.now.pending.items c.requires.whole c.if-is_empty.ensures) c.end_line.ensures.stopped

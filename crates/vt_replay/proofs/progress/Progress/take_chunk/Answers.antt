@@ -1,11 +1,12 @@
 use Rattle.std.proofs.Common.{◌<◌, ◌++◌, ◌∷◌, [], length, sym}
 use Rattle.std.proofs.lemmas.List.{append-nil}
+use Rattle.std.proofs.KnownBytes.{Keeps-refl}
 use Rattle.std.proofs.lemmas.Result.{err_from_is_err_and, IfErr-at_err}
 use Rattle.vt_replay.specs.Progress.{stand, Stand}
 use Rattle.vt_replay.proofs.Midway.{midway_drawn, midway_few, midway_line}
 use Rattle.vt_server.specs.States.{state_of}
 use Rattle.vt_replay.proofs.LongLines.{midway_long}
-use Rattle.vt_replay.proofs.Begun.{on_any_err, midway_some, midway_stop}
+use Rattle.vt_replay.proofs.Begun.{on_any_err, midway_stops, midway_stop}
 use Rattle.vt_replay.proofs.progress.Progress.take_chunk.Goals as goal
 
 pub end_line-requires : goal.end_line-requires
@@ -46,11 +47,12 @@ returns-in_err-end_line-clause-stopped g c =
     let now : Stand = stand c.loop-line.terminal c.loop-line.self.screen.items c.loop-line.self.counts (g.W.Write.contents c.loop-line.writer) in
     let to = state_of c.end_line.new.terminal in
     on_any_err c.from_residual.result
-    (midway_some from now to c.args.self.now.pending.items c.args.chunk.now c.loop-line.self.pending.items c.loop-line.rest.now c.in-Some.line.now c.in-Some.after.now c.loop-line.invariant
+    (midway_stops from now to (g.W.Write.contents c.end_line.new.writer) c.args.self.now.pending.items c.args.chunk.now c.loop-line.self.pending.items c.loop-line.rest.now c.in-Some.line.now c.in-Some.after.now c.loop-line.invariant
     c.in-Some.ensures.0 c.in-Some.ensures.1 c.in_err-end_line.ensures.stopped)
 
 pub returns-clause-stopped : goal.returns-clause-stopped
 returns-clause-stopped g c =
     let from : Stand = stand c.args.terminal.now c.args.self.now.screen.items c.args.self.now.counts (g.W.Write.contents c.args.writer.now) in
     let now : Stand = stand c.loop-line.terminal c.loop-line.self.screen.items c.loop-line.self.counts (g.W.Write.contents c.loop-line.writer) in
-    on_any_err c.keep.result (midway_stop from now c.args.self.now.pending.items c.args.chunk.now c.loop-line.self.pending.items c.loop-line.rest.now c.loop-line.invariant)
+    on_any_err c.keep.result
+    (midway_stop from now now.held c.args.self.now.pending.items c.args.chunk.now c.loop-line.self.pending.items c.loop-line.rest.now c.loop-line.invariant (Keeps-refl now.held))
