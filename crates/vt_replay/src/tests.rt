@@ -1,6 +1,7 @@
 ghost use Rattle.std.specs.Prelude.{Some, None, codes, if◌then◌else◌};
 ghost use Rattle.std.specs.Str.{bytes_eq};
 
+mod faults;
 mod messages;
 mod reports;
 mod screens;

@@ -10,10 +10,10 @@ use vt_server::Terminal;
 
 /// A reader that gives a few bytes at a time, and then fails or is at its end.
 #[derive(Drop)]
-struct Pieces<'a> {
-    rest: &'a [u8],
-    most: usize,
-    fails: bool,
+pub struct Pieces<'a> {
+    pub rest: &'a [u8],
+    pub most: usize,
+    pub fails: bool,
 }
 
 impl Read for Pieces<'_> {
