@@ -1,5 +1,5 @@
 -- Where a replay ends before its end, the terminal has taken the first lines, and what stands written is the front of what they print.
-use Rattle.std.proofs.Common.{◌≡◌, ℕ, ◌+◌, List, [], ◌∷◌, ◌++◌, ◌⊎◌, inl, inr, Option, Some, None, refl, sym, ap, subst, ◌∙◌, append_assoc}
+use Rattle.std.proofs.Common.{◌≡◌, ℕ, ◌+◌, ◌≤◌, length, List, [], ◌∷◌, ◌++◌, ◌⊎◌, inl, inr, Option, Some, None, refl, sym, ap, subst, ◌∙◌, append_assoc}
 use Rattle.std.specs.Prelude.{Result, Ok, Err, OnErr}
 use Rattle.std.proofs.lemmas.List.{append-nil}
 use Rattle.std.specs.Io.KnownBytes.{Appends, Keeps}
@@ -12,7 +12,7 @@ use Rattle.vt_replay.specs.Texts.{Reading}
 use Rattle.vt_replay.specs.Replays.{TakesSome}
 use Rattle.vt_replay.specs.Begun.{Begins, MayBegin, IsPrintOf, IsPrintOfSome, Stops}
 use Rattle.vt_replay.specs.Progress.{Stand, Takes, HasNoNewline, TakesBytes}
-use Rattle.vt_replay.proofs.Taking.{AllZip-append, readings-append, takes-lines, lines_of-line, HasNoNewline-append}
+use Rattle.vt_replay.proofs.Taking.{AllZip-append, All-joined, readings-append, takes-lines, lines_of-line, HasNoNewline-append}
 use Rattle.vt_replay.proofs.Midway.{IsMidway}
 use Rattle.vt_server.specs.Terminals.{State}
 
@@ -64,11 +64,11 @@ begins_more a b text more p = record {
 -- ---- the first of some lines
 
 some_none : (s : State) (lines : List (List ℕ)) → TakesSome s lines s
-some_none s lines = record { front = []; back = lines; readings = []; whole = refl; read = tt; after = refl }
+some_none s lines = record { front = []; back = lines; readings = []; whole = refl; read = tt; short = tt; after = refl }
 
-some_one : (s t : State) (line : List ℕ) (r : Reading) → Reads line r → (t ≡ s) ⊎ Follows s r t → TakesSome s (line ∷ []) t
-some_one s t line r reads (inl same) = record { front = []; back = line ∷ []; readings = []; whole = refl; read = tt; after = same }
-some_one s t line r reads (inr taken) = record { front = line ∷ []; back = []; readings = r ∷ []; whole = refl; read = (reads, tt); after = (t, taken, refl) }
+some_one : (s t : State) (line : List ℕ) (r : Reading) → Reads line r → length line ≤ 4096 → (t ≡ s) ⊎ Follows s r t → TakesSome s (line ∷ []) t
+some_one s t line r reads short (inl same) = record { front = []; back = line ∷ []; readings = []; whole = refl; read = tt; short = tt; after = same }
+some_one s t line r reads short (inr taken) = record { front = line ∷ []; back = []; readings = r ∷ []; whole = refl; read = (reads, tt); short = (short, tt); after = (t, taken, refl) }
 
 pub some_all : (a b : Stand) (lines : List (List ℕ)) → Takes a lines b → TakesSome a.scene.state lines b.scene.state
 some_all a b lines takes = record {
@@ -77,6 +77,7 @@ some_all a b lines takes = record {
   readings = takes.readings;
   whole = sym (append-nil lines);
   read = takes.read;
+  short = takes.short;
   after = reaches a.scene b.scene a.counts.lines takes.readings takes.printed takes.takes;
 }
 
@@ -87,6 +88,7 @@ some_more s t lines more p = record {
   readings = p.readings;
   whole = ap (λ (ls : List (List ℕ)). ls ++ more) p.whole ∙ append_assoc p.front p.back more;
   read = p.read;
+  short = p.short;
   after = p.after;
 }
 
@@ -97,6 +99,7 @@ some_later a b t done lines takes p = record {
   readings = takes.readings ++ p.readings;
   whole = ap (λ (ls : List (List ℕ)). done ++ ls) p.whole ∙ sym (append_assoc done p.front p.back);
   read = AllZip-append Reads done takes.readings p.front p.readings takes.read p.read;
+  short = All-joined (λ line. length line ≤ 4096) done p.front takes.short p.short;
   after = reaches-append a.scene.state b.scene.state t takes.readings p.readings (reaches a.scene b.scene a.counts.lines takes.readings takes.printed takes.takes) p.after;
 }
 
@@ -151,16 +154,16 @@ stops_none a lines held keeps = record {
 }
 
 -- a line of which nothing came, or all
-pub stops_one : (a : Stand) (t : State) (line : List ℕ) (r : Reading) (held : Option (List ℕ)) → Reads line r → (t ≡ a.scene.state) ⊎ Follows a.scene.state r t
+pub stops_one : (a : Stand) (t : State) (line : List ℕ) (r : Reading) (held : Option (List ℕ)) → Reads line r → length line ≤ 4096 → (t ≡ a.scene.state) ⊎ Follows a.scene.state r t
     → MayBegin (IsPrintOf (TakesReading a.scene (a.counts.lines + 1) r)) a.held held → Stops a (line ∷ []) t held
-stops_one a t line r held reads taken (inl keeps) = record {
-  taken = some_one a.scene.state t line r reads taken;
+stops_one a t line r held reads short taken (inl keeps) = record {
+  taken = some_one a.scene.state t line r reads short taken;
   text = [];
   text_is = print_none a.scene a.counts.lines (line ∷ []);
   begun = begins_none a.held held [] keeps;
 }
-stops_one a t line r held reads taken (inr (text, is, begun)) = record {
-  taken = some_one a.scene.state t line r reads taken;
+stops_one a t line r held reads short taken (inr (text, is, begun)) = record {
+  taken = some_one a.scene.state t line r reads short taken;
   text = text;
   text_is = print_one a.scene a.counts.lines line text r reads is;
   begun = begun;

@@ -23,7 +23,7 @@ use Rattle.vt_server.specs.Terminals.{State}
 pub begun_none : (given : Option (List ℕ)) (s : State) (old new : Option (List ℕ)) → Keeps old new → IfSome given (λ input. HasStopped s input s old new)
 begun_none None s old new keeps = tt
 begun_none (Some input) s old new keeps = record {
-  taken = record { front = []; back = lines_of input; readings = []; whole = refl; read = tt; after = refl };
+  taken = record { front = []; back = lines_of input; readings = []; whole = refl; read = tt; short = tt; after = refl };
   written = inl keeps;
 }
 
@@ -32,7 +32,7 @@ begun_first given s old new (inl keeps) = begun_none given s old new keeps
 begun_first None s old new (inr screen) = tt
 begun_first (Some input) s old new (inr (screen, is, stands)) =
     let first : Scene = record { state = s; screen = screen } in record {
-      taken = record { front = []; back = lines_of input; readings = []; whole = refl; read = tt; after = refl };
+      taken = record { front = []; back = lines_of input; readings = []; whole = refl; read = tt; short = tt; after = refl };
       written = inr (
         screen,
         record {

@@ -22,7 +22,7 @@ AllZip-append R [] (b ∷ bs) cs ds p q = absurd p
 AllZip-append R (a ∷ xs) [] cs ds p q = absurd p
 AllZip-append R (a ∷ xs) (b ∷ bs) cs ds p q = (p.0, AllZip-append R xs bs cs ds p.1 q)
 
-All-joined : {A : Type 0} (P : A → Type 0) (xs bs : List A) → AllByRecursion P xs → AllByRecursion P bs → AllByRecursion P (xs ++ bs)
+pub All-joined : {A : Type 0} (P : A → Type 0) (xs bs : List A) → AllByRecursion P xs → AllByRecursion P bs → AllByRecursion P (xs ++ bs)
 All-joined P [] bs p q = q
 All-joined P (a ∷ xs) bs p q = (p.0, All-joined P xs bs p.1 q)
 

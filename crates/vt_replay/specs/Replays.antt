@@ -25,13 +25,14 @@ pub record IsReplay (start : State) (input : List ℕ) (text : List ℕ) (counts
   pub counts_are : counts ≡ with_lines no_counts readings
   pub now_is : now ≡ last.state
 
--- The terminal has taken the first of these lines: none, some or all.
+-- The terminal has taken the first of these lines: none, some or all. None of them is longer than 4,096 bytes.
 pub record TakesSome (from : State) (lines : List (List ℕ)) (to : State) : Type 0 where
   pub front : List (List ℕ)
   pub back : List (List ℕ)
   pub readings : List Reading
   pub whole : lines ≡ front ++ back
   pub read : AllZip Reads front readings
+  pub short : AllByRecursion (λ line. length line ≤ 4096) front
   pub after : Reaches from readings to
 
 -- some line is longer than 4,096 bytes

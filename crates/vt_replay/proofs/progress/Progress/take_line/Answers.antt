@@ -18,5 +18,5 @@ pub returns-clause-stopped : goal.returns-clause-stopped
 returns-clause-stopped g c =
     let from : Stand = stand c.args.terminal.now c.args.self.now.screen.items c.args.self.now.counts (g.W.Write.contents c.args.writer.now) in
     on_err_both c.take_reading.result
-    (stops_one from (state_of c.take_reading.new.terminal) c.args.line.now (reading_of c.parse_line-reading.result) (g.W.Write.contents c.take_reading.new.writer) c.parse_line-reading.ensures)
+    (stops_one from (state_of c.take_reading.new.terminal) c.args.line.now (reading_of c.parse_line-reading.result) (g.W.Write.contents c.take_reading.new.writer) c.parse_line-reading.ensures c.requires.short)
     c.take_reading.ensures.stopped c.take_reading.ensures.front
