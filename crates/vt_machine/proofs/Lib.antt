@@ -29,5 +29,6 @@ pub mod OneSet
 pub mod Indexing
 pub mod IndexOrder
 pub mod Marking
+pub mod Named
 pub mod Pointing
 pub mod NullFree

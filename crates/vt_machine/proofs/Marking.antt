@@ -24,7 +24,7 @@ use Rattle.vt_verify.proofs.Closing.{stands}
 use Rattle.vt_verify.proofs.Elements.{Contains-nil, Contains-head, Contains-tail, cons_case, some_is}
 use Rattle.vt_verify.proofs.Places.{once, same_id, stands_of, within, get_placed, object_of}
 use Rattle.vt_machine.specs.Certificates.{IsCertificate}
-use Rattle.vt_machine.specs.Marks.{IsMarked, Marks, AreDone, AreMarked}
+use Rattle.vt_machine.specs.Marks.{IsMarked, Marks, AreMarked}
 use Rattle.vt_machine.specs.Showing.{behind, stands_for, is_element, ids_in, item_of, drawn_in, soft_keys, IsNamed, IsShown}
 use Rattle.vt_machine.specs.Showing.IsShown.{InMask, AmongKeys, Within}
 
@@ -117,29 +117,6 @@ marks_one m name id place marks long is element at =
       | inl same ↦ subst (λ (p : ℕ). slice_index_or (set marks place true) p false ≡ true) (sym same) (get_or-set_same marks place true false lt)
       | inr differs ↦ get_or-set_other marks place at true false differs ∙ was
     ]
-
--- ---- names that are done
-
-pub none_seen : (n name : ℕ) → slice_index_or (replicate n false) name false ≡ false
-none_seen zero name = refl
-none_seen (suc n) zero = refl
-none_seen (suc n) (suc name) = none_seen n name
-
-pub done_none : (m : Contents) (named marks : List Bool) → ((name : ℕ) → slice_index_or named name false ≡ false) → AreDone m named marks
-done_none m named marks none name seen = absurd (no_mark (slice_index_or named name false) (none name) seen)
-
-pub done_kept : (m : Contents) (names : List ℕ) (named marks new : List Bool) → AreDone m named marks → Marks m names marks new → AreDone m named new
-done_kept m names named marks new done next name seen id is = next.kept id (done name seen id is)
-
-pub done_more : (m : Contents) (name : ℕ) (named marks new : List Bool) → name < length named → AreDone m named marks → Marks m (name ∷ []) marks new
-    → AreDone m (set named name true) new
-done_more m name named marks new lt done next other seen id is = elim (cases_eq other name) as (λ _. IsMarked m new id) [
-  | inl same ↦ next.added id (subst (λ (n : ℕ). IsNamed m (n ∷ []) id) same is)
-  | inr differs ↦ next.kept id (done other (sym (get_or-set_other named name other true false differs) ∙ seen) id is)
-]
-
-pub marks_done : (m : Contents) (name : ℕ) (named marks : List Bool) → AreDone m named marks → slice_index_or named name false ≡ true → Marks m (name ∷ []) marks marks
-marks_done m name named marks done seen = record { each = refl; kept = λ id is. is; added = done name seen; only = λ id is. inl is }
 
 -- ---- what is drawn is included
 

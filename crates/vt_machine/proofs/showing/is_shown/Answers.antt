@@ -2,7 +2,8 @@ use Rattle.std.proofs.Common.{arith}
 use Rattle.std.specs.FinMap as finite
 use Rattle.vt_verify.specs.Depths.{ids_of}
 use Rattle.vt_verify.proofs.Places.{stands_of, within}
-use Rattle.vt_machine.proofs.Marking.{shown_by_mark, hidden_by_mark, none_seen}
+use Rattle.vt_machine.proofs.Marking.{shown_by_mark, hidden_by_mark}
+use Rattle.vt_machine.proofs.Named.{none_seen}
 use Rattle.vt_machine.proofs.showing.is_shown.Goals as goal
 
 pub returns-clause-shown : goal.returns-clause-shown

@@ -4,7 +4,8 @@ use Rattle.std.specs.Prelude.{slice_index_or}
 use Rattle.vt_objects.specs.declared.entries.Child.{Child}
 use Rattle.vt_machine.specs.Marks.{Marks, AreDone}
 use Rattle.vt_machine.specs.Showing.{ids_in}
-use Rattle.vt_machine.proofs.Marking.{marks_next, marks_done, done_more}
+use Rattle.vt_machine.proofs.Marking.{marks_next}
+use Rattle.vt_machine.proofs.Named.{marks_done, done_more}
 use Rattle.vt_machine.proofs.showing.mark_children.Goals as goal
 use Rattle.vt_machine.proofs.showing.mark_children.Goals.{then-not-named-name, else-not-named-name}
 

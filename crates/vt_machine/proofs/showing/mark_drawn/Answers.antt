@@ -1,5 +1,5 @@
 use Rattle.vt_machine.specs.Showing.{item_of, number_shown}
-use Rattle.vt_machine.proofs.Marking.{done_kept}
+use Rattle.vt_machine.proofs.Named.{done_kept}
 use Rattle.vt_machine.proofs.showing.mark_drawn.Goals as goal
 
 pub returns-in-InputList-clause-named : goal.returns-in-InputList-clause-named

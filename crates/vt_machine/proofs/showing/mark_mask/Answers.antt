@@ -1,5 +1,6 @@
 use Rattle.std.proofs.Common.{◌∙◌}
-use Rattle.vt_machine.proofs.Marking.{marking_begins, cleared, done_kept}
+use Rattle.vt_machine.proofs.Marking.{marking_begins, cleared}
+use Rattle.vt_machine.proofs.Named.{done_kept}
 use Rattle.vt_machine.specs.Showing.{soft_keys}
 use Rattle.vt_machine.proofs.showing.mark_mask.Goals as goal
 
