@@ -1,12 +1,11 @@
 -- Nothing stands under NULL in the store of an acceptable pool, whatever has run on it.
-use Rattle.std.proofs.Common.{◌≡◌, ◌<◌, ℕ, List, map, Option, Some, None, refl, sym, ap, subst, ◌∙◌}
+use Rattle.std.proofs.Common.{◌≡◌, ◌<◌, map, Option, Some, None, refl, sym, ap, subst, ◌∙◌}
 use Rattle.std.specs.List.{All}
 use Rattle.std.specs.Option.{option_map}
 use Rattle.std.specs.FinMap as finite
 use Rattle.vt_objects.specs.Records.{Seen, kind_of}
-use Rattle.vt_objects.specs.Stores.{Contents, Objects, AreStored, ids, map_of}
-use Rattle.vt_machine.specs.Effects.{kind_in}
-use Rattle.vt_machine.specs.Runs.{IsReady, NullIsNoObject}
+use Rattle.vt_objects.specs.Stores.{Objects, ids, map_of}
+use Rattle.vt_machine.specs.Runs.{NullIsNoObject}
 use Rattle.vt_machine.proofs.Living.{kind_stays}
 use Rattle.vt_machine.proofs.Marking.{null_nowhere}
 use Rattle.vt_machine.proofs.Ready.{entries_are, shape_is}

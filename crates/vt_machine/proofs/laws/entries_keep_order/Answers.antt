@@ -1,4 +1,3 @@
-use Rattle.std.proofs.Common.{refl}
 use Rattle.vt_machine.specs.Entering.{with_number, with_text}
 use Rattle.vt_machine.proofs.Plain.{numbers_plain, texts_plain, plain_sound}
 use Rattle.vt_machine.proofs.laws.entries_keep_order.Goals as goal

@@ -1,4 +1,3 @@
-use Rattle.vt_machine.specs.Showing.{item_of, number_shown}
 use Rattle.vt_machine.proofs.Named.{done_kept}
 use Rattle.vt_machine.proofs.showing.mark_drawn.Goals as goal
 
