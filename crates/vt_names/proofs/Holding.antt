@@ -1,5 +1,5 @@
 -- The addresses of NAMEs by rising NAME, after a claim.
-use Rattle.std.proofs.Common.{◌≡◌, ◌≢◌, ℕ, ◌<◌, ◌≤◌, Bool, true, false, cond, eqb, [], ◌∷◌, Some, None, is_some, unwrap_or, true≢false, inl, inr, refl, sym, ap, subst, ◌∙◌, arith, eq-eqb, ne_eqb}
+use Rattle.std.proofs.Common.{Option, IfSome, ◌≡◌, ◌≢◌, ℕ, ◌<◌, ◌≤◌, Bool, true, false, cond, eqb, [], ◌∷◌, Some, None, is_some, unwrap_or, true≢false, inl, inr, refl, sym, ap, subst, ◌∙◌, arith, eq-eqb, ne_eqb}
 use Rattle.std.proofs.lemmas.Bool.{eqb-true, cases_order, false≢true}
 use Rattle.std.specs.Ordering.{nat_cmp, match_ordering}
 use Rattle.std.specs.declared.cmp.Ordering.{Ordering}
@@ -29,6 +29,14 @@ some-is x y e = ap (λ o. unwrap_or o x) e
 
 pub none-some : {P X : Type 0} {x : X} → None ≡ Some x → P
 none-some e = absurd (true≢false (sym (ap is_some e)))
+
+pub if-none : {A : Type 0} (P : A → Type 0) (o : Option A) → o ≡ None → IfSome o P
+if-none P (Some a) is = none-some (sym is)
+if-none P None is = tt
+
+pub if-each : {A : Type 0} (P : A → Type 0) (o : Option A) → ((a : A) → P a) → IfSome o P
+if-each P (Some a) all = all a
+if-each P None all = tt
 
 -- ---- one entry
 

@@ -1,15 +1,16 @@
 //! The registry of working sets (ISO 11783-6).
 
-ghost use Rattle.std.specs.Prelude.{◌≡◌, ◌≢◌, ◌<◌, ◌≤◌, None, Some, Ok, Err, [], length, slice_get, is_some, IsOk, IfOk, IfErr, IfSome, IfNone, OnOk, OnErr, ◌==◌, if◌then◌else◌};
+ghost use Rattle.std.specs.Prelude.{◌≡◌, ◌≢◌, ◌<◌, ◌≤◌, None, Some, Ok, Err, [], length, slice_get, is_some, IsOk, IfErr, IfSome, IfNone, OnOk, OnErr, ◌==◌, if◌then◌else◌};
 ghost use Rattle.std.specs.Option.{option_copied};
-ghost use Rattle.vt_names.specs.Registry.{set_at, with_set, without, registering, joining, binding, preloaded, has_place, AreApart, IsUnnamed};
+ghost use Rattle.vt_names.specs.Registry.{counted, set_at, with_set, without, registering, joining, binding, preloaded, has_place, AreApart, IsUnnamed};
 ghost use Rattle.vt_names.specs.declared.registry.RegistryFault.TheVariants as declared;
 
 use crate::OutOfMemory;
 use crate::name::Name;
-use crate::set::Set;
+use crate::set::{Members, Set};
+use arrayvec::ArrayVec;
 use indexmap::IndexMap;
-use std::alloc::{AllocFailed, Global};
+use std::alloc::Global;
 use std::marker::Model;
 use thiserror::Error;
 
@@ -25,7 +26,7 @@ pub enum RegistryFault {
     /// The set has its count less one members already.
     #[error("the working set has all its members already")]
     TooManyMembers,
-    /// The memory for a new set was refused. A member message never is: it takes none.
+    /// The memory for a new set was refused. A member message never is, nor a master message of a set that is there: they take none.
     #[error("the memory for a working set was refused")]
     OutOfMemory,
 }
@@ -37,9 +38,13 @@ pub enum RegistryFault {
 #[derive(Drop)]
 pub struct Registry {
     sets: IndexMap<u8, Set>,
+    // A place for the members of the next set, kept from one that was closed or made beforehand.
+    vacant: Option<Members>,
+    alloc: Global,
 }
 
 impl Model for Registry {
+    ghost use Rattle.std.specs.Prelude.{min, is_some, if◌then◌else◌};
     ghost use Rattle.indexmap.specs.IndexMap.{values, spare};
     ghost use Rattle.vt_names.specs.Registry.{Registered, registered_code, AreFiled};
 
@@ -47,7 +52,7 @@ impl Model for Registry {
 
     ghost coded = { registered_code };
 
-    ghost view = { λ r. record { sets = values r.sets; room = spare r.sets } };
+    ghost view = { λ r. record { sets = values r.sets; room = if is_some r.vacant then min 1 (spare r.sets) else 0 } };
 
     ghost invariant = { λ r. AreFiled r.sets.entries };
 }
@@ -59,11 +64,13 @@ impl Registry {
     {
         Registry {
             sets: IndexMap::new(alloc),
+            vacant: None,
+            alloc,
         }
     }
 
     /// Hears a master message, with the holder of its address. A set that is there keeps its place,
-    /// and loses its members. After a refusal the sets are as they were.
+    /// and loses its members, which takes no memory. After a refusal the sets are as they were.
     /// docs/PROFILE.md, "Working Set Master".
     pub fn master(
         &mut self,
@@ -73,6 +80,7 @@ impl Registry {
     ) -> Result<(), RegistryFault>
         ensures not_claimed { IfNone holder (result ≡ Err declared.NotClaimed) }
         ensures claimed { IfSome holder (λ _. IfErr result (λ fault. fault ≡ declared.OutOfMemory)) }
+        ensures there { IfSome holder (λ _. IfSome (set_at address self.old.sets) (λ _. IsOk result)) }
         ensures room { 0 < self.old.room → result ≢ Err declared.OutOfMemory }
         ensures sets { result ≢ Err declared.OutOfMemory → self.new.sets ≡ registering address holder count self.old.sets }
         ensures err { OnErr result (self.new.sets ≡ self.old.sets) }
@@ -80,7 +88,11 @@ impl Registry {
         let Some(name) = holder else {
             return Err(RegistryFault::NotClaimed);
         };
-        self.put(Set::of_master(address, name, count))
+        if let Some(set) = self.sets.get_mut(&address) {
+            set.restart(name, count);
+            return Ok(());
+        }
+        self.add(address, Some(name), count)
             .map_err(|_| RegistryFault::OutOfMemory)
     }
 
@@ -111,7 +123,11 @@ impl Registry {
     {
         // Says that no two sets have the same address.
         let _count = self.sets.len();
-        self.sets.shift_remove(&address).is_some()
+        let Some(set) = self.sets.shift_remove(&address) else {
+            return false;
+        };
+        self.vacant = Some(set.into_members());
+        true
     }
 
     /// How many sets there are.
@@ -152,7 +168,7 @@ impl Registry {
         ensures ok { OnOk result (self.new.sets ≡ with_set (preloaded address) self.old.sets) }
         ensures err { OnErr result (self.new.sets ≡ self.old.sets) }
     {
-        self.put(Set::without_name(address))
+        self.add(address, None, 1)
     }
 
     /// Gives the set of an address a NAME. There is one, and it has none. It takes no memory.
@@ -174,15 +190,33 @@ impl Registry {
         ensures sets { self.new.sets ≡ self.old.sets }
         ensures room { self.old.room ≤ self.new.room }
     {
-        self.sets.reserve(1)
+        self.make_room()
     }
 
-    fn put(&mut self, set: Set) -> Result<(), OutOfMemory>
-        ensures ok { OnOk result (self.new.sets ≡ with_set set self.old.sets) }
+    // Adds a set, without members, of an address that has none.
+    fn add(&mut self, address: u8, name: Option<Name>, count: u8) -> Result<(), OutOfMemory>
+        ensures ok { OnOk result (self.new.sets ≡ with_set (record { address = address; name = name; count = counted count; members = [] }) self.old.sets) }
         ensures err { OnErr result (self.new.sets ≡ self.old.sets) }
         ensures room { 0 < self.old.room → IsOk result }
     {
-        self.sets.insert(set.address(), set)?;
+        self.make_room()?;
+        let members = self.vacant.take().unwrap();
+        self.sets
+            .insert(address, Set::new(address, name, count, members))
+            .unwrap();
         Ok(())
+    }
+
+    // Makes room for one set more, and for its members. What was made of it stays where the rest is refused.
+    fn make_room(&mut self) -> Result<(), OutOfMemory>
+        ensures ok { OnOk result (0 < self.new.room) }
+        ensures sets { self.new.sets ≡ self.old.sets }
+        ensures room { self.old.room ≤ self.new.room }
+        ensures made { 0 < self.old.room → IsOk result }
+    {
+        if self.vacant.is_none() {
+            self.vacant = Some(Box::new(self.alloc, ArrayVec::new())?);
+        }
+        self.sets.reserve(1)
     }
 }

@@ -1,11 +1,14 @@
 //! A working set (ISO 11783-6).
 
-ghost use Rattle.std.specs.Prelude.{◌≡◌, ◌<◌, length, if◌then◌else◌};
-ghost use Rattle.vt_names.specs.Registry.{has_place, joined, bound, mastered, preloaded};
+ghost use Rattle.std.specs.Prelude.{◌≡◌, ◌<◌, [], length, if◌then◌else◌};
+ghost use Rattle.vt_names.specs.Registry.{counted, has_place, joined, bound, mastered};
 
 use crate::name::Name;
 use arrayvec::ArrayVec;
 use std::marker::Model;
+
+/// The NAMEs of a set's members. They stand in memory of their own, so they stay where they are when the set is moved.
+pub(crate) type Members = Box<ArrayVec<Name, 254>>;
 
 /// A working set: the address of its master, its NAME if it has one, how many members it has with the
 /// master, and the NAMEs of the others that were heard of. docs/PROFILE.md, "What a set has".
@@ -14,7 +17,7 @@ pub struct Set {
     address: u8,
     name: Option<Name>,
     count: u8,
-    members: ArrayVec<Name, 254>,
+    members: Members,
 }
 
 impl Model for Set {
@@ -25,34 +28,37 @@ impl Model for Set {
 
     ghost coded = { registry.set_code };
 
-    ghost view = { λ s. record { address = s.address; name = s.name; count = s.count; members = s.members.items } };
+    ghost view = { λ s. record { address = s.address; name = s.name; count = s.count; members = s.members.value.items } };
 
-    ghost invariant = { λ s. length s.members.items < s.count };
+    ghost invariant = { λ s. length s.members.value.items < s.count };
 }
 
 impl Set {
-    /// The set of a master message, of a NAME. A count of 0 is one of 1.
-    pub(crate) fn of_master(address: u8, name: Name, count: u8) -> Set
-        ensures { result ≡ mastered address name count }
+    /// A set of a NAME or without one, with a place for its members, of which it has none. A count of 0 is one of 1.
+    pub(crate) fn new(address: u8, name: Option<Name>, count: u8, mut members: Members) -> Set
+        ensures { result ≡ record { address = address; name = name; count = counted count; members = [] } }
     {
+        members.clear();
         Set {
             address,
-            name: Some(name),
+            name,
             count: count.max(1),
-            members: ArrayVec::new(),
+            members,
         }
     }
 
-    /// A set without a NAME, of its master alone.
-    pub(crate) fn without_name(address: u8) -> Set
-        ensures { result ≡ preloaded address }
+    /// Begins anew, by a master message of a NAME. A count of 0 is one of 1.
+    pub(crate) fn restart(&mut self, name: Name, count: u8)
+        ensures { self.new ≡ mastered self.old.address name count }
     {
-        Set {
-            address,
-            name: None,
-            count: 1,
-            members: ArrayVec::new(),
-        }
+        self.name = Some(name);
+        self.count = count.max(1);
+        self.members.clear();
+    }
+
+    /// The place of its members, which another set may take.
+    pub(crate) fn into_members(self) -> Members {
+        self.members
     }
 
     /// The address of the master.

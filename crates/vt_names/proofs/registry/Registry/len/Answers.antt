@@ -1,4 +1,4 @@
-use Rattle.std.proofs.Common.{ap, subst}
+use Rattle.std.proofs.Common.{subst}
 use Rattle.vt_names.specs.Registry.{Registered, AreApart}
 use Rattle.vt_names.proofs.Filing.{apart-values}
 use Rattle.vt_names.proofs.registry.Registry.len.Goals as goal
