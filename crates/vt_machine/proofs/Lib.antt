@@ -8,6 +8,7 @@ pub mod Referring
 pub mod Written
 pub mod Puts
 pub mod InOrder
+pub mod InTurn
 pub mod Places
 pub mod WrittenSlots
 pub mod SlotsInOrder

@@ -1,5 +1,5 @@
 -- Runs end (docs/PROFILE.md, "Steps", "Costs and budgets").
-use Rattle.std.specs.Prelude.{◌≡◌, ◌≤◌, ℕ, List, None}
+use Rattle.std.specs.Prelude.{◌≡◌, ◌≤◌, ℕ, List, [], ◌∷◌, None}
 use Rattle.std.specs.FinMap as finite
 use Rattle.vt_objects.specs.declared.raising.Raised.{Raised}
 use Rattle.vt_objects.specs.Stores.{Contents, Objects, AreStored, map_of}
@@ -25,6 +25,17 @@ pub record Ends (store : Contents) (steps : ℕ) (end : End) : Type 0 where
 abbrev pub RunsEnd : Type 0
 RunsEnd = (pool : Objects) (store : Contents) (raised : List Raised) → IsAcceptable terminal pool → CostsAreTotals (shape_of pool)
     → shape_in store ≡ shape_of pool → IsSound store → Ends store (total_budget (shape_in store) raised) (run_of store raised)
+
+-- Events in turn: each begins on the store that those before it leave, with its own budget of steps, and ends.
+abbrev pub EndInTurn : Contents → List Raised → Contents → Type 0
+EndInTurn store [] new = new ≡ store
+EndInTurn store (r ∷ raised) new =
+    (own : Ends store (total_budget (shape_in store) (r ∷ [])) (run_of store (r ∷ []))) × EndInTurn own.new raised new
+
+-- What a run of events leaves is what they leave in turn, each within its own budget.
+abbrev pub EventsEndInTurn : Type 0
+EventsEndInTurn = (pool : Objects) (store new : Contents) (left : ℕ) (raised : List Raised) → IsAcceptable terminal pool → CostsAreTotals (shape_of pool)
+    → shape_in store ≡ shape_of pool → IsSound store → run_of store raised ≡ Ended new left → EndInTurn store raised new
 
 -- The store of an acceptable pool has one working set, and its references and chains are in order.
 pub record IsReady (pool : Objects) (store : Contents) : Type 0 where

@@ -3,7 +3,7 @@
 ghost use Rattle.vt_machine.specs.Changes.{ChangesKeep, ReferencesMayStand};
 ghost use Rattle.vt_machine.specs.Entering.{EntriesKeepOrder, EntriesKeepShapes};
 ghost use Rattle.vt_machine.specs.Lives.{ActiveMasksAreOne};
-ghost use Rattle.vt_machine.specs.Runs.{NullIsNoObject, PoolsAreReady, RunsEnd};
+ghost use Rattle.vt_machine.specs.Runs.{EventsEndInTurn, NullIsNoObject, PoolsAreReady, RunsEnd};
 ghost use Rattle.vt_machine.specs.Soundness.{CommandsKeepOrder, CommandsKeepShapes};
 
 /// The law that no command changes the kind of an object, the macros of its events, or the bytes of a macro.
@@ -34,6 +34,12 @@ pub fn commands_keep_shapes()
 /// budgets of the events. The store has one working set still, and is in order. docs/PROFILE.md, "Runs", "Steps".
 pub fn runs_end()
     ensures { RunsEnd }
+{}
+
+/// The law that events end in turn. What a run of events leaves is what they leave one after the other, each of them within the
+/// budget that the pool's report prints for it alone. docs/PROFILE.md, "Runs", "Costs and budgets".
+pub fn events_end_in_turn()
+    ensures { EventsEndInTurn }
 {}
 
 /// The law that the store of an acceptable pool has one working set and is in order, so that runs on it end.

@@ -25,8 +25,8 @@ mod working_set;
 
 pub use laws::{
     active_masks_are_one, changes_keep, commands_keep_order, commands_keep_shapes,
-    entries_keep_order, entries_keep_shapes, null_is_no_object, pools_are_ready,
-    references_may_stand, runs_end,
+    entries_keep_order, entries_keep_shapes, events_end_in_turn, null_is_no_object,
+    pools_are_ready, references_may_stand, runs_end,
 };
 pub use live::{Live, Outcome};
 pub use operator::{Acted, OperatorRefusal};

@@ -17,7 +17,7 @@ use Rattle.vt_objects.specs.Events.{event_at, event_number, raise}
 use Rattle.vt_objects.specs.Stores.{Contents, Objects, map_of}
 use Rattle.vt_verify.specs.Budgets.{budget}
 use Rattle.vt_verify.specs.Rules.{IsVerified, working_sets}
-use Rattle.vt_verify.specs.Shapes.{Shape}
+use Rattle.vt_verify.specs.Shapes.{Shape, shape_of}
 use Rattle.vt_verify.specs.Triggers.{listing}
 use Rattle.vt_machine.specs.declared.live.HeldKey.{HeldKey}
 use Rattle.vt_machine.specs.declared.operator.OperatorRefusal.{OperatorRefusal}
@@ -28,7 +28,7 @@ use Rattle.vt_machine.specs.Entering.{EntriesKeepOrder, EntriesKeepShapes, numbe
 use Rattle.vt_machine.specs.Lives.{SetState, active_in, with_objects, working_set_in}
 use Rattle.vt_machine.specs.Machines.{End, shape_in, total_budget, events_of, joined, run, run_of}
 use Rattle.vt_machine.specs.Operating as operating
-use Rattle.vt_machine.specs.Runs.{Ends, IsReady, NullIsNoObject, RunsEnd, PoolsAreReady}
+use Rattle.vt_machine.specs.Runs.{Ends, EventsEndInTurn, IsReady, NullIsNoObject, RunsEnd, PoolsAreReady}
 use Rattle.vt_machine.specs.Soundness.{CommandsKeepOrder, CommandsKeepShapes, IsSound}
 use Rattle.vt_layout.specs.Drawings.{DrawingsNeverStick, PathsAreChained}
 use Rattle.vt_server.specs.Commands.{store_of, after_done, content_after, deletes, state_after}
@@ -53,6 +53,7 @@ pub record Laws : Type 0 where
   pub entries_shapes : EntriesKeepShapes
   pub pools : PoolsAreReady
   pub runs : RunsEnd
+  pub turns : EventsEndInTurn
   pub nameless : NullIsNoObject
   pub drawings : DrawingsNeverStick
   pub paths : PathsAreChained
@@ -81,14 +82,18 @@ module _ (laws : Laws) where
 
   run-ends : (pool : Objects) (store : Contents) (raised : List Raised) → IsVerified pool → IsReady pool store → length raised ≤ 3
       → EndsInTime (record { objects = store; raised = raised })
-  run-ends pool store raised verified ready few = record {
-    accepted = pool;
-    verified = verified;
-    ready = ready;
-    ends = subst (λ (s : Shape). Ends store (total_budget s raised) (run_of store raised)) ready.shape
-        (laws.runs pool store raised verified.acceptable verified.totals ready.shape ready.sound);
-    few = few;
-  }
+  run-ends pool store raised verified ready few =
+      let ends : Ends store (total_budget (shape_of pool) raised) (run_of store raised) =
+      subst (λ (s : Shape). Ends store (total_budget s raised) (run_of store raised)) ready.shape
+      (laws.runs pool store raised verified.acceptable verified.totals ready.shape ready.sound) in
+      record {
+        accepted = pool;
+        verified = verified;
+        ready = ready;
+        ends = ends;
+        in_turn = laws.turns pool store ends.new ends.left raised verified.acceptable verified.totals ready.shape ready.sound ends.ended;
+        few = few;
+      }
 
   left-ready : (pool : Objects) (store : Contents) (steps : ℕ) (end : End) → IsReady pool store → Ends store steps end → IsReady pool (store_of end)
   left-ready pool store steps end ready ends = subst (λ (e : End). IsReady pool (store_of e)) (sym ends.ended) (record {

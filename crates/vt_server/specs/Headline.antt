@@ -17,7 +17,7 @@ use Rattle.vt_machine.specs.Effects.{effect}
 use Rattle.vt_machine.specs.Lives.{SetState, working_set_in}
 use Rattle.vt_machine.specs.Machines.{total_budget, events_of, run_of}
 use Rattle.vt_machine.specs.Operating as operating
-use Rattle.vt_machine.specs.Runs.{Ends, IsReady}
+use Rattle.vt_machine.specs.Runs.{EndInTurn, Ends, IsReady}
 use Rattle.vt_machine.specs.Showing.{soft_key_mask_of}
 use Rattle.vt_layout.specs.Drawings.{IsChained, Sticks, at_path, key_entries, mask_entries, origin, passed}
 use Rattle.vt_server.specs.Bus.{notice_of}
@@ -117,12 +117,14 @@ runs s (ActionAt action shown) =
 -- ---- what is promised of them
 
 -- A run on the objects of an accepted pool ends, and does not stick: each command finds the objects that it names, of kinds that
--- they may have, and the steps are at most the budgets that the pool's report prints for the events, of which there are few.
+-- they may have, and the steps are at most the budgets that the pool's report prints for the events, of which there are few. The
+-- events run in turn, and each of them ends within its own budget.
 pub record EndsInTime (run : Run) : Type 0 where
   pub accepted : Objects
   pub verified : IsVerified accepted
   pub ready : IsReady accepted run.objects
   pub ends : Ends run.objects (total_budget (shape_of accepted) run.raised) (run_of run.objects run.raised)
+  pub in_turn : EndInTurn run.objects run.raised ends.new
   pub few : length run.raised ≤ 3
 
 -- So the whole cost of an input is one for its command, the budgets of what that raises, and those of the two events by which

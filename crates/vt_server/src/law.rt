@@ -13,8 +13,8 @@ use vt_names::Name;
 
 /// The headline: whatever inputs a terminal takes after its pools were accepted, each set's objects, the outputs and the screens are
 /// those of the written machine, and that machine never sticks. Each command of a macro finds its object, of a kind that it may
-/// change, each run ends within the steps that the pool's report prints for the events that it raises, and each reference that is
-/// shown leads to an object of its place's kind.
+/// change, each event ends within the steps that the pool's report prints for it, and each reference that is shown leads to an
+/// object of its place's kind.
 pub fn the_machine_never_sticks()
     ensures { NeverSticks }
 {
@@ -22,6 +22,7 @@ pub fn the_machine_never_sticks()
     vt_machine::commands_keep_shapes();
     vt_machine::entries_keep_order();
     vt_machine::entries_keep_shapes();
+    vt_machine::events_end_in_turn();
     vt_machine::pools_are_ready();
     vt_machine::runs_end();
     vt_machine::null_is_no_object();

@@ -9,6 +9,7 @@ returns c = never-sticks (record {
   entries_shapes = c.entries_keep_shapes.ensures;
   pools = c.pools_are_ready.ensures;
   runs = c.runs_end.ensures;
+  turns = c.events_end_in_turn.ensures;
   nameless = c.null_is_no_object.ensures;
   drawings = c.drawings_never_stick.ensures;
   paths = c.paths_are_chained.ensures;
