@@ -1,11 +1,12 @@
 -- From a pool's file to the terminal that a replay begins with, and from its log to what is written.
-use Rattle.std.proofs.Common.{◌≡◌, ◌∙◌, ℕ, nat_cmp, false, List, [], Option, Some, None, IfSome, sym, ap, subst}
+use Rattle.std.proofs.Common.{◌≡◌, ◌∙◌, ℕ, nat_cmp, false, List, [], inr, Option, Some, None, IfSome, refl, sym, ap, subst}
 use Rattle.std.specs.Io.KnownBytes.{Appends, Keeps}
 use Rattle.std.proofs.KnownBytes.{Appends-kept}
 use Rattle.vt_pool.specs.Pools.{Entry, AreRecords, IsInForce, contents, joined}
 use Rattle.std.specs.FinMap as finite
 use Rattle.std.specs.FinMap.{nat_cmp-IsAntisymmetric}
 use Rattle.std.proofs.lemmas.Cmp.{nat_cmp_total}
+use Rattle.std.proofs.lemmas.List.{append-nil}
 use Rattle.vt_objects.specs.Stores.{Contents, by_rising_id, map_of}
 use Rattle.vt_verify.specs.Rules.{IsAcceptable, IsRefused, IsWantOfMemory, terminal}
 use Rattle.vt_verify.specs.declared.refusal.Refusal.{Refusal}
@@ -13,8 +14,13 @@ use Rattle.vt_verify.specs.Reports.{report_text}
 use Rattle.vt_replay.specs.declared.counts.Counts.{Counts}
 use Rattle.vt_replay.specs.declared.options.Options.{Options}
 use Rattle.vt_replay.specs.declared.options.Preload.{Preload}
-use Rattle.vt_replay.specs.Replays.{IsReplay}
-use Rattle.vt_replay.specs.Runs.{Files, IsLoaded, IsPoolOf, IsAcceptedPoolOf, IsRefusedPool, IsReportOf, IsStart, WritesReplay, new_state}
+use Rattle.vt_replay.specs.declared.fault.ReplayFault.{ReplayFault}
+use Rattle.vt_replay.specs.declared.fault.ReplayFault.TheVariants.{TooLong, Write}
+use Rattle.vt_replay.specs.Begun.{IsFrontOfReplay, HasStopped, HasStoppedAtLong}
+use Rattle.vt_replay.specs.Lines.{lines_of}
+use Rattle.vt_replay.specs.Replays.{IsReplay, HasLongLine}
+use Rattle.vt_replay.specs.Runs.{Files, IsLoaded, IsPoolOf, IsAcceptedPoolOf, IsRefusedPool, IsReportOf, IsStart, StandsReplayed, WritesReplay, new_state}
+use Rattle.vt_replay.specs.Texts.{counts_text}
 use Rattle.vt_server.specs.Places.{empty}
 use Rattle.vt_server.specs.Terminals.{State}
 
@@ -88,3 +94,60 @@ replay_written None remaining old mid new start end counts same replay keeps = t
 replay_written (Some bytes) remaining old mid new start end counts same replay keeps =
     let r = rw same at replay in
     record { text = r.0; counts = counts; end = end; replay = r.2; written = Appends-kept old mid new r.0 r.1 keeps }
+
+-- ---- what stands written where a log is not replayed
+
+-- the whole text of a replay is a front of it
+whole_front : (start end : State) (input text : List ℕ) (counts : Counts) → IsReplay start input text counts end → IsFrontOfReplay start input text
+whole_front start end input text counts r = record {
+  front = lines_of input;
+  back = [];
+  readings = r.readings;
+  first = r.first;
+  last = r.last;
+  printed = r.printed;
+  ending = counts_text counts;
+  whole = sym (append-nil (lines_of input));
+  read = r.read;
+  starts = r.starts;
+  shown = r.shown;
+  takes = r.takes;
+  ends = inr (refl, ap counts_text r.counts_are);
+  text_is = r.text_is;
+}
+
+-- all of it is written, but it could not be written out
+pub whole_written : (file remaining old mid new : Option (List ℕ)) (start end : State) (counts : Counts)
+    → IfSome file (λ bytes. remaining ≡ Some bytes)
+    → IfSome remaining (λ input. (text : List ℕ) × Appends old mid text × IsReplay start input text counts end)
+    → Keeps mid new → IfSome file (λ input. StandsReplayed start input Write old new)
+whole_written None remaining old mid new start end counts same replay keeps = tt
+whole_written (Some bytes) remaining old mid new start end counts same replay keeps =
+    let r = rw same at replay in (
+      inr (
+        r.0,
+        whole_front start end bytes r.0 counts r.2,
+        record { front = r.0; rest = []; parts = sym (append-nil r.0); written = Appends-kept old mid new r.0 r.1 keeps },
+      ),
+      λ e. absurd cc,
+    )
+
+-- the replay ended before its end
+pub front_written : (file remaining old new : Option (List ℕ)) (start end : State) (why : ReplayFault) → IfSome file (λ bytes. remaining ≡ Some bytes)
+    → IfSome remaining (λ input. HasStopped start input end old new)
+    → (why ≡ TooLong → IfSome remaining (λ input. HasStoppedAtLong start input end old new))
+    → IfSome file (λ input. StandsReplayed start input why old new)
+front_written None remaining old new start end why same stopped at_long = tt
+front_written (Some bytes) remaining old new start end why same stopped at_long =
+    let s = rw same at stopped in (s.written, λ e. (end, rw same at (at_long e)))
+
+-- the line that was too long is one of the file's
+pub long_written : (file remaining old new : Option (List ℕ)) (start end : State) (why : ReplayFault) → IfSome file (λ bytes. remaining ≡ Some bytes)
+    → (why ≡ TooLong → IfSome remaining (λ input. HasStoppedAtLong start input end old new)) → IfSome file (λ input. why ≡ TooLong → HasLongLine input)
+long_written None remaining old new start end why same stopped = tt
+long_written (Some bytes) remaining old new start end why same stopped = λ e. let s = rw same at (stopped e) in s.long
+
+-- the writer's fault is no line that is too long
+pub never_long : (file : Option (List ℕ)) → IfSome file (λ input. Write ≡ TooLong → HasLongLine input)
+never_long None = tt
+never_long (Some bytes) = λ e. absurd cc

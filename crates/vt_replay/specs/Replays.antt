@@ -35,10 +35,13 @@ pub record TakesSome (from : State) (lines : List (List ℕ)) (to : State) : Typ
   pub short : AllByRecursion (λ line. length line ≤ 4096) front
   pub after : Reaches from readings to
 
--- some line is longer than 4,096 bytes
-pub record HasLongLine (input : List ℕ) : Type 0 where
+-- One of these lines is longer than 4,096 bytes.
+pub record HasLong (lines : List (List ℕ)) : Type 0 where
   pub before : List (List ℕ)
   pub line : List ℕ
   pub after : List (List ℕ)
-  pub lines : lines_of input ≡ before ++ line ∷ after
+  pub parts : lines ≡ before ++ line ∷ after
   pub long : 4096 < length line
+
+abbrev pub HasLongLine : List ℕ → Type 0
+HasLongLine input = HasLong (lines_of input)

@@ -15,6 +15,7 @@ use Rattle.vt_verify.specs.Rules.{IsAcceptable, IsRefused}
 use Rattle.vt_verify.specs.Rules as rules
 use Rattle.vt_verify.specs.Reports as report
 use Rattle.vt_replay.specs.declared.counts.Counts.{Counts}
+use Rattle.vt_replay.specs.declared.fault.ReplayFault.{ReplayFault}
 use Rattle.vt_replay.specs.declared.fault.ReplayFault.TheVariants as replay_fault
 use Rattle.vt_replay.specs.declared.options.Options.{Options}
 use Rattle.vt_replay.specs.declared.options.Preload.{Preload}
@@ -24,6 +25,7 @@ use Rattle.vt_replay.specs.declared.program.Fault.{Fault}
 use Rattle.vt_replay.specs.declared.program.Fault.TheVariants as fault
 use Rattle.vt_replay.specs.declared.program.Status.{Status}
 use Rattle.vt_replay.specs.declared.program.Status.TheVariants as status
+use Rattle.vt_replay.specs.Begun.{MayBegin, IsFrontOfReplay, HasStoppedAtLong}
 use Rattle.vt_replay.specs.Replays.{IsReplay, HasLongLine}
 use Rattle.vt_replay.specs.Texts.{newline}
 use Rattle.vt_replay.specs.Words.{IsRefusalOf, WordsGive}
@@ -152,6 +154,33 @@ abbrev pub IsReplayFault : Files → Options → Fault → Type 0
 IsReplayFault files options why =
     IsSomeAnd options.preload (λ p. IsPoolFileFault files p.pool why) ⊎ IsLogFault files options.file.now why
 
+-- what stands written where the replay of a log has a fault: a front of its text; and where a line is too long, the first screen
+-- and what the lines before it print
+abbrev pub StandsReplayed : State → List ℕ → ReplayFault → Option (List ℕ) → Option (List ℕ) → Type 0
+StandsReplayed start input why old new =
+    MayBegin (IsFrontOfReplay start input) old new × (why ≡ replay_fault.TooLong → (now : State) × HasStoppedAtLong start input now old new)
+
+-- what stands written where the log has a fault: nothing where it could not be opened, else of the text of its replay
+abbrev pub StandsWritten : State → Option (List ℕ) → Fault → Option (List ℕ) → Option (List ℕ) → Type 0
+StandsWritten start log (fault.File path cause) old new = Keeps old new
+StandsWritten start log (fault.Pool why) old new = ⊥
+StandsWritten start log (fault.Refused why) old new = ⊥
+StandsWritten start log fault.Memory old new = ⊥
+StandsWritten start log (fault.Replay why) old new = IfSome log (λ input. StandsReplayed start input why old new)
+
+-- The terminal is the one that the options give, and the log has a fault.
+pub record HasLogFault (files : Files) (options : Options) (why : Fault) (old new : Option (List ℕ)) : Type 0 where
+  pub start : State
+  pub given : IsStart files options start
+  pub faulty : IsLogFault files options.file.now why
+  pub written : StandsWritten start (files options.file.now) why old new
+
+-- Why a log is not replayed, and what is written before that is told. The pool comes first: where its file gives none that is
+-- accepted, nothing is written.
+abbrev pub FailsReplay : Files → Options → Fault → Option (List ℕ) → Option (List ℕ) → Type 0
+FailsReplay files options why old new =
+    (IsSomeAnd options.preload (λ p. IsPoolFileFault files p.pool why) × Keeps old new) ⊎ HasLogFault files options why old new
+
 -- why what the options ask for is not done
 abbrev pub IsFaultOf : Files → Options → Fault → Type 0
 IsFaultOf files options why =
@@ -211,14 +240,20 @@ pub record Reports (words : List Text) (files : Files) (old new : Option (List �
   pub asked : options.report ≡ true
   pub written : IfSome (files options.file.now) (λ bytes. WritesReport bytes old new)
 
--- The words give options, and what they ask for has a fault. Where that is a report, nothing else is written than
--- what is printed of the fault.
+-- What the options ask for is not done, and this is written before the fault is told: of a report nothing.
+abbrev pub Fails : Files → Options → Fault → Option (List ℕ) → Option (List ℕ) → Type 0
+Fails files options why old new =
+    ((options.report ≡ true) × IsPoolFileFault files options.file why × Keeps old new)
+    ⊎ ((options.report ≡ false) × FailsReplay files options why old new)
+
+-- The words give options, what they ask for has a fault, and after what is written by then the fault is printed.
 pub record HasFault (words : List Text) (files : Files) (old new : Option (List ℕ)) : Type 0 where
   pub options : Options
   pub given : WordsGive words options
   pub why : Fault
-  pub faulty : IsFaultOf files options why
-  pub prints : options.report ≡ true → Prints why old new
+  pub before : Option (List ℕ)
+  pub faulty : Fails files options why old before
+  pub prints : Prints why before new
 
 -- The words give options, and a pool of theirs has a fault or is refused.
 pub record HasBadPool (words : List Text) (files : Files) : Type 0 where

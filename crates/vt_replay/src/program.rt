@@ -6,7 +6,7 @@ ghost use Rattle.vt_names.specs.Registry.{set_at};
 ghost use Rattle.std.specs.Io.KnownBytes.{Keeps};
 ghost use Rattle.vt_replay.specs.declared.program.Fault.TheVariants.{Memory};
 ghost use Rattle.vt_replay.specs.Words.{AreApart, status_code};
-ghost use Rattle.vt_replay.specs.Runs.{Ends, EndsBy, EndsReport, HasPoolToPrint, HasReplayed, HasToPrint, IsAcceptedPoolOf, IsFaultOfPool, IsFileFault, IsLoaded, IsPoolFileFault, IsPrinted, IsReplayFault, IsReportOf, Prints, fault_line};
+ghost use Rattle.vt_replay.specs.Runs.{Ends, EndsBy, EndsReport, FailsReplay, HasPoolToPrint, HasReplayed, HasToPrint, IsAcceptedPoolOf, IsFaultOfPool, IsFileFault, IsLoaded, IsPoolFileFault, IsPrinted, IsReplayFault, IsReportOf, Prints, fault_line};
 ghost use Rattle.vt_pool.specs.Pools.{contents};
 ghost use Rattle.vt_server.specs.States.{state_of};
 
@@ -197,6 +197,8 @@ fn replay_log<'a, F: Open, W: Write>(
     requires { AreApart options.now }
     ensures replayed { OnOk result (HasReplayed (F.file files.old) options.now (W.contents out.old) (W.contents out.new)) }
     ensures fault { IfErr result (IsReplayFault (F.file files.old) options.now) }
+    // What is written by then: the pool's file is read first, then the log is opened, and then the first screen is drawn.
+    ensures before { IfErr result (λ why. FailsReplay (F.file files.old) options.now why (W.contents out.old) (W.contents out.new)) }
 {
     let mut terminal = Terminal::new(alloc, options.own, options.name);
     if let Some(preload) = &options.preload {

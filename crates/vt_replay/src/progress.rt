@@ -4,11 +4,10 @@ ghost use Rattle.std.specs.Prelude.{◌≡◌, ◌^◌, ◌+◌, ◌++◌, ◌�
 ghost use Rattle.std.specs.Io.KnownBytes.{Appends};
 ghost use Rattle.vt_can.specs.lines.Readings.{reading_of};
 ghost use Rattle.vt_replay.specs.Lines.{lines_of};
-ghost use Rattle.vt_replay.specs.Begun.{IsPrintOf, MayBegin, Stops};
+ghost use Rattle.vt_replay.specs.Begun.{IsPrintOf, MayBegin, Stops, StopsAtLong};
 ghost use Rattle.vt_replay.specs.Taken.{Follows, FollowsEvent, TakesInputLine, TakesReading, input_line};
 ghost use Rattle.vt_replay.specs.Texts.{with_line, no_counts, new_screen};
 ghost use Rattle.vt_replay.specs.Progress.{AtMost, HasNoNewline, IsLineFault, IsStepFault, Takes, TakesBytes, TakesOne, Writes, scene, stand};
-ghost use Rattle.vt_replay.specs.Replays.{HasLongLine};
 ghost use Rattle.vt_server.specs.Screens.{IsScreenOf, redraws};
 ghost use Rattle.vt_server.specs.States.{state_of};
 
@@ -91,7 +90,8 @@ impl Progress {
         ensures whole { OnOk result (HasNoNewline self.new.pending.items) }
         ensures stopped { OnErr result ((rest : List ℕ) → Stops (stand terminal.old self.old.screen.items self.old.counts (W.contents writer.old))
             (lines_of (self.old.pending.items ++ chunk.now ++ rest)) (state_of terminal.new) (W.contents writer.new)) }
-        ensures too_long { IsErrOf result ReplayFault.TooLong → (rest : List ℕ) → HasLongLine (self.old.pending.items ++ chunk.now ++ rest) }
+        ensures too_long { IsErrOf result ReplayFault.TooLong → (rest : List ℕ) → StopsAtLong (stand terminal.old self.old.screen.items self.old.counts (W.contents writer.old))
+            (lines_of (self.old.pending.items ++ chunk.now ++ rest)) (state_of terminal.new) (W.contents writer.new) }
         ensures fault { IfErr result IsLineFault }
     {
         let mut rest = chunk;
@@ -117,6 +117,7 @@ impl Progress {
         ensures stopped { OnErr result (Stops (stand terminal.old self.old.screen.items self.old.counts (W.contents writer.old))
             (lines_of self.old.pending.items) (state_of terminal.new) (W.contents writer.new)) }
         ensures too_long { IsErrOf result ReplayFault.TooLong → 4096 < length self.old.pending.items }
+        ensures stay { IsErrOf result ReplayFault.TooLong → (state_of terminal.new ≡ state_of terminal.old) × (W.contents writer.new ≡ W.contents writer.old) }
         ensures fault { IfErr result IsLineFault }
     {
         if self.pending.is_empty() {
@@ -155,6 +156,7 @@ impl Progress {
         ensures stopped { OnErr result (Stops (stand terminal.old self.old.screen.items self.old.counts (W.contents writer.old))
             ((self.old.pending.items ++ part.now) ∷ []) (state_of terminal.new) (W.contents writer.new)) }
         ensures too_long { IsErrOf result ReplayFault.TooLong → 4096 < length (self.old.pending.items ++ part.now) }
+        ensures stay { IsErrOf result ReplayFault.TooLong → (state_of terminal.new ≡ state_of terminal.old) × (W.contents writer.new ≡ W.contents writer.old) }
         ensures fault { IfErr result IsLineFault }
     {
         if !self.pending.is_empty() {

@@ -2,8 +2,8 @@
 
 ghost use Rattle.std.specs.Prelude.{◌≡◌, length, IfOk, IfSome, OnOk, OnErr, IsErrOf, List, ℕ};
 ghost use Rattle.std.specs.Io.KnownBytes.{Appends, IsAtEnd};
-ghost use Rattle.vt_replay.specs.Begun.{HasStopped};
-ghost use Rattle.vt_replay.specs.Replays.{IsReplay, HasLongLine};
+ghost use Rattle.vt_replay.specs.Begun.{HasStopped, HasStoppedAtLong};
+ghost use Rattle.vt_replay.specs.Replays.{IsReplay};
 ghost use Rattle.vt_server.specs.States.{state_of};
 
 use crate::counts::Counts;
@@ -22,8 +22,8 @@ const READS: u32 = 1_000_000_000;
 
 /// Replays a log: reads it to its end, line by line, and writes the first screen, what the terminal sends, the
 /// screens that are new, the faulty lines and at last the counts. What the lines read so far print is written
-/// out before the next read. After an error the terminal has taken the lines before, the reader and the writer
-/// are where they stopped, and what stands written is the front of the text.
+/// out before the next read. After an error the terminal has taken the first of the lines, the reader and the
+/// writer are where they stopped, and what stands written is a front of the text.
 pub fn replay<R: Read, W: Write>(
     alloc: Global,
     reader: &mut R,
@@ -35,10 +35,12 @@ pub fn replay<R: Read, W: Write>(
         × Appends (W.contents writer.old) (W.contents writer.new) text
         × IsReplay (state_of terminal.old) input text counts (state_of terminal.new))) }
     ensures end { OnOk result (IsAtEnd (R.remaining reader.new)) }
-    // After an error the terminal has taken the first of the lines, and what stands written is the front of the text.
+    // After an error the terminal has taken the first of the lines, and what stands written is a front of the text.
     ensures stopped { OnErr result (IfSome (R.remaining reader.old) (λ input.
         HasStopped (state_of terminal.old) input (state_of terminal.new) (W.contents writer.old) (W.contents writer.new))) }
-    ensures too_long { IsErrOf result ReplayFault.TooLong → IfSome (R.remaining reader.old) HasLongLine }
+    // TooLong is answered at the first line that is too long, when the lines before it are taken and what they print is written.
+    ensures too_long { IsErrOf result ReplayFault.TooLong → IfSome (R.remaining reader.old) (λ input.
+        HasStoppedAtLong (state_of terminal.old) input (state_of terminal.new) (W.contents writer.old) (W.contents writer.new)) }
 {
     let mut progress = Progress::new(alloc);
     let mut chunk = zeros(alloc, CHUNK)?;

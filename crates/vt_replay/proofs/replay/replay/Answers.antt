@@ -68,8 +68,9 @@ returns-in_err-end_log-clause-too_long g c =
     let way = way_flushed start (scene c.loop.terminal c.loop.progress.screen.items) c.loop.progress.counts (g.W.Write.contents c.loop.writer) (g.W.Write.contents c.flush.new.writer)
     (g.R.Read.remaining c.args.reader.now) (g.R.Read.remaining c.loop.reader) c.loop.progress.pending.items c.loop.counter c.loop.invariant.way c.flush.ensures.kept in
     let p = err_from_is_err_and c.from_residual-in_err-end_log.result c.from_residual-in_err-end_log.ensures.1 in
-    λ e. end_long start now (g.R.Read.remaining c.args.reader.now) (g.R.Read.remaining c.loop.reader) c.loop.progress.pending.items c.loop.counter way
-    (c.in_err-end_log.ensures.too_long (let same = p.1 in let is = p.2 in cc))
+    λ e. let stay = c.in_err-end_log.ensures.stay (let same = p.1 in let is = p.2 in cc) in
+    end_long start now (state_of c.end_log.new.terminal) (g.R.Read.remaining c.args.reader.now) (g.R.Read.remaining c.loop.reader) (g.W.Write.contents c.args.writer.now) (g.W.Write.contents c.end_log.new.writer)
+    c.loop.progress.pending.items c.loop.counter refl c.in_ok-begin.ensures.drawn c.in_ok-begin.ensures.text way (c.in_err-end_log.ensures.too_long (let same = p.1 in let is = p.2 in cc)) stay.0 stay.1
 
 pub returns-in_err-take_chunk-clause-too_long : goal.returns-in_err-take_chunk-clause-too_long
 returns-in_err-take_chunk-clause-too_long g c =
@@ -82,7 +83,8 @@ returns-in_err-take_chunk-clause-too_long g c =
     let front = read_front c.in-Ok.count items.len c.read.new.buf items.items c.deref.result.now c.deref.ensures.value full in
     let consumed = subst (Consumes (g.R.Read.remaining c.loop.reader) (g.R.Read.remaining c.read.new.self)) front c.in-Ok.ensures.bytes.0 in
     let p = err_from_is_err_and c.from_residual-in_err-take_chunk.result c.from_residual-in_err-take_chunk.ensures.1 in
-    λ e. way_long start now (g.R.Read.remaining c.args.reader.now) (g.R.Read.remaining c.loop.reader) (g.R.Read.remaining c.read.new.self) c.loop.progress.pending.items (take c.in-Ok.count c.deref.result.now) c.loop.counter
+    λ e. way_long start now (state_of c.take_chunk.new.terminal) (g.R.Read.remaining c.args.reader.now) (g.R.Read.remaining c.loop.reader) (g.R.Read.remaining c.read.new.self) (g.W.Write.contents c.args.writer.now)
+    (g.W.Write.contents c.take_chunk.new.writer) c.loop.progress.pending.items (take c.in-Ok.count c.deref.result.now) c.loop.counter refl c.in_ok-begin.ensures.drawn c.in_ok-begin.ensures.text
     way consumed (c.in_err-take_chunk.ensures.too_long (let same = p.1 in let is = p.2 in cc))
 
 pub returns-in_err-chunk-clause-stopped : goal.returns-in_err-chunk-clause-stopped

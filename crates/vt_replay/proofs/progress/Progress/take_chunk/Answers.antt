@@ -1,4 +1,4 @@
-use Rattle.std.proofs.Common.{◌<◌, ◌++◌, ◌∷◌, [], length, sym}
+use Rattle.std.proofs.Common.{◌<◌, ◌++◌, ◌∷◌, [], length, refl, sym}
 use Rattle.std.proofs.lemmas.List.{append-nil}
 use Rattle.std.proofs.KnownBytes.{Keeps-refl}
 use Rattle.std.proofs.lemmas.Result.{err_from_is_err_and, IfErr-at_err}
@@ -31,15 +31,16 @@ returns-in_err-end_line-clause-too_long g c =
     let from : Stand = stand c.args.terminal.now c.args.self.now.screen.items c.args.self.now.counts (g.W.Write.contents c.args.writer.now) in
     let now : Stand = stand c.loop-line.terminal c.loop-line.self.screen.items c.loop-line.self.counts (g.W.Write.contents c.loop-line.writer) in
     let p = err_from_is_err_and c.from_residual.result c.from_residual.ensures.1 in
-    λ e. midway_long from now c.args.self.now.pending.items c.args.chunk.now c.loop-line.self.pending.items c.loop-line.rest.now c.in-Some.line.now (10 ∷ c.in-Some.after.now) c.loop-line.invariant
-    c.in-Some.ensures.1 c.in-Some.ensures.0 (c.in_err-end_line.ensures.too_long (let same = p.1 in let is = p.2 in cc))
+    λ e. let stay = c.in_err-end_line.ensures.stay (let same = p.1 in let is = p.2 in cc) in
+    midway_long from now (state_of c.end_line.new.terminal) (g.W.Write.contents c.end_line.new.writer) c.args.self.now.pending.items c.args.chunk.now c.loop-line.self.pending.items c.loop-line.rest.now
+    c.in-Some.line.now (10 ∷ c.in-Some.after.now) c.loop-line.invariant c.in-Some.ensures.1 c.in-Some.ensures.0 (c.in_err-end_line.ensures.too_long (let same = p.1 in let is = p.2 in cc)) stay.0 stay.1
 
 pub returns-clause-too_long : goal.returns-clause-too_long
 returns-clause-too_long g c =
     let from : Stand = stand c.args.terminal.now c.args.self.now.screen.items c.args.self.now.counts (g.W.Write.contents c.args.writer.now) in
     let now : Stand = stand c.loop-line.terminal c.loop-line.self.screen.items c.loop-line.self.counts (g.W.Write.contents c.loop-line.writer) in
-    λ e. midway_long from now c.args.self.now.pending.items c.args.chunk.now c.loop-line.self.pending.items c.loop-line.rest.now c.loop-line.rest.now [] c.loop-line.invariant
-    (sym (append-nil c.loop-line.rest.now)) c.in_default.ensures (IfErr-at_err (λ _. 4096 < length (c.loop-line.self.pending.items ++ c.loop-line.rest.now)) e c.keep.ensures.too_long)
+    λ e. midway_long from now now.scene.state now.held c.args.self.now.pending.items c.args.chunk.now c.loop-line.self.pending.items c.loop-line.rest.now c.loop-line.rest.now [] c.loop-line.invariant
+    (sym (append-nil c.loop-line.rest.now)) c.in_default.ensures (IfErr-at_err (λ _. 4096 < length (c.loop-line.self.pending.items ++ c.loop-line.rest.now)) e c.keep.ensures.too_long) refl refl
 
 pub returns-in_err-end_line-clause-stopped : goal.returns-in_err-end_line-clause-stopped
 returns-in_err-end_line-clause-stopped g c =
