@@ -5,6 +5,7 @@ mod receiving;
 mod refusing;
 mod serving;
 mod sources;
+mod want_of_memory;
 
 use super::*;
 use arrayvec::ArrayVec;

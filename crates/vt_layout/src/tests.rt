@@ -2,23 +2,43 @@
 
 mod cuts;
 mod screens;
+mod want_of_memory;
 
 use crate::draw;
-use std::alloc::Global;
-use std::test::Fail;
+use std::alloc::{AllocError, Global};
 use vt_machine::Live;
 use vt_objects::SortedStore;
-use vt_pool::read_pool;
-use vt_verify::verify;
+use vt_pool::{Pool, read_pool};
+use vt_verify::{Accepted, verify};
 
 /// The screen of a pool whose working set is at an address.
-fn screen_of(alloc: Global, bytes: &[u8], address: u8) -> Result<Vec<u8>, Fail> {
-    let pool = read_pool(alloc, bytes)?;
-    let Ok(accepted) = verify(alloc, &pool) else {
-        return Err(Fail::new("not accepted"));
-    };
-    let live: Live<SortedStore> = Live::new(alloc, &accepted)?;
+fn screen_of(alloc: Global, bytes: &[u8], address: u8) -> Result<Vec<u8>, AllocError> {
+    let live = live_of(alloc, bytes)?;
+    drawn(alloc, address, &live)
+}
+
+fn drawn(alloc: Global, address: u8, live: &Live<SortedStore>) -> Result<Vec<u8>, AllocError> {
     let mut screen = Vec::new(alloc);
-    draw(alloc, address, &live, &mut screen)?;
+    draw(alloc, address, live, &mut screen)?;
     Ok(screen)
+}
+
+/// The working set of a pool that is accepted where no memory is refused.
+fn live_of(alloc: Global, bytes: &[u8]) -> Result<Live<SortedStore>, AllocError> {
+    let accepted = accepted_pool(alloc, bytes)?;
+    Live::new(alloc, &accepted)
+}
+
+fn accepted_pool(alloc: Global, bytes: &[u8]) -> Result<Accepted, AllocError> {
+    match read_pool(alloc, bytes) {
+        Ok(pool) => verified(alloc, &pool),
+        Err(_) => Err(AllocError),
+    }
+}
+
+fn verified(alloc: Global, pool: &Pool<'_>) -> Result<Accepted, AllocError> {
+    match verify(alloc, pool) {
+        Ok(accepted) => Ok(accepted),
+        Err(_) => Err(AllocError),
+    }
 }

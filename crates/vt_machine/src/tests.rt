@@ -13,12 +13,14 @@ mod states;
 mod stores;
 mod texts;
 mod values;
+mod want_of_memory;
 
 use crate::changes::change;
 use std::alloc::Global;
 use std::test::Fail;
-use vt_objects::{Command, Kind};
-use vt_pool::{read_pool, write_object};
+use vt_objects::{Command, Kind, Object, ObjectId};
+use vt_pool::{Pool, read_pool, write_object};
+use vt_verify::{Accepted, verify};
 
 /// A command: the record of an object, the command's bytes, the kind of the object of its other ID, the error byte, which is 0
 /// where it is done, and which bytes of the record are others after it.
@@ -52,19 +54,47 @@ fn holds(
     let Some(command) = Command::read(command) else {
         return Ok(false);
     };
-    let pool = read_pool(alloc, record)?;
-    let Some((id, object)) = pool.objects().first() else {
-        return Ok(false);
-    };
-    let mut object = object.copied(alloc)?;
+    let (id, mut object) = object_of(alloc, record)?;
     let answer = match change(&mut object, &command, named) {
         Ok(()) => 0,
         Err(error) => error,
     };
-    let mut after = Vec::new(alloc);
+    Ok(answer == error && has_record(alloc, id, &object, wanted)?)
+}
+
+/// The object of a record.
+fn object_of(alloc: Global, record: &[u8]) -> Result<(ObjectId, Object<Vec<u8>>), Fail> {
+    let pool = read_pool(alloc, record)?;
+    let Some((id, object)) = pool.objects().first() else {
+        return Err(Fail::new("no object"));
+    };
+    let object = object.copied(alloc)?;
+    Ok((*id, object))
+}
+
+fn has_record(
+    alloc: Global,
+    id: ObjectId,
+    object: &Object<Vec<u8>>,
+    wanted: &[u8],
+) -> Result<bool, Fail> {
     if id.is_null() {
         return Ok(false);
     }
-    write_object(alloc, *id, &object, &mut after)?;
-    Ok(answer == error && after.as_slice() == wanted)
+    let mut record = Vec::new(alloc);
+    write_object(alloc, id, object, &mut record)?;
+    Ok(record.as_slice() == wanted)
+}
+
+/// The pool of bytes that are accepted.
+fn accepted_pool(alloc: Global, bytes: &[u8]) -> Result<Accepted, Fail> {
+    let pool = read_pool(alloc, bytes)?;
+    verified(alloc, &pool)
+}
+
+fn verified(alloc: Global, pool: &Pool<'_>) -> Result<Accepted, Fail> {
+    match verify(alloc, pool) {
+        Ok(accepted) => Ok(accepted),
+        Err(_) => Err(Fail::new("not accepted")),
+    }
 }

@@ -1,4 +1,5 @@
 mod heard_claims;
+mod want_of_memory;
 mod working_sets;
 
 use super::*;

@@ -10,6 +10,7 @@ mod kind_sets;
 mod pieces;
 mod targets;
 mod values;
+mod want_of_memory;
 
 use super::*;
 use std::alloc::{AllocGlobal, Global};

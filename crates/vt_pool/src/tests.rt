@@ -1,5 +1,6 @@
 mod arriving;
 mod each_kind;
+mod want_of_memory;
 
 use super::*;
 use std::alloc::{AllocError, AllocGlobal, Global};

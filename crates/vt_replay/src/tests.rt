@@ -6,6 +6,7 @@ mod messages;
 mod reports;
 mod screens;
 mod streams;
+mod want_of_memory;
 
 use crate::program::{Open, Status, run};
 use std::alloc::{AllocError, Global};

@@ -18,15 +18,17 @@ mod timeouts;
 mod transport;
 mod updates;
 mod uploads;
+mod want_of_memory;
 
+use self::script::Script;
 use super::*;
 use std::alloc::Global;
 use std::process::Abort;
 use std::test::Fail;
 use vt_can::{Action, Line, parse_line, write_frame};
 use vt_names::Name;
-use vt_pool::read_pool;
-use vt_verify::verify;
+use vt_pool::{Pool, read_pool};
+use vt_verify::{Accepted, verify};
 
 const OWN: u8 = 0x26;
 
@@ -36,6 +38,9 @@ const NAME: u64 = 0x2000_1D00_0000_0001;
 const POOL: &[u8] = b"\x00\x00\x00\x00\x01\xE8\x03\x00\x00\x00\
     \xE8\x03\x01\x00\xFF\xFF\x01\x00\x64\x00\x0A\x00\x05\x00\
     \x64\x00\x03\x32\x00\x14\x00\x00\x00\x00";
+
+// What is heard, and what is sent.
+type Said = (&'static [&'static str], &'static [&'static str]);
 
 // What a terminal hears, what it sends, and which addresses have a set then. Where `preloaded` is, the pool
 // is there from the start, at 80.
@@ -47,20 +52,32 @@ struct Case {
     sets: &'static [u8],
 }
 
-fn started(rt: &(impl Abort + AllocGlobal), preloaded: bool) -> Result<Terminal, Fail> {
-    if preloaded {
-        return preloaded_with(rt, POOL);
+// A terminal of no set, or with a set at 80 that has the pool of these bytes.
+fn started(rt: &(impl Abort + AllocGlobal), pool: Option<&[u8]>) -> Result<Terminal, Fail> {
+    match pool {
+        Some(bytes) => preloaded_with(rt, bytes),
+        None => Ok(Terminal::new(rt.alloc(), OWN, Name::from_raw(NAME))),
     }
-    Ok(Terminal::new(rt.alloc(), OWN, Name::from_raw(NAME)))
 }
 
-// A terminal with a set at 80 that has the pool of these bytes.
+// The pool of bytes that are accepted: what it may want is memory alone.
+fn accepted_pool(alloc: Global, bytes: &[u8]) -> Result<Accepted, OutOfMemory> {
+    match read_pool(alloc, bytes) {
+        Ok(pool) => verified(alloc, &pool),
+        Err(_) => Err(OutOfMemory),
+    }
+}
+
+fn verified(alloc: Global, pool: &Pool<'_>) -> Result<Accepted, OutOfMemory> {
+    match verify(alloc, pool) {
+        Ok(accepted) => Ok(accepted),
+        Err(_) => Err(OutOfMemory),
+    }
+}
+
 fn preloaded_with(rt: &(impl Abort + AllocGlobal), bytes: &[u8]) -> Result<Terminal, Fail> {
+    let accepted = accepted_pool(rt.alloc(), bytes)?;
     let mut terminal = Terminal::new(rt.alloc(), OWN, Name::from_raw(NAME));
-    let pool = read_pool(rt.alloc(), bytes)?;
-    let Ok(accepted) = verify(rt.alloc(), &pool) else {
-        return Err(Fail::new("the pool is refused"));
-    };
     terminal.preload(0x80, &accepted)?;
     Ok(terminal)
 }
@@ -101,10 +118,11 @@ fn run_all(
     }
 }
 
-fn expect_sent(rt: &(impl Abort + AllocGlobal), case: &Case, outputs: &[Output]) {
-    assert_eq!(rt; outputs.len(), case.sent.len(), "{:?}", case.heard);
-    for (output, text) in outputs.iter().zip(case.sent) {
-        expect_output(rt, output, text);
+// What is sent for a text.
+fn expect_sent(rt: &(impl Abort + AllocGlobal), outputs: &[Output], sent: &[&str], text: &str) {
+    assert_eq!(rt; outputs.len(), sent.len(), "{text}");
+    for (output, wanted) in outputs.iter().zip(sent) {
+        expect_output(rt, output, wanted);
     }
 }
 
@@ -133,30 +151,89 @@ fn number_of(fault: OperatorFault) -> &'static str {
 }
 
 fn expect_case(rt: &(impl Abort + AllocGlobal), case: &Case) -> Result<(), Fail> {
-    let mut terminal = started(rt, case.preloaded)?;
-    let inputs = inputs_of(rt, case.heard)?;
-    let mut outputs = Vec::new(rt.alloc());
-    run_all(rt, &mut terminal, &inputs, &mut outputs);
-    expect_sent(rt, case, &outputs);
-    expect_sets(rt, case, &terminal);
-    Ok(())
+    let mut terminal = started(rt, case.preloaded.then_some(POOL))?;
+    expect_heard(rt, &mut terminal, case)
 }
 
-fn expect_sets(rt: &impl Abort, case: &Case, terminal: &Terminal) {
+fn expect_heard(
+    rt: &(impl Abort + AllocGlobal),
+    terminal: &mut Terminal,
+    case: &Case,
+) -> Result<(), Fail> {
+    let last = case.heard.last().copied().unwrap_or("");
+    let inputs = inputs_of(rt, case.heard)?;
+    let mut outputs = Vec::new(rt.alloc());
+    run_all(rt, terminal, &inputs, &mut outputs);
+    expect_sent(rt, &outputs, case.sent, last);
     for address in [0x80, 0x81, OWN, 254, 255] {
         let wanted = case.sets.contains(&address);
-        assert_eq!(rt;
-            terminal.registered(address),
-            wanted,
-            "{address} {:?}",
-            case.heard
-        );
+        assert_eq!(rt; terminal.registered(address), wanted, "{address} {last}");
     }
+    Ok(())
 }
 
 fn expect_cases(rt: &(impl Abort + AllocGlobal), cases: &[Case]) -> Result<(), Fail> {
     for case in cases {
         expect_case(rt, case)?;
+    }
+    Ok(())
+}
+
+// Cases that begin and end with the same set at 80, or with none.
+fn expect_said(
+    rt: &(impl Abort + AllocGlobal),
+    preloaded: bool,
+    cases: &[Said],
+) -> Result<(), Fail> {
+    let sets: &[u8] = if preloaded { &[0x80] } else { &[] };
+    for &(heard, sent) in cases {
+        let case = Case {
+            preloaded,
+            heard,
+            sent,
+            sets,
+        };
+        expect_case(rt, &case)?;
+    }
+    Ok(())
+}
+
+#[test]
+fn what_is_heard_and_what_is_sent(rt: HostRuntime) -> Result<(), Fail> {
+    expect_said(&rt, false, &addresses::CASES)?;
+    expect_said(&rt, true, &messages_of_sets::CASES)?;
+    expect_said(&rt, true, &transport::CASES)?;
+    for cases in [
+        &sets::CASES[..],
+        &sets::OTHERS,
+        &messages_of_sets::WITHOUT_A_POOL,
+        &transport::CLAIMED,
+    ] {
+        expect_cases(&rt, cases)?;
+    }
+    Ok(())
+}
+
+const SCRIPTS: [&[Script]; 11] = [
+    &alarms::SCRIPTS,
+    &changes::SCRIPTS,
+    &keys::SCRIPTS,
+    &linux::SCRIPTS,
+    &pieces::SCRIPTS,
+    &refusals::SCRIPTS,
+    &statuses::SCRIPTS,
+    &texts::SCRIPTS,
+    &timeouts::SCRIPTS,
+    &updates::SCRIPTS,
+    &uploads::SCRIPTS,
+];
+
+#[test]
+fn scripts_line_by_line(rt: HostRuntime) -> Result<(), Fail> {
+    for scripts in SCRIPTS {
+        for script in scripts {
+            script::expect_script(&rt, script)?;
+        }
     }
     Ok(())
 }
@@ -179,48 +256,17 @@ fn step_again(
     }
 }
 
-// Takes inputs one by one, each of which leaves so many outputs.
-fn expect_counts(
-    rt: &(impl Abort + AllocGlobal),
-    terminal: &mut Terminal,
-    inputs: &[Input<'_>],
-    counts: &[usize],
-) -> Result<(), OutOfMemory> {
-    let mut outputs = Vec::new(rt.alloc());
-    for (input, count) in inputs.iter().zip(counts) {
-        step_again(rt, terminal, input, &mut outputs)?;
-        assert_eq!(rt; outputs.len(), *count);
-    }
-    Ok(())
-}
-
-// The steps one after the other are the run.
-#[test]
-fn inputs_one_by_one(rt: HostRuntime) -> Result<(), Fail> {
-    let mut inputs = inputs_of(&rt, &["14E72680#A0640000FFFFFFFF", "18EA2680#00EE00"])?;
-    inputs.push(Input::Operator(Action::Press(100)))?;
-    let mut terminal = started(&rt, true)?;
-    expect_counts(&rt, &mut terminal, &inputs, &[1, 2, 3])?;
-    Ok(())
-}
-
-// So many requests for the terminal's claim.
-fn requests<'a>(alloc: Global, count: u16) -> Result<Vec<Input<'a>>, Fail> {
-    let mut inputs = Vec::new(alloc);
-    for _ in 0..count {
-        let input = input_of(alloc, "18EA2680#00EE00")?;
-        inputs.push(input)?;
-    }
-    Ok(inputs)
-}
-
 // Each input has room for 1,024 outputs, also where many were sent already.
 #[test]
 fn many_inputs(rt: HostRuntime) -> Result<(), Fail> {
-    let inputs = requests(rt.alloc(), 2_000)?;
-    let mut terminal = started(&rt, false)?;
+    let mut terminal = started(&rt, None)?;
+    expect_answers(&rt, &mut terminal)
+}
+
+fn expect_answers(rt: &(impl Abort + AllocGlobal), terminal: &mut Terminal) -> Result<(), Fail> {
+    let inputs = inputs_of(rt, &["18EA2680#00EE00"; 2_000])?;
     let mut outputs = Vec::new(rt.alloc());
-    run_all(&rt, &mut terminal, &inputs, &mut outputs);
+    run_all(rt, terminal, &inputs, &mut outputs);
     assert_eq!(rt; outputs.len(), 2_000);
     Ok(())
 }

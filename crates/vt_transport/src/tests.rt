@@ -1,10 +1,10 @@
 mod linux;
 mod linux_logs;
 mod receiving;
-mod refusing;
 mod sending;
 mod serving;
 mod sources;
+mod want_of_memory;
 
 use super::*;
 use std::alloc::{AllocGlobal, Global};

@@ -5,11 +5,13 @@ mod inclusions;
 mod refusals;
 mod runs;
 mod updates;
+mod want_of_memory;
 
 use super::*;
 use std::alloc::{AllocError, Global};
+use std::process::Abort;
 use std::test::Fail;
-use vt_pool::read_pool;
+use vt_pool::{Pool, read_pool};
 
 /// A Working Set 0 that shows the Data Mask 1000, with the Container 100.
 const WORKING_SET: &[u8] = &[0, 0, 0, 0, 1, 0xE8, 3, 0, 0, 0];
@@ -41,28 +43,51 @@ fn reports(alloc: Global, records: &[&[u8]], wanted: &str) -> Result<bool, Fail>
 /// Whether the bytes of a pool have this report.
 fn prints(alloc: Global, bytes: &[u8], wanted: &str) -> Result<bool, Fail> {
     let pool = read_pool(alloc, bytes)?;
-    let mut text = Vec::new(alloc);
-    match verify(alloc, &pool) {
-        Ok(accepted) => accepted.report(&mut text)?,
+    is_text_of(alloc, &verify(alloc, &pool), wanted)
+}
+
+/// Whether a verdict is printed so.
+fn is_text_of(
+    alloc: Global,
+    verdict: &Result<Accepted, Refusal>,
+    wanted: &str,
+) -> Result<bool, Fail> {
+    match verdict {
+        Ok(accepted) => has_report(alloc, accepted, wanted),
         Err(refusal) => {
             let line = format!(in alloc; "{refusal}\n")?;
-            text.extend_from_slice(line.as_bytes())?;
+            Ok(line.as_str() == wanted)
         }
     }
+}
+
+fn has_report(alloc: Global, accepted: &Accepted, wanted: &str) -> Result<bool, Fail> {
+    let mut text = Vec::new(alloc);
+    accepted.report(&mut text)?;
     Ok(text.as_slice() == wanted.as_bytes())
 }
 
-#[test]
-fn no_working_set(rt: HostRuntime) -> Result<(), Fail> {
-    assert!(rt; reports(rt.alloc(), &[], "refused 1 NoWorkingSet\n")?);
-    assert!(rt; reports(rt.alloc(), &[CONTAINER], "refused 1 NoWorkingSet\n")?);
-    Ok(())
+/// The pool of bytes that are accepted.
+fn accepted_pool(alloc: Global, bytes: &[u8]) -> Result<Accepted, Fail> {
+    let pool = read_pool(alloc, bytes)?;
+    verified(alloc, &pool)
 }
 
-#[test]
-fn three_objects(rt: HostRuntime) -> Result<(), Fail> {
-    let records = [WORKING_SET, MASK, CONTAINER];
-    assert!(rt; reports(rt.alloc(), &records, "accepted 3 objects\n")?);
+fn verified(alloc: Global, pool: &Pool<'_>) -> Result<Accepted, Fail> {
+    match verify(alloc, pool) {
+        Ok(accepted) => Ok(accepted),
+        Err(_) => Err(Fail::new("not accepted")),
+    }
+}
+
+/// The records of a pool, and its report.
+type Case<'a> = (&'a [&'a [u8]], &'a str);
+
+fn expect_reports(rt: &(impl Abort + AllocGlobal), cases: &[Case<'_>]) -> Result<(), Fail> {
+    for (records, wanted) in cases {
+        let is_reported = reports(rt.alloc(), records, wanted)?;
+        assert!(rt; is_reported, "{wanted}");
+    }
     Ok(())
 }
 
@@ -101,37 +126,6 @@ const EACH_KIND: &[u8] = &[
     28, 0, 28, 0, 0, // Macro
 ];
 
-#[test]
-fn one_object_of_each_kind(rt: HostRuntime) -> Result<(), Fail> {
-    assert!(rt;
-        reports(
-            rt.alloc(),
-            &[EACH_KIND],
-            "accepted 29 objects\nobject 28 event 0 budget 0\n"
-        )?
-    );
-    Ok(())
-}
-
-#[test]
-fn missing_container(rt: HostRuntime) -> Result<(), Fail> {
-    assert!(rt;
-        reports(
-            rt.alloc(),
-            &[WORKING_SET, MASK],
-            "refused 3 Missing 1000 100\n"
-        )?
-    );
-    Ok(())
-}
-
-#[test]
-fn macro_circle(rt: HostRuntime) -> Result<(), Fail> {
-    let records = [WORKING_SET, MASK, CONTAINER, OWN_FONT, OWN_MACRO];
-    assert!(rt; reports(rt.alloc(), &records, "refused 11 MacroCircle 1\n")?);
-    Ok(())
-}
-
 /// The Container 100 with macro 1 at event 3 and macro 2 at event 4, the Font 261 with macro 3 at event 11, the
 /// macros 1 and 2, which change that font, and macro 3, which sets the volume.
 const LISTING: &[u8] = &[100, 0, 3, 50, 0, 20, 0, 0, 0, 2, 3, 1, 4, 2];
@@ -144,12 +138,28 @@ const MACROS: &[u8] = &[
     3, 0, 28, 8, 0, 0xA4, 50, 0xFF, 0xFF, 0xFF, 0xFF, 0xFF, 0xFF, // macro 3
 ];
 
-#[test]
-fn budgets_of_events(rt: HostRuntime) -> Result<(), Fail> {
-    let records = [WORKING_SET, MASK, LISTING, FONT, MACROS];
-    let wanted = "accepted 7 objects\nobject 1 event 0 budget 2\nobject 2 event 0 budget 2\n\
+const REPORTS: [Case<'_>; 7] = [
+    (&[], "refused 1 NoWorkingSet\n"),
+    (&[CONTAINER], "refused 1 NoWorkingSet\n"),
+    (&[WORKING_SET, MASK, CONTAINER], "accepted 3 objects\n"),
+    (
+        &[EACH_KIND],
+        "accepted 29 objects\nobject 28 event 0 budget 0\n",
+    ),
+    (&[WORKING_SET, MASK], "refused 3 Missing 1000 100\n"),
+    (
+        &[WORKING_SET, MASK, CONTAINER, OWN_FONT, OWN_MACRO],
+        "refused 11 MacroCircle 1\n",
+    ),
+    (
+        &[WORKING_SET, MASK, LISTING, FONT, MACROS],
+        "accepted 7 objects\nobject 1 event 0 budget 2\nobject 2 event 0 budget 2\n\
         object 3 event 0 budget 1\nobject 100 event 3 budget 2\nobject 100 event 4 budget 2\n\
-        object 261 event 11 budget 1\n";
-    assert!(rt; reports(rt.alloc(), &records, wanted)?);
-    Ok(())
+        object 261 event 11 budget 1\n",
+    ),
+];
+
+#[test]
+fn reports_of_pools(rt: HostRuntime) -> Result<(), Fail> {
+    expect_reports(&rt, &REPORTS)
 }

@@ -1,10 +1,9 @@
-// What a receiver refuses with an abort and what it ignores; and a call that is refused memory changes
-// nothing, so it may be made again.
+// What a receiver refuses with an abort and what it ignores.
 use super::Act::Hears;
 use super::Wanted::*;
 use super::*;
 
-const REQUEST: &[u8] = b"(1.000000) can0 1CC82680#140900000000E700";
+pub(super) const REQUEST: &[u8] = b"(1.000000) can0 1CC82680#140900000000E700";
 
 const CLEAR: &[u8] = b"1CC88026#150201000000E700";
 
@@ -12,18 +11,18 @@ const OFFSET: &[u8] = b"(1.000000) can0 1CC82680#160200000000E700";
 
 const FIRST: &[u8] = b"(1.000000) can0 1CC72680#01B4E8036400FFFF";
 
-const LAST: &[u8] = b"(1.000000) can0 1CC72680#020500FFFFFFFFFF";
+pub(super) const LAST: &[u8] = b"(1.000000) can0 1CC72680#020500FFFFFFFFFF";
 
-const END: &[u8] = b"1CC88026#170900000000E700";
+pub(super) const END: &[u8] = b"1CC88026#170900000000E700";
 
-const BYTES: &[u8] = b"\xB4\xE8\x03\x64\x00\xFF\xFF\x05\x00";
+pub(super) const BYTES: &[u8] = b"\xB4\xE8\x03\x64\x00\xFF\xFF\x05\x00";
 
 const DISORDER: &[u8] = b"1CC88026#FF07FFFFFF00E700";
 
 const TOO_LARGE: &[u8] = b"1CC88026#FF02FFFFFF00E700";
 
 // Whether a session of nine bytes opens, and takes the first of two packets.
-fn opens(receiver: &mut Receiver) -> Result<bool, OutOfMemory> {
+pub(super) fn opens(receiver: &mut Receiver) -> Result<bool, OutOfMemory> {
     Ok(
         answers(receiver, REQUEST, Reply(CLEAR))?
             && answers(receiver, OFFSET, Silence)?
@@ -201,51 +200,4 @@ fn frames_that_are_ignored(rt: HostRuntime) -> Result<(), Fail> {
     let mut receiver = Receiver::new(rt.alloc(), NODE);
     expect_ignored(&rt, &mut receiver, &IGNORED)?;
     Ok(())
-}
-
-// Whether a receiver answers this, if need be when it is asked again.
-fn answers_again(
-    receiver: &mut Receiver,
-    line: &[u8],
-    wanted: Wanted,
-) -> Result<bool, OutOfMemory> {
-    match answers(receiver, line, wanted) {
-        Ok(same) => Ok(same),
-        Err(_) => answers(receiver, line, wanted),
-    }
-}
-
-#[test]
-fn a_request_heard_again(rt: HostRuntime) -> Result<(), Fail> {
-    let mut receiver = Receiver::new(rt.alloc(), NODE);
-    let opened = answers_again(&mut receiver, REQUEST, Reply(CLEAR))?;
-    let first = answers(&mut receiver, OFFSET, Silence)? && answers(&mut receiver, FIRST, Silence)?;
-    // Refused, a second request leaves the session that is open.
-    let refused = answers(&mut receiver, REQUEST, Reply(CLEAR)).is_err();
-    let first_again = refused
-        || answers(&mut receiver, OFFSET, Silence)? && answers(&mut receiver, FIRST, Silence)?;
-    let last = answers(&mut receiver, LAST, Message(END, BYTES))?;
-    assert!(rt; opened && first && first_again && last);
-    Ok(())
-}
-
-// Whether room for the frame of a line is set aside, so that it is heard without a refusal.
-fn is_ready(receiver: &mut Receiver, line: &[u8], wanted: Wanted) -> bool {
-    match parse_line(line) {
-        Ok(Line::Frame { time, frame }) => {
-            let prepared = match receiver.prepare(time, &frame) {
-                Ok(_) => true,
-                Err(_) => receiver.prepare(time, &frame).is_ok(),
-            };
-            prepared && answers(receiver, line, wanted).unwrap_or(false)
-        }
-        _ => false,
-    }
-}
-
-#[test]
-fn a_request_prepared_again(rt: HostRuntime) {
-    let mut receiver = Receiver::new(rt.alloc(), NODE);
-    let ready = is_ready(&mut receiver, REQUEST, Reply(CLEAR));
-    assert!(rt; ready);
 }

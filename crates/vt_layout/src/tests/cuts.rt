@@ -22,7 +22,7 @@ fn put_entries(bytes: &mut Vec<u8>, id: u8, count: u8) -> Result<(), AllocError>
 }
 
 /// A mask that shows a Container with 250 Lines seven times, so many Lines more, and a Key or none.
-fn pool(alloc: Global, lines: u8, keys: bool) -> Result<Vec<u8>, AllocError> {
+pub(super) fn pool(alloc: Global, lines: u8, keys: bool) -> Result<Vec<u8>, AllocError> {
     let mut bytes = Vec::from_slice(alloc, SET)?;
     let (low, high) = if keys { (0xD0, 7) } else { (0xFF, 0xFF) };
     bytes.extend_from_slice(&[0xE8, 3, 1, 0, low, high, lines.saturating_add(7), 0])?;

@@ -1,11 +1,10 @@
 //! The index of the macros of a pool.
 
+use super::accepted_pool;
 use crate::index::Index;
 use std::alloc::Global;
 use std::test::Fail;
 use vt_objects::{Command, ObjectId};
-use vt_pool::read_pool;
-use vt_verify::verify;
 
 /// A Working Set 0 that shows the Data Mask 1000, with the Container 100.
 const NO_MACROS: &[u8] = &[
@@ -31,11 +30,7 @@ const MACROS: &[u8] = &[
 fn index(alloc: Global, more: &[u8]) -> Result<Index, Fail> {
     let mut bytes = Vec::from_slice(alloc, NO_MACROS)?;
     bytes.extend_from_slice(more)?;
-    let pool = read_pool(alloc, &bytes)?;
-    let Ok(accepted) = verify(alloc, &pool) else {
-        return Err(Fail::new("not accepted"));
-    };
-    let index = Index::new(alloc, &accepted)?;
+    let index = Index::new(alloc, &accepted_pool(alloc, &bytes)?)?;
     Ok(index)
 }
 

@@ -1,11 +1,11 @@
 //! Commands and events on the object pool of a working set.
 
+use super::accepted_pool;
 use crate::{Live, Outcome};
 use std::alloc::Global;
 use std::test::Fail;
 use vt_objects::{Command, ListStore, Object, ObjectId, SortedStore, Store};
-use vt_pool::read_pool;
-use vt_verify::{Accepted, verify};
+use vt_verify::Accepted;
 
 /// A Working Set 0 that shows the Data Mask 1000.
 const SET: &[u8] = &[
@@ -41,59 +41,93 @@ const MASKS: &[u8] = &[
     0xA4, 50, 0xFF, 0xFF, 0xFF, 0xFF, 0xFF, 0xFF, //
 ];
 
-fn accepted(alloc: Global, more: &[u8]) -> Result<Accepted, Fail> {
-    let mut bytes = Vec::from_slice(alloc, SET)?;
+fn accepted(alloc: Global, set: &[u8], more: &[u8]) -> Result<Accepted, Fail> {
+    let mut bytes = Vec::from_slice(alloc, set)?;
     bytes.extend_from_slice(more)?;
-    accepted_of(alloc, &bytes)
+    accepted_pool(alloc, &bytes)
 }
 
-fn accepted_of(alloc: Global, bytes: &[u8]) -> Result<Accepted, Fail> {
-    let pool = read_pool(alloc, bytes)?;
-    let Ok(accepted) = verify(alloc, &pool) else {
-        return Err(Fail::new("not accepted"));
-    };
-    Ok(accepted)
-}
-
-fn live<S: Store>(alloc: Global, more: &[u8]) -> Result<Live<S>, Fail> {
-    let accepted = accepted(alloc, more)?;
+fn live<S: Store>(alloc: Global, set: &[u8], more: &[u8]) -> Result<Live<S>, Fail> {
+    let accepted = accepted(alloc, set, more)?;
     let live = Live::new(alloc, &accepted)?;
     Ok(live)
 }
 
-/// A command, and what it comes to: so many steps, or an error byte.
-type Row = (&'static [u8], u32, u8);
+/// What is done to a working set: a command, or an event of an object.
+#[derive(Clone, Copy)]
+enum Act {
+    Command(&'static [u8]),
+    Event(u16, u8),
+}
+
+/// An act, and what it comes to: so many steps, or an error byte.
+type Row = (Act, u32, u8);
 
 /// Commands on the pool with the container that runs macros.
 const SHARED_ROWS: &[Row] = &[
-    (&[0xA0, 100, 0, 1, 0xFF, 0xFF, 0xFF, 0xFF], 3, 0),
-    (&[0xBE, 1, 0, 0xFF, 0xFF, 0xFF, 0xFF, 0xFF], 3, 0),
-    (&[0xBE, 100, 0, 0xFF, 0xFF, 0xFF, 0xFF, 0xFF], 0, 2),
-    (&[0xBE, 7, 0, 0xFF, 0xFF, 0xFF, 0xFF, 0xFF], 0, 1),
-    (&[0xA0, 100, 0, 2, 0xFF, 0xFF, 0xFF, 0xFF], 0, 4),
+    (
+        Act::Command(&[0xA0, 100, 0, 1, 0xFF, 0xFF, 0xFF, 0xFF]),
+        3,
+        0,
+    ),
+    (
+        Act::Command(&[0xBE, 1, 0, 0xFF, 0xFF, 0xFF, 0xFF, 0xFF]),
+        3,
+        0,
+    ),
+    (
+        Act::Command(&[0xBE, 100, 0, 0xFF, 0xFF, 0xFF, 0xFF, 0xFF]),
+        0,
+        2,
+    ),
+    (
+        Act::Command(&[0xBE, 7, 0, 0xFF, 0xFF, 0xFF, 0xFF, 0xFF]),
+        0,
+        1,
+    ),
+    (
+        Act::Command(&[0xA0, 100, 0, 2, 0xFF, 0xFF, 0xFF, 0xFF]),
+        0,
+        4,
+    ),
+    (Act::Event(100, 3), 2, 0),
+    (Act::Event(100, 4), 2, 0),
+    (Act::Event(261, 11), 1, 0),
+    (Act::Event(261, 12), 0, 0),
+    (Act::Event(262, 11), 0, 0),
+    (Act::Event(2, 0), 2, 0),
+    (Act::Event(261, 200), 0, 0),
 ];
 
 /// Commands on the pool with two masks.
 const MASKS_ROWS: &[Row] = &[
-    (&[0xA0, 100, 0, 0, 0xFF, 0xFF, 0xFF, 0xFF], 5, 0),
-    (&[0xA0, 100, 0, 1, 0xFF, 0xFF, 0xFF, 0xFF], 5, 0),
-    (&[0xAD, 0, 0, 0xE9, 3, 0xFF, 0xFF, 0xFF], 1, 0),
-    (&[0xAD, 0, 0, 0xE8, 3, 0xFF, 0xFF, 0xFF], 1, 0),
-    (&[0xAD, 0, 0, 0xE9, 3, 0xFF, 0xFF, 0xFF], 3, 0),
-    (&[0xAD, 0, 0, 100, 0, 0xFF, 0xFF, 0xFF], 0, 2),
+    (
+        Act::Command(&[0xA0, 100, 0, 0, 0xFF, 0xFF, 0xFF, 0xFF]),
+        5,
+        0,
+    ),
+    (
+        Act::Command(&[0xA0, 100, 0, 1, 0xFF, 0xFF, 0xFF, 0xFF]),
+        5,
+        0,
+    ),
+    (Act::Command(&[0xAD, 0, 0, 0xE9, 3, 0xFF, 0xFF, 0xFF]), 1, 0),
+    (Act::Command(&[0xAD, 0, 0, 0xE8, 3, 0xFF, 0xFF, 0xFF]), 1, 0),
+    (Act::Command(&[0xAD, 0, 0, 0xE9, 3, 0xFF, 0xFF, 0xFF]), 3, 0),
+    (Act::Command(&[0xAD, 0, 0, 100, 0, 0xFF, 0xFF, 0xFF]), 0, 2),
 ];
 
 /// Commands that would make a circle of inclusions, and one that would not.
 const CIRCLE_ROWS: &[Row] = &[
-    (&[0xA8, 200, 0, 0xFF, 100, 0, 0, 0], 0, 2),
-    (&[0xAF, 200, 0, 1, 100, 0, 0, 0], 0, 4),
-    (&[0xA8, 200, 0, 0xFF, 200, 0, 0, 0], 0, 2),
-    (&[0xA8, 200, 0, 0xFF, 0xE8, 3, 0, 0], 0, 2),
-    (&[0xA8, 200, 0, 0xFF, 0xFF, 0xFF, 0, 0], 1, 0),
+    (Act::Command(&[0xA8, 200, 0, 0xFF, 100, 0, 0, 0]), 0, 2),
+    (Act::Command(&[0xAF, 200, 0, 1, 100, 0, 0, 0]), 0, 4),
+    (Act::Command(&[0xA8, 200, 0, 0xFF, 200, 0, 0, 0]), 0, 2),
+    (Act::Command(&[0xA8, 200, 0, 0xFF, 0xE8, 3, 0, 0]), 0, 2),
+    (Act::Command(&[0xA8, 200, 0, 0xFF, 0xFF, 0xFF, 0, 0]), 1, 0),
 ];
 
 /// The working set runs macro 1 where its mask is changed, and the mask where it is shown and hidden.
-const ONE_MASK: &[u8] = &[
+pub(super) const ONE_MASK: &[u8] = &[
     0, 0, 0, 0, 1, 0xE8, 3, 0, 1, 0, 7, 1, // Working Set
     0xE8, 3, 1, 0, 0xFF, 0xFF, 1, 2, 100, 0, 10, 0, 5, 0, 3, 1, 4, 1, // Data Mask
     100, 0, 3, 50, 0, 20, 0, 0, 0, 0, // Container
@@ -101,63 +135,84 @@ const ONE_MASK: &[u8] = &[
 ];
 
 /// The Working Set 1200, which runs macro 1 where it is activated and twice where it is deactivated, behind the Data Mask 1000.
-const LATE_SET: &[u8] = &[
+pub(super) const LATE_SET: &[u8] = &[
     0xE8, 3, 1, 0, 0xFF, 0xFF, 0, 0, // Data Mask
     0xB0, 4, 0, 0, 1, 0xE8, 3, 0, 3, 0, 1, 1, 2, 1, 2, 1, // Working Set
     1, 0, 28, 8, 0, 0xA4, 50, 0xFF, 0xFF, 0xFF, 0xFF, 0xFF, 0xFF, // Macro
 ];
 
-/// Whether each command comes to what its row says.
+/// The mask of the working set that is one alone.
+const ONE_MASK_ROWS: &[Row] = &[
+    (Act::Event(0, 7), 1, 0),
+    (Act::Command(&[0xAD, 0, 0, 0xE8, 3, 0xFF, 0xFF, 0xFF]), 2, 0),
+];
+
+const LATE_SET_ROWS: &[Row] = &[(Act::Event(1200, 1), 1, 0), (Act::Event(1200, 2), 2, 0)];
+
+/// The first objects of a pool, the others, and what is done.
+const LIVES: [(&[u8], &[u8], &[Row]); 5] = [
+    (SET, SHARED, SHARED_ROWS),
+    (SET, MASKS, MASKS_ROWS),
+    (SET, POINTER, CIRCLE_ROWS),
+    (&[], ONE_MASK, ONE_MASK_ROWS),
+    (&[], LATE_SET, LATE_SET_ROWS),
+];
+
+/// Whether each act comes to what its row says.
 fn come_to<S: Store>(live: &mut Live<S>, rows: &[Row]) -> bool {
-    for (bytes, steps, bits) in rows {
-        let Some(command) = Command::read(bytes) else {
-            return false;
-        };
-        if answer(live, &command) != (*steps, *bits) {
+    for (act, steps, bits) in rows {
+        if answer(live, *act) != Some((*steps, *bits)) {
             return false;
         }
     }
     true
 }
 
-/// What a command comes to; there is no third way.
-fn answer<S: Store>(live: &mut Live<S>, command: &Command<'_>) -> (u32, u8) {
-    match live.apply(command) {
-        Outcome::Done { steps } => (steps, 0),
-        Outcome::Refused { bits } => (0, bits),
+/// What an act comes to; of a command there is no third way.
+fn answer<S: Store>(live: &mut Live<S>, act: Act) -> Option<(u32, u8)> {
+    match act {
+        Act::Event(id, event) => Some((live.raise(ObjectId::from_raw(id), event), 0)),
+        Act::Command(bytes) => match live.apply(&Command::read(bytes)?) {
+            Outcome::Done { steps } => Some((steps, 0)),
+            Outcome::Refused { bits } => Some((0, bits)),
+        },
     }
 }
 
+/// Whether a new working set does what the rows of its pool say.
+fn lives<S: Store>(alloc: Global, set: &[u8], more: &[u8], rows: &[Row]) -> Result<bool, Fail> {
+    let mut live = live::<S>(alloc, set, more)?;
+    Ok(come_to(&mut live, rows))
+}
+
 #[test]
-fn macros_of_commands(rt: HostRuntime) -> Result<(), Fail> {
-    let mut live = live::<SortedStore>(rt.alloc(), SHARED)?;
-    assert!(rt; come_to(&mut live, SHARED_ROWS));
-    assert!(rt; live.raise(ObjectId::from_raw(261), 11) == 1);
-    assert!(rt; live.raise(ObjectId::from_raw(261), 12) == 0);
-    assert!(rt; live.raise(ObjectId::from_raw(262), 11) == 0);
-    assert!(rt; live.raise(ObjectId::from_raw(2), 0) == 2);
-    assert!(rt; live.raise(ObjectId::from_raw(261), 200) == 0);
+fn commands_and_events(rt: HostRuntime) -> Result<(), Fail> {
+    for (set, more, rows) in LIVES {
+        assert!(rt; lives::<SortedStore>(rt.alloc(), set, more, rows)?);
+        assert!(rt; lives::<ListStore>(rt.alloc(), set, more, rows)?);
+    }
+    Ok(())
+}
+
+/// Whether a working set has this ID, this active mask, and no soft key mask.
+fn shows(live: &Live<SortedStore>, set: u16, mask: u16) -> bool {
+    live.working_set() == ObjectId::from_raw(set)
+        && live.active_mask() == ObjectId::from_raw(mask)
+        && live.soft_key_mask().is_null()
+}
+
+#[test]
+fn the_active_mask_is_changed(rt: HostRuntime) -> Result<(), Fail> {
+    let mut live = live::<SortedStore>(rt.alloc(), SET, MASKS)?;
+    assert!(rt; shows(&live, 0, 1000));
+    assert!(rt; come_to(&mut live, MASKS_ROWS) && shows(&live, 0, 1001));
     Ok(())
 }
 
 #[test]
-fn masks_shown_and_hidden(rt: HostRuntime) -> Result<(), Fail> {
-    let mut live = live::<SortedStore>(rt.alloc(), MASKS)?;
-    assert!(rt; live.active_mask() == ObjectId::from_raw(1000));
-    assert!(rt; come_to(&mut live, MASKS_ROWS));
-    assert!(rt; live.active_mask() == ObjectId::from_raw(1001));
-    assert!(rt; live.soft_key_mask().is_null());
-    Ok(())
-}
-
-#[test]
-fn the_working_set_is_activated_and_deactivated(rt: HostRuntime) -> Result<(), Fail> {
-    let alloc = rt.alloc();
-    let mut live = Live::<SortedStore>::new(alloc, &accepted_of(alloc, LATE_SET)?)?;
-    assert!(rt; live.working_set() == ObjectId::from_raw(1200));
-    assert!(rt; live.active_mask() == ObjectId::from_raw(1000));
-    assert!(rt; live.raise(live.working_set(), 1) == 1);
-    assert!(rt; live.raise(live.working_set(), 2) == 2);
+fn the_working_set_is_found_behind_its_mask(rt: HostRuntime) -> Result<(), Fail> {
+    let live = live::<SortedStore>(rt.alloc(), &[], LATE_SET)?;
+    assert!(rt; shows(&live, 1200, 1000));
     Ok(())
 }
 
@@ -171,7 +226,7 @@ fn points_at(live: &Live<SortedStore>, value: u16) -> bool {
 
 #[test]
 fn circles_of_inclusions_are_refused(rt: HostRuntime) -> Result<(), Fail> {
-    let mut live = live::<SortedStore>(rt.alloc(), POINTER)?;
+    let mut live = live::<SortedStore>(rt.alloc(), SET, POINTER)?;
     assert!(rt; come_to(&mut live, CIRCLE_ROWS));
     assert!(rt; points_at(&live, 0xFFFF));
     Ok(())
@@ -206,7 +261,7 @@ fn put_macro(bytes: &mut Vec<u8>, place: u8) -> Result<(), Fail> {
 /// How many steps event 11 of the first font takes.
 fn steps_of<S: Store>(alloc: Global, count: u8) -> Result<u32, Fail> {
     let bytes = doubling(alloc, count)?;
-    let mut live = live::<S>(alloc, &bytes)?;
+    let mut live = live::<S>(alloc, SET, &bytes)?;
     Ok(live.raise(ObjectId::from_raw(301), 11))
 }
 
@@ -214,61 +269,41 @@ fn steps_of<S: Store>(alloc: Global, count: u8) -> Result<u32, Fail> {
 fn runs_as_long_as_their_budgets(rt: HostRuntime) -> Result<(), Fail> {
     assert!(rt; steps_of::<SortedStore>(rt.alloc(), 16)? == 65_534);
     assert!(rt; steps_of::<SortedStore>(rt.alloc(), 19)? == 524_286);
+    assert!(rt; steps_of::<ListStore>(rt.alloc(), 12)? == 4_094);
     Ok(())
 }
 
 #[test]
 fn updates_take_the_place_of_objects(rt: HostRuntime) -> Result<(), Fail> {
     let alloc = rt.alloc();
-    let live = live::<SortedStore>(alloc, POINTER)?;
-    let renewed = live.renew(&accepted(alloc, SHARED)?)?;
+    let live = live::<SortedStore>(alloc, SET, POINTER)?;
+    let renewed = live.renew(&accepted(alloc, SET, SHARED)?)?;
     assert!(rt; renewed.get(ObjectId::from_raw(200)).is_none());
     assert!(rt; renewed.get(ObjectId::from_raw(261)).is_some());
     assert!(rt; renewed.store().count() == 7);
     Ok(())
 }
 
-/// A working set that takes its accepted pool over.
-fn taken_over(alloc: Global, more: &[u8]) -> Result<Live<SortedStore>, Fail> {
-    let accepted = accepted(alloc, more)?;
-    let live = Live::from_accepted(alloc, accepted)?;
+/// A working set that takes its accepted pool over, and does what its rows say.
+fn taken_over(alloc: Global) -> Result<Live<SortedStore>, Fail> {
+    let accepted = accepted(alloc, SET, POINTER)?;
+    let mut live = Live::from_accepted(alloc, accepted)?;
+    if !come_to(&mut live, CIRCLE_ROWS) {
+        return Err(Fail::new("not taken over"));
+    }
     Ok(live)
+}
+
+fn renewed_from(alloc: Global, live: &Live<SortedStore>) -> Result<Live<SortedStore>, Fail> {
+    let accepted = accepted(alloc, SET, SHARED)?;
+    let renewed = live.renew_from(accepted)?;
+    Ok(renewed)
 }
 
 #[test]
 fn accepted_pools_are_taken_over(rt: HostRuntime) -> Result<(), Fail> {
-    let alloc = rt.alloc();
-    let mut live = taken_over(alloc, POINTER)?;
-    assert!(rt; come_to(&mut live, CIRCLE_ROWS));
-    let mut renewed = live.renew_from(accepted(alloc, SHARED)?)?;
-    assert!(rt; renewed.raise(ObjectId::from_raw(100), 3) == 2);
+    let live = taken_over(rt.alloc())?;
+    let mut renewed = renewed_from(rt.alloc(), &live)?;
     assert!(rt; come_to(&mut renewed, SHARED_ROWS));
-    Ok(())
-}
-
-/// How many steps events take, and what commands come to, on the pools of the other tests.
-fn all_answers<S: Store>(alloc: Global) -> Result<[u32; 6], Fail> {
-    let mut shared = live::<S>(alloc, SHARED)?;
-    let accepted = accepted_of(alloc, ONE_MASK)?;
-    let mut one_mask = Live::<S>::new(alloc, &accepted)?;
-    let mut pointer = live::<S>(alloc, POINTER)?;
-    Ok([
-        shared.raise(ObjectId::from_raw(100), 3),
-        shared.raise(ObjectId::from_raw(100), 4),
-        shared.raise(ObjectId::from_raw(261), 11),
-        one_mask.raise(ObjectId::from_raw(0), 7),
-        u32::from(come_to(
-            &mut one_mask,
-            &[(&[0xAD, 0, 0, 0xE8, 3, 0xFF, 0xFF, 0xFF], 2, 0)],
-        )),
-        u32::from(come_to(&mut pointer, CIRCLE_ROWS)),
-    ])
-}
-
-#[test]
-fn both_stores_answer_alike(rt: HostRuntime) -> Result<(), Fail> {
-    assert!(rt; all_answers::<SortedStore>(rt.alloc())? == [2, 2, 1, 1, 1, 1]);
-    assert!(rt; all_answers::<ListStore>(rt.alloc())? == [2, 2, 1, 1, 1, 1]);
-    assert!(rt; steps_of::<ListStore>(rt.alloc(), 12)? == 4_094);
     Ok(())
 }

@@ -1,11 +1,11 @@
 //! The operator's actions.
 
-use crate::{Acted, Live, OperatorRefusal};
-use std::alloc::Global;
+use super::accepted_pool;
+use crate::{Acted, Live, OperatorRefusal, Outcome};
+use std::alloc::{AllocGlobal, Global};
+use std::process::Abort;
 use std::test::Fail;
 use vt_objects::{Command, Object, ObjectId, SortedStore};
-use vt_pool::read_pool;
-use vt_verify::{Accepted, verify};
 
 /// A Working Set 0 that shows the Data Mask 1000 with the Soft Key Mask 400. The mask has the Button 501, which runs macro 1 where
 /// it is pressed, and the Input Booleans 601, which runs macro 1 where it is selected and twice where it is deselected, and 602,
@@ -24,36 +24,80 @@ const POOL: &[u8] = &[
     1, 0, 28, 8, 0, 0xA4, 50, 0xFF, 0xFF, 0xFF, 0xFF, 0xFF, 0xFF, // Macro
 ];
 
-fn live(alloc: Global) -> Result<Live<SortedStore>, Fail> {
-    live_of(alloc, POOL)
-}
-
 fn live_of(alloc: Global, bytes: &[u8]) -> Result<Live<SortedStore>, Fail> {
-    let live = Live::new(alloc, &accepted(alloc, bytes)?)?;
+    let live = Live::new(alloc, &accepted_pool(alloc, bytes)?)?;
     Ok(live)
 }
 
-fn accepted(alloc: Global, bytes: &[u8]) -> Result<Accepted, Fail> {
-    let pool = read_pool(alloc, bytes)?;
-    let Ok(accepted) = verify(alloc, &pool) else {
-        return Err(Fail::new("not accepted"));
-    };
-    Ok(accepted)
+/// An action of the operator.
+#[derive(Clone, Copy, Debug)]
+enum Act {
+    Presses(u16),
+    Releases(u16),
+    Selects(u16),
+    Enters(u16, u32),
+    Writes(u16, &'static [u8]),
 }
 
-/// Whether an action sent a message, and took so many steps.
-fn sent(answer: &Result<Acted, OperatorRefusal>, message: &[u8], steps: u32) -> bool {
-    match answer {
-        Ok(acted) => acted.message.as_slice() == message && acted.steps == steps,
-        Err(_) => false,
+/// What comes of it: a message that is sent, and so many steps; or a refusal.
+#[derive(Clone, Copy, Debug)]
+enum Answer {
+    Sent(&'static [u8], u32),
+    Refused(OperatorRefusal),
+}
+
+/// An action and what comes of it, a command that is done, or what an object has then.
+#[derive(Clone, Copy, Debug)]
+enum Step {
+    Acts(Act, Answer),
+    Does(&'static [u8]),
+    HasNumber(u16, u32),
+    HasText(u16, &'static [u8]),
+}
+
+use Act::{Enters, Presses, Releases, Selects, Writes};
+use Answer::{Refused, Sent};
+use Step::{Acts, Does, HasNumber, HasText};
+
+fn answer_to(live: &mut Live<SortedStore>, act: Act) -> Result<Acted, OperatorRefusal> {
+    match act {
+        Presses(number) => live.press(id(number)),
+        Releases(number) => live.release(id(number)),
+        Selects(number) => live.select(id(number)),
+        Enters(number, value) => live.enter_number(id(number), value),
+        Writes(number, text) => live.enter_text(id(number), text),
     }
 }
 
-/// Whether an action was refused.
-fn refused(answer: &Result<Acted, OperatorRefusal>, refusal: OperatorRefusal) -> bool {
-    match answer {
-        Ok(_) => false,
-        Err(answered) => number(*answered) == number(refusal),
+fn is_answer(answer: &Result<Acted, OperatorRefusal>, wanted: Answer) -> bool {
+    match (answer, wanted) {
+        (Ok(acted), Sent(message, steps)) => {
+            acted.message.as_slice() == message && acted.steps == steps
+        }
+        (Err(refusal), Refused(other)) => number(*refusal) == number(other),
+        _ => false,
+    }
+}
+
+fn holds(live: &mut Live<SortedStore>, step: Step) -> bool {
+    match step {
+        Acts(act, wanted) => is_answer(&answer_to(live, act), wanted),
+        Does(bytes) => does(live, bytes),
+        HasNumber(number, value) => is_number(live, number, value),
+        HasText(number, text) => is_text(live, number, text),
+    }
+}
+
+fn expect_steps(rt: &impl Abort, live: &mut Live<SortedStore>, steps: &[Step]) {
+    for step in steps {
+        assert!(rt; holds(live, *step), "{step:?}");
+    }
+}
+
+fn does(live: &mut Live<SortedStore>, bytes: &[u8]) -> bool {
+    match Command::read(bytes) {
+        Some(command) => matches!(live.apply(&command), Outcome::Done { .. }),
+        None => false,
     }
 }
 
@@ -98,53 +142,22 @@ const INPUTS: &[u8] = &[
     1, 0, 28, 8, 0, 0xA4, 50, 0xFF, 0xFF, 0xFF, 0xFF, 0xFF, 0xFF, // Macro
 ];
 
-#[test]
-fn numbers(rt: HostRuntime) -> Result<(), Fail> {
-    let mut live = live_of(rt.alloc(), INPUTS)?;
-    assert!(rt; refused(&live.enter_number(id(606), 1), OperatorRefusal::NotShown));
-    assert!(rt; refused(&live.enter_number(id(603), 1), OperatorRefusal::WrongKind));
-    assert!(rt; refused(&live.enter_number(id(600), 11), OperatorRefusal::Range));
-    assert!(rt;
-        sent(
-            &live.enter_number(id(600), 10),
-            &[5, 0x58, 2, 0xFF, 10, 0, 0, 0],
-            3
-        )
-    );
-    assert!(rt;
-        sent(
-            &live.enter_number(id(600), 10),
-            &[5, 0x58, 2, 0xFF, 10, 0, 0, 0],
-            1
-        )
-    );
-    assert!(rt; refused(&live.enter_number(id(601), 2), OperatorRefusal::Range));
-    assert!(rt; refused(&live.enter_number(id(601), 255), OperatorRefusal::Range));
-    assert!(rt;
-        sent(
-            &live.enter_number(id(601), 1),
-            &[5, 0x59, 2, 0xFF, 1, 0, 0, 0],
-            0
-        )
-    );
-    assert!(rt; refused(&live.enter_number(id(602), 2), OperatorRefusal::Range));
-    assert!(rt;
-        sent(
-            &live.enter_number(id(602), 1),
-            &[5, 0x5A, 2, 0xFF, 1, 0, 0, 0],
-            0
-        )
-    );
-    assert!(rt;
-        sent(
-            &live.enter_number(id(604), 7),
-            &[5, 0x5C, 2, 0xFF, 7, 0, 0, 0],
-            0
-        )
-    );
-    assert!(rt; is_number(&live, 600, 10) && is_number(&live, 604, 5) && is_number(&live, 700, 7));
-    Ok(())
-}
+const NUMBERS: &[Step] = &[
+    Acts(Enters(606, 1), Refused(OperatorRefusal::NotShown)),
+    Acts(Enters(603, 1), Refused(OperatorRefusal::WrongKind)),
+    Acts(Enters(600, 11), Refused(OperatorRefusal::Range)),
+    Acts(Enters(600, 10), Sent(&[5, 0x58, 2, 0xFF, 10, 0, 0, 0], 3)),
+    Acts(Enters(600, 10), Sent(&[5, 0x58, 2, 0xFF, 10, 0, 0, 0], 1)),
+    Acts(Enters(601, 2), Refused(OperatorRefusal::Range)),
+    Acts(Enters(601, 255), Refused(OperatorRefusal::Range)),
+    Acts(Enters(601, 1), Sent(&[5, 0x59, 2, 0xFF, 1, 0, 0, 0], 0)),
+    Acts(Enters(602, 2), Refused(OperatorRefusal::Range)),
+    Acts(Enters(602, 1), Sent(&[5, 0x5A, 2, 0xFF, 1, 0, 0, 0], 0)),
+    Acts(Enters(604, 7), Sent(&[5, 0x5C, 2, 0xFF, 7, 0, 0, 0], 0)),
+    HasNumber(600, 10),
+    HasNumber(604, 5),
+    HasNumber(700, 7),
+];
 
 fn is_number(live: &Live<SortedStore>, number: u16, value: u32) -> bool {
     match live.get(id(number)) {
@@ -162,101 +175,76 @@ fn is_text(live: &Live<SortedStore>, number: u16, text: &[u8]) -> bool {
     }
 }
 
+const TEXTS: &[Step] = &[
+    Acts(Writes(606, b"A"), Refused(OperatorRefusal::NotShown)),
+    Acts(Writes(600, b"A"), Refused(OperatorRefusal::WrongKind)),
+    Acts(Writes(603, b"ABCDEFGHI"), Refused(OperatorRefusal::TooLong)),
+    Acts(Writes(605, b"ABCD"), Refused(OperatorRefusal::TooLong)),
+    Acts(Writes(603, b"C"), Sent(&[8, 0x5B, 2, 1, 67], 3)),
+    HasText(603, b"C       "),
+    // The text of the object, with a space behind it; and that of the variable, which a new text is another one than.
+    Acts(Writes(603, b"C "), Sent(&[8, 0x5B, 2, 2, 67, 32], 1)),
+    Acts(Writes(605, b""), Sent(&[8, 0x5D, 2, 0], 3)),
+    HasText(701, b"   "),
+    HasText(605, b"        "),
+    Acts(Writes(605, b" "), Sent(&[8, 0x5D, 2, 1, 32], 1)),
+];
+
 #[test]
-fn texts(rt: HostRuntime) -> Result<(), Fail> {
+fn faults_of_texts(rt: HostRuntime) -> Result<(), Fail> {
     let mut live = live_of(rt.alloc(), INPUTS)?;
-    assert!(rt; refused(&live.enter_text(id(606), b"A"), OperatorRefusal::NotShown));
-    assert!(rt; refused(&live.enter_text(id(600), b"A"), OperatorRefusal::WrongKind));
-    assert!(rt;
-        refused(
-            &live.enter_text(id(603), b"ABCDEFGHI"),
-            OperatorRefusal::TooLong
-        )
-    );
-    assert!(rt; refused(&live.enter_text(id(605), b"ABCD"), OperatorRefusal::TooLong));
     assert!(rt; live.text_fault(id(605), b"ABCD") == Some(OperatorRefusal::TooLong));
     assert!(rt; live.text_fault(id(605), b"ABC") == None);
-    assert!(rt; sent(&live.enter_text(id(603), b"C"), &[8, 0x5B, 2, 1, 67], 3));
-    assert!(rt; is_text(&live, 603, b"C       "));
-    // A new text is another one than that of the variable.
-    assert!(rt; sent(&live.enter_text(id(605), b""), &[8, 0x5D, 2, 0], 3));
-    assert!(rt; is_text(&live, 701, b"   ") && is_text(&live, 605, b"        "));
-    assert!(rt; sent(&live.enter_text(id(605), b" "), &[8, 0x5D, 2, 1, 32], 1));
     Ok(())
 }
 
-#[test]
-fn keys(rt: HostRuntime) -> Result<(), Fail> {
-    let mut live = live(rt.alloc())?;
-    assert!(rt; refused(&live.press(id(1)), OperatorRefusal::NotShown));
-    assert!(rt; refused(&live.press(id(502)), OperatorRefusal::NotShown));
-    assert!(rt; refused(&live.press(id(601)), OperatorRefusal::WrongKind));
-    assert!(rt; refused(&live.release(id(500)), OperatorRefusal::NotPressed));
-    assert!(rt; sent(&live.press(id(500)), &[0, 1, 0xF4, 1, 0xE8, 3, 7, 0xFF], 0));
-    assert!(rt; refused(&live.press(id(501)), OperatorRefusal::Held));
-    assert!(rt; refused(&live.release(id(501)), OperatorRefusal::NotPressed));
-    assert!(rt;
-        sent(
-            &live.release(id(500)),
-            &[0, 0, 0xF4, 1, 0xE8, 3, 7, 0xFF],
-            0
-        )
-    );
-    assert!(rt; refused(&live.release(id(500)), OperatorRefusal::NotPressed));
-    assert!(rt; sent(&live.press(id(501)), &[1, 1, 0xF5, 1, 0xE8, 3, 3, 0xFF], 1));
-    Ok(())
-}
+const KEYS: &[Step] = &[
+    Acts(Presses(1), Refused(OperatorRefusal::NotShown)),
+    Acts(Presses(502), Refused(OperatorRefusal::NotShown)),
+    Acts(Presses(601), Refused(OperatorRefusal::WrongKind)),
+    Acts(Releases(500), Refused(OperatorRefusal::NotPressed)),
+    Acts(Presses(500), Sent(&[0, 1, 0xF4, 1, 0xE8, 3, 7, 0xFF], 0)),
+    Acts(Presses(501), Refused(OperatorRefusal::Held)),
+    Acts(Releases(501), Refused(OperatorRefusal::NotPressed)),
+    Acts(Releases(500), Sent(&[0, 0, 0xF4, 1, 0xE8, 3, 7, 0xFF], 0)),
+    Acts(Releases(500), Refused(OperatorRefusal::NotPressed)),
+    Acts(Presses(501), Sent(&[1, 1, 0xF5, 1, 0xE8, 3, 3, 0xFF], 1)),
+    // The key code is that at the release.
+    Does(&[0xAF, 0xF5, 1, 5, 9, 0, 0, 0]),
+    Acts(Releases(501), Sent(&[1, 0, 0xF5, 1, 0xE8, 3, 9, 0xFF], 0)),
+];
 
-#[test]
-fn key_codes_as_they_are_at_the_release(rt: HostRuntime) -> Result<(), Fail> {
-    let mut live = live(rt.alloc())?;
-    assert!(rt; sent(&live.press(id(501)), &[1, 1, 0xF5, 1, 0xE8, 3, 3, 0xFF], 1));
-    let Some(command) = Command::read(&[0xAF, 0xF5, 1, 5, 9, 0, 0, 0]) else {
-        return Err(Fail::new("no command"));
-    };
-    live.apply(&command);
-    assert!(rt;
-        sent(
-            &live.release(id(501)),
-            &[1, 0, 0xF5, 1, 0xE8, 3, 9, 0xFF],
-            0
-        )
-    );
-    Ok(())
-}
-
-#[test]
-fn the_same_text_again_is_no_new_one(rt: HostRuntime) -> Result<(), Fail> {
-    let mut live = live_of(rt.alloc(), INPUTS)?;
-    assert!(rt; sent(&live.enter_text(id(603), b"C"), &[8, 0x5B, 2, 1, 67], 3));
-    let again = live.enter_text(id(603), b"C ");
-    assert!(rt; sent(&again, &[8, 0x5B, 2, 2, 67, 32], 1));
-    Ok(())
-}
-
-#[test]
-fn selections(rt: HostRuntime) -> Result<(), Fail> {
-    let mut live = live(rt.alloc())?;
-    assert!(rt; refused(&live.select(id(500)), OperatorRefusal::WrongKind));
-    assert!(rt; refused(&live.select(id(603)), OperatorRefusal::NotShown));
-    assert!(rt; refused(&live.select(id(602)), OperatorRefusal::Disabled));
-    assert!(rt; sent(&live.select(id(601)), &[], 1));
-    assert!(rt; sent(&live.select(id(601)), &[], 0));
-    enable(&mut live, 602, true)?;
+const SELECTIONS: &[Step] = &[
+    Acts(Selects(500), Refused(OperatorRefusal::WrongKind)),
+    Acts(Selects(603), Refused(OperatorRefusal::NotShown)),
+    Acts(Selects(602), Refused(OperatorRefusal::Disabled)),
+    Acts(Selects(601), Sent(&[], 1)),
+    Acts(Selects(601), Sent(&[], 0)),
     // What was selected is deselected, though it is disabled by then.
-    enable(&mut live, 601, false)?;
-    assert!(rt; sent(&live.select(id(602)), &[], 2));
+    Does(&[0xA1, 0x5A, 2, 1, 0xFF, 0xFF, 0xFF, 0xFF]),
+    Does(&[0xA1, 0x59, 2, 0, 0xFF, 0xFF, 0xFF, 0xFF]),
+    Acts(Selects(602), Sent(&[], 2)),
+];
+
+/// The pools, and what is done.
+const SETS: [(&[u8], &[Step]); 4] = [
+    (INPUTS, NUMBERS),
+    (INPUTS, TEXTS),
+    (POOL, KEYS),
+    (POOL, SELECTIONS),
+];
+
+fn expect_set(rt: &(impl Abort + AllocGlobal), pool: &[u8], steps: &[Step]) -> Result<(), Fail> {
+    let mut live = live_of(rt.alloc(), pool)?;
+    expect_steps(rt, &mut live, steps);
     Ok(())
 }
 
-/// Enables or disables an input.
-fn enable(live: &mut Live<SortedStore>, number: u16, enabled: bool) -> Result<(), Fail> {
-    let [low, high] = number.to_le_bytes();
-    let bytes = [0xA1, low, high, u8::from(enabled), 0xFF, 0xFF, 0xFF, 0xFF];
-    let Some(command) = Command::read(&bytes) else {
-        return Err(Fail::new("no command"));
-    };
-    live.apply(&command);
+#[test]
+fn actions(rt: HostRuntime) -> Result<(), Fail> {
+    for (pool, steps) in SETS {
+        expect_set(&rt, pool, steps)?;
+    }
     Ok(())
 }
 
@@ -272,30 +260,46 @@ const OTHER_KINDS: &[u8] = &[
     1, 0, 28, 8, 0, 0xA4, 50, 0xFF, 0xFF, 0xFF, 0xFF, 0xFF, 0xFF, // Macro
 ];
 
-/// The set after an update, with the Button 501 held and the Input Boolean 601 selected before it.
-fn renewed(alloc: Global, update: &[u8]) -> Result<Live<SortedStore>, Fail> {
-    let mut live = live(alloc)?;
-    let (Ok(_pressed), Ok(_selected)) = (live.press(id(501)), live.select(id(601))) else {
-        return Err(Fail::new("no key, or no input"));
-    };
-    let renewed = live.renew(&accepted(alloc, update)?)?;
+/// The Button 501 is held, and the Input Boolean 601 selected.
+const HELD: &[Step] = &[
+    Acts(Presses(501), Sent(&[1, 1, 0xF5, 1, 0xE8, 3, 3, 0xFF], 1)),
+    Acts(Selects(601), Sent(&[], 1)),
+];
+
+const KEPT: &[Step] = &[
+    Acts(Selects(601), Sent(&[], 0)),
+    Acts(Releases(501), Sent(&[1, 0, 0xF5, 1, 0xE8, 3, 3, 0xFF], 0)),
+];
+
+const NOT_KEPT: &[Step] = &[
+    Acts(Selects(602), Sent(&[], 0)),
+    Acts(Releases(501), Refused(OperatorRefusal::NotPressed)),
+];
+
+/// The set after an update, with a button held and an input selected before it.
+fn renewed(rt: &(impl Abort + AllocGlobal), update: &[u8]) -> Result<Live<SortedStore>, Fail> {
+    let mut live = live_of(rt.alloc(), POOL)?;
+    expect_steps(rt, &mut live, HELD);
+    renewed_by(rt.alloc(), &live, update)
+}
+
+fn renewed_by(
+    alloc: Global,
+    live: &Live<SortedStore>,
+    update: &[u8],
+) -> Result<Live<SortedStore>, Fail> {
+    let update = accepted_pool(alloc, update)?;
+    let renewed = live.renew(&update)?;
     Ok(renewed)
 }
 
+// An update keeps the key and the input; one of other kinds keeps neither.
 #[test]
-fn an_update_keeps_the_key_and_the_input(rt: HostRuntime) -> Result<(), Fail> {
-    let mut live = renewed(rt.alloc(), POOL)?;
-    assert!(rt; sent(&live.select(id(601)), &[], 0));
-    let released = live.release(id(501));
-    assert!(rt; sent(&released, &[1, 0, 0xF5, 1, 0xE8, 3, 3, 0xFF], 0));
-    Ok(())
-}
-
-#[test]
-fn an_update_of_other_kinds_keeps_neither(rt: HostRuntime) -> Result<(), Fail> {
-    let mut live = renewed(rt.alloc(), OTHER_KINDS)?;
-    assert!(rt; sent(&live.select(id(602)), &[], 0));
-    assert!(rt; refused(&live.release(id(501)), OperatorRefusal::NotPressed));
+fn updates(rt: HostRuntime) -> Result<(), Fail> {
+    for (update, steps) in [(POOL, KEPT), (OTHER_KINDS, NOT_KEPT)] {
+        let mut live = renewed(&rt, update)?;
+        expect_steps(&rt, &mut live, steps);
+    }
     Ok(())
 }
 

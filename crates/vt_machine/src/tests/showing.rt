@@ -7,13 +7,12 @@ ghost use Rattle.vt_verify.specs.Inclusions.{IsShallow};
 ghost use Rattle.vt_verify.specs.Rules.{terminal};
 ghost use Rattle.vt_machine.specs.Certificates.{AreLevels};
 
+use super::accepted_pool;
 use crate::levels::Levels;
 use crate::showing::is_shown;
 use std::alloc::Global;
 use std::test::Fail;
 use vt_objects::{ObjectId, SortedStore, Store};
-use vt_pool::read_pool;
-use vt_verify::verify;
 
 /// The Data Masks 1000, with the Soft Key Mask 2000, and 1001, with none, and the lines that they show or not.
 const POOL: &[u8] = &[
@@ -110,8 +109,7 @@ fn store(alloc: Global) -> Result<SortedStore, Fail>
     ensures closed { IfOk result (λ store. IsClosed (ids_of (map_of store)) (inclusions_of (map_of store))) }
     ensures shallow { IfOk result (λ store. IsShallow terminal.inclusions (inclusions_of (map_of store))) }
 {
-    let pool = read_pool(alloc, POOL)?;
-    let accepted = verify(alloc, &pool)?;
+    let accepted = accepted_pool(alloc, POOL)?;
     let store = SortedStore::from_objects(alloc, accepted.objects())?;
     Ok(store)
 }

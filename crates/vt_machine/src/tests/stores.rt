@@ -1,11 +1,10 @@
 //! Commands on the objects of a store.
 
+use super::accepted_pool;
 use crate::effects::change_in;
 use std::alloc::Global;
 use std::test::Fail;
 use vt_objects::{Command, Object, ObjectId, SortedStore, Store};
-use vt_pool::read_pool;
-use vt_verify::verify;
 
 /// A Working Set 0 that shows the Data Mask 1000, with the Container 100.
 const POOL: &[u8] = &[
@@ -27,8 +26,7 @@ const COMMANDS: &[(&[u8], u8, u8)] = &[
 ];
 
 fn store(alloc: Global) -> Result<SortedStore, Fail> {
-    let pool = read_pool(alloc, POOL)?;
-    let accepted = verify(alloc, &pool)?;
+    let accepted = accepted_pool(alloc, POOL)?;
     let store = SortedStore::from_objects(alloc, accepted.objects())?;
     Ok(store)
 }

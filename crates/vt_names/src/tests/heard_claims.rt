@@ -1,5 +1,6 @@
 use super::*;
 use std::alloc::Global;
+use std::process::Abort;
 use std::test::Fail;
 
 const OWN: u8 = 0x26;
@@ -57,32 +58,26 @@ const CLAIMS: [(u8, u64, Option<u64>, Option<u64>); 12] = [
     (254, 3, Some(0), Some(7)),
 ];
 
+/// Whether 80 and 81 have these holders, and the null address none.
+fn are_held(claims: &Claims, first: Option<u64>, second: Option<u64>) -> bool {
+    claims.holder(0x80).map(Name::raw) == first
+        && claims.holder(0x81).map(Name::raw) == second
+        && claims.holder(254).is_none()
+}
+
+fn expect_holders(rt: &impl Abort, claims: &mut Claims) -> Result<(), OutOfMemory> {
+    assert!(rt; are_held(claims, None, None));
+    for (address, raw, first, second) in CLAIMS {
+        claims.hear(address, Name::from_raw(raw))?;
+        assert!(rt; are_held(claims, first, second), "{address} {raw:X}");
+    }
+    Ok(())
+}
+
 #[test]
 fn holders_of_addresses(rt: HostRuntime) -> Result<(), Fail> {
     let mut claims = Claims::new(rt.alloc(), OWN, Name::from_raw(NAME));
-    assert_eq!(rt; claims.holder(0x80), None);
-    for (address, raw, first, second) in CLAIMS {
-        let before = claims.holder(0x80);
-        match claims.hear(address, Name::from_raw(raw)) {
-            Ok(_) => {}
-            // Once the memory is there, the same claim is heard.
-            Err(_) => {
-                assert_eq!(rt; claims.holder(0x80), before);
-                claims.hear(address, Name::from_raw(raw))?;
-            }
-        }
-        assert_eq!(rt;
-            claims.holder(0x80).map(Name::raw),
-            first,
-            "{address} {raw:X}"
-        );
-        assert_eq!(rt;
-            claims.holder(0x81).map(Name::raw),
-            second,
-            "{address} {raw:X}"
-        );
-        assert_eq!(rt; claims.holder(254), None, "{address} {raw:X}");
-    }
+    expect_holders(&rt, &mut claims)?;
     Ok(())
 }
 

@@ -161,23 +161,3 @@ fn printed_refusals(rt: HostRuntime) -> Result<(), Fail> {
     }
     Ok(())
 }
-
-// Refused for memory, a registration leaves the sets, and is taken once the memory is there.
-#[test]
-fn want_of_memory(rt: HostRuntime) -> Result<(), Fail> {
-    let mut registry = Registry::new(rt.alloc());
-    for count in 1..200 {
-        let before = registry.len();
-        match registry.master(count, Some(Name::from_raw(5)), count) {
-            Ok(()) => {}
-            Err(fault) => {
-                assert_eq!(rt; fault, RegistryFault::OutOfMemory);
-                assert_eq!(rt; registry.len(), before);
-                registry.reserve(count)?;
-                registry.master(count, Some(Name::from_raw(5)), count)?;
-            }
-        }
-        assert_eq!(rt; registry.len(), usize::from(count));
-    }
-    Ok(())
-}

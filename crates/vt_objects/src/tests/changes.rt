@@ -32,21 +32,27 @@ const OVER: [(&[u8], &[u8]); 4] = [
     (b"\xFF\x00 ", b"\xFF\x00    "),
 ];
 
+fn is_over_short(alloc: Global, text: &[u8], wanted: &[u8]) -> Result<bool, OutOfMemory> {
+    let mut short = ShortText::new(Vec::from_slice(alloc, b"8 km/h")?);
+    if text.len() <= short.as_slice().len() {
+        short.overwrite(text);
+    }
+    Ok(short.as_slice() == wanted)
+}
+
+fn is_over_long(alloc: Global, text: &[u8], wanted: &[u8]) -> Result<bool, OutOfMemory> {
+    let mut long = LongText::new(Vec::from_slice(alloc, b"8 km/h")?);
+    if text.len() <= long.as_slice().len() {
+        long.overwrite(text);
+    }
+    Ok(long.as_slice() == wanted)
+}
+
 #[test]
 fn texts_over_others(rt: HostRuntime) -> Result<(), Fail> {
     for (text, wanted) in OVER {
-        let bytes = Vec::from_slice(rt.alloc(), b"8 km/h")?;
-        let mut short = ShortText::new(bytes);
-        if text.len() <= short.as_slice().len() {
-            short.overwrite(text);
-        }
-        assert_eq!(rt; short.as_slice(), wanted);
-        let bytes = Vec::from_slice(rt.alloc(), b"8 km/h")?;
-        let mut long = LongText::new(bytes);
-        if text.len() <= long.as_slice().len() {
-            long.overwrite(text);
-        }
-        assert_eq!(rt; long.as_slice(), wanted);
+        assert!(rt; is_over_short(rt.alloc(), text, wanted)?);
+        assert!(rt; is_over_long(rt.alloc(), text, wanted)?);
     }
     Ok(())
 }
@@ -82,21 +88,24 @@ fn two_containers(alloc: Global) -> Result<Vec<(ObjectId, Object<Vec<u8>>)>, Out
     Ok(vec![in alloc; first, second]?)
 }
 
+/// Whether a container of two entries has this first one, and its size.
+fn has_first(store: &SortedStore, id: u16, wanted: Child) -> bool {
+    match store.get(object_id(id)) {
+        Some(Object::Container(container)) => {
+            container.children.as_slice().first() == Some(&wanted)
+                && container.children.len() == 2
+                && [container.width, container.height] == [50, 20]
+        }
+        _ => false,
+    }
+}
+
 #[test]
 fn an_entry_of_an_object_in_a_store(rt: HostRuntime) -> Result<(), Fail> {
-    let alloc = rt.alloc();
-    let objects = two_containers(alloc)?;
-    let mut store = SortedStore::from_objects(alloc, &objects)?;
+    let objects = two_containers(rt.alloc())?;
+    let mut store = SortedStore::from_objects(rt.alloc(), &objects)?;
     move_first(&mut store, object_id(8), -1, 6);
-    for (id, wanted) in [(7, child(100, 10, 5)), (8, child(100, -1, 6))] {
-        match store.get(object_id(id)) {
-            Some(Object::Container(container)) => {
-                assert_eq!(rt; container.children.as_slice().first(), Some(&wanted));
-                assert_eq!(rt; container.children.len(), 2);
-                assert_eq!(rt; [container.width, container.height], [50, 20]);
-            }
-            _ => assert!(rt; false, "no container {id}"),
-        }
-    }
+    assert!(rt; has_first(&store, 7, child(100, 10, 5)));
+    assert!(rt; has_first(&store, 8, child(100, -1, 6)));
     Ok(())
 }

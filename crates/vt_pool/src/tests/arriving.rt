@@ -9,7 +9,7 @@ use std::process::Abort;
 use std::test::Fail;
 
 /// A message of these bytes, behind its function.
-fn message(alloc: Global, bytes: &[u8]) -> Result<Vec<u8>, AllocError>
+pub(super) fn message(alloc: Global, bytes: &[u8]) -> Result<Vec<u8>, AllocError>
     ensures { IfOk result (λ message. 1 ≤ length message.items) }
 {
     let mut message = Vec::new(alloc);

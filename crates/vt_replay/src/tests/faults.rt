@@ -3,12 +3,12 @@
 use super::streams::{Narrow, Pieces};
 use crate::fault::ReplayFault;
 use crate::replay::replay;
-use std::alloc::Global;
+use std::alloc::{AllocError, Global};
 use std::test::Fail;
 use vt_names::Name;
-use vt_pool::read_pool;
+use vt_pool::{Pool, read_pool};
 use vt_server::Terminal;
-use vt_verify::verify;
+use vt_verify::{Accepted, verify};
 
 /// Working Set 0, Data Mask 1000, Container 100 and Alarm Mask 2000.
 const POOL: &[u8] = b"\x00\x00\x00\x00\x01\xE8\x03\x00\x00\x00\
@@ -17,7 +17,7 @@ const POOL: &[u8] = b"\x00\x00\x00\x00\x01\xE8\x03\x00\x00\x00\
     \xD0\x07\x02\x00\xFF\xFF\x01\x00\x00\x00";
 
 /// A second set uploads a pool in packets, and both show alarms.
-const LOG: &[u8] = b"(1.000000) can0 18EEFF81#0200000000008020\n\
+pub const LOG: &[u8] = b"(1.000000) can0 18EEFF81#0200000000008020\n\
     (1.000000) can0 18FE0D81#01FFFFFFFFFFFFFF\n\
     (1.000000) can0 1CEC2681#103C0009FF00E700\n\
     (1.000000) can0 1CEB2681#01110000000001E8\n\
@@ -36,7 +36,7 @@ const LOG: &[u8] = b"(1.000000) can0 18EEFF81#0200000000008020\n\
     (1.000000) can0 14E72680#AD0000D007FFFFFF\n";
 
 /// What the replay of it prints.
-const TEXT: &[u8] = b"screen 80 mask 1000\n\
+pub const TEXT: &[u8] = b"screen 80 mask 1000\n\
     container 100 10 5 50x20\n\
     1CEC8126#110901FFFF00E700\n\
     1CEC8126#133C0009FF00E700\n\
@@ -55,15 +55,26 @@ const TEXT: &[u8] = b"screen 80 mask 1000\n\
     screen 80 mask 2000\n\
     lines 17 frames 17 operator 0 skipped 0 comments 0 faults 0\n";
 
-/// A terminal with a set at 80 that has the pool.
-fn started(alloc: Global) -> Result<Terminal, Fail> {
-    let pool = read_pool(alloc, POOL)?;
-    let Ok(accepted) = verify(alloc, &pool) else {
-        return Err(Fail::new("the pool is refused"));
-    };
+/// A terminal with a set at 80 that has the pool, which is accepted: what it may want is memory alone.
+pub fn started(alloc: Global) -> Result<Terminal, AllocError> {
+    let accepted = accepted_pool(alloc)?;
     let mut terminal = Terminal::new(alloc, 0x26, Name::from_raw(0x2000_1D00_0000_0001));
     terminal.preload(0x80, &accepted)?;
     Ok(terminal)
+}
+
+fn accepted_pool(alloc: Global) -> Result<Accepted, AllocError> {
+    match read_pool(alloc, POOL) {
+        Ok(pool) => verified(alloc, &pool),
+        Err(_) => Err(AllocError),
+    }
+}
+
+fn verified(alloc: Global, pool: &Pool<'_>) -> Result<Accepted, AllocError> {
+    match verify(alloc, pool) {
+        Ok(accepted) => Ok(accepted),
+        Err(_) => Err(AllocError),
+    }
 }
 
 /// Whether a reader that fails after so many bytes ends the replay, with the front of its text.

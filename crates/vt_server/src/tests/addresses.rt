@@ -1,15 +1,13 @@
 //! Claims of the terminal's address, Requests, echoes and the loss.
 
-use super::*;
+use super::Said;
 
 const CLAIM: &str = "18EEFF26#01000000001D0020";
 
 const CANNOT_CLAIM: &str = "18EEFFFE#01000000001D0020";
 
-// What is heard, and what is sent; there is no set.
-type Said = (&'static [&'static str], &'static [&'static str]);
-
-const CASES: [Said; 10] = [
+// There is no set.
+pub(super) const CASES: [Said; 10] = [
     // Requests to the terminal and to all, from any source, of three bytes at least.
     (&["18EA2680#00EE00"], &[CLAIM]),
     (&["18EAFF80#00EE00"], &[CLAIM]),
@@ -54,21 +52,3 @@ const CASES: [Said; 10] = [
         &[CLAIM, CANNOT_CLAIM],
     ),
 ];
-
-fn expect_said(rt: &(impl Abort + AllocGlobal), cases: &[Said]) -> Result<(), Fail> {
-    for &(heard, sent) in cases {
-        let case = Case {
-            preloaded: false,
-            heard,
-            sent,
-            sets: &[],
-        };
-        expect_case(rt, &case)?;
-    }
-    Ok(())
-}
-
-#[test]
-fn claims_and_requests(rt: HostRuntime) -> Result<(), Fail> {
-    expect_said(&rt, &CASES)
-}

@@ -1,7 +1,6 @@
 //! Which set is shown: alarms by their priority and by the order of registration, and else the set that is selected.
 
-use super::script::Step;
-use super::*;
+use super::script::{Script, Step};
 
 // The pool of Working Set 0, Data Mask 1000 and Alarm Mask 2000, whose priority follows.
 const SET: &str = "0000000001E803000000";
@@ -113,13 +112,13 @@ const SELECTED: [Step; 10] = [
     Step::Screen("screen 80 mask 1000\n"),
 ];
 
-#[test]
-fn sets_that_are_shown(rt: HostRuntime) -> Result<(), Fail> {
-    for steps in [&ALARMS[..], &SELECTED] {
-        let mut terminal = started(&rt, false)?;
-        for step in REGISTERS.iter().chain(&UPLOADS).chain(steps) {
-            script::expect_step(&rt, &mut terminal, step)?;
-        }
-    }
-    Ok(())
-}
+pub(super) const SCRIPTS: [Script; 2] = [
+    Script {
+        pool: None,
+        parts: &[&REGISTERS, &UPLOADS, &ALARMS],
+    },
+    Script {
+        pool: None,
+        parts: &[&REGISTERS, &UPLOADS, &SELECTED],
+    },
+];

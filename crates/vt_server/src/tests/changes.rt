@@ -1,7 +1,6 @@
 //! The events of a change of the set that is shown.
 
-use super::script::{Step, expect_script, expect_steps, take_pieces};
-use super::*;
+use super::script::{Script, Step};
 
 // Working Set 0 with macro 1 on Activate and macro 2 on Deactivate; Data Mask 1000 with Output Numbers 300 and 301
 // of Number Variables 200 and 201, both 9. Macro 1 sets the first to 1, and macro 2 the second to 2.
@@ -15,19 +14,27 @@ const COUNTED: &[u8] = b"\x00\x00\x00\x00\x01\xE8\x03\x00\x02\x00\x01\x01\x02\x0
     \x01\x00\x1C\x08\x00\xA8\xC8\x00\xFF\x01\x00\x00\x00\
     \x02\x00\x1C\x08\x00\xA8\xC9\x00\xFF\x02\x00\x00\x00";
 
-// The same in hexadecimal.
-const UPLOADED: [&str; 6] = [
-    "0000000001E80300020001010202",
-    "E8030100FFFF02002C01000000002D0100000000",
-    "2C010C0A00050000FFFF00C80000000000000000000000803F00000000",
-    "2D010C0A00050000FFFF00C90000000000000000000000803F00000000",
-    "C8001509000000C9001509000000",
-    "01001C0800A8C800FF0100000002001C0800A8C900FF02000000",
-];
-
 const CLAIMS: Step = Step::Line("18EEFF81#0200000000800020", &[]);
 
 const IS_MASTER: Step = Step::Line("18FE0D81#01FFFFFFFFFFFFFF", &[]);
+
+// A set at 81 uploads the same, in hexadecimal, and has not ended it.
+const UPLOADS: [Step; 8] = [
+    CLAIMS,
+    IS_MASTER,
+    Step::Pieces("81", "0000000001E80300020001010202"),
+    Step::Pieces("81", "E8030100FFFF02002C01000000002D0100000000"),
+    Step::Pieces(
+        "81",
+        "2C010C0A00050000FFFF00C80000000000000000000000803F00000000",
+    ),
+    Step::Pieces(
+        "81",
+        "2D010C0A00050000FFFF00C90000000000000000000000803F00000000",
+    ),
+    Step::Pieces("81", "C8001509000000C9001509000000"),
+    Step::Pieces("81", "01001C0800A8C800FF0100000002001C0800A8C900FF02000000"),
+];
 
 // A preloaded set is shown without an event.
 const PRELOADED: [Step; 3] = [
@@ -77,39 +84,6 @@ const ACTIVATED: [Step; 7] = [
     Step::Screen("screen 81 mask 2000\n"),
 ];
 
-// A set at 81 that has uploaded these records, and has not ended them.
-fn upload(
-    rt: &(impl Abort + AllocGlobal),
-    terminal: &mut Terminal,
-    records: &[&str],
-) -> Result<(), Fail> {
-    expect_steps(rt, terminal, &[CLAIMS, IS_MASTER])?;
-    for record in records {
-        take_pieces(rt, terminal, "81", record)?;
-    }
-    Ok(())
-}
-
-#[test]
-fn events_of_a_change(rt: HostRuntime) -> Result<(), Fail> {
-    let mut terminal = preloaded_with(&rt, COUNTED)?;
-    expect_steps(&rt, &mut terminal, &PRELOADED)?;
-    upload(&rt, &mut terminal, &UPLOADED)?;
-    expect_steps(&rt, &mut terminal, &CHANGES)
-}
-
-#[test]
-fn events_of_the_first_pool(rt: HostRuntime) -> Result<(), Fail> {
-    let mut terminal = started(&rt, false)?;
-    upload(&rt, &mut terminal, &UPLOADED)?;
-    expect_steps(&rt, &mut terminal, &FIRST)
-}
-
-#[test]
-fn an_event_that_activates_a_mask(rt: HostRuntime) -> Result<(), Fail> {
-    expect_script(&rt, None, &ACTIVATED)
-}
-
 // Working Set 0, Data Mask 1000, Container 100 and Alarm Mask 2000.
 const ALARMED: &[u8] = b"\x00\x00\x00\x00\x01\xE8\x03\x00\x00\x00\
     \xE8\x03\x01\x00\xFF\xFF\x01\x00\x64\x00\x0A\x00\x05\x00\
@@ -143,7 +117,21 @@ const CHOSEN_ONCE: [Step; 13] = [
     ),
 ];
 
-#[test]
-fn the_shown_set_is_chosen_once(rt: HostRuntime) -> Result<(), Fail> {
-    expect_script(&rt, Some(ALARMED), &CHOSEN_ONCE)
-}
+pub(super) const SCRIPTS: [Script; 4] = [
+    Script {
+        pool: Some(COUNTED),
+        parts: &[&PRELOADED, &UPLOADS, &CHANGES],
+    },
+    Script {
+        pool: None,
+        parts: &[&UPLOADS, &FIRST],
+    },
+    Script {
+        pool: None,
+        parts: &[&ACTIVATED],
+    },
+    Script {
+        pool: Some(ALARMED),
+        parts: &[&CHOSEN_ONCE],
+    },
+];

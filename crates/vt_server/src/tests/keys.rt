@@ -1,7 +1,6 @@
 //! The key that is held, and the input that is selected, over changes of what is shown and updates.
 
-use super::script::{Step, expect_script};
-use super::*;
+use super::script::{Script, Step};
 
 // Working Set 0, Data Masks 1000 and 2000 with Soft Key Mask 400, in it Key 500 of code 7.
 const KEYS: &[u8] = b"\x00\x00\x00\x00\x01\xE8\x03\x00\x00\x00\
@@ -83,15 +82,21 @@ const PRESSED: [Step; 4] = [
     Step::Line("! release 500", &["6"]),
 ];
 
-#[test]
-fn a_key_with_a_macro(rt: HostRuntime) -> Result<(), Fail> {
-    expect_script(&rt, Some(KEY_WITH_MACRO), &PRESSED)
-}
-
-#[test]
-fn keys_that_are_held(rt: HostRuntime) -> Result<(), Fail> {
-    for steps in [&HELD[..], &UPDATED, &OF_TWO_SETS] {
-        expect_script(&rt, Some(KEYS), steps)?;
-    }
-    Ok(())
-}
+pub(super) const SCRIPTS: [Script; 4] = [
+    Script {
+        pool: Some(KEYS),
+        parts: &[&HELD],
+    },
+    Script {
+        pool: Some(KEYS),
+        parts: &[&UPDATED],
+    },
+    Script {
+        pool: Some(KEYS),
+        parts: &[&OF_TWO_SETS],
+    },
+    Script {
+        pool: Some(KEY_WITH_MACRO),
+        parts: &[&PRESSED],
+    },
+];

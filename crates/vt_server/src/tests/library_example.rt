@@ -20,16 +20,14 @@ fn library_example(rt: HostRuntime) -> Result<(), Fail> {
     let mut terminal = preloaded_with(&rt, POOL)?;
     let mut outputs = Vec::new(rt.alloc());
     hide_and_press(&mut terminal, &mut outputs)?;
-    expect_answers(&rt, &outputs);
+    expect_sent(
+        &rt,
+        &outputs,
+        &["14E68026#A064000000FFFFFF", "1"],
+        "hide and press",
+    );
     let mut screen = Vec::new(rt.alloc());
     terminal.screen(&mut screen)?;
     assert_eq!(rt; screen.as_slice(), b"screen 80 mask 1000\n".as_slice());
     Ok(())
-}
-
-fn expect_answers(rt: &(impl Abort + AllocGlobal), outputs: &[Output]) {
-    assert_eq!(rt; outputs.len(), 2);
-    for (output, text) in outputs.iter().zip(&["14E68026#A064000000FFFFFF", "1"]) {
-        expect_output(rt, output, text);
-    }
 }

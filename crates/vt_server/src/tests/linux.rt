@@ -1,40 +1,50 @@
 //! Sessions of another implementation, as the terminal hears them.
 
 use super::linux_logs::*;
-use super::script::{Step, expect_line, take_line};
+use super::script::{Script, Step, expect_line, expect_steps, take_line};
 use super::*;
 
-// The terminal answers the packets as the receiver of the log did; at the end the bytes are no pool, since their
-// first record has a type that there is not, and the pool stays.
-fn expect_session(rt: &(impl Abort + AllocGlobal), log: &[Step]) -> Result<(), Fail> {
-    let mut terminal = started(rt, true)?;
-    for step in log {
-        script::expect_step(rt, &mut terminal, step)?;
-    }
-    expect_end(rt, &mut terminal)
-}
+// At the end the bytes are no pool, since their first record has a type that there is not, and the pool stays.
+const ENDS: [Step; 2] = [
+    Step::Line("14E72680#12", &["14E68026#1201FFFFFFFF01FF"]),
+    Step::Line("14E72680#12", &["14E68026#1200FFFFFFFF00FF"]),
+];
 
-fn expect_end(rt: &(impl Abort + AllocGlobal), terminal: &mut Terminal) -> Result<(), Fail> {
-    expect_line(rt, terminal, "14E72680#12", &["14E68026#1201FFFFFFFF01FF"])?;
-    expect_line(rt, terminal, "14E72680#12", &["14E68026#1200FFFFFFFF00FF"])
-}
-
-#[test]
-fn short_sessions_of_linux(rt: HostRuntime) -> Result<(), Fail> {
-    for log in [
-        &LOG_9[..],
-        &LOG_10,
-        &LOG_14,
-        &LOG_15,
-        &LOG_16,
-        &LOG_21,
-        &LOG_22,
-        &LOG_100,
-    ] {
-        expect_session(&rt, log)?;
-    }
-    Ok(())
-}
+// The terminal answers the packets as the receiver of the log did.
+pub(super) const SCRIPTS: [Script; 8] = [
+    Script {
+        pool: Some(POOL),
+        parts: &[&LOG_9, &ENDS],
+    },
+    Script {
+        pool: Some(POOL),
+        parts: &[&LOG_10, &ENDS],
+    },
+    Script {
+        pool: Some(POOL),
+        parts: &[&LOG_14, &ENDS],
+    },
+    Script {
+        pool: Some(POOL),
+        parts: &[&LOG_15, &ENDS],
+    },
+    Script {
+        pool: Some(POOL),
+        parts: &[&LOG_16, &ENDS],
+    },
+    Script {
+        pool: Some(POOL),
+        parts: &[&LOG_21, &ENDS],
+    },
+    Script {
+        pool: Some(POOL),
+        parts: &[&LOG_22, &ENDS],
+    },
+    Script {
+        pool: Some(POOL),
+        parts: &[&LOG_100, &ENDS],
+    },
+];
 
 // The packets of the first group, all of seven bytes.
 fn take_packets(
@@ -55,20 +65,27 @@ fn take_packets(
 
 #[test]
 fn a_long_session_of_linux(rt: HostRuntime) -> Result<(), Fail> {
-    let mut terminal = started(&rt, true)?;
+    let mut terminal = started(&rt, Some(POOL))?;
+    expect_long_session(&rt, &mut terminal)
+}
+
+fn expect_long_session(
+    rt: &(impl Abort + AllocGlobal),
+    terminal: &mut Terminal,
+) -> Result<(), Fail> {
     let asks = "(1795329417.512922) vcan0 1CC82680#14FA06000000E700";
-    expect_line(&rt, &mut terminal, asks, &["1CC88026#15FF01000000E700"])?;
+    expect_line(rt, terminal, asks, &["1CC88026#15FF01000000E700"])?;
     let offers = "(1795329417.512958) vcan0 1CC82680#16FF00000000E700";
-    expect_line(&rt, &mut terminal, offers, &[])?;
+    expect_line(rt, terminal, offers, &[])?;
     let mut outputs = Vec::new(rt.alloc());
-    take_packets(&rt, &mut terminal, &mut outputs)?;
+    take_packets(rt, terminal, &mut outputs)?;
     assert_eq!(rt; outputs.len(), 1);
     for output in &outputs {
-        expect_output(&rt, output, "1CC88026#150100010000E700");
+        expect_output(rt, output, "1CC88026#150100010000E700");
     }
     let offers = "(1795329417.513684) vcan0 1CC82680#1601FF000000E700";
-    expect_line(&rt, &mut terminal, offers, &[])?;
+    expect_line(rt, terminal, offers, &[])?;
     let last = "(1795329417.513685) vcan0 1CC72680#0190FFFFFFFFFFFF";
-    expect_line(&rt, &mut terminal, last, &["1CC88026#17FA06000000E700"])?;
-    expect_end(&rt, &mut terminal)
+    expect_line(rt, terminal, last, &["1CC88026#17FA06000000E700"])?;
+    expect_steps(rt, terminal, &ENDS)
 }

@@ -35,7 +35,7 @@ fn expect_beside(
         ask_from_each(rt, terminal)?;
         expect_step(rt, terminal, step)?;
     }
-    Ok(())
+    expect_ends(rt, terminal)
 }
 
 // All sessions end at once, by rising source.
@@ -48,9 +48,8 @@ fn expect_ends(rt: &(impl Abort + AllocGlobal), terminal: &mut Terminal) -> Resu
 
 #[test]
 fn a_session_beside_252_others(rt: HostRuntime) -> Result<(), Fail> {
-    let mut terminal = started(&rt, true)?;
-    expect_beside(&rt, &mut terminal, &BESIDE)?;
-    expect_ends(&rt, &mut terminal)
+    let mut terminal = started(&rt, Some(POOL))?;
+    expect_beside(&rt, &mut terminal, &BESIDE)
 }
 
 fn expect_aborts(rt: &(impl Abort + AllocGlobal), outputs: &[Output]) -> Result<(), Fail> {
@@ -114,14 +113,18 @@ fn register_each(rt: &(impl Abort + AllocGlobal), terminal: &mut Terminal) -> Re
 // Sets of 253 addresses, whose pieces come by turns. The first is shown: its pool comes before the others'.
 #[test]
 fn sets_of_all_addresses(rt: HostRuntime) -> Result<(), Fail> {
-    let mut terminal = started(&rt, false)?;
-    register_each(&rt, &mut terminal)?;
+    let mut terminal = started(&rt, None)?;
+    upload_from_each(&rt, &mut terminal)
+}
+
+fn upload_from_each(rt: &(impl Abort + AllocGlobal), terminal: &mut Terminal) -> Result<(), Fail> {
+    register_each(rt, terminal)?;
     for piece in PIECES {
-        expect_each(&rt, &mut terminal, piece, "")?;
+        expect_each(rt, terminal, piece, "")?;
     }
     let sent = ["14E60026#1200FFFFFFFF00FF", "14E6FF26#FE00E803FFFF00FF"];
-    expect_line(&rt, &mut terminal, "14E72600#12", &sent)?;
+    expect_line(rt, terminal, "14E72600#12", &sent)?;
     // The first one's again is an empty update.
-    expect_each(&rt, &mut terminal, "12", "1200FFFFFFFF00FF")?;
-    expect_each(&rt, &mut terminal, "A0640000FFFFFFFF", "A064000000FFFFFF")
+    expect_each(rt, terminal, "12", "1200FFFFFFFF00FF")?;
+    expect_each(rt, terminal, "A0640000FFFFFFFF", "A064000000FFFFFF")
 }

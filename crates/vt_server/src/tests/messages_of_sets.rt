@@ -1,5 +1,6 @@
 //! Messages of the masters of sets to the terminal.
 
+use super::script::expect_line;
 use super::*;
 use vt_objects::{Object, ObjectId};
 
@@ -15,11 +16,8 @@ const KEYS: &str = "14E68026#C2FFFFFF40404006";
 
 const NONE_SHOWN: &str = "14E6FF26#FEFEFFFFFFFF00FF";
 
-// What is heard, and what is sent.
-type Said = (&'static [&'static str], &'static [&'static str]);
-
 // The messages of a set with a pool, and of others.
-const CASES: [Said; 16] = [
+pub(super) const CASES: [Said; 16] = [
     // Hide and show, an absent object, one that is no container, and another state.
     (
         &["14E72680#A0640000FFFFFFFF"],
@@ -165,25 +163,7 @@ const CASES: [Said; 16] = [
     ),
 ];
 
-fn expect_said(rt: &(impl Abort + AllocGlobal), cases: &[Said]) -> Result<(), Fail> {
-    for &(heard, sent) in cases {
-        let case = Case {
-            preloaded: true,
-            heard,
-            sent,
-            sets: &[0x80],
-        };
-        expect_case(rt, &case)?;
-    }
-    Ok(())
-}
-
-#[test]
-fn messages_and_replies(rt: HostRuntime) -> Result<(), Fail> {
-    expect_said(&rt, &CASES)
-}
-
-const WITHOUT_A_POOL: [Case; 2] = [
+pub(super) const WITHOUT_A_POOL: [Case; 2] = [
     // The questions of a set without a pool are answered, and its commands are not.
     Case {
         preloaded: false,
@@ -205,24 +185,22 @@ const WITHOUT_A_POOL: [Case; 2] = [
     },
 ];
 
-#[test]
-fn sets_without_a_pool(rt: HostRuntime) -> Result<(), Fail> {
-    expect_cases(&rt, &WITHOUT_A_POOL)
-}
-
 // The pool of a set after its commands.
-#[test]
-fn pools_of_sets(rt: HostRuntime) -> Result<(), Fail> {
-    let mut terminal = started(&rt, true)?;
+fn expect_pool(rt: &(impl Abort + AllocGlobal), terminal: &mut Terminal) -> Result<(), Fail> {
     assert!(rt; terminal.set(0x81).is_none());
-    let hides = inputs_of(&rt, &["14E72680#A0640000FFFFFFFF"])?;
-    let mut outputs = Vec::new(rt.alloc());
-    run_all(&rt, &mut terminal, &hides, &mut outputs);
-    assert!(rt; is_hidden(&terminal));
-    let deletes = inputs_of(&rt, &["14E72680#B2FFFFFFFFFFFFFF"])?;
-    run_all(&rt, &mut terminal, &deletes, &mut outputs);
+    let hidden = ["14E68026#A064000000FFFFFF"];
+    expect_line(rt, terminal, "14E72680#A0640000FFFFFFFF", &hidden)?;
+    assert!(rt; is_hidden(terminal));
+    let deleted = ["14E68026#B200FFFFFFFFFFFF", NONE_SHOWN];
+    expect_line(rt, terminal, "14E72680#B2FFFFFFFFFFFFFF", &deleted)?;
     assert!(rt; terminal.set(0x80).is_none());
     Ok(())
+}
+
+#[test]
+fn pools_of_sets(rt: HostRuntime) -> Result<(), Fail> {
+    let mut terminal = started(&rt, Some(POOL))?;
+    expect_pool(&rt, &mut terminal)
 }
 
 // Whether container 100 is hidden.

@@ -1,6 +1,6 @@
 //! An upload in pieces, cut at any place, by frames and in packets.
 
-use super::script::{Step, expect_script, expect_steps, take_pieces};
+use super::script::{Script, Step, expect_steps, take_pieces};
 use super::*;
 
 const CLAIMS: Step = Step::Line("18EEFF80#0100000000800020", &[]);
@@ -25,6 +25,7 @@ fn expect_cuts(
     terminal: &mut Terminal,
     pool: &[u8],
 ) -> Result<(), Fail> {
+    expect_steps(rt, terminal, &[CLAIMS, IS_MASTER])?;
     for at in 0..=pool.len() {
         let (head, tail) = pool.split_at(at);
         take_bytes(rt, terminal, head)?;
@@ -47,8 +48,7 @@ fn take_bytes(
 
 #[test]
 fn an_upload_cut_at_each_place(rt: HostRuntime) -> Result<(), Fail> {
-    let mut terminal = started(&rt, false)?;
-    expect_steps(&rt, &mut terminal, &[CLAIMS, IS_MASTER])?;
+    let mut terminal = started(&rt, None)?;
     expect_cuts(&rt, &mut terminal, POOL)
 }
 
@@ -85,11 +85,6 @@ const IN_PACKETS: [Step; 22] = [
     Step::Line("14E72680#12FFFFFFFFFFFFFF", ACCEPTED),
     SHOWN,
 ];
-
-#[test]
-fn an_upload_in_packets(rt: HostRuntime) -> Result<(), Fail> {
-    expect_script(&rt, None, &IN_PACKETS)
-}
 
 // A second master message keeps what was uploaded, and the uploads of two sets are their own.
 const OF_TWO_SETS: [Step; 15] = [
@@ -128,8 +123,17 @@ const LOST: [Step; 11] = [
     Step::Screen("screen none\n"),
 ];
 
-#[test]
-fn uploads_of_two_sets_and_of_none(rt: HostRuntime) -> Result<(), Fail> {
-    expect_script(&rt, None, &OF_TWO_SETS)?;
-    expect_script(&rt, None, &LOST)
-}
+pub(super) const SCRIPTS: [Script; 3] = [
+    Script {
+        pool: None,
+        parts: &[&IN_PACKETS],
+    },
+    Script {
+        pool: None,
+        parts: &[&OF_TWO_SETS],
+    },
+    Script {
+        pool: None,
+        parts: &[&LOST],
+    },
+];

@@ -96,14 +96,15 @@ fn expect_heard(
     Ok(())
 }
 
-#[test]
-fn inputs_while_a_set_is_shown(rt: HostRuntime) -> Result<(), Fail> {
-    let mut terminal = preloaded_with(&rt, DRAWN)?;
-    expect_heard(&rt, &mut terminal, &WHILE_SHOWN)
+fn expect_inputs(rt: &(impl Abort + AllocGlobal), inputs: &[Heard]) -> Result<(), Fail> {
+    let mut terminal = started(rt, Some(DRAWN))?;
+    expect_heard(rt, &mut terminal, inputs)
 }
 
 #[test]
-fn inputs_that_end_and_bring_a_set(rt: HostRuntime) -> Result<(), Fail> {
-    let mut terminal = preloaded_with(&rt, DRAWN)?;
-    expect_heard(&rt, &mut terminal, &WHEN_IT_ENDS)
+fn inputs_that_change_the_screen_and_others(rt: HostRuntime) -> Result<(), Fail> {
+    for inputs in [&WHILE_SHOWN[..], &WHEN_IT_ENDS] {
+        expect_inputs(&rt, inputs)?;
+    }
+    Ok(())
 }

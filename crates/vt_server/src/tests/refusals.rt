@@ -1,6 +1,6 @@
 //! What the operator is refused, in the order of the tests, and what is sent for what is not.
 
-use super::script::{Step, expect_script};
+use super::script::{Script, Step};
 use super::*;
 
 // Working Set 0; Data Mask 1000 with Input Strings 301 and 302, Input Numbers 600 and 601, Input Boolean 602, Input
@@ -109,19 +109,32 @@ const TEXTS: [Step; 15] = [
     Step::Line("! set 80", &[]),
 ];
 
-#[test]
-fn actions_without_a_set(rt: HostRuntime) -> Result<(), Fail> {
-    expect_script(&rt, None, &NO_SET)?;
-    expect_script(&rt, None, &NO_POOL)
-}
-
-#[test]
-fn actions_and_their_refusals(rt: HostRuntime) -> Result<(), Fail> {
-    for steps in [&KEYS[..], &SELECTIONS, &NUMBERS, &TEXTS] {
-        expect_script(&rt, Some(OPERATED), steps)?;
-    }
-    Ok(())
-}
+pub(super) const SCRIPTS: [Script; 6] = [
+    Script {
+        pool: None,
+        parts: &[&NO_SET],
+    },
+    Script {
+        pool: None,
+        parts: &[&NO_POOL],
+    },
+    Script {
+        pool: Some(OPERATED),
+        parts: &[&KEYS],
+    },
+    Script {
+        pool: Some(OPERATED),
+        parts: &[&SELECTIONS],
+    },
+    Script {
+        pool: Some(OPERATED),
+        parts: &[&NUMBERS],
+    },
+    Script {
+        pool: Some(OPERATED),
+        parts: &[&TEXTS],
+    },
+];
 
 const FAULTS: [OperatorFault; 9] = [
     OperatorFault::NotShown,

@@ -10,21 +10,33 @@ pub(super) enum Step {
     Line(&'static str, &'static [&'static str]),
     // The pieces of a pool from an address, of up to seven bytes, both in hexadecimal. Nothing is sent for them.
     Pieces(&'static str, &'static str),
+    // The records that the set at 80 uploads and ends, in hexadecimal, and what is sent for their end.
+    Upload(&'static [&'static str], &'static [&'static str]),
     // The text of the screen.
     Screen(&'static str),
 }
 
-// A terminal, its steps one after the other: of no set, or with a pool at 80.
-pub(super) fn expect_script(
+// Steps, part by part, of a terminal without a set at first, or with a pool of these bytes at 80.
+#[derive(Clone, Copy)]
+pub(super) struct Script {
+    pub(super) pool: Option<&'static [u8]>,
+    pub(super) parts: &'static [&'static [Step]],
+}
+
+pub(super) fn expect_script(rt: &(impl Abort + AllocGlobal), script: &Script) -> Result<(), Fail> {
+    let mut terminal = started(rt, script.pool)?;
+    expect_parts(rt, &mut terminal, script.parts)
+}
+
+fn expect_parts(
     rt: &(impl Abort + AllocGlobal),
-    pool: Option<&[u8]>,
-    script: &[Step],
+    terminal: &mut Terminal,
+    parts: &[&[Step]],
 ) -> Result<(), Fail> {
-    let mut terminal = match pool {
-        Some(bytes) => preloaded_with(rt, bytes)?,
-        None => started(rt, false)?,
-    };
-    expect_steps(rt, &mut terminal, script)
+    for part in parts {
+        expect_steps(rt, terminal, part)?;
+    }
+    Ok(())
 }
 
 pub(super) fn expect_steps(
@@ -46,6 +58,7 @@ pub(super) fn expect_step(
     match *step {
         Step::Line(text, sent) => expect_line(rt, terminal, text, sent),
         Step::Pieces(source, digits) => take_pieces(rt, terminal, source, digits),
+        Step::Upload(records, sent) => expect_upload(rt, terminal, records, sent),
         Step::Screen(text) => expect_screen(rt, terminal, text),
     }
 }
@@ -59,10 +72,7 @@ pub(super) fn expect_line(
 ) -> Result<(), Fail> {
     let mut outputs = Vec::new(rt.alloc());
     take_line(rt, terminal, text, &mut outputs)?;
-    assert_eq!(rt; outputs.len(), sent.len(), "{text}");
-    for (output, wanted) in outputs.iter().zip(sent) {
-        expect_output(rt, output, wanted);
-    }
+    expect_sent(rt, &outputs, sent, text);
     Ok(())
 }
 
@@ -106,7 +116,19 @@ pub(super) fn take_pieces(
     Ok(())
 }
 
-fn expect_screen(
+fn expect_upload(
+    rt: &(impl Abort + AllocGlobal),
+    terminal: &mut Terminal,
+    records: &[&str],
+    sent: &[&str],
+) -> Result<(), Fail> {
+    for record in records {
+        take_pieces(rt, terminal, "80", record)?;
+    }
+    expect_line(rt, terminal, "14E72680#12FFFFFFFFFFFFFF", sent)
+}
+
+pub(super) fn expect_screen(
     rt: &(impl Abort + AllocGlobal),
     terminal: &Terminal,
     text: &str,

@@ -1,5 +1,6 @@
 //! Sets that are registered, bound and closed.
 
+use super::script::expect_line;
 use super::*;
 
 const CLAIM_80: &str = "18EEFF80#0100000000800020";
@@ -16,142 +17,146 @@ const HIDDEN_80: &str = "14E68026#A064000000FFFFFF";
 
 const NONE_SHOWN: &str = "14E6FF26#FEFEFFFFFFFF00FF";
 
-// Whether a pool is there from the start, at 80; what is heard, what is sent, and which sets there are then.
-type Registers = (
-    bool,
-    &'static [&'static str],
-    &'static [&'static str],
-    &'static [u8],
-);
-
-const CASES: [Registers; 18] = [
-    (false, &[CLAIM_80, MASTER_80], &[], &[0x80]),
-    (false, &["18EEFF80#01000000008000", MASTER_80], &[], &[]),
-    (false, &["18EE2680#0100000000800020", MASTER_80], &[], &[]),
-    (false, &[CLAIM_80, "18FE0D80#"], &[], &[]),
-    (false, &[CLAIM_80, "18FE0D80#00"], &[], &[0x80]),
+pub(super) const CASES: [Case; 18] = [
+    Case {
+        preloaded: false,
+        heard: &[CLAIM_80, MASTER_80],
+        sent: &[],
+        sets: &[0x80],
+    },
+    Case {
+        preloaded: false,
+        heard: &["18EEFF80#01000000008000", MASTER_80],
+        sent: &[],
+        sets: &[],
+    },
+    Case {
+        preloaded: false,
+        heard: &["18EE2680#0100000000800020", MASTER_80],
+        sent: &[],
+        sets: &[],
+    },
+    Case {
+        preloaded: false,
+        heard: &[CLAIM_80, "18FE0D80#"],
+        sent: &[],
+        sets: &[],
+    },
+    Case {
+        preloaded: false,
+        heard: &[CLAIM_80, "18FE0D80#00"],
+        sent: &[],
+        sets: &[0x80],
+    },
     // A greater NAME leaves the set, and a lower one closes it.
-    (
-        false,
-        &[CLAIM_80, MASTER_80, "18EEFF80#0200000000800020"],
-        &[],
-        &[0x80],
-    ),
-    (
-        false,
-        &[CLAIM_80, MASTER_80, "18EEFF80#0000000000800020"],
-        &[],
-        &[],
-    ),
+    Case {
+        preloaded: false,
+        heard: &[CLAIM_80, MASTER_80, "18EEFF80#0200000000800020"],
+        sent: &[],
+        sets: &[0x80],
+    },
+    Case {
+        preloaded: false,
+        heard: &[CLAIM_80, MASTER_80, "18EEFF80#0000000000800020"],
+        sent: &[],
+        sets: &[],
+    },
     // Its NAME claims no address, and another one.
-    (
-        false,
-        &[CLAIM_80, MASTER_80, "18EEFFFE#0100000000800020"],
-        &[],
-        &[],
-    ),
-    (
-        false,
-        &[
+    Case {
+        preloaded: false,
+        heard: &[CLAIM_80, MASTER_80, "18EEFFFE#0100000000800020"],
+        sent: &[],
+        sets: &[],
+    },
+    Case {
+        preloaded: false,
+        heard: &[
             CLAIM_80,
             CLAIM_81,
             MASTER_80,
             MASTER_81,
             "18EEFF90#0100000000800020",
         ],
-        &[],
-        &[0x81],
-    ),
-    (
-        false,
-        &[
+        sent: &[],
+        sets: &[0x81],
+    },
+    Case {
+        preloaded: false,
+        heard: &[
             CLAIM_80,
             CLAIM_81,
             MASTER_80,
             MASTER_81,
             "18EEFF82#0900000000800020",
         ],
-        &[],
-        &[0x80, 0x81],
-    ),
+        sent: &[],
+        sets: &[0x80, 0x81],
+    },
     // The terminal's NAME at 80; its claim of its own address is an echo, and is not recorded.
-    (
-        false,
-        &[
+    Case {
+        preloaded: false,
+        heard: &[
             "18EEFF80#01000000001D0020",
             MASTER_80,
             "18EEFF26#01000000001D0020",
         ],
-        &[],
-        &[0x80],
-    ),
+        sent: &[],
+        sets: &[0x80],
+    },
     // A frame from the terminal's address registers nothing.
-    (
-        false,
-        &["18EEFF26#FFFFFFFFFFFFFFFF", "18FE0D26#01FFFFFFFFFFFFFF"],
-        &["18EEFF26#01000000001D0020"],
-        &[],
-    ),
+    Case {
+        preloaded: false,
+        heard: &["18EEFF26#FFFFFFFFFFFFFFFF", "18FE0D26#01FFFFFFFFFFFFFF"],
+        sent: &["18EEFF26#01000000001D0020"],
+        sets: &[],
+    },
     // A greater NAME claims the terminal's address, and leaves its own with the set there.
-    (
-        false,
-        &[CLAIM_80, MASTER_80, "18EEFF26#0100000000800020"],
-        &["18EEFF26#01000000001D0020"],
-        &[],
-    ),
+    Case {
+        preloaded: false,
+        heard: &[CLAIM_80, MASTER_80, "18EEFF26#0100000000800020"],
+        sent: &["18EEFF26#01000000001D0020"],
+        sets: &[],
+    },
     // A lower one is not recorded, and its set stays.
-    (
-        false,
-        &[
+    Case {
+        preloaded: false,
+        heard: &[
             "18EEFF80#0100000000000000",
             MASTER_80,
             "18EEFF26#0100000000000000",
             "14E72680#C2",
         ],
-        &["18EEFFFE#01000000001D0020"],
-        &[0x80],
-    ),
+        sent: &["18EEFFFE#01000000001D0020"],
+        sets: &[0x80],
+    },
     // A set that was preloaded takes the NAME of the holder at a claim from there, and then it is closed as others.
-    (true, &[MASTER_80, HIDE_80], &[HIDDEN_80], &[0x80]),
-    (
-        true,
-        &[CLAIM_81, "18EEFF80#0200000000800020", HIDE_80],
-        &[HIDDEN_80],
-        &[0x80],
-    ),
-    (
-        true,
-        &[CLAIM_80, MASTER_80, MASTER_80, HIDE_80],
-        &[HIDDEN_80],
-        &[0x80],
-    ),
-    (
-        true,
-        &[CLAIM_80, "18EEFF80#0000000000800020", HIDE_80],
-        &[NONE_SHOWN],
-        &[],
-    ),
+    Case {
+        preloaded: true,
+        heard: &[MASTER_80, HIDE_80],
+        sent: &[HIDDEN_80],
+        sets: &[0x80],
+    },
+    Case {
+        preloaded: true,
+        heard: &[CLAIM_81, "18EEFF80#0200000000800020", HIDE_80],
+        sent: &[HIDDEN_80],
+        sets: &[0x80],
+    },
+    Case {
+        preloaded: true,
+        heard: &[CLAIM_80, MASTER_80, MASTER_80, HIDE_80],
+        sent: &[HIDDEN_80],
+        sets: &[0x80],
+    },
+    Case {
+        preloaded: true,
+        heard: &[CLAIM_80, "18EEFF80#0000000000800020", HIDE_80],
+        sent: &[NONE_SHOWN],
+        sets: &[],
+    },
 ];
 
-fn expect_registers(rt: &(impl Abort + AllocGlobal), cases: &[Registers]) -> Result<(), Fail> {
-    for &(preloaded, heard, sent, sets) in cases {
-        let case = Case {
-            preloaded,
-            heard,
-            sent,
-            sets,
-        };
-        expect_case(rt, &case)?;
-    }
-    Ok(())
-}
-
-#[test]
-fn sets_of_addresses(rt: HostRuntime) -> Result<(), Fail> {
-    expect_registers(&rt, &CASES)
-}
-
-const OTHERS: [Case; 2] = [
+pub(super) const OTHERS: [Case; 2] = [
     // An address without a rule of its own is like others.
     Case {
         preloaded: false,
@@ -184,11 +189,6 @@ const OTHERS: [Case; 2] = [
     },
 ];
 
-#[test]
-fn a_global_address_and_two_sets_in_turn(rt: HostRuntime) -> Result<(), Fail> {
-    expect_cases(&rt, &OTHERS)
-}
-
 // How many members a set has, and at which place it stands.
 fn members_at(terminal: &Terminal, index: usize) -> Option<(u8, usize)> {
     match terminal.registry.at(index) {
@@ -210,18 +210,20 @@ const MEMBERS: [&str; 10] = [
     "18FE0C82#0600000000800020",
 ];
 
+fn expect_members(rt: &(impl Abort + AllocGlobal), terminal: &mut Terminal) -> Result<(), Fail> {
+    for line in MEMBERS {
+        expect_line(rt, terminal, line, &[])?;
+    }
+    assert_eq!(rt; members_at(terminal, 0), Some((0x81, 2)));
+    assert_eq!(rt; members_at(terminal, 1), Some((0x80, 0)));
+    assert_eq!(rt; members_at(terminal, 2), None);
+    expect_line(rt, terminal, MASTER_81, &[])?;
+    assert_eq!(rt; members_at(terminal, 0), Some((0x81, 0)));
+    Ok(())
+}
+
 #[test]
 fn members_and_order(rt: HostRuntime) -> Result<(), Fail> {
-    let mut terminal = started(&rt, false)?;
-    let inputs = inputs_of(&rt, &MEMBERS)?;
-    let mut outputs = Vec::new(rt.alloc());
-    run_all(&rt, &mut terminal, &inputs, &mut outputs);
-    assert!(rt; outputs.is_empty());
-    assert_eq!(rt; members_at(&terminal, 0), Some((0x81, 2)));
-    assert_eq!(rt; members_at(&terminal, 1), Some((0x80, 0)));
-    assert_eq!(rt; members_at(&terminal, 2), None);
-    let again = inputs_of(&rt, &[MASTER_81])?;
-    run_all(&rt, &mut terminal, &again, &mut outputs);
-    assert_eq!(rt; members_at(&terminal, 0), Some((0x81, 0)));
-    Ok(())
+    let mut terminal = started(&rt, None)?;
+    expect_members(&rt, &mut terminal)
 }

@@ -1,7 +1,6 @@
 //! The status, which goes out where the display is another than before the input.
 
-use super::script::{Step, expect_script};
-use super::*;
+use super::script::{Script, Step};
 
 // Working Set 0, Data Masks 1000 and 2000, Soft Key Mask 400, and macro 1, which activates mask 2000 and then
 // mask 1000.
@@ -46,7 +45,7 @@ const CASES: [Step; 12] = [
     Step::Screen("screen 80 mask none\n"),
 ];
 
-#[test]
-fn statuses_of_the_set_that_is_shown(rt: HostRuntime) -> Result<(), Fail> {
-    expect_script(&rt, Some(TWO_MASKS), &CASES)
-}
+pub(super) const SCRIPTS: [Script; 1] = [Script {
+    pool: Some(TWO_MASKS),
+    parts: &[&CASES],
+}];

@@ -1,7 +1,6 @@
 //! Texts of the operator that go out in packets.
 
-use super::script::{Step, expect_line, expect_script, expect_steps};
-use super::*;
+use super::script::{Script, Step};
 
 // Working Set 0, Data Mask 1000 and in it Input String 301, of 20 bytes.
 const LONG: &[u8] = b"\x00\x00\x00\x00\x01\xE8\x03\x00\x00\x00\
@@ -95,21 +94,24 @@ const BEFORE_THE_FIRST: [Step; 3] = [
     Step::Screen("screen 80 mask 1000\ninput 301 0 0 \"ABCDE               \"\n"),
 ];
 
-// The steps of a terminal whose first frame was at one second.
-fn expect_timed(rt: &(impl Abort + AllocGlobal), steps: &[Step]) -> Result<(), Fail> {
-    let mut terminal = preloaded_with(rt, LONG)?;
-    expect_line(rt, &mut terminal, "18FFFF80#00", &[])?;
-    expect_steps(rt, &mut terminal, steps)
-}
+// The first frame is at one second.
+const BEGINS: [Step; 1] = [Step::Line("18FFFF80#00", &[])];
 
-#[test]
-fn texts_in_packets(rt: HostRuntime) -> Result<(), Fail> {
-    expect_timed(&rt, &SENT)?;
-    expect_timed(&rt, &ENDED)
-}
-
-#[test]
-fn texts_after_a_claim_and_before_the_first_frame(rt: HostRuntime) -> Result<(), Fail> {
-    expect_script(&rt, Some(LONG), &AFTER_A_CLAIM)?;
-    expect_script(&rt, Some(LONG), &BEFORE_THE_FIRST)
-}
+pub(super) const SCRIPTS: [Script; 4] = [
+    Script {
+        pool: Some(LONG),
+        parts: &[&BEGINS, &SENT],
+    },
+    Script {
+        pool: Some(LONG),
+        parts: &[&BEGINS, &ENDED],
+    },
+    Script {
+        pool: Some(LONG),
+        parts: &[&AFTER_A_CLAIM],
+    },
+    Script {
+        pool: Some(LONG),
+        parts: &[&BEFORE_THE_FIRST],
+    },
+];

@@ -1,7 +1,7 @@
 //! What the time of a line ends: sessions, and sets.
 
-use super::script::{Step, expect_script};
-use super::*;
+use super::POOL;
+use super::script::{Script, Step};
 
 const CLOSED: &str = "14E6FF26#FEFEFFFFFFFF00FF";
 
@@ -97,14 +97,6 @@ const IN_ORDER: [Step; 8] = [
     Step::Line("14E72681#C2", &[]),
 ];
 
-#[test]
-fn silence_and_timeouts(rt: HostRuntime) -> Result<(), Fail> {
-    for steps in [&SILENT[..], &PRELOADED, &REGISTERED, &SESSIONS] {
-        expect_script(&rt, Some(POOL), steps)?;
-    }
-    expect_script(&rt, Some(WITH_INPUT), &IN_ORDER)
-}
-
 const SHOWN: Step = Step::Screen("screen 80 mask 1000\ncontainer 100 10 5 50x20\n");
 
 // The loss of the address ends all: neither a packet, nor an action, nor time has an answer, and the screen stays.
@@ -130,8 +122,33 @@ const LOST_LATE: [Step; 3] = [
     Step::Screen("screen none\n"),
 ];
 
-#[test]
-fn the_loss_of_the_address(rt: HostRuntime) -> Result<(), Fail> {
-    expect_script(&rt, Some(POOL), &LOST)?;
-    expect_script(&rt, Some(POOL), &LOST_LATE)
-}
+pub(super) const SCRIPTS: [Script; 7] = [
+    Script {
+        pool: Some(POOL),
+        parts: &[&SILENT],
+    },
+    Script {
+        pool: Some(POOL),
+        parts: &[&PRELOADED],
+    },
+    Script {
+        pool: Some(POOL),
+        parts: &[&REGISTERED],
+    },
+    Script {
+        pool: Some(POOL),
+        parts: &[&SESSIONS],
+    },
+    Script {
+        pool: Some(WITH_INPUT),
+        parts: &[&IN_ORDER],
+    },
+    Script {
+        pool: Some(POOL),
+        parts: &[&LOST],
+    },
+    Script {
+        pool: Some(POOL),
+        parts: &[&LOST_LATE],
+    },
+];

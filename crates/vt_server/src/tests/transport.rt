@@ -1,9 +1,6 @@
 //! Messages that come in packets.
 
-use super::*;
-
-// What is heard, and what is sent.
-type Said = (&'static [&'static str], &'static [&'static str]);
+use super::{Case, Said};
 
 const TP_RTS: &str = "1CEC2680#10090002FF00E700";
 
@@ -18,7 +15,7 @@ const TP_END: &str = "1CEC8026#13090002FF00E700";
 const REPLY: &str = "14E68026#B4E803640000FFFF";
 
 // Sessions with a set that has a pool, at 80, and with a node that is no master, at 81.
-const CASES: [Said; 8] = [
+pub(super) const CASES: [Said; 8] = [
     // Change Child Position by TP: its end goes out before its reply.
     (&[TP_RTS, TP_FIRST, TP_LAST], &[TP_CTS, TP_END, REPLY]),
     // By ETP.
@@ -82,26 +79,8 @@ const CASES: [Said; 8] = [
     ),
 ];
 
-fn expect_said(rt: &(impl Abort + AllocGlobal), cases: &[Said]) -> Result<(), Fail> {
-    for &(heard, sent) in cases {
-        let case = Case {
-            preloaded: true,
-            heard,
-            sent,
-            sets: &[0x80],
-        };
-        expect_case(rt, &case)?;
-    }
-    Ok(())
-}
-
-#[test]
-fn messages_in_packets(rt: HostRuntime) -> Result<(), Fail> {
-    expect_said(&rt, &CASES)
-}
-
 // A claim between the packets takes the address of the set: the session stays, and its message has no reply.
-const CLAIMED: [Case; 1] = [Case {
+pub(super) const CLAIMED: [Case; 1] = [Case {
     preloaded: true,
     heard: &[
         "18EEFF80#0100000000800020",
@@ -113,8 +92,3 @@ const CLAIMED: [Case; 1] = [Case {
     sent: &[TP_CTS, "14E6FF26#FEFEFFFFFFFF00FF", TP_END],
     sets: &[],
 }];
-
-#[test]
-fn a_set_that_is_closed_between_packets(rt: HostRuntime) -> Result<(), Fail> {
-    expect_cases(&rt, &CLAIMED)
-}

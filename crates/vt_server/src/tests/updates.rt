@@ -1,7 +1,7 @@
 //! Updates of a pool.
 
-use super::script::{Step, expect_script};
-use super::*;
+use super::POOL;
+use super::script::{Script, Step};
 
 const ENDS: &str = "14E72680#12FFFFFFFFFFFFFF";
 
@@ -85,12 +85,29 @@ const OF_AN_UPLOAD: [Step; 8] = [
     WITHOUT_CONTAINER,
 ];
 
-#[test]
-fn updates_of_a_pool(rt: HostRuntime) -> Result<(), Fail> {
-    expect_script(&rt, Some(POOL), &JOINED)?;
-    expect_script(&rt, Some(POOL), &REPLACED)?;
-    expect_script(&rt, Some(POOL), &REFUSED)?;
-    expect_script(&rt, Some(POOL), &OF_THE_ACTIVE_MASK)?;
-    expect_script(&rt, Some(POOL), &AFTER_A_DELETION)?;
-    expect_script(&rt, None, &OF_AN_UPLOAD)
-}
+pub(super) const SCRIPTS: [Script; 6] = [
+    Script {
+        pool: Some(POOL),
+        parts: &[&JOINED],
+    },
+    Script {
+        pool: Some(POOL),
+        parts: &[&REPLACED],
+    },
+    Script {
+        pool: Some(POOL),
+        parts: &[&REFUSED],
+    },
+    Script {
+        pool: Some(POOL),
+        parts: &[&OF_THE_ACTIVE_MASK],
+    },
+    Script {
+        pool: Some(POOL),
+        parts: &[&AFTER_A_DELETION],
+    },
+    Script {
+        pool: None,
+        parts: &[&OF_AN_UPLOAD],
+    },
+];

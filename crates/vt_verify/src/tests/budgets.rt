@@ -2,13 +2,12 @@
 
 ghost use Rattle.std.specs.Prelude.{◌≤◌};
 
-use super::{CONTAINER, MASK, WORKING_SET, prints, put};
-use crate::{Accepted, verify};
-use std::alloc::Global;
+use super::{CONTAINER, MASK, WORKING_SET, accepted_pool, prints, put};
+use crate::{Accepted, Listings};
+use std::alloc::{AllocError, Global};
 use std::process::Abort;
 use std::test::Fail;
 use vt_objects::ObjectId;
-use vt_pool::read_pool;
 
 /// So many fonts 301, 302 and on, and macros 1, 2 and on: font 300 + k lists macro k at event 11, and each macro but
 /// the last changes the next font twice.
@@ -33,11 +32,7 @@ fn doubling(alloc: Global, count: u8) -> Result<Vec<u8>, Fail>
 fn budget(alloc: Global, count: u8) -> Result<u32, Fail>
     requires { count ≤ 20 }
 {
-    let bytes = doubling(alloc, count)?;
-    let pool = read_pool(alloc, &bytes)?;
-    let Ok(accepted) = verify(alloc, &pool) else {
-        return Err(Fail::new("not accepted"));
-    };
+    let accepted = accepted_pool(alloc, &doubling(alloc, count)?)?;
     Ok(accepted.budget(ObjectId::from_raw(301), 11))
 }
 
@@ -74,11 +69,7 @@ fn budgets_are(rt: &impl Abort, accepted: &Accepted, budgets: &[(u16, u8, u32)])
 
 #[test]
 fn budgets_of_events(rt: HostRuntime) -> Result<(), Fail> {
-    let bytes = doubling(rt.alloc(), 16)?;
-    let pool = read_pool(rt.alloc(), &bytes)?;
-    let Ok(accepted) = verify(rt.alloc(), &pool) else {
-        return Err(Fail::new("not accepted"));
-    };
+    let accepted = accepted_pool(rt.alloc(), &doubling(rt.alloc(), 16)?)?;
     assert_eq!(rt; accepted.objects().len(), 35);
     budgets_are(&rt, &accepted, &BUDGETS);
     Ok(())
@@ -94,27 +85,29 @@ fn object_over_budget(rt: HostRuntime) -> Result<(), Fail> {
 
 #[test]
 fn macros_by_rank(rt: HostRuntime) -> Result<(), Fail> {
-    let bytes = doubling(rt.alloc(), 4)?;
-    let pool = read_pool(rt.alloc(), &bytes)?;
-    let Ok(accepted) = verify(rt.alloc(), &pool) else {
-        return Err(Fail::new("not accepted"));
-    };
+    let accepted = accepted_pool(rt.alloc(), &doubling(rt.alloc(), 4)?)?;
     assert_eq!(rt; accepted.by_rank(), [4, 3, 2, 1].as_slice());
     Ok(())
 }
 
+fn are_listed(listings: &Listings) -> bool {
+    listings.at(ObjectId::from_raw(302), 11) == [2].as_slice()
+        && listings.at(ObjectId::from_raw(302), 12).is_empty()
+        && listings.at(ObjectId::from_raw(999), 11).is_empty()
+}
+
+fn have_bytes(accepted: &Accepted) -> bool {
+    accepted.macro_bytes(1).len() == 16 && accepted.macro_bytes(3).is_empty()
+}
+
+fn lists(alloc: Global, accepted: &Accepted) -> Result<bool, AllocError> {
+    let listings = accepted.listings(alloc)?;
+    Ok(are_listed(&listings))
+}
+
 #[test]
 fn macros_of_events(rt: HostRuntime) -> Result<(), Fail> {
-    let bytes = doubling(rt.alloc(), 2)?;
-    let pool = read_pool(rt.alloc(), &bytes)?;
-    let Ok(accepted) = verify(rt.alloc(), &pool) else {
-        return Err(Fail::new("not accepted"));
-    };
-    let listings = accepted.listings(rt.alloc())?;
-    assert_eq!(rt; listings.at(ObjectId::from_raw(302), 11), [2].as_slice());
-    assert!(rt; listings.at(ObjectId::from_raw(302), 12).is_empty());
-    assert!(rt; listings.at(ObjectId::from_raw(999), 11).is_empty());
-    assert_eq!(rt; accepted.macro_bytes(1).len(), 16);
-    assert!(rt; accepted.macro_bytes(3).is_empty());
+    let accepted = accepted_pool(rt.alloc(), &doubling(rt.alloc(), 2)?)?;
+    assert!(rt; have_bytes(&accepted) && lists(rt.alloc(), &accepted)?);
     Ok(())
 }

@@ -1,15 +1,21 @@
 //! One pool for each refusal.
 
-use super::{CONTAINER, MASK, WORKING_SET, reports};
+use super::{CONTAINER, Case, MASK, WORKING_SET, expect_reports};
 use std::test::Fail;
+
+const SECOND: &[u8] = &[1, 0, 0, 0, 1, 0xE8, 3, 0, 0, 0];
+
+const WORKING_SETS: [Case<'_>; 2] = [
+    (&[MASK, CONTAINER], "refused 1 NoWorkingSet\n"),
+    (
+        &[WORKING_SET, MASK, CONTAINER, SECOND],
+        "refused 2 TwoWorkingSets\n",
+    ),
+];
 
 #[test]
 fn working_sets(rt: HostRuntime) -> Result<(), Fail> {
-    let second: &[u8] = &[1, 0, 0, 0, 1, 0xE8, 3, 0, 0, 0];
-    assert!(rt; reports(rt.alloc(), &[MASK, CONTAINER], "refused 1 NoWorkingSet\n")?);
-    let records = [WORKING_SET, MASK, CONTAINER, second];
-    assert!(rt; reports(rt.alloc(), &records, "refused 2 TwoWorkingSets\n")?);
-    Ok(())
+    expect_reports(&rt, &WORKING_SETS)
 }
 
 /// The Data Mask 1000 with a NULL child.
@@ -30,26 +36,27 @@ const FONT_201: &[u8] = &[201, 0, 23, 0, 0, 0, 0, 0];
 
 const TO_ITSELF: &[u8] = &[200, 0, 27, 200, 0];
 
+const REFERENCES: [Case<'_>; 6] = [
+    (&[WORKING_SET, NULL_CHILD], "refused 3 Missing 1000 65535\n"),
+    (&[WORKING_SET], "refused 3 Missing 0 1000\n"),
+    (
+        &[WORKING_SET, CHILD_200, FONT],
+        "refused 4 WrongKind 1000 200\n",
+    ),
+    (&[WORKING_SET, CHILD_200, POINTER], "accepted 3 objects\n"),
+    (
+        &[WORKING_SET, CHILD_200, TO_FONT, FONT_201],
+        "refused 4 WrongKind 1000 201\n",
+    ),
+    (
+        &[WORKING_SET, CHILD_200, TO_ITSELF],
+        "refused 4 WrongKind 200 200\n",
+    ),
+];
+
 #[test]
 fn references(rt: HostRuntime) -> Result<(), Fail> {
-    let alloc = rt.alloc();
-    assert!(rt;
-        reports(
-            alloc,
-            &[WORKING_SET, NULL_CHILD],
-            "refused 3 Missing 1000 65535\n"
-        )?
-    );
-    assert!(rt; reports(alloc, &[WORKING_SET], "refused 3 Missing 0 1000\n")?);
-    let records = [WORKING_SET, CHILD_200, FONT];
-    assert!(rt; reports(alloc, &records, "refused 4 WrongKind 1000 200\n")?);
-    let records = [WORKING_SET, CHILD_200, POINTER];
-    assert!(rt; reports(alloc, &records, "accepted 3 objects\n")?);
-    let records = [WORKING_SET, CHILD_200, TO_FONT, FONT_201];
-    assert!(rt; reports(alloc, &records, "refused 4 WrongKind 1000 201\n")?);
-    let records = [WORKING_SET, CHILD_200, TO_ITSELF];
-    assert!(rt; reports(alloc, &records, "refused 4 WrongKind 200 200\n")?);
-    Ok(())
+    expect_reports(&rt, &REFERENCES)
 }
 
 /// Macros 9: Set Audio Volume less its last byte, Delete Object Pool after Set Audio Volume, and what hides the
@@ -69,23 +76,36 @@ const HIDES_NOTHING: &[u8] = &[9, 0, 28, 8, 0, 0xA0, 77, 0, 0, 0xFF, 0xFF, 0xFF,
 
 const HIDES_NULL: &[u8] = &[9, 0, 28, 8, 0, 0xA0, 0xFF, 0xFF, 0, 0xFF, 0xFF, 0xFF, 0xFF];
 
+const OF_MACROS: [Case<'_>; 6] = [
+    (
+        &[WORKING_SET, MASK, CONTAINER, FONT, CUT],
+        "refused 6 MacroBytes 9\n",
+    ),
+    (
+        &[WORKING_SET, MASK, CONTAINER, FONT, DELETES],
+        "refused 7 MacroCommand 9 8\n",
+    ),
+    (
+        &[WORKING_SET, MASK, CONTAINER, FONT, HIDES],
+        "accepted 5 objects\nobject 9 event 0 budget 1\n",
+    ),
+    (
+        &[WORKING_SET, MASK, CONTAINER, FONT, HIDES_FONT],
+        "refused 9 MacroKind 9 200\n",
+    ),
+    (
+        &[WORKING_SET, MASK, CONTAINER, FONT, HIDES_NOTHING],
+        "refused 8 MacroMissing 9 77\n",
+    ),
+    (
+        &[WORKING_SET, MASK, CONTAINER, FONT, HIDES_NULL],
+        "refused 8 MacroMissing 9 65535\n",
+    ),
+];
+
 #[test]
 fn macros(rt: HostRuntime) -> Result<(), Fail> {
-    let alloc = rt.alloc();
-    let pool = |last| [WORKING_SET, MASK, CONTAINER, FONT, last];
-    assert!(rt; reports(alloc, &pool(CUT), "refused 6 MacroBytes 9\n")?);
-    assert!(rt; reports(alloc, &pool(DELETES), "refused 7 MacroCommand 9 8\n")?);
-    assert!(rt;
-        reports(
-            alloc,
-            &pool(HIDES),
-            "accepted 5 objects\nobject 9 event 0 budget 1\n"
-        )?
-    );
-    assert!(rt; reports(alloc, &pool(HIDES_FONT), "refused 9 MacroKind 9 200\n")?);
-    assert!(rt; reports(alloc, &pool(HIDES_NOTHING), "refused 8 MacroMissing 9 77\n")?);
-    assert!(rt; reports(alloc, &pool(HIDES_NULL), "refused 8 MacroMissing 9 65535\n")?);
-    Ok(())
+    expect_reports(&rt, &OF_MACROS)
 }
 
 /// The macro 300, which no entry can name, with a byte of no command.
@@ -104,17 +124,32 @@ const AT_0: &[u8] = &[201, 0, 23, 0, 0, 0, 0, 1, 0, 9];
 /// The Number Variable 9.
 const NO_MACRO: &[u8] = &[9, 0, 21, 0, 0, 0, 0];
 
+const ENTRIES: [Case<'_>; 5] = [
+    (
+        &[WORKING_SET, MASK, CONTAINER, UNNAMED, AT_11, FONT],
+        "refused 8 MacroMissing 201 9\n",
+    ),
+    (
+        &[WORKING_SET, MASK, CONTAINER, UNNAMED, AT_11, NO_MACRO],
+        "refused 9 MacroKind 201 9\n",
+    ),
+    (
+        &[WORKING_SET, MASK, CONTAINER, UNNAMED, AT_27, NO_MACRO],
+        "accepted 6 objects\n",
+    ),
+    (
+        &[WORKING_SET, MASK, CONTAINER, UNNAMED, AT_0, NO_MACRO],
+        "accepted 6 objects\n",
+    ),
+    (
+        &[WORKING_SET, MASK, CONTAINER, UNNAMED, AT_21, HIDES],
+        "accepted 6 objects\nobject 9 event 0 budget 1\nobject 201 event 21 budget 1\n",
+    ),
+];
+
 #[test]
 fn entries(rt: HostRuntime) -> Result<(), Fail> {
-    let alloc = rt.alloc();
-    let pool = |font, last| [WORKING_SET, MASK, CONTAINER, UNNAMED, font, last];
-    assert!(rt; reports(alloc, &pool(AT_11, FONT), "refused 8 MacroMissing 201 9\n")?);
-    assert!(rt; reports(alloc, &pool(AT_11, NO_MACRO), "refused 9 MacroKind 201 9\n")?);
-    assert!(rt; reports(alloc, &pool(AT_27, NO_MACRO), "accepted 6 objects\n")?);
-    assert!(rt; reports(alloc, &pool(AT_0, NO_MACRO), "accepted 6 objects\n")?);
-    let budget = "accepted 6 objects\nobject 9 event 0 budget 1\nobject 201 event 21 budget 1\n";
-    assert!(rt; reports(alloc, &pool(AT_21, HIDES), budget)?);
-    Ok(())
+    expect_reports(&rt, &ENTRIES)
 }
 
 /// Macros 9: Change Attribute 2 of the font 200, attribute 5, which it has not, and an attribute of the Number
@@ -127,18 +162,22 @@ const OF_VARIABLE: &[u8] = &[9, 0, 28, 8, 0, 0xAF, 201, 0, 1, 1, 0, 0, 0];
 
 const VARIABLE: &[u8] = &[201, 0, 21, 0, 0, 0, 0];
 
+const ATTRIBUTES: [Case<'_>; 3] = [
+    (
+        &[WORKING_SET, MASK, CONTAINER, FONT, VARIABLE, SIZE],
+        "accepted 6 objects\nobject 9 event 0 budget 1\n",
+    ),
+    (
+        &[WORKING_SET, MASK, CONTAINER, FONT, VARIABLE, FIFTH],
+        "refused 10 MacroValue 9 0\n",
+    ),
+    (
+        &[WORKING_SET, MASK, CONTAINER, FONT, VARIABLE, OF_VARIABLE],
+        "refused 9 MacroKind 9 201\n",
+    ),
+];
+
 #[test]
 fn attributes(rt: HostRuntime) -> Result<(), Fail> {
-    let alloc = rt.alloc();
-    let pool = |last| [WORKING_SET, MASK, CONTAINER, FONT, VARIABLE, last];
-    assert!(rt;
-        reports(
-            alloc,
-            &pool(SIZE),
-            "accepted 6 objects\nobject 9 event 0 budget 1\n"
-        )?
-    );
-    assert!(rt; reports(alloc, &pool(FIFTH), "refused 10 MacroValue 9 0\n")?);
-    assert!(rt; reports(alloc, &pool(OF_VARIABLE), "refused 9 MacroKind 9 201\n")?);
-    Ok(())
+    expect_reports(&rt, &ATTRIBUTES)
 }

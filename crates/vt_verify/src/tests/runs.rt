@@ -1,6 +1,6 @@
 //! Macros that are run by name, circles, and masks that are hidden.
 
-use super::{CONTAINER, MASK, WORKING_SET, reports};
+use super::{CONTAINER, Case, MASK, WORKING_SET, expect_reports};
 use std::test::Fail;
 
 /// Macros 1 that run macro 1, macro 2, the container 100, the macro 300, what is not there, and NULL.
@@ -28,49 +28,40 @@ const RUNS_BACK: &[u8] = &[2, 0, 28, 8, 0, 0xBE, 1, 0, 0xFF, 0xFF, 0xFF, 0xFF, 0
 
 const UNNAMED: &[u8] = &[44, 1, 28, 0, 0];
 
+const BY_NAME: [Case<'_>; 7] = [
+    (
+        &[WORKING_SET, MASK, CONTAINER, UNNAMED, RUNS_2, VOLUMES],
+        "accepted 6 objects\nobject 1 event 0 budget 3\nobject 2 event 0 budget 2\n",
+    ),
+    (
+        &[WORKING_SET, MASK, CONTAINER, UNNAMED, RUNS_1, VOLUMES],
+        "refused 11 MacroCircle 1\n",
+    ),
+    (
+        &[WORKING_SET, MASK, CONTAINER, UNNAMED, RUNS_2, RUNS_BACK],
+        "refused 11 MacroCircle 1 2\n",
+    ),
+    (
+        &[WORKING_SET, MASK, CONTAINER, UNNAMED, RUNS_100, VOLUMES],
+        "refused 9 MacroKind 1 100\n",
+    ),
+    (
+        &[WORKING_SET, MASK, CONTAINER, UNNAMED, RUNS_300, VOLUMES],
+        "refused 9 MacroKind 1 300\n",
+    ),
+    (
+        &[WORKING_SET, MASK, CONTAINER, UNNAMED, RUNS_77, VOLUMES],
+        "refused 8 MacroMissing 1 77\n",
+    ),
+    (
+        &[WORKING_SET, MASK, CONTAINER, UNNAMED, RUNS_NULL, VOLUMES],
+        "refused 8 MacroMissing 1 65535\n",
+    ),
+];
+
 #[test]
 fn runs_by_name(rt: HostRuntime) -> Result<(), Fail> {
-    let alloc = rt.alloc();
-    let pool = |first, second| [WORKING_SET, MASK, CONTAINER, UNNAMED, first, second];
-    let budgets = "accepted 6 objects\nobject 1 event 0 budget 3\nobject 2 event 0 budget 2\n";
-    assert!(rt; reports(alloc, &pool(RUNS_2, VOLUMES), budgets)?);
-    assert!(rt; reports(alloc, &pool(RUNS_1, VOLUMES), "refused 11 MacroCircle 1\n")?);
-    assert!(rt;
-        reports(
-            alloc,
-            &pool(RUNS_2, RUNS_BACK),
-            "refused 11 MacroCircle 1 2\n"
-        )?
-    );
-    assert!(rt;
-        reports(
-            alloc,
-            &pool(RUNS_100, VOLUMES),
-            "refused 9 MacroKind 1 100\n"
-        )?
-    );
-    assert!(rt;
-        reports(
-            alloc,
-            &pool(RUNS_300, VOLUMES),
-            "refused 9 MacroKind 1 300\n"
-        )?
-    );
-    assert!(rt;
-        reports(
-            alloc,
-            &pool(RUNS_77, VOLUMES),
-            "refused 8 MacroMissing 1 77\n"
-        )?
-    );
-    assert!(rt;
-        reports(
-            alloc,
-            &pool(RUNS_NULL, VOLUMES),
-            "refused 8 MacroMissing 1 65535\n"
-        )?
-    );
-    Ok(())
+    expect_reports(&rt, &BY_NAME)
 }
 
 /// Fonts 5 and 6 that list macros 1 and 2 at event 11, and the macros, each of which changes the other's font.
@@ -82,13 +73,6 @@ const CHANGES: &[u8] = &[
     1, 0, 28, 8, 0, 0xAA, 6, 0, 0, 0, 0, 0, 0xFF, // macro 1
     2, 0, 28, 8, 0, 0xAA, 5, 0, 0, 0, 0, 0, 0xFF, // macro 2
 ];
-
-#[test]
-fn two_macros_in_a_circle(rt: HostRuntime) -> Result<(), Fail> {
-    let records = [WORKING_SET, MASK, CONTAINER, FONTS, CHANGES];
-    assert!(rt; reports(rt.alloc(), &records, "refused 11 MacroCircle 1 2\n")?);
-    Ok(())
-}
 
 /// Data masks 1001 and 1002 that list macros 2 and 3 where they are hidden, macro 1, which shows the mask 1001, macro
 /// 2, which sets the volume, and macro 3, which does so twice.
@@ -106,11 +90,20 @@ const TWICE: &[u8] = &[
     0xFF, 0xFF, 0xFF,
 ];
 
+const LISTED: [Case<'_>; 2] = [
+    (
+        &[WORKING_SET, MASK, CONTAINER, FONTS, CHANGES],
+        "refused 11 MacroCircle 1 2\n",
+    ),
+    (
+        &[WORKING_SET, MASK, CONTAINER, MASKS, SHOWS, VOLUME, TWICE],
+        "accepted 8 objects\nobject 1 event 0 budget 3\nobject 2 event 0 budget 1\n\
+        object 3 event 0 budget 2\nobject 1001 event 4 budget 1\nobject 1002 event 4 budget 2\n",
+    ),
+];
+
+// Two macros in a circle, and any mask that a macro may hide.
 #[test]
-fn any_mask_may_be_hidden(rt: HostRuntime) -> Result<(), Fail> {
-    let records = [WORKING_SET, MASK, CONTAINER, MASKS, SHOWS, VOLUME, TWICE];
-    let wanted = "accepted 8 objects\nobject 1 event 0 budget 3\nobject 2 event 0 budget 1\n\
-        object 3 event 0 budget 2\nobject 1001 event 4 budget 1\nobject 1002 event 4 budget 2\n";
-    assert!(rt; reports(rt.alloc(), &records, wanted)?);
-    Ok(())
+fn macros_that_events_run(rt: HostRuntime) -> Result<(), Fail> {
+    expect_reports(&rt, &LISTED)
 }

@@ -1,34 +1,38 @@
 //! Updates of a store.
 
-use super::{CONTAINER, MASK, WORKING_SET, put};
-use crate::{verify, verify_update};
+use super::{CONTAINER, MASK, WORKING_SET, accepted_pool, is_text_of, put};
+use crate::verify_update;
 use std::alloc::Global;
 use std::process::Abort;
 use std::test::Fail;
 use vt_objects::{ListStore, SortedStore, Store};
 use vt_pool::read_pool;
 
-/// Whether an update of the pool with the working set, the mask and the container has this report, in a store.
-fn updates_to<S: Store>(alloc: Global, update: &[&[u8]], wanted: &str) -> Result<bool, Fail> {
+/// A store of the pool with the working set, the mask and the container.
+fn store<S: Store>(alloc: Global) -> Result<S, Fail> {
     let mut bytes = Vec::new(alloc);
     put(&mut bytes, &[WORKING_SET, MASK, CONTAINER])?;
-    let pool = read_pool(alloc, &bytes)?;
-    let Ok(accepted) = verify(alloc, &pool) else {
-        return Err(Fail::new("not accepted"));
-    };
+    let accepted = accepted_pool(alloc, &bytes)?;
     let store = S::from_objects(alloc, accepted.objects())?;
+    Ok(store)
+}
+
+/// Whether an update of a store by the pool of these bytes has this report.
+fn is_updated<S: Store>(
+    alloc: Global,
+    store: &S,
+    update: &[u8],
+    wanted: &str,
+) -> Result<bool, Fail> {
+    let pool = read_pool(alloc, update)?;
+    is_text_of(alloc, &verify_update(alloc, store, &pool), wanted)
+}
+
+fn updates_to<S: Store>(alloc: Global, update: &[&[u8]], wanted: &str) -> Result<bool, Fail> {
+    let store = store::<S>(alloc)?;
     let mut bytes = Vec::new(alloc);
     put(&mut bytes, update)?;
-    let pool = read_pool(alloc, &bytes)?;
-    let mut text = Vec::new(alloc);
-    match verify_update(alloc, &store, &pool) {
-        Ok(accepted) => accepted.report(&mut text)?,
-        Err(refusal) => {
-            let line = format!(in alloc; "{refusal}\n")?;
-            text.extend_from_slice(line.as_bytes())?;
-        }
-    }
-    Ok(text.as_slice() == wanted.as_bytes())
+    is_updated(alloc, &store, &bytes, wanted)
 }
 
 /// The Font 200, the Data Masks 1000 with the child 200 and with the child 77, and the working sets that are none and
@@ -56,7 +60,7 @@ const HIDES_MASK: &[u8] = &[9, 0, 28, 8, 0, 0xA0, 0xE8, 3, 0, 0xFF, 0xFF, 0xFF, 
 
 const NO_ATTRIBUTE: &[u8] = &[9, 0, 28, 8, 0, 0xAF, 100, 0, 9, 0, 0, 0, 0];
 
-const RUNS_ITSELF: &[u8] = &[9, 0, 28, 8, 0, 0xBE, 9, 0, 0xFF, 0xFF, 0xFF, 0xFF, 0xFF];
+pub(super) const RUNS_ITSELF: &[u8] = &[9, 0, 28, 8, 0, 0xBE, 9, 0, 0xFF, 0xFF, 0xFF, 0xFF, 0xFF];
 
 /// What an update adds, and the report of the store with it.
 const UPDATES: [(&[&[u8]], &str); 15] = [

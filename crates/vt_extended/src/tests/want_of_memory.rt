@@ -1,0 +1,47 @@
+// A call that is refused memory changes nothing, so it may be made again.
+use super::refusing::{BYTES, END, LAST, REQUEST, opens};
+use super::*;
+
+const WHOLE: Wanted = Wanted::Message(END, BYTES);
+
+fn opens_again(receiver: &mut Receiver) -> Result<bool, OutOfMemory> {
+    match opens(receiver) {
+        Ok(same) => Ok(same),
+        Err(_) => opens(receiver),
+    }
+}
+
+// Whether a second request is taken, and leaves the session that is open where it is refused.
+fn hears_again(receiver: &mut Receiver) -> Result<bool, OutOfMemory> {
+    let opened = match opens(receiver) {
+        Ok(same) => same,
+        Err(_) => answers(receiver, LAST, WHOLE)? && opens(receiver)?,
+    };
+    Ok(opened && answers(receiver, LAST, WHOLE)?)
+}
+
+// The same of a request that is prepared, and so is not refused any more.
+fn prepares_again(receiver: &mut Receiver) -> Result<bool, OutOfMemory> {
+    let Ok(Line::Frame { time, frame }) = parse_line(REQUEST) else {
+        return Ok(false);
+    };
+    let stayed = match receiver.prepare(time, &frame) {
+        Ok(_) => true,
+        Err(_) => {
+            let stayed = answers(receiver, LAST, WHOLE)?;
+            receiver.prepare(time, &frame)?;
+            stayed
+        }
+    };
+    let opened = opens(receiver).unwrap_or(false);
+    Ok(stayed && opened && answers(receiver, LAST, WHOLE)?)
+}
+
+#[test]
+fn want_of_memory(rt: HostRuntime) -> Result<(), Fail> {
+    let mut receiver = Receiver::new(rt.alloc(), NODE);
+    let heard = opens_again(&mut receiver)? && hears_again(&mut receiver)?;
+    let prepared = opens_again(&mut receiver)? && prepares_again(&mut receiver)?;
+    assert!(rt; heard && prepared);
+    Ok(())
+}
