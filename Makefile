@@ -1,7 +1,7 @@
 # The program's words. Paths are those of the folder in which make runs.
 ARGS ?= examples/seeder.log
 
-.PHONY: run test build bench bench-hostile
+.PHONY: run test build bench bench-hostile refuse-memory
 
 # Runs the program by the toolchain's quick build, which proves nothing.
 run:
@@ -25,3 +25,7 @@ bench: build
 # an address, macros of pointer changes, long screens, and sessions of all sources. OTHER may name a program to compare with.
 bench-hostile: build
 	@python3 scripts/bench_hostile.py crates/vt_replay/out/vt_replay $(OTHER)
+
+# Refuses each request for memory in turn, in the tests of each crate that are made for it and in the proved program.
+refuse-memory:
+	@python3 scripts/refuse_memory.py
