@@ -20,6 +20,8 @@ import tempfile
 ROOT = os.path.dirname(os.path.dirname(os.path.abspath(__file__)))
 TEST = "want_of_memory"
 EXAMPLE = f"{ROOT}/examples"
+# Other calls of the C library by which memory is had.
+OTHERS = r"\b(?:calloc|reallocarray|aligned_alloc|posix_memalign|memalign|p?valloc|mmap(?:64)?|mremap|s?brk|strn?dup|getline|getdelim|v?asprintf|f(?:d)?open|open_memstream)\b"
 RUNS = (["seeder.log"], ["hide.log", "--pool", "pool.iop", "--owner", "80"], ["pool.iop", "--report"])
 
 
@@ -34,7 +36,7 @@ def run_refused(library, number, words, folder):
     """Runs a program, and tells its status, what it wrote, and whether a request was refused."""
     reading, writing = os.pipe()
     env = {**os.environ, "LD_PRELOAD": library, "REFUSED": str(number), "REFUSED_TO": str(writing)}
-    how = {"env": env, "cwd": folder, "pass_fds": [writing], "stdin": subprocess.DEVNULL, "capture_output": True}
+    how = {"env": env, "cwd": folder, "pass_fds": [writing], "stdin": subprocess.DEVNULL, "capture_output": True, "timeout": 300}
     ran = subprocess.run(words, **how)
     os.close(writing)
     with os.fdopen(reading, "rb") as it:
@@ -46,7 +48,7 @@ def stop_on_other_requests(program):
     """Ends this run where the program can ask for memory by calls that the library does not refuse."""
     words = ["nm", "--dynamic", "--undefined-only", program]
     names = subprocess.run(words, capture_output=True, text=True, check=True).stdout
-    others = re.findall(r"\b(calloc|reallocarray|aligned_alloc|posix_memalign|memalign|valloc|pvalloc|mmap|s?brk)\b", names)
+    others = re.findall(OTHERS, names)
     if others:
         sys.exit(f"{program} asks for memory by {', '.join(others)} too, which no run would refuse")
 

@@ -4,6 +4,8 @@ mod sessions;
 
 use super::*;
 use Wanted::*;
+use std::alloc::AllocGlobal;
+use std::process::Abort;
 use std::test::Fail;
 
 // Each identifier, and its priority, parameter group number, destination and source.
@@ -16,18 +18,21 @@ const IDENTIFIERS: [(u32, u8, u32, Option<u8>, u8); 6] = [
     (0x1FFF_FFFF, 7, 0x3_FFFF, None, 0xFF),
 ];
 
-#[test]
-fn identifiers(rt: HostRuntime) -> Result<(), Fail> {
-    for (raw, priority, pgn, destination, source) in IDENTIFIERS {
-        let id = CanId::from_raw(raw).ok_or("29 bits")?;
-        assert_eq!(rt; id.priority(), priority, "the priority of {raw:X}");
-        assert_eq!(rt; id.pgn(), pgn, "the group of {raw:X}");
-        assert_eq!(rt; id.destination(), destination, "the destination of {raw:X}");
-        assert_eq!(rt; id.source(), source, "the source of {raw:X}");
+fn parts_of(raw: u32) -> Option<(u32, u8, u32, Option<u8>, u8)> {
+    let id = CanId::from_raw(raw)?;
+    Some((raw, id.priority(), id.pgn(), id.destination(), id.source()))
+}
+
+fn expect_identifiers(rt: &impl Abort, identifiers: &[(u32, u8, u32, Option<u8>, u8)]) {
+    for parts in identifiers {
+        assert_eq!(rt; parts_of(parts.0), Some(*parts));
     }
-    assert!(rt; CanId::from_raw(0x1FFF_FFFF).is_some());
+}
+
+#[test]
+fn identifiers(rt: HostRuntime) {
+    expect_identifiers(&rt, &IDENTIFIERS);
     assert!(rt; CanId::from_raw(0x2000_0000).is_none());
-    Ok(())
 }
 
 #[test]
@@ -71,11 +76,15 @@ const COMMENTS: [(&[u8], Wanted); 6] = [
     (b"# (1.000000) can0 14E72680#00", Nothing),
 ];
 
+fn expect_lines(rt: &impl Abort, lines: &[(&[u8], Wanted)]) {
+    for (line, wanted) in lines {
+        assert!(rt; reads_as(line, *wanted), "{line:?}");
+    }
+}
+
 #[test]
 fn comments(rt: HostRuntime) {
-    for (line, wanted) in COMMENTS {
-        assert!(rt; reads_as(line, wanted), "{line:?}");
-    }
+    expect_lines(&rt, &COMMENTS);
 }
 
 // Times, frames, and the lines that are written of them.
@@ -91,52 +100,69 @@ const WRITTEN: [(u64, &[u8], &[u8]); 5] = [
     ),
 ];
 
-#[test]
-fn written_lines(rt: HostRuntime) {
-    for (time, text, wanted) in WRITTEN {
-        let Ok(Line::Frame { time: at, frame }) = parse_line(wanted) else {
-            panic!(rt; "no frame in {wanted:?}");
-        };
-        assert_eq!(rt; at, time, "the time of {wanted:?}");
-        assert!(rt; time < 1_000_000_000_000_000_000);
-        let line = write_line(time, &frame);
-        assert_eq!(rt; line.as_slice(), wanted);
-        assert!(rt; reads_as(line.as_slice(), At(time, text)), "{wanted:?}");
+fn is_written(time: u64, text: &'static [u8], wanted: &[u8]) -> bool {
+    let Ok(Line::Frame { time: at, frame }) = parse_line(wanted) else {
+        return false;
+    };
+    at == time
+        && time < 1_000_000_000_000_000_000
+        && write_line(time, &frame).as_slice() == wanted
+        && reads_as(wanted, At(time, text))
+}
+
+fn expect_written(rt: &impl Abort, lines: &[(u64, &'static [u8], &[u8])]) {
+    for (time, text, wanted) in lines {
+        assert!(rt; is_written(*time, text, wanted), "{wanted:?}");
     }
 }
 
 #[test]
-fn printed_faults(rt: HostRuntime) -> Result<(), Fail> {
-    for (fault, number, wanted) in [
-        (
-            LineFault::Time,
-            1,
-            "the line does not begin with a time, as (1.000000)",
-        ),
-        (
-            LineFault::Shape,
-            2,
-            "after the time there is no interface with ID#DATA, and at most R or T",
-        ),
-        (
-            LineFault::Hex,
-            3,
-            "the ID or the data is not written in hex digits, two for each byte",
-        ),
-        (
-            LineFault::Length,
-            4,
-            "there are more than eight bytes of data",
-        ),
-        (
-            LineFault::Operator,
-            5,
-            "after the exclamation mark there is no action of the operator",
-        ),
-    ] {
-        let text = format!(in rt.alloc(); "{}", fault)?;
-        assert_eq!(rt; text.as_str(), wanted);
-        assert_eq!(rt; fault as u8, number);
+fn written_lines(rt: HostRuntime) {
+    expect_written(&rt, &WRITTEN);
+}
+
+// Each fault, its number, and how it is printed.
+const FAULTS: [(LineFault, u8, &str); 5] = [
+    (
+        LineFault::Time,
+        1,
+        "the line does not begin with a time, as (1.000000)",
+    ),
+    (
+        LineFault::Shape,
+        2,
+        "after the time there is no interface with ID#DATA, and at most R or T",
+    ),
+    (
+        LineFault::Hex,
+        3,
+        "the ID or the data is not written in hex digits, two for each byte",
+    ),
+    (
+        LineFault::Length,
+        4,
+        "there are more than eight bytes of data",
+    ),
+    (
+        LineFault::Operator,
+        5,
+        "after the exclamation mark there is no action of the operator",
+    ),
+];
+
+fn expect_faults(
+    rt: &(impl Abort + AllocGlobal),
+    faults: &[(LineFault, u8, &str)],
+) -> Result<(), Fail> {
+    for (fault, number, wanted) in faults {
+        let text = format!(in rt.alloc(); "{fault}")?;
+        assert_eq!(rt; text.as_str(), *wanted);
+        assert_eq!(rt; *fault as u8, *number);
     }
     Ok(())
+}
+
+#[test]
+fn printed_faults(rt: HostRuntime) -> Result<(), Fail> {
+    expect_faults(&rt, &FAULTS)
 }

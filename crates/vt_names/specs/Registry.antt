@@ -15,7 +15,7 @@ set_code =
     (λ s. (s.address, (s.name, (s.count, s.members))))
     (λ p. record { address = p.0; name = p.1.0; count = p.1.1.0; members = p.1.1.1 }) (λ _. refl)
 
--- the sets in order, and for how many more there is room
+-- the sets in order, and whether there is room for one more, as 1 or 0
 pub record Registered : Type 0 where
   pub sets : List Set
   pub room : ℕ

@@ -31,7 +31,7 @@ pub enum RegistryFault {
     OutOfMemory,
 }
 
-/// The working sets, seen as their list in order of registration, and for how many more there is room.
+/// The working sets, seen as their list in order of registration, and whether there is room for one more, as 1 or 0.
 /// No two have the same address.
 ///
 /// docs/PROFILE.md, "Working sets".
@@ -193,7 +193,7 @@ impl Registry {
         self.make_room()
     }
 
-    // Adds a set, without members, of an address that has none.
+    // Files a set without members under its address.
     fn add(&mut self, address: u8, name: Option<Name>, count: u8) -> Result<(), OutOfMemory>
         ensures ok { OnOk result (self.new.sets ≡ with_set (record { address = address; name = name; count = counted count; members = [] }) self.old.sets) }
         ensures err { OnErr result (self.new.sets ≡ self.old.sets) }

@@ -93,19 +93,27 @@ const MACROS: [MacroEntry; 2] = [
     },
 ];
 
+/// Whether a list has these macros, and its copy too.
+fn are_entries(alloc: Global, macros: &[MacroEntry]) -> Result<bool, OutOfMemory> {
+    let list = Vec::from_slice(alloc, macros)?;
+    if list.len() > 255 {
+        return Ok(false);
+    }
+    let entries = Entries::from_vec(list);
+    let copied = entries.copied(alloc)?;
+    Ok(
+        entries.as_slice() == macros
+            && copied.as_slice() == macros
+            && usize::from(entries.len()) == macros.len()
+            && entries.is_empty() == macros.is_empty(),
+    )
+}
+
 #[test]
 fn entries(rt: HostRuntime) -> Result<(), Fail> {
-    let alloc = rt.alloc();
-    let none: Entries<u8> = Entries::from_vec(Vec::new(alloc));
-    assert_eq!(rt; none.len(), 0);
-    assert!(rt; none.is_empty());
-    let two = Entries::from_vec(MACROS.to_vec(alloc)?);
-    assert_eq!(rt; two.len(), 2);
-    assert!(rt; !two.is_empty());
-    assert_eq!(rt; two.as_slice(), MACROS.as_slice());
-    assert_eq!(rt; two.copied(alloc)?.as_slice(), MACROS.as_slice());
-    let most = Entries::from_vec(Vec::from_slice(alloc, &[7; 255])?);
-    assert_eq!(rt; most.len(), 255);
+    for macros in [&[][..], &MACROS, &[MACROS[1]; 255]] {
+        assert!(rt; are_entries(rt.alloc(), macros)?);
+    }
     Ok(())
 }
 
@@ -224,26 +232,33 @@ fn id_at<S: Store>(store: &S, place: usize) -> Option<u16> {
     }
 }
 
+/// An ID, its place, and the value of the number then.
+const NUMBERS: [(u16, Option<usize>, Option<u32>); 5] = [
+    (0, Some(0), Some(2)),
+    (7, Some(1), Some(70)),
+    (8, None, None),
+    (65_534, Some(2), Some(6)),
+    (65_535, None, None),
+];
+
 /// Finds and changes those numbers in a store.
-fn changes_numbers<S: Store>(rt: &(impl Abort + AllocGlobal)) -> Result<(), OutOfMemory> {
-    let objects = three_numbers(rt.alloc())?;
-    let mut store = S::from_objects(rt.alloc(), &objects)?;
-    assert!(rt; set_value(&mut store, 0, 2) && set_value(&mut store, 65_534, 6));
-    assert!(rt; !set_value(&mut store, 8, 3) && !set_value(&mut store, 65_535, 3));
-    for (id, place, value) in [
-        (0, Some(0), Some(2)),
-        (7, Some(1), Some(70)),
-        (8, None, None),
-        (65_534, Some(2), Some(6)),
-        (65_535, None, None),
-    ] {
-        assert_eq!(rt; value_of(&store, id), value, "the value of {id}");
+fn expect_numbers<S: Store>(rt: &impl Abort, store: &mut S) {
+    assert!(rt; set_value(store, 0, 2) && set_value(store, 65_534, 6));
+    assert!(rt; !set_value(store, 8, 3) && !set_value(store, 65_535, 3));
+    for (id, place, value) in NUMBERS {
+        assert_eq!(rt; value_of(store, id), value, "the value of {id}");
         assert_eq!(rt; store.place(object_id(id)), place, "the place of {id}");
     }
     assert_eq!(rt; store.count(), 3);
     for (place, id) in [(0, Some(0)), (1, Some(7)), (2, Some(65_534)), (3, None)] {
-        assert_eq!(rt; id_at(&store, place), id, "at {place}");
+        assert_eq!(rt; id_at(store, place), id, "at {place}");
     }
+}
+
+fn changes_numbers<S: Store>(rt: &(impl Abort + AllocGlobal)) -> Result<(), OutOfMemory> {
+    let objects = three_numbers(rt.alloc())?;
+    let mut store = S::from_objects(rt.alloc(), &objects)?;
+    expect_numbers(rt, &mut store);
     Ok(())
 }
 

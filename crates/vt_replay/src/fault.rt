@@ -6,7 +6,7 @@ ghost use Rattle.vt_replay.specs.declared.fault.ReplayFault.TheVariants.{Memory}
 use std::alloc::AllocError;
 use thiserror::Error;
 
-/// Why a replay ended before its end. What was written before is the front of its text.
+/// Why a replay ended before its end. What was written before is a front of its text.
 #[derive(Clone, Copy, Debug, PartialEq, Eq, Error)]
 pub enum ReplayFault {
     /// The reader failed, or 1,000,000,000 reads have not ended it.

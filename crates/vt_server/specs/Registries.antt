@@ -4,7 +4,7 @@ use Rattle.std.specs.Coded.{Coded, code_by, coded×, coded_list, coded_ℕ}
 use Rattle.vt_names.specs.Registry.{Set, set_code}
 use Rattle.vt_server.specs.Watches.{Times, times_code}
 
--- the sets in order, for how many more there is room, and when each address was last heard
+-- the sets in order, whether there is room for one more, as 1 or 0, and when each address was last heard
 pub record Watched : Type 0 where
   pub sets : List Set
   pub room : ℕ

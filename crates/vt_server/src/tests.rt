@@ -20,7 +20,6 @@ mod updates;
 mod uploads;
 mod want_of_memory;
 
-use self::script::Script;
 use super::*;
 use std::alloc::Global;
 use std::process::Abort;
@@ -212,48 +211,6 @@ fn what_is_heard_and_what_is_sent(rt: HostRuntime) -> Result<(), Fail> {
         expect_cases(&rt, cases)?;
     }
     Ok(())
-}
-
-const SCRIPTS: [&[Script]; 11] = [
-    &alarms::SCRIPTS,
-    &changes::SCRIPTS,
-    &keys::SCRIPTS,
-    &linux::SCRIPTS,
-    &pieces::SCRIPTS,
-    &refusals::SCRIPTS,
-    &statuses::SCRIPTS,
-    &texts::SCRIPTS,
-    &timeouts::SCRIPTS,
-    &updates::SCRIPTS,
-    &uploads::SCRIPTS,
-];
-
-#[test]
-fn scripts_line_by_line(rt: HostRuntime) -> Result<(), Fail> {
-    for scripts in SCRIPTS {
-        for script in scripts {
-            script::expect_script(&rt, script)?;
-        }
-    }
-    Ok(())
-}
-
-// Takes an input, if need be a second time: the memory is there then, and the first try has left the outputs
-// as they were.
-fn step_again(
-    rt: &(impl Abort + AllocGlobal),
-    terminal: &mut Terminal,
-    input: &Input<'_>,
-    outputs: &mut Vec<Output>,
-) -> Result<(), OutOfMemory> {
-    let before = outputs.len();
-    match terminal.step(input, outputs) {
-        Ok(()) => Ok(()),
-        Err(_) => {
-            assert_eq!(rt; outputs.len(), before);
-            terminal.step(input, outputs)
-        }
-    }
 }
 
 // Each input has room for 1,024 outputs, also where many were sent already.

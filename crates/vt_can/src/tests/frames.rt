@@ -1,5 +1,5 @@
 use super::Wanted::*;
-use super::{Wanted, reads_as};
+use super::{Wanted, expect_lines};
 use crate::{LineFault, Skipped};
 
 const TIMES: [(&[u8], Wanted); 31] = [
@@ -65,9 +65,7 @@ const TIMES: [(&[u8], Wanted); 31] = [
 
 #[test]
 fn times(rt: HostRuntime) {
-    for (line, wanted) in TIMES {
-        assert!(rt; reads_as(line, wanted), "{line:?}");
-    }
+    expect_lines(&rt, &TIMES);
 }
 
 const SHAPES: [(&[u8], Wanted); 39] = [
@@ -138,9 +136,7 @@ const SHAPES: [(&[u8], Wanted); 39] = [
 
 #[test]
 fn shapes(rt: HostRuntime) {
-    for (line, wanted) in SHAPES {
-        assert!(rt; reads_as(line, wanted), "{line:?}");
-    }
+    expect_lines(&rt, &SHAPES);
 }
 
 const DATA: [(&[u8], Wanted); 50] = [
@@ -255,7 +251,5 @@ const DATA: [(&[u8], Wanted); 50] = [
 
 #[test]
 fn data_of_frames(rt: HostRuntime) {
-    for (line, wanted) in DATA {
-        assert!(rt; reads_as(line, wanted), "{line:?}");
-    }
+    expect_lines(&rt, &DATA);
 }

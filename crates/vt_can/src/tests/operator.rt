@@ -1,5 +1,5 @@
 use super::Wanted::*;
-use super::{Wanted, reads_as};
+use super::{Wanted, expect_lines};
 use crate::{Action, LineFault};
 
 const ACTIONS: [(&[u8], Wanted); 60] = [
@@ -79,7 +79,5 @@ const ACTIONS: [(&[u8], Wanted); 60] = [
 
 #[test]
 fn actions(rt: HostRuntime) {
-    for (line, wanted) in ACTIONS {
-        assert!(rt; reads_as(line, wanted), "{line:?}");
-    }
+    expect_lines(&rt, &ACTIONS);
 }

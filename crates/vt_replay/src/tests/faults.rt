@@ -77,7 +77,7 @@ fn verified(alloc: Global, pool: &Pool<'_>) -> Result<Accepted, AllocError> {
     }
 }
 
-/// Whether a reader that fails after so many bytes ends the replay, with the front of its text.
+/// Whether a reader that fails after so many bytes ends the replay, with a front of its text.
 fn is_cut_by_the_reader(alloc: Global, count: usize) -> Result<bool, Fail> {
     let Some(rest) = LOG.get(..count) else {
         return Err(Fail::new("the log is shorter"));

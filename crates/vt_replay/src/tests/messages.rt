@@ -68,6 +68,26 @@ fn has_errors(
     Ok(errors.as_slice() == wanted.as_bytes())
 }
 
+/// Whether the error output of a run begins so, and nothing else is written.
+fn names_file(rt: &impl AllocGlobal, words: &[&str], start: &str) -> Result<bool, Fail> {
+    let mut out = Vec::new(rt.alloc());
+    let mut errors = Vec::new(rt.alloc());
+    let mut shelf = Shelf {
+        log: HIDE,
+        pool: POOL,
+    };
+    run(rt.alloc(), words, &mut shelf, &mut out, &mut errors)?;
+    Ok(errors.starts_with(start.as_bytes()) && out.is_empty())
+}
+
+#[test]
+fn the_pool_is_opened_before_the_log(rt: HostRuntime) -> Result<(), Fail> {
+    let words = ["vt_replay", "none", "--pool", "nowhere", "--owner", "80"];
+    let named = names_file(&rt, &words, "vt_replay: nowhere: ")?;
+    assert!(&rt; named);
+    Ok(())
+}
+
 const REFUSALS: [(&[&str], &str); 6] = [
     (
         &["vt_replay", "log", "--own", "2G"],

@@ -108,7 +108,7 @@ fn a_reader_that_fails(rt: HostRuntime) {
     assert_eq!(&rt; out.as_slice(), b"screen none\nline 1 Shape\n".as_slice());
 }
 
-/// Whether a writer with room for so many bytes ends the replay, and has the front of its text.
+/// Whether a writer with room for so many bytes ends the replay, and has a front of its text.
 fn is_cut(alloc: Global, room: usize) -> bool {
     let mut reader: &[u8] = FAULTY;
     let taken = Vec::new(alloc);

@@ -1,4 +1,4 @@
-//! Replays and runs that are refused memory: what is written by then is the front of the text, and begun afresh they end.
+//! Replays and runs that are refused memory: what is written by then is a front of the text, and begun afresh they end.
 
 use super::faults::{LOG, TEXT, started};
 use super::{HIDE, POOL, Shelf, WITH_POOL};

@@ -1,6 +1,7 @@
 //! Which set is shown: alarms by their priority and by the order of registration, and else the set that is selected.
 
-use super::script::{Script, Step};
+use super::script::{Script, Step, expect_scripts};
+use super::*;
 
 // The pool of Working Set 0, Data Mask 1000 and Alarm Mask 2000, whose priority follows.
 const SET: &str = "0000000001E803000000";
@@ -112,7 +113,7 @@ const SELECTED: [Step; 10] = [
     Step::Screen("screen 80 mask 1000\n"),
 ];
 
-pub(super) const SCRIPTS: [Script; 2] = [
+const SCRIPTS: [Script; 2] = [
     Script {
         pool: None,
         parts: &[&REGISTERS, &UPLOADS, &ALARMS],
@@ -122,3 +123,8 @@ pub(super) const SCRIPTS: [Script; 2] = [
         parts: &[&REGISTERS, &UPLOADS, &SELECTED],
     },
 ];
+
+#[test]
+fn sets_that_are_shown(rt: HostRuntime) -> Result<(), Fail> {
+    expect_scripts(&rt, &SCRIPTS)
+}

@@ -1,6 +1,7 @@
 //! The events of a change of the set that is shown.
 
-use super::script::{Script, Step};
+use super::script::{Script, Step, expect_scripts};
+use super::*;
 
 // Working Set 0 with macro 1 on Activate and macro 2 on Deactivate; Data Mask 1000 with Output Numbers 300 and 301
 // of Number Variables 200 and 201, both 9. Macro 1 sets the first to 1, and macro 2 the second to 2.
@@ -117,7 +118,7 @@ const CHOSEN_ONCE: [Step; 13] = [
     ),
 ];
 
-pub(super) const SCRIPTS: [Script; 4] = [
+const SCRIPTS: [Script; 4] = [
     Script {
         pool: Some(COUNTED),
         parts: &[&PRELOADED, &UPLOADS, &CHANGES],
@@ -135,3 +136,8 @@ pub(super) const SCRIPTS: [Script; 4] = [
         parts: &[&CHOSEN_ONCE],
     },
 ];
+
+#[test]
+fn events_of_a_change(rt: HostRuntime) -> Result<(), Fail> {
+    expect_scripts(&rt, &SCRIPTS)
+}

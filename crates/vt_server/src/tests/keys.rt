@@ -1,6 +1,7 @@
 //! The key that is held, and the input that is selected, over changes of what is shown and updates.
 
-use super::script::{Script, Step};
+use super::script::{Script, Step, expect_scripts};
+use super::*;
 
 // Working Set 0, Data Masks 1000 and 2000 with Soft Key Mask 400, in it Key 500 of code 7.
 const KEYS: &[u8] = b"\x00\x00\x00\x00\x01\xE8\x03\x00\x00\x00\
@@ -82,7 +83,7 @@ const PRESSED: [Step; 4] = [
     Step::Line("! release 500", &["6"]),
 ];
 
-pub(super) const SCRIPTS: [Script; 4] = [
+const SCRIPTS: [Script; 4] = [
     Script {
         pool: Some(KEYS),
         parts: &[&HELD],
@@ -100,3 +101,8 @@ pub(super) const SCRIPTS: [Script; 4] = [
         parts: &[&PRESSED],
     },
 ];
+
+#[test]
+fn keys_that_are_held(rt: HostRuntime) -> Result<(), Fail> {
+    expect_scripts(&rt, &SCRIPTS)
+}

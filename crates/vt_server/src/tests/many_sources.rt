@@ -3,18 +3,44 @@
 use super::script::{Step, expect_line, expect_step, take_line};
 use super::*;
 
-// Each of the 252 addresses other than the terminal's and 80 asks to send 1,785 bytes, and is answered.
-fn ask_from_each(rt: &(impl Abort + AllocGlobal), terminal: &mut Terminal) -> Result<(), Fail> {
+// A text with an address in the place of each `@`.
+fn text_of(alloc: Global, template: &str, address: u8) -> Result<String, Fail> {
+    let digits = hex::encode_upper(alloc, [address])?;
+    let mut text = String::new(alloc);
+    for letter in template.chars() {
+        match letter {
+            '@' => text.push_str(&digits)?,
+            _ => text.push(letter)?,
+        }
+    }
+    Ok(text)
+}
+
+// A line of each address but the terminal's and another one, and what is sent for it, where something is.
+fn expect_from_each(
+    rt: &(impl Abort + AllocGlobal),
+    terminal: &mut Terminal,
+    other: u8,
+    line: &str,
+    sent: &str,
+) -> Result<(), Fail> {
     for address in 0..=253u8 {
-        if address != OWN && address != 0x80 {
-            let source = hex::encode_upper(rt.alloc(), [address])?;
-            let asks = format!(in rt.alloc(); "1CEC26{source}#10F906FFFF00E700")?;
-            let clear = format!(in rt.alloc(); "1CEC{source}26#11FF01FFFF00E700")?;
-            expect_line(rt, terminal, &asks, &[&clear])?;
+        if address != OWN && address != other {
+            let line = text_of(rt.alloc(), line, address)?;
+            let sent = text_of(rt.alloc(), sent, address)?;
+            match sent.as_str() {
+                "" => expect_line(rt, terminal, &line, &[])?,
+                sent => expect_line(rt, terminal, &line, &[sent])?,
+            }
         }
     }
     Ok(())
 }
+
+// Each address asks to send 1,785 bytes, and is answered.
+const ASKS: &str = "1CEC26@#10F906FFFF00E700";
+
+const IS_CLEAR: &str = "1CEC@26#11FF01FFFF00E700";
 
 // A session of 80, each frame of which comes after one from each other address.
 const BESIDE: [Step; 3] = [
@@ -32,7 +58,7 @@ fn expect_beside(
     steps: &[Step],
 ) -> Result<(), Fail> {
     for step in steps {
-        ask_from_each(rt, terminal)?;
+        expect_from_each(rt, terminal, 0x80, ASKS, IS_CLEAR)?;
         expect_step(rt, terminal, step)?;
     }
     expect_ends(rt, terminal)
@@ -56,8 +82,7 @@ fn expect_aborts(rt: &(impl Abort + AllocGlobal), outputs: &[Output]) -> Result<
     let mut left = outputs.iter();
     for address in 0..=253u8 {
         if address != OWN && address != 0x80 {
-            let source = hex::encode_upper(rt.alloc(), [address])?;
-            let abort = format!(in rt.alloc(); "1CEC{source}26#FF03FFFFFF00E700")?;
+            let abort = text_of(rt.alloc(), "1CEC@26#FF03FFFFFF00E700", address)?;
             match left.next() {
                 Some(output) => expect_output(rt, output, &abort),
                 None => return Err(Fail::new("too few")),
@@ -69,43 +94,32 @@ fn expect_aborts(rt: &(impl Abort + AllocGlobal), outputs: &[Output]) -> Result<
 
 // The pieces of the pool of the tests.
 const PIECES: [&str; 5] = [
-    "110000000001E803",
-    "11000000E8030100",
-    "11FFFF010064000A",
-    "1100050064000332",
-    "11001400000000",
+    "14E726@#110000000001E803",
+    "14E726@#11000000E8030100",
+    "14E726@#11FFFF010064000A",
+    "14E726@#1100050064000332",
+    "14E726@#11001400000000",
 ];
 
-// A message of each address but the terminal's: the same for all, with this reply, where it has one.
-fn expect_each(
-    rt: &(impl Abort + AllocGlobal),
-    terminal: &mut Terminal,
-    message: &str,
-    reply: &str,
-) -> Result<(), Fail> {
-    for address in 0..=253u8 {
-        if address != OWN {
-            let source = hex::encode_upper(rt.alloc(), [address])?;
-            let line = format!(in rt.alloc(); "14E726{source}#{message}")?;
-            let sent = format!(in rt.alloc(); "14E6{source}26#{reply}")?;
-            match reply {
-                "" => expect_line(rt, terminal, &line, &[])?,
-                _ => expect_line(rt, terminal, &line, &[&sent])?,
-            }
-        }
-    }
-    Ok(())
-}
+// The end of an upload, and a command.
+const MESSAGES: [(&str, &str); 2] = [
+    ("14E726@#12", "14E6@26#1200FFFFFFFF00FF"),
+    ("14E726@#A0640000FFFFFFFF", "14E6@26#A064000000FFFFFF"),
+];
 
-fn register_each(rt: &(impl Abort + AllocGlobal), terminal: &mut Terminal) -> Result<(), Fail> {
-    for address in 0..=253u8 {
-        if address != OWN {
-            let source = hex::encode_upper(rt.alloc(), [address])?;
-            let claim = format!(in rt.alloc(); "18EEFF{source}#{source}00000000800020")?;
-            expect_line(rt, terminal, &claim, &[])?;
-            let master = format!(in rt.alloc(); "18FE0D{source}#01FFFFFFFFFFFFFF")?;
-            expect_line(rt, terminal, &master, &[])?;
-        }
+// The terminal's address is left out anyway.
+fn upload_from_each(rt: &(impl Abort + AllocGlobal), terminal: &mut Terminal) -> Result<(), Fail> {
+    for line in ["18EEFF@#@00000000800020", "18FE0D@#01FFFFFFFFFFFFFF"] {
+        expect_from_each(rt, terminal, OWN, line, "")?;
+    }
+    for line in PIECES {
+        expect_from_each(rt, terminal, OWN, line, "")?;
+    }
+    let sent = ["14E60026#1200FFFFFFFF00FF", "14E6FF26#FE00E803FFFF00FF"];
+    expect_line(rt, terminal, "14E72600#12", &sent)?;
+    // The first one's again is an empty update.
+    for (line, sent) in MESSAGES {
+        expect_from_each(rt, terminal, OWN, line, sent)?;
     }
     Ok(())
 }
@@ -115,16 +129,4 @@ fn register_each(rt: &(impl Abort + AllocGlobal), terminal: &mut Terminal) -> Re
 fn sets_of_all_addresses(rt: HostRuntime) -> Result<(), Fail> {
     let mut terminal = started(&rt, None)?;
     upload_from_each(&rt, &mut terminal)
-}
-
-fn upload_from_each(rt: &(impl Abort + AllocGlobal), terminal: &mut Terminal) -> Result<(), Fail> {
-    register_each(rt, terminal)?;
-    for piece in PIECES {
-        expect_each(rt, terminal, piece, "")?;
-    }
-    let sent = ["14E60026#1200FFFFFFFF00FF", "14E6FF26#FE00E803FFFF00FF"];
-    expect_line(rt, terminal, "14E72600#12", &sent)?;
-    // The first one's again is an empty update.
-    expect_each(rt, terminal, "12", "1200FFFFFFFF00FF")?;
-    expect_each(rt, terminal, "A0640000FFFFFFFF", "A064000000FFFFFF")
 }

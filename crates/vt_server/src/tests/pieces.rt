@@ -1,6 +1,6 @@
 //! An upload in pieces, cut at any place, by frames and in packets.
 
-use super::script::{Script, Step, expect_steps, take_pieces};
+use super::script::{Script, Step, expect_scripts, expect_steps, take_pieces};
 use super::*;
 
 const CLAIMS: Step = Step::Line("18EEFF80#0100000000800020", &[]);
@@ -123,7 +123,7 @@ const LOST: [Step; 11] = [
     Step::Screen("screen none\n"),
 ];
 
-pub(super) const SCRIPTS: [Script; 3] = [
+const SCRIPTS: [Script; 3] = [
     Script {
         pool: None,
         parts: &[&IN_PACKETS],
@@ -137,3 +137,8 @@ pub(super) const SCRIPTS: [Script; 3] = [
         parts: &[&LOST],
     },
 ];
+
+#[test]
+fn uploads_in_packets_and_of_two_sets(rt: HostRuntime) -> Result<(), Fail> {
+    expect_scripts(&rt, &SCRIPTS)
+}

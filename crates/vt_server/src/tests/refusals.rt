@@ -1,6 +1,6 @@
 //! What the operator is refused, in the order of the tests, and what is sent for what is not.
 
-use super::script::{Script, Step};
+use super::script::{Script, Step, expect_scripts};
 use super::*;
 
 // Working Set 0; Data Mask 1000 with Input Strings 301 and 302, Input Numbers 600 and 601, Input Boolean 602, Input
@@ -109,7 +109,7 @@ const TEXTS: [Step; 15] = [
     Step::Line("! set 80", &[]),
 ];
 
-pub(super) const SCRIPTS: [Script; 6] = [
+const SCRIPTS: [Script; 6] = [
     Script {
         pool: None,
         parts: &[&NO_SET],
@@ -135,6 +135,11 @@ pub(super) const SCRIPTS: [Script; 6] = [
         parts: &[&TEXTS],
     },
 ];
+
+#[test]
+fn actions_and_their_refusals(rt: HostRuntime) -> Result<(), Fail> {
+    expect_scripts(&rt, &SCRIPTS)
+}
 
 const FAULTS: [OperatorFault; 9] = [
     OperatorFault::NotShown,

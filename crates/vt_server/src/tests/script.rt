@@ -12,6 +12,10 @@ pub(super) enum Step {
     Pieces(&'static str, &'static str),
     // The records that the set at 80 uploads and ends, in hexadecimal, and what is sent for their end.
     Upload(&'static [&'static str], &'static [&'static str]),
+    // Packets of the extended protocol from 80, numbered from 1, of bytes in hexadecimal; and what is sent for them.
+    Packets(&'static str, &'static [&'static str]),
+    // A line, and whether the screen may be another one after it.
+    Redraws(&'static str, bool),
     // The text of the screen.
     Screen(&'static str),
 }
@@ -23,7 +27,17 @@ pub(super) struct Script {
     pub(super) parts: &'static [&'static [Step]],
 }
 
-pub(super) fn expect_script(rt: &(impl Abort + AllocGlobal), script: &Script) -> Result<(), Fail> {
+pub(super) fn expect_scripts(
+    rt: &(impl Abort + AllocGlobal),
+    scripts: &[Script],
+) -> Result<(), Fail> {
+    for script in scripts {
+        expect_script(rt, script)?;
+    }
+    Ok(())
+}
+
+fn expect_script(rt: &(impl Abort + AllocGlobal), script: &Script) -> Result<(), Fail> {
     let mut terminal = started(rt, script.pool)?;
     expect_parts(rt, &mut terminal, script.parts)
 }
@@ -59,6 +73,8 @@ pub(super) fn expect_step(
         Step::Line(text, sent) => expect_line(rt, terminal, text, sent),
         Step::Pieces(source, digits) => take_pieces(rt, terminal, source, digits),
         Step::Upload(records, sent) => expect_upload(rt, terminal, records, sent),
+        Step::Packets(digits, sent) => expect_packets(rt, terminal, digits, sent),
+        Step::Redraws(text, redraws) => expect_redraws(rt, terminal, text, redraws),
         Step::Screen(text) => expect_screen(rt, terminal, text),
     }
 }
@@ -97,6 +113,24 @@ pub(super) fn take_line(
     Ok(())
 }
 
+// Takes an input, if need be a second time: the memory is there then, and the first try has left the outputs
+// as they were.
+fn step_again(
+    rt: &(impl Abort + AllocGlobal),
+    terminal: &mut Terminal,
+    input: &Input<'_>,
+    outputs: &mut Vec<Output>,
+) -> Result<(), OutOfMemory> {
+    let before = outputs.len();
+    match terminal.step(input, outputs) {
+        Ok(()) => Ok(()),
+        Err(_) => {
+            assert_eq!(rt; outputs.len(), before);
+            terminal.step(input, outputs)
+        }
+    }
+}
+
 // Takes the pieces of a pool, of which the digits are given.
 pub(super) fn take_pieces(
     rt: &(impl Abort + AllocGlobal),
@@ -126,6 +160,38 @@ fn expect_upload(
         take_pieces(rt, terminal, "80", record)?;
     }
     expect_line(rt, terminal, "14E72680#12FFFFFFFFFFFFFF", sent)
+}
+
+// The time is that of the line before.
+fn expect_packets(
+    rt: &(impl Abort + AllocGlobal),
+    terminal: &mut Terminal,
+    digits: &str,
+    sent: &[&str],
+) -> Result<(), Fail> {
+    let mut outputs = Vec::new(rt.alloc());
+    for (number, part) in (1..=255u8).zip(digits.as_bytes().chunks(14)) {
+        let sequence = hex::encode_upper(rt.alloc(), [number])?;
+        let mut line = format!(in rt.alloc(); "(0.000000) can0 1CC72680#{sequence}")?;
+        for digit in part {
+            line.push(char::from(*digit))?;
+        }
+        take_line(rt, terminal, &line, &mut outputs)?;
+    }
+    expect_sent(rt, &outputs, sent, "packets");
+    Ok(())
+}
+
+fn expect_redraws(
+    rt: &(impl Abort + AllocGlobal),
+    terminal: &mut Terminal,
+    text: &str,
+    redraws: bool,
+) -> Result<(), Fail> {
+    let mut outputs = Vec::new(rt.alloc());
+    take_line(rt, terminal, text, &mut outputs)?;
+    assert_eq!(rt; terminal.redraws(), redraws, "{text}");
+    Ok(())
 }
 
 pub(super) fn expect_screen(

@@ -1,6 +1,7 @@
 //! The status, which goes out where the display is another than before the input.
 
-use super::script::{Script, Step};
+use super::script::{Script, Step, expect_scripts};
+use super::*;
 
 // Working Set 0, Data Masks 1000 and 2000, Soft Key Mask 400, and macro 1, which activates mask 2000 and then
 // mask 1000.
@@ -45,7 +46,12 @@ const CASES: [Step; 12] = [
     Step::Screen("screen 80 mask none\n"),
 ];
 
-pub(super) const SCRIPTS: [Script; 1] = [Script {
+const SCRIPTS: [Script; 1] = [Script {
     pool: Some(TWO_MASKS),
     parts: &[&CASES],
 }];
+
+#[test]
+fn statuses_of_the_set_that_is_shown(rt: HostRuntime) -> Result<(), Fail> {
+    expect_scripts(&rt, &SCRIPTS)
+}

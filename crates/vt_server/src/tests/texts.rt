@@ -1,6 +1,7 @@
 //! Texts of the operator that go out in packets.
 
-use super::script::{Script, Step};
+use super::script::{Script, Step, expect_scripts};
+use super::*;
 
 // Working Set 0, Data Mask 1000 and in it Input String 301, of 20 bytes.
 const LONG: &[u8] = b"\x00\x00\x00\x00\x01\xE8\x03\x00\x00\x00\
@@ -97,7 +98,7 @@ const BEFORE_THE_FIRST: [Step; 3] = [
 // The first frame is at one second.
 const BEGINS: [Step; 1] = [Step::Line("18FFFF80#00", &[])];
 
-pub(super) const SCRIPTS: [Script; 4] = [
+const SCRIPTS: [Script; 4] = [
     Script {
         pool: Some(LONG),
         parts: &[&BEGINS, &SENT],
@@ -115,3 +116,8 @@ pub(super) const SCRIPTS: [Script; 4] = [
         parts: &[&BEFORE_THE_FIRST],
     },
 ];
+
+#[test]
+fn texts_in_packets(rt: HostRuntime) -> Result<(), Fail> {
+    expect_scripts(&rt, &SCRIPTS)
+}

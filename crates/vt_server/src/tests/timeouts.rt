@@ -1,7 +1,7 @@
 //! What the time of a line ends: sessions, and sets.
 
-use super::POOL;
-use super::script::{Script, Step};
+use super::script::{Script, Step, expect_scripts};
+use super::*;
 
 const CLOSED: &str = "14E6FF26#FEFEFFFFFFFF00FF";
 
@@ -122,7 +122,7 @@ const LOST_LATE: [Step; 3] = [
     Step::Screen("screen none\n"),
 ];
 
-pub(super) const SCRIPTS: [Script; 7] = [
+const SCRIPTS: [Script; 7] = [
     Script {
         pool: Some(POOL),
         parts: &[&SILENT],
@@ -152,3 +152,8 @@ pub(super) const SCRIPTS: [Script; 7] = [
         parts: &[&LOST_LATE],
     },
 ];
+
+#[test]
+fn silence_timeouts_and_the_loss_of_the_address(rt: HostRuntime) -> Result<(), Fail> {
+    expect_scripts(&rt, &SCRIPTS)
+}

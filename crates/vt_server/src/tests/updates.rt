@@ -1,7 +1,7 @@
 //! Updates of a pool.
 
-use super::POOL;
-use super::script::{Script, Step};
+use super::script::{Script, Step, expect_scripts};
+use super::*;
 
 const ENDS: &str = "14E72680#12FFFFFFFFFFFFFF";
 
@@ -85,7 +85,7 @@ const OF_AN_UPLOAD: [Step; 8] = [
     WITHOUT_CONTAINER,
 ];
 
-pub(super) const SCRIPTS: [Script; 6] = [
+const SCRIPTS: [Script; 6] = [
     Script {
         pool: Some(POOL),
         parts: &[&JOINED],
@@ -111,3 +111,8 @@ pub(super) const SCRIPTS: [Script; 6] = [
         parts: &[&OF_AN_UPLOAD],
     },
 ];
+
+#[test]
+fn updates_of_a_pool(rt: HostRuntime) -> Result<(), Fail> {
+    expect_scripts(&rt, &SCRIPTS)
+}

@@ -1,6 +1,7 @@
 //! What the end of an upload is answered.
 
-use super::script::{Script, Step};
+use super::script::{Script, Step, expect_scripts};
+use super::*;
 
 const WORKING_SET: &str = "0000000001E803000000";
 
@@ -105,8 +106,6 @@ const REFUSED: [Step; 27] = [
     Step::Screen("screen none\n"),
 ];
 
-const SIMPLE: [&str; 3] = [WORKING_SET, MASK, CONTAINER];
-
 const TAKEN: &[&str] = &["14E68026#1200FFFFFFFF00FF", "14E6FF26#FE80E803FFFF00FF"];
 
 // A macro that executes macro 2 four times.
@@ -163,7 +162,7 @@ const NOT_HEARD: [Step; 9] = [
     Step::Screen("screen none\n"),
 ];
 
-pub(super) const SCRIPTS: [Script; 4] = [
+const SCRIPTS: [Script; 4] = [
     Script {
         pool: None,
         parts: &[&REFUSED],
@@ -181,3 +180,8 @@ pub(super) const SCRIPTS: [Script; 4] = [
         parts: &[&NOT_HEARD],
     },
 ];
+
+#[test]
+fn uploads_that_are_accepted_and_refused(rt: HostRuntime) -> Result<(), Fail> {
+    expect_scripts(&rt, &SCRIPTS)
+}

@@ -89,6 +89,14 @@ fn step_through(
     Ok(())
 }
 
+// Room for the inputs of all lines.
+fn room<'a>(alloc: Global) -> Result<Vec<Input<'a>>, OutOfMemory> {
+    match Vec::with_capacity(alloc, LINES.len()) {
+        Ok(room) => Ok(room),
+        Err(_) => Vec::with_capacity(alloc, LINES.len()),
+    }
+}
+
 // Takes the lines by runs of two inputs.
 fn run_through(
     rt: &(impl Abort + AllocGlobal),
@@ -96,7 +104,7 @@ fn run_through(
     lines: &[&'static [u8]],
     outputs: &mut Vec<Output>,
 ) -> Result<(), Fail> {
-    let mut inputs = Vec::new(rt.alloc());
+    let mut inputs = room(rt.alloc())?;
     for line in lines {
         inputs.push(input_in(line)?)?;
     }
