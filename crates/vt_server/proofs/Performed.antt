@@ -13,7 +13,6 @@ use Rattle.vt_can.specs.lines.Actions as actions
 use Rattle.vt_can.specs.transport.Messages.{Message}
 use Rattle.vt_can.proofs.lemmas.transport.ByAddress.{get-put, get-put_other}
 use Rattle.vt_transport.specs.Wire.{rts_frame}
-use Rattle.vt_objects.specs.declared.object.Object.TheVariants as objects
 use Rattle.vt_objects.specs.declared.raising.Raised.{Raised}
 use Rattle.vt_machine.specs.declared.operator.Acted.{Acted}
 use Rattle.vt_machine.specs.declared.operator.OperatorRefusal.{OperatorRefusal}

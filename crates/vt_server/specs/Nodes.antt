@@ -12,7 +12,7 @@ use Rattle.vt_can.specs.transport.Sessions.{ByAddress, Expires, timed_code}
 use Rattle.vt_names.specs.Claims.{Claimed, claimed_code}
 use Rattle.vt_transport.specs.Protocol as tp
 use Rattle.vt_transport.specs.Senders as sender
-use Rattle.vt_transport.specs.Senders.{message_code, timeout_frame}
+use Rattle.vt_transport.specs.Senders.{message_code}
 use Rattle.vt_transport.specs.SessionState as tp_session
 use Rattle.vt_transport.specs.Wire.{tp_frame}
 use Rattle.vt_extended.specs.Protocol as etp
