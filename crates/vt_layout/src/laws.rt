@@ -1,35 +1,35 @@
-//! What holds of drawings and screens.
+//! What the definitions come to: each function is a law, and its body does nothing.
 
 ghost use Rattle.vt_layout.specs.Drawings.{DrawingsAreOne, ShownAreDrawn, DrawingsNeverStick, PathsAreChained};
 ghost use Rattle.vt_layout.specs.Screens.{ScreensAreOne};
 
-/// The law that a mask has one drawing: the elements at all paths, in their order, where the store is in order, and has nothing
+/// A mask has one drawing: the elements at all paths, in their order, where the store is in order, and has nothing
 /// under NULL. docs/PROFILE.md, "The drawing".
 pub fn drawings_are_one()
     ensures { DrawingsAreOne }
 {}
 
-/// The law that to be shown, for an action of the operator, is to be an element of the drawing, however long.
+/// To be shown, for an action of the operator, is to be an element of the drawing, however long.
 /// docs/PROFILE.md, "The drawing".
 pub fn shown_are_drawn()
     ensures { ShownAreDrawn }
 {}
 
-/// The law that no drawing sticks: in a store that is in order, each reference of the working set, the mask, its soft key mask,
+/// No drawing sticks: in a store that is in order, each reference of the working set, the mask, its soft key mask,
 /// what is named in a list that is drawn, and each element, leads to an object of a kind that may stand there, or is NULL where
 /// it may be. docs/PROFILE.md, "What every store keeps".
 pub fn drawings_never_stick()
     ensures { DrawingsNeverStick }
 {}
 
-/// The law that the IDs on a path to an element, pointers too, are a chain of at most 32 inclusions, where the store is in order,
-/// and has nothing under NULL.
-/// docs/PROFILE.md, "Inclusions and chains".
+/// The IDs on a path to an element, pointers too, are a chain of at most 32 inclusions, where the store is in order,
+/// and has nothing under NULL. docs/PROFILE.md, "Inclusions and chains".
 pub fn paths_are_chained()
     ensures { PathsAreChained }
 {}
 
-/// The law that a working set has one screen, where its store is in order, and has nothing under NULL. docs/PROFILE.md, "The drawing and the screen text".
+/// A working set has one screen, where its store is in order, and has nothing under NULL. docs/PROFILE.md, "The drawing and the
+/// screen text".
 pub fn screens_are_one()
     ensures { ScreensAreOne }
 {}

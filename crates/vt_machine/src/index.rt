@@ -9,7 +9,8 @@ ghost use Rattle.vt_verify.specs.Triggers.{listing, listed};
 ghost use Rattle.vt_machine.specs.Indexes.{part, command_in, pieces_in, IsIndexOf, IsWithin};
 
 use std::alloc::{AllocError, Global};
-use vt_objects::{Command, ObjectId, cut_is_one, split_command};
+use vt_objects::laws::cut_is_one;
+use vt_objects::{Command, ObjectId, split_command};
 use vt_verify::{Accepted, Listings};
 
 /// Places one after the other, from the first one to that behind the last.

@@ -1,6 +1,10 @@
 //! The event machine of a working set (ISO 11783-6): what its commands make of its objects, how the macros of events run, what
 //! is shown of it, and what the operator does with it.
 //!
+//! - `Live` is a working set with its objects: `apply` does a command, with its `Outcome`, `raise` an event, and `press`, `release`,
+//!   `select`, `enter_number` and `enter_text` the operator's actions, each `Acted` or refused by an `OperatorRefusal`.
+//! - `laws` has what the definitions come to.
+//!
 //! docs/PROFILE.md, "Commands: all rows" and the section of each command, "Attributes", "Runs", "Steps", "The operator".
 #![tactic(auto)]
 
@@ -10,7 +14,7 @@ mod effects;
 mod entries;
 mod execution;
 mod index;
-mod laws;
+pub mod laws;
 mod levels;
 mod live;
 mod numbers;
@@ -23,11 +27,6 @@ mod runs;
 mod showing;
 mod working_set;
 
-pub use laws::{
-    active_masks_are_one, changes_keep, commands_keep_order, commands_keep_shapes,
-    entries_keep_order, entries_keep_shapes, events_end_in_turn, null_is_no_object,
-    pools_are_ready, references_may_stand, runs_end,
-};
 pub use live::{Live, Outcome};
 pub use operator::{Acted, OperatorRefusal};
 

@@ -1,20 +1,21 @@
 //! NAMEs, who holds an address, and the registry of working sets (ISO 11783-5, ISO 11783-6).
 //!
+//! - `Name` is a NAME, with its ten fields.
+//! - `Claims` keeps what was heard of addresses, and tells what a claim means by `Heard`.
+//! - `Registry` keeps the working sets, each a `Set`, or refuses a change by a `RegistryFault`.
+//! - `laws` has what the definitions come to.
+//!
 //! docs/PROFILE.md, "Addresses and NAMEs" and "Working sets", has the rules.
 #![tactic(auto)]
 
 mod claims;
 mod holders;
-mod law;
+pub mod laws;
 mod name;
 mod registry;
 mod set;
 
 pub use claims::{Claims, Heard};
-pub use law::{
-    addresses_are_last, fields_are_names, holders_are_least, other_holders_stay,
-    sets_are_registered,
-};
 pub use name::Name;
 pub use registry::{Registry, RegistryFault};
 pub use set::Set;

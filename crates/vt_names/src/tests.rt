@@ -3,6 +3,10 @@ mod want_of_memory;
 mod working_sets;
 
 use super::*;
+use crate::laws::{
+    addresses_are_last, fields_are_names, holders_are_least, other_holders_stay,
+    sets_are_registered,
+};
 
 // The NAME of a terminal, the first of the table.
 const NAME: u64 = 0x2000_1D00_0000_0001;

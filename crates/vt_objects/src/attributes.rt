@@ -3,7 +3,6 @@
 ghost use Rattle.std.specs.Prelude.{◌≡◌};
 ghost use Rattle.vt_objects.specs.Attributes as table;
 ghost use Rattle.vt_objects.specs.Attributes.{attribute_at};
-ghost use Rattle.vt_objects.specs.Writing.{AttributesAreFields};
 
 use crate::fields::{Attribute, Field, ValueType};
 use crate::kind::Kind;
@@ -258,9 +257,3 @@ fn numbered(attributes: &[Attribute], number: u8) -> Option<Attribute>
     let index = usize::from(number).checked_sub(1)?;
     attributes.get(index).copied()
 }
-
-/// The law that the attributes of each kind stand in fields of its record, and that such a field gets the lowest
-/// bytes of the value as they are.
-pub fn attributes_are_fields()
-    ensures { AttributesAreFields }
-{}

@@ -4,7 +4,7 @@ ghost use Rattle.std.specs.Prelude.{◌≡◌, ◌<◌, ◌≤◌, ◌+◌, ◌*
 ghost use Rattle.std.specs.Fmt.{decimal};
 ghost use Rattle.arrayvec.specs.ArrayString.{array_string_len};
 ghost use Rattle.vt_objects.specs.Scales.{scale_places};
-ghost use Rattle.vt_objects.specs.Decimals.{IsShown, ShownIsOne, shown_text, filled, fraction_text};
+ghost use Rattle.vt_objects.specs.Decimals.{IsShown, shown_text, filled, fraction_text};
 
 use crate::scale::{Decimals, Scale};
 use arrayvec::ArrayString;
@@ -36,11 +36,6 @@ impl Decimal {
         written(is_below_zero(sum, magnitude), magnitude, decimals, unit)
     }
 }
-
-/// The law that a number is shown in one way alone.
-pub fn shown_is_one()
-    ensures { ShownIsOne }
-{}
 
 /// A value with its offset.
 fn sum(value: u32, offset: i32) -> i64

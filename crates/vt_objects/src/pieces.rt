@@ -1,7 +1,7 @@
 //! The bytes of a macro, command by command.
 
 ghost use Rattle.std.specs.Prelude.{◌≡◌, ◌<◌, ℕ, List, length, IfSome, IfNone};
-ghost use Rattle.vt_objects.specs.Pieces.{CutIsOne, IsSplit, command_length};
+ghost use Rattle.vt_objects.specs.Pieces.{IsSplit, command_length};
 
 use byteorder::{ByteOrder, LittleEndian};
 
@@ -34,8 +34,3 @@ fn command_length(bytes: &[u8]) -> Option<usize>
         _ => Some(8),
     }
 }
-
-/// The law that bytes are cut into commands in one way alone.
-pub fn cut_is_one()
-    ensures { CutIsOne }
-{}

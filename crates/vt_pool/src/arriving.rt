@@ -1,7 +1,7 @@
 //! Pools that are read as their pieces arrive.
 
 ghost use Rattle.std.specs.Prelude.{◌≡◌, ◌≤◌, ◌+◌, ◌-◌, [], ◌++◌, length, drop, List, vec_len, vec_capacity, IfOk, IfErr, OnOk, OnErr, IsOk, IfSome, IfNone};
-ghost use Rattle.vt_pool.specs.Arriving.{FaultsLast, IsLasting, HasNoFaultYet, IsReadTo, WereReadTo};
+ghost use Rattle.vt_pool.specs.Arriving.{IsLasting, HasNoFaultYet, IsReadTo, WereReadTo};
 ghost use Rattle.vt_pool.specs.Pools.{Entry, AreRecords, joined, IsInForce, IsFault, IsWantOfMemory};
 
 use crate::OutOfMemory;
@@ -141,8 +141,3 @@ fn read_on(pool: &[u8], whole: usize, fault: Option<PoolFault>) -> (usize, Optio
         None => pass_records(pool, whole),
     }
 }
-
-/// The law that a fault which more bytes do not cure is the fault of the pool, whatever bytes follow.
-pub fn faults_last()
-    ensures { FaultsLast }
-{}

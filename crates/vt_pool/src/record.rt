@@ -4,7 +4,6 @@ ghost use Rattle.std.specs.Prelude.{◌≡◌, ◌<◌, ◌++◌, length, IfOk, 
 ghost use Rattle.vt_objects.specs.Kinds.{kind_at};
 ghost use Rattle.vt_objects.specs.Records.{kind_of, values_of, seen, record_of, HasRecord};
 ghost use Rattle.vt_pool.specs.Heads.{Reads, record_at, or_stop, other_type};
-ghost use Rattle.vt_pool.specs.Pools.{ReadingsAreOne, RecordsAreWhole, WrittenIsRead};
 ghost use Rattle.vt_pool.specs.Stops.{IsStop};
 
 use crate::reader::Reader;
@@ -62,19 +61,3 @@ pub fn kind_with(number: u8) -> Result<Kind, Stop>
         None => Err(Stop::UnknownType),
     }
 }
-
-/// The law that no record is the front of another one.
-pub fn records_are_whole()
-    ensures { RecordsAreWhole }
-{}
-
-/// The law that the records of distinct IDs are read back as the objects that were written.
-pub fn written_is_read()
-    ensures { WrittenIsRead }
-{}
-
-/// The law that a pool's bytes have one reading: what they leave in force is one, whole records have no fault but want of
-/// memory, and two other faults of them are both of a type or neither is.
-pub fn readings_are_one()
-    ensures { ReadingsAreOne }
-{}

@@ -11,7 +11,8 @@ use crate::records::write_fields;
 use byteorder::{ByteOrder, LittleEndian};
 use std::alloc::{AllocError, Global};
 use std::convert::AsSlice;
-use vt_objects::{Object, ObjectId, Scale, objects_have_records};
+use vt_objects::laws::objects_have_records;
+use vt_objects::{Object, ObjectId, Scale};
 
 pub fn put_u8(out: &mut Vec<u8>, n: u8) -> Result<(), AllocError>
     ensures { OnOk result (out.new.items ≡ out.old.items ++ little_bytes 1 n) }

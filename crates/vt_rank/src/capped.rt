@@ -41,11 +41,6 @@ pub fn costs(graph: &Graph, ranks: &Ranks, cap: u32) -> Result<Costs, OverBudget
     }
 }
 
-/// A law: where there are ranks, each node costs what its items cost.
-pub fn costs_are_totals()
-    ensures { (g : Network) (ranks : List ℕ) → AreRanks g ranks → CostsAreTotals g }
-{}
-
 // The costs of all nodes, or the least node over the cap.
 fn nodes_within(table: &[u64; 256], cap: u32) -> Result<[u32; 256], u8>
     ensures costs { IfOk result (λ costs. (n : ℕ) → n < 256 → slice_index costs n ≡ slice_index table.now n) }

@@ -63,8 +63,3 @@ pub fn rank(graph: &Graph) -> Result<Ranks, Circle>
         ranks: search.ranks,
     })
 }
-
-/// A law: ranks that fall along every trigger leave no circle.
-pub fn ranks_leave_no_circle()
-    ensures { (g : Network) (ranks : List ℕ) → RanksFall g ranks → HasNoCircle (triggered g) }
-{}

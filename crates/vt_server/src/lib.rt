@@ -1,5 +1,9 @@
 //! The terminal: working sets by address, one step for each input (ISO 11783-5, ISO 11783-6).
 //!
+//! - `Terminal` takes each `Input`, a frame or an action of the operator, and appends each `Output`, a frame or an
+//!   `OperatorFault`; a run of inputs that memory is refused for ends with a `RunFault`.
+//! - `laws` has what the definitions come to, `the_machine_never_sticks` first.
+//!
 //! docs/PROFILE.md, "The step", has the rules.
 #![tactic(auto)]
 
@@ -12,7 +16,7 @@ mod ending;
 mod hearing;
 mod input;
 mod lapsing;
-mod law;
+pub mod laws;
 mod messages;
 mod node;
 mod operating;
@@ -25,11 +29,6 @@ mod watch;
 mod watched;
 
 pub use input::Input;
-pub use law::{
-    each_takes_its_own, holders_are_of_runs, own_happenings_decide, sent_are_addressed,
-    sets_after_steps, sets_hold_their_address, steps_are_one, terminals_are_orderly,
-    the_machine_never_sticks,
-};
 pub use output::{OperatorFault, Output};
 pub use terminal::{RunFault, Terminal};
 

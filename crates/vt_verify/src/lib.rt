@@ -1,6 +1,12 @@
 //! Verification of object pools: whether every reference, inclusion, macro and trigger of a pool is as it must be,
 //! and how many steps each event of it can cost.
 //!
+//! - `verify` and `verify_update` answer an `Accepted` pool, or the first `Refusal`. It is taken apart as `AcceptedParts`, with its
+//!   `Listings` of what runs at each event.
+//! - `find_depths` finds the depths of a store's objects, or a `Chain` that is too long. The `Limits` of this terminal are
+//!   `TERMINAL_LIMITS`.
+//! - `laws` has what the definitions come to.
+//!
 //! docs/PROFILE.md, "Verification of a pool", has the rules, "Costs and budgets" what an event costs, and "Reports"
 //! the texts.
 #![tactic(auto)]
@@ -9,6 +15,7 @@ mod accepted;
 mod budgets;
 mod chains;
 mod commands;
+pub mod laws;
 mod limits;
 mod listing;
 mod macros;
@@ -25,12 +32,8 @@ pub use accepted::{Accepted, AcceptedParts};
 pub use chains::{Chain, find_depths};
 pub use limits::{Limits, TERMINAL_LIMITS};
 pub use listing::Listings;
-pub use objects::updates_replace;
 pub use refusal::Refusal;
-pub use verification::{
-    first_rules_fail, greater_limits_accept, refusals_are_one, refusals_are_true, verify,
-    verify_update,
-};
+pub use verification::{verify, verify_update};
 
 /// A growth that was refused.
 pub use std::alloc::AllocError as OutOfMemory;

@@ -13,7 +13,8 @@ ghost use Rattle.vt_verify.specs.Rules as rules;
 
 use crate::commands::{macro_command, named_macro};
 use crate::targets::has_attribute;
-use vt_objects::{Object, ObjectId, SortedStore, cut_is_one, split_command};
+use vt_objects::laws::cut_is_one;
+use vt_objects::{Object, ObjectId, SortedStore, split_command};
 
 /// The first macro, by rising ID, whose bytes end inside a command.
 pub(crate) fn cut_short(objects: &SortedStore) -> Option<ObjectId>

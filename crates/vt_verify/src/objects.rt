@@ -6,7 +6,7 @@ ghost use Rattle.vt_objects.specs.Records.{seen};
 ghost use Rattle.vt_objects.specs.Stores.{shown, by_rising_id, AreStored};
 ghost use Rattle.vt_pool.specs.Pools.{AreObjects, contents};
 ghost use Rattle.vt_verify.specs.Shapes.{kind_at, shape_of};
-ghost use Rattle.vt_verify.specs.Updates.{updated, unless, UpdatesReplace};
+ghost use Rattle.vt_verify.specs.Updates.{updated, unless};
 
 use crate::chains::entry;
 use std::alloc::{AllocError, Global};
@@ -55,11 +55,6 @@ fn put_unless_updated(
     }
     Ok(())
 }
-
-/// The law that an update replaces the objects whose IDs it has, and no others.
-pub fn updates_replace()
-    ensures { UpdatesReplace }
-{}
 
 /// Copies of the objects of a pool, in its order.
 fn copies(alloc: Global, pool: &Pool<'_>) -> Result<Vec<(ObjectId, Object<Vec<u8>>)>, AllocError>

@@ -16,8 +16,9 @@ ghost use Rattle.vt_verify.specs.Rules as rules;
 use crate::commands::{macro_command, named_macro};
 use crate::objects::kind_at;
 use crate::reference::{Reference, Test};
+use vt_objects::laws::cut_is_one;
 use vt_objects::{
-    Command, Event, Kind, MacroEntry, Object, ObjectId, SortedStore, Target, attribute, cut_is_one,
+    Command, Event, Kind, MacroEntry, Object, ObjectId, SortedStore, Target, attribute,
     split_command, targets,
 };
 

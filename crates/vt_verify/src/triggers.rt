@@ -16,9 +16,8 @@ use crate::commands::{macro_command, named_macro};
 use crate::listing::{Listing, listed_events};
 use indexmap::IndexSet;
 use std::alloc::{AllocError, Global};
-use vt_objects::{
-    Command, Event, Kind, ObjectId, SortedStore, Store, cut_is_one, row_events, split_command,
-};
+use vt_objects::laws::cut_is_one;
+use vt_objects::{Command, Event, Kind, ObjectId, SortedStore, Store, row_events, split_command};
 use vt_rank::{Graph, Item};
 
 /// The events at which macros run, and the graph of the macros. The macros of an event are the group of its place.

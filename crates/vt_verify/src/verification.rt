@@ -9,7 +9,7 @@ ghost use Rattle.vt_verify.specs.Budgets.{CostsAreTotals};
 ghost use Rattle.vt_verify.specs.Depths.{HasDepths};
 ghost use Rattle.vt_verify.specs.TriggerGraphs.{AreTriggers};
 ghost use Rattle.vt_verify.specs.Updates.{updated};
-ghost use Rattle.vt_verify.specs.Rules.{IsAcceptable, IsVerified, IsRefused, IsWantOfMemory, RefusalsAreTrue, RefusalsAreOne, FirstRulesFail, GreaterLimitsAccept, HoldBefore, ReferencesAreThere, ChainsAreShort, MacrosAreWhole, TargetsAreThere, AttributesAreThere, TriggersAreNoCircle, BudgetsAreWithin, terminal};
+ghost use Rattle.vt_verify.specs.Rules.{IsAcceptable, IsVerified, IsRefused, IsWantOfMemory, HoldBefore, ReferencesAreThere, ChainsAreShort, MacrosAreWhole, TargetsAreThere, AttributesAreThere, TriggersAreNoCircle, BudgetsAreWithin, terminal};
 
 use crate::accepted::Accepted;
 use crate::budgets::Budgets;
@@ -256,25 +256,3 @@ fn check_costs(
         }),
     }
 }
-
-/// The law that a pool which meets all rules is refused for none of them: `verify` refuses it only where memory runs out.
-pub fn refusals_are_true()
-    ensures { RefusalsAreTrue }
-{}
-
-/// The law that a refusal names the first rule that fails: it fails, and those before it hold.
-pub fn first_rules_fail()
-    ensures { FirstRulesFail }
-{}
-
-/// The law that a pool is refused for one reason: but for want of memory, two refusals of it say the same. They may name
-/// different chains of too many inclusions, and different circles that begin with the same macro.
-pub fn refusals_are_one()
-    ensures { RefusalsAreOne }
-{}
-
-/// The law that what meets all rules under some limits meets them under greater ones. Its report, of which no limit is
-/// a part, is the same.
-pub fn greater_limits_accept()
-    ensures { GreaterLimitsAccept }
-{}

@@ -1,5 +1,0 @@
-use Rattle.vt_names.proofs.Histories.{least}
-use Rattle.vt_names.proofs.law.holders_are_least.Goals as goal
-
-pub returns : goal.returns
-returns c = least

@@ -1,5 +1,0 @@
-use Rattle.vt_names.proofs.Histories.{stay}
-use Rattle.vt_names.proofs.law.other_holders_stay.Goals as goal
-
-pub returns : goal.returns
-returns c = stay

@@ -1,0 +1,5 @@
+use Rattle.vt_names.proofs.Histories.{last}
+use Rattle.vt_names.proofs.laws.addresses_are_last.Goals as goal
+
+pub returns : goal.returns
+returns c = last

@@ -1,0 +1,5 @@
+use Rattle.vt_names.proofs.Histories.{least}
+use Rattle.vt_names.proofs.laws.holders_are_least.Goals as goal
+
+pub returns : goal.returns
+returns c = least

@@ -1,5 +1,0 @@
-use Rattle.vt_objects.proofs.Writing.{attributes_are}
-use Rattle.vt_objects.proofs.attributes.attributes_are_fields.Goals as goal
-
-pub returns : goal.returns
-returns c = attributes_are

@@ -1,5 +1,0 @@
-use Rattle.vt_objects.proofs.OneRounding.{shown_one}
-use Rattle.vt_objects.proofs.decimal.shown_is_one.Goals as goal
-
-pub returns : goal.returns
-returns c = shown_one

@@ -1,5 +1,0 @@
-use Rattle.vt_pool.proofs.Lasting.{faults_last}
-use Rattle.vt_pool.proofs.arriving.faults_last.Goals as goal
-
-pub returns : goal.returns
-returns c = faults_last

@@ -1,0 +1,5 @@
+use Rattle.vt_pool.proofs.Lasting.{faults_last}
+use Rattle.vt_pool.proofs.laws.faults_last.Goals as goal
+
+pub returns : goal.returns
+returns c = faults_last

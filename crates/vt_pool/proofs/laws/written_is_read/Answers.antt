@@ -1,0 +1,5 @@
+use Rattle.vt_pool.proofs.Again.{written_read}
+use Rattle.vt_pool.proofs.laws.written_is_read.Goals as goal
+
+pub returns : goal.returns
+returns c = written_read

@@ -1,5 +1,0 @@
-use Rattle.vt_pool.proofs.Again.{written_read}
-use Rattle.vt_pool.proofs.record.written_is_read.Goals as goal
-
-pub returns : goal.returns
-returns c = written_read

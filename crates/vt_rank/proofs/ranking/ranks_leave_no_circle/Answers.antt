@@ -1,5 +1,0 @@
-use Rattle.vt_rank.proofs.Paths.{no_circle}
-use Rattle.vt_rank.proofs.ranking.ranks_leave_no_circle.Goals as goal
-
-pub returns : goal.returns
-returns c = λ g ranks falls. no_circle g ranks falls

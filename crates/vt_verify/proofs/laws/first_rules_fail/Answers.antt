@@ -1,0 +1,5 @@
+use Rattle.vt_verify.proofs.Refusals.{first_rules_fail}
+use Rattle.vt_verify.proofs.laws.first_rules_fail.Goals as goal
+
+pub returns : goal.returns
+returns c = first_rules_fail

@@ -1,0 +1,5 @@
+use Rattle.vt_verify.proofs.Refusals.{refusals_true}
+use Rattle.vt_verify.proofs.laws.refusals_are_true.Goals as goal
+
+pub returns : goal.returns
+returns c = refusals_true

@@ -1,5 +1,0 @@
-use Rattle.vt_verify.proofs.Updating.{replaces}
-use Rattle.vt_verify.proofs.objects.updates_replace.Goals as goal
-
-pub returns : goal.returns
-returns c = replaces

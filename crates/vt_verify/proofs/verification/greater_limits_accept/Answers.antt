@@ -1,5 +1,0 @@
-use Rattle.vt_verify.proofs.Acceptance.{greater_accept}
-use Rattle.vt_verify.proofs.verification.greater_limits_accept.Goals as goal
-
-pub returns : goal.returns
-returns c = greater_accept

@@ -1,5 +1,0 @@
-use Rattle.vt_verify.proofs.Refusals.{refusals_true}
-use Rattle.vt_verify.proofs.verification.refusals_are_true.Goals as goal
-
-pub returns : goal.returns
-returns c = refusals_true
