@@ -5,6 +5,7 @@ ghost use Rattle.vt_names.specs.Claims.{address_of};
 ghost use Rattle.vt_server.specs.Hearings.{TakesClaim};
 ghost use Rattle.vt_server.specs.Messages as messages;
 ghost use Rattle.vt_server.specs.Parts.{after_claim_heard, stays_under};
+ghost use Rattle.vt_server.specs.Screens.{redraws};
 ghost use Rattle.vt_server.specs.States.{state_of};
 ghost use Rattle.vt_server.specs.Holders.{AreFormer};
 ghost use Rattle.vt_server.specs.Steps as steps;
@@ -73,6 +74,7 @@ impl Terminal {
         ensures former { IfOk result (AreFormer (state_of self.old) source name) }
         ensures defended { IfOk result (λ former. former.is_defended ≡ is_defended) }
         ensures err { OnErr result (state_of self.new ≡ state_of self.old) }
+        ensures redraws { redraws self.new ≡ redraws self.old }
     {
         let left = self.left_by(source, name);
         let former = FormerHolders {

@@ -53,6 +53,7 @@ impl Terminal {
         ensures ok { OnOk result (TakesInput (state_of self.old) (inputs.Frame time frame.now) (state_of self.new) outputs.old.items outputs.new.items) }
         ensures err { OnErr result (state_of self.new ≡ state_of self.old) }
         ensures err_sent { OnErr result (outputs.new.items ≡ outputs.old.items) }
+        ensures err_redraws { OnErr result (redraws self.new ≡ redraws self.old) }
         // A terminal without its address asks for no memory.
         ensures lost { (state_of self.old).lost ≡ true → IsOk result }
         ensures same { OnOk result (redraws self.new ≡ false → KeepsScreen (state_of self.old) (state_of self.new)) }
@@ -78,6 +79,7 @@ impl Terminal {
         requires { notice.now ≡ notice_of (state_of self.old).claims.own (state_of self.old).claims.name frame.now }
         ensures ok { IfOk result (IsPrepared (state_of self.old) self.new now notice.now frame.now) }
         ensures err { OnErr result (state_of self.new ≡ state_of self.old) }
+        ensures redraws { redraws self.new ≡ redraws self.old }
     {
         let source = frame.id.source();
         match *notice {

@@ -32,6 +32,7 @@ impl Terminal {
         ensures ok { OnOk result (TakesInput (state_of self.old) (inputs.Operator action.now) (state_of self.new) outputs.old.items outputs.new.items) }
         ensures err { OnErr result (state_of self.new ≡ state_of self.old) }
         ensures err_sent { OnErr result (outputs.new.items ≡ outputs.old.items) }
+        ensures err_redraws { OnErr result (redraws self.new ≡ redraws self.old) }
         // A terminal without its address asks for no memory.
         ensures lost { (state_of self.old).lost ≡ true → IsOk result }
         ensures same { OnOk result (redraws self.new ≡ false → KeepsScreen (state_of self.old) (state_of self.new)) }
@@ -42,11 +43,15 @@ impl Terminal {
         }
         outputs.reserve(MOST_OUTPUTS)?;
         let before = self.display();
+        let told = self.redraws;
         self.redraws = false;
         match action {
             Action::Set(address) => self.select_set(*address, outputs),
             Action::Text(id, text) if text.len() > SHORT_TEXT => {
-                self.enter_long_text(*id, text, outputs)?
+                if let Err(refused) = self.enter_long_text(*id, text, outputs) {
+                    self.redraws = told;
+                    return Err(refused);
+                }
             }
             _ => self.act(action, outputs),
         }

@@ -142,6 +142,7 @@ impl Terminal {
         ensures ok { OnOk result (TakesInput (state_of self.old) input.now (state_of self.new) outputs.old.items outputs.new.items) }
         ensures err { OnErr result (state_of self.new ≡ state_of self.old) }
         ensures err_sent { OnErr result (outputs.new.items ≡ outputs.old.items) }
+        ensures err_redraws { OnErr result (redraws self.new ≡ redraws self.old) }
         // A terminal without its address asks for no memory.
         ensures lost { (state_of self.old).lost ≡ true → IsOk result }
         // Where it tells of no other screen, the text is the same.

@@ -4,7 +4,7 @@ ghost use Rattle.std.specs.Prelude.{◌≡◌, ℕ, List, true, is_some, IfOk, O
 ghost use Rattle.vt_can.specs.transport.Messages.{size_and_first_byte, Message};
 ghost use Rattle.vt_names.specs.Registry.{set_at};
 ghost use Rattle.vt_server.specs.Hearings.{IsReadyWith, IsReadyNow, IsEnd, Answers, IsReplyTo, RoomsStay};
-ghost use Rattle.vt_server.specs.Screens.{TellsChanges};
+ghost use Rattle.vt_server.specs.Screens.{TellsChanges, redraws};
 ghost use Rattle.vt_server.specs.States.{state_of};
 ghost use Rattle.vt_server.specs.Terminals as spec;
 ghost use Rattle.vt_server.specs.Uploads.{content_of, room_of};
@@ -41,6 +41,7 @@ impl Terminal {
     pub(crate) fn prepare_frame(&mut self, source: u8, bytes: &[u8]) -> Result<Upload, OutOfMemory>
         ensures same { state_of self.new ≡ state_of self.old }
         ensures rooms { RoomsStay self.old self.new }
+        ensures redraws { redraws self.new ≡ redraws self.old }
         ensures ready { IfOk result (IsReadyNow (content_of self.new.contents source) (room_of self.new.contents source) bytes.now) }
     {
         match bytes.first() {
@@ -62,6 +63,7 @@ impl Terminal {
     ) -> Result<Upload, OutOfMemory>
         ensures same { state_of self.new ≡ state_of self.old }
         ensures rooms { RoomsStay self.old self.new }
+        ensures redraws { redraws self.new ≡ redraws self.old }
         ensures ready { (message : Message) → told ≡ size_and_first_byte (Some message)
             → IfOk result (IsReadyWith (content_of self.new.contents source) (room_of self.new.contents source) message.bytes) }
     {

@@ -8,7 +8,7 @@ use Rattle.vt_server.specs.declared.terminal.Terminal.{Terminal}
 use Rattle.vt_server.proofs.Performed.{takes-lost, takes-input, takes-same}
 use Rattle.vt_server.proofs.Undrawn.{same-text, shows-then, told-through}
 use Rattle.vt_server.proofs.terminal.Terminal.operate.Goals as goal
-use Rattle.vt_server.proofs.terminal.Terminal.operate.Goals.{in-Set, in-Text+in_ok-enter_long_text-in-Text, in_default}
+use Rattle.vt_server.proofs.terminal.Terminal.operate.Goals.{in-Set, in-Text+in_default-enter_long_text, in_default}
 
 pub returns-then-self-clause-ok : goal.returns-then-self-clause-ok
 returns-then-self-clause-ok c = takes-lost (state_of c.args.self.now) c.args.action.now c.args.outputs.now.items c.if-self.true
@@ -23,10 +23,10 @@ returns-clause-ok c =
           takes-same s (actions.Set w.in-Set.address) (action_value c.args.action.now) (state_of w.select_set.new.self) t c.reserve.new.self.items c.args.outputs.now.items
           w.select_set.new.outputs.items c.match-action.outputs.items (sym (ap action_value w.in-Set.is)) (ap (λ (x : Terminal). state_of x) (sym w.self-is)) c.reserve.ensures.items
           (sym (λ i. (w.outputs-is i).items)) w.select_set.ensures.takes
-      | in-Text+in_ok-enter_long_text-in-Text w ↦
+      | in-Text+in_default-enter_long_text w ↦
           takes-same s (actions.Text w.in-Text.id w.in-Text.text.now) (action_value c.args.action.now) (state_of w.enter_long_text.new.self) t c.reserve.new.self.items c.args.outputs.now.items
           w.enter_long_text.new.outputs.items c.match-action.outputs.items (sym (ap action_value w.in-Text.is)) (ap (λ (x : Terminal). state_of x) (sym w.self-is)) c.reserve.ensures.items
-          (sym (λ i. (w.outputs-is i).items)) w.in_ok-enter_long_text-in-Text.ensures.takes
+          (sym (λ i. (w.outputs-is i).items)) w.in_default-enter_long_text.ensures.takes
       | in_default w ↦
           takes-same s (action_value c.args.action.now) (action_value c.args.action.now) (state_of w.act.new.self) t c.reserve.new.self.items c.args.outputs.now.items
           w.act.new.outputs.items c.match-action.outputs.items refl (ap (λ (x : Terminal). state_of x) (sym w.self-is)) c.reserve.ensures.items
@@ -43,7 +43,7 @@ returns-clause-same c none =
     let acted : ShowsSame (state_of t) (state_of m) =
     elim c.match-action.branch [
       | in-Set w ↦ told-through t m w.select_set.new.self w.self-is w.select_set.ensures.tells settles.0
-      | in-Text+in_ok-enter_long_text-in-Text w ↦ told-through t m w.enter_long_text.new.self w.self-is w.enter_long_text.ensures.tells settles.0
+      | in-Text+in_default-enter_long_text w ↦ told-through t m w.enter_long_text.new.self w.self-is w.enter_long_text.ensures.tells settles.0
       | in_default w ↦ told-through t m w.act.new.self w.self-is w.act.ensures.tells settles.0
     ] in
     same-text (state_of t) (state_of c.settle.new.self) (shows-then (state_of t) (state_of m) (state_of c.settle.new.self) acted settles.1)
