@@ -2,6 +2,7 @@
 
 ghost use Rattle.std.specs.Prelude.{◌≡◌, ◌≢◌, ◌↔◌, [], true, None, Some, is_some, length, IfOk, IfSome, IfNone, IsSome, OnOk, OnErr, Err};
 ghost use Rattle.std.specs.FinMap as finite;
+ghost use Rattle.vt_can.specs.Assigned as assigned;
 ghost use Rattle.vt_can.specs.frames.Frame.{source_of};
 ghost use Rattle.vt_can.specs.transport.Messages.{size_and_first_byte};
 ghost use Rattle.vt_can.specs.transport.Receivers.{IsReadyFor};
@@ -207,8 +208,8 @@ impl Node {
     pub(crate) fn start(&mut self, now: u64, to: u8, message: &[u8]) -> Result<Frame, SendFault>
         requires { has_size message.now ≡ true }
         ensures ok { IfOk result (λ frame. (finite.get self.old.sending to ≡ None)
-            × (self.new ≡ record self.old { sending = finite.insert self.old.sending to (record { last = now; session = record { pgn = 0xE600; bytes = message.now } }) })
-            × (frame ≡ rts_frame self.old.claims.own to (length message.now) 0xE600)) }
+            × (self.new ≡ record self.old { sending = finite.insert self.old.sending to (record { last = now; session = record { pgn = assigned.VT_TO_ECU; bytes = message.now } }) })
+            × (frame ≡ rts_frame self.old.claims.own to (length message.now) assigned.VT_TO_ECU)) }
         ensures busy { (result ≡ Err SendFault.Busy) ↔ IsSome (finite.get self.old.sending to) }
         ensures size { result ≢ Err SendFault.Size }
         ensures err { OnErr result (self.new ≡ self.old) }
