@@ -1,8 +1,10 @@
 //! Screens with too many lines.
 
-use super::screen_of;
+use super::{live_of, screen_of};
 use std::alloc::{AllocError, Global};
 use std::test::Fail;
+use vt_machine::OperatorRefusal;
+use vt_objects::{ObjectId, Store};
 
 /// A Working Set 0 that shows the Data Mask 1000.
 const SET: &[u8] = &[0, 0, 0, 0, 1, 0xE8, 3, 0, 0, 0];
@@ -78,5 +80,15 @@ fn at_most_2000_elements(rt: HostRuntime) -> Result<(), Fail> {
 fn more_paths_than_can_be_walked(rt: HostRuntime) -> Result<(), Fail> {
     let screen = screen_of(rt.alloc(), &deep(rt.alloc())?, 0x80)?;
     assert!(rt; ends(&screen) == (2002, true));
+    Ok(())
+}
+
+// What is not there is looked for in all that is shown, and each object is looked at once.
+#[test]
+fn a_search_of_more_paths_than_can_be_walked(rt: HostRuntime) -> Result<(), Fail> {
+    let mut live = live_of(rt.alloc(), &deep(rt.alloc())?)?;
+    assert!(rt; live.store().count() == 17);
+    let pressed = live.press(ObjectId::from_raw(1));
+    assert!(rt; matches!(pressed, Err(OperatorRefusal::NotShown)));
     Ok(())
 }

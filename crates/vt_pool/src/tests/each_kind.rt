@@ -12,7 +12,7 @@ use std::test::Fail;
 use vt_objects::Object;
 
 // The records by kind, as the table of records lays them out.
-const RECORDS: [&[u8]; 29] = [
+pub(super) const RECORDS: [&[u8]; 29] = [
     // WorkingSet
     &[
         0, 1, 0, 16, 17, 18, 19, 1, 1, 2, 20, 21, 22, 23, 24, 25, 26, 27, 28, 29, 30, 31,
@@ -118,7 +118,7 @@ const RECORDS: [&[u8]; 29] = [
 ];
 
 /// All these records, one after the other.
-fn joined(alloc: Global, records: &[&[u8]]) -> Result<Vec<u8>, AllocError> {
+pub(super) fn joined(alloc: Global, records: &[&[u8]]) -> Result<Vec<u8>, AllocError> {
     let mut bytes = Vec::new(alloc);
     for record in records {
         bytes.extend_from_slice(record)?;

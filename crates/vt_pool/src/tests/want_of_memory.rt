@@ -3,30 +3,29 @@
 ghost use Rattle.std.specs.Prelude.{◌<◌, ◌≤◌, length, IfOk};
 
 use super::arriving::message;
+use super::each_kind::{RECORDS, joined};
 use crate::{Pool, PoolFault, Reading, read_pool, write_object};
 use std::alloc::{AllocError, AllocGlobal, Global};
 use std::process::Abort;
 use std::test::Fail;
 use vt_objects::{Object, ObjectId};
 
-/// Where the records of the pool begin.
-const PLACES: [usize; 5] = [0, 22, 32, 46, 56];
-
-const POOL: [u8; 63] = [
-    // A Working Set 256 with a child, a macro and two languages.
-    0, 1, 0, 16, 17, 18, 19, 1, 1, 2, 20, 21, 22, 23, 24, 25, 26, 27, 28, 29, 30, 31,
-    // A Working Set 0, a Data Mask 1000 and a Container 100.
-    0, 0, 0, 0, 1, 0xE8, 3, 0, 0, 0, // the Working Set
-    0xE8, 3, 1, 0, 0xFF, 0xFF, 1, 0, 100, 0, 10, 0, 5, 0, // the Data Mask
-    100, 0, 3, 50, 0, 20, 0, 0, 0, 0, // the Container
-    // A String Variable 9 of the text `AB`.
-    9, 0, 22, 2, 0, 65, 66,
-];
+/// Whether a record of the pool of all kinds begins at a place, or the pool ends there.
+fn is_begin(at: usize) -> bool {
+    let mut begin = 0usize;
+    for record in RECORDS {
+        if begin == at {
+            return true;
+        }
+        begin = begin.saturating_add(record.len());
+    }
+    begin == at
+}
 
 fn read_again<'a>(alloc: Global, bytes: &'a [u8]) -> Result<Pool<'a>, PoolFault> {
     match read_pool(alloc, bytes) {
         Ok(pool) => Ok(pool),
-        Err(PoolFault::OutOfMemory { at }) if PLACES.contains(&at) => read_pool(alloc, bytes),
+        Err(PoolFault::OutOfMemory { at }) if is_begin(at) => read_pool(alloc, bytes),
         Err(fault) => Err(fault),
     }
 }
@@ -34,8 +33,15 @@ fn read_again<'a>(alloc: Global, bytes: &'a [u8]) -> Result<Pool<'a>, PoolFault>
 fn pool_again<'a>(reading: &'a Reading) -> Result<Pool<'a>, PoolFault> {
     match reading.pool() {
         Ok(pool) => Ok(pool),
-        Err(PoolFault::OutOfMemory { at }) if PLACES.contains(&at) => reading.pool(),
+        Err(PoolFault::OutOfMemory { at }) if is_begin(at) => reading.pool(),
         Err(fault) => Err(fault),
+    }
+}
+
+fn copied_again(alloc: Global, object: &Object<&[u8]>) -> Result<Object<Vec<u8>>, AllocError> {
+    match object.copied(alloc) {
+        Ok(copy) => Ok(copy),
+        Err(_) => object.copied(alloc),
     }
 }
 
@@ -43,7 +49,7 @@ fn pool_again<'a>(reading: &'a Reading) -> Result<Pool<'a>, PoolFault> {
 fn write_again(
     rt: &(impl Abort + AllocGlobal),
     id: ObjectId,
-    object: &Object<&[u8]>,
+    object: &Object<Vec<u8>>,
     out: &mut Vec<u8>,
 ) -> Result<(), AllocError>
     requires { id < 0xFFFF }
@@ -56,14 +62,20 @@ fn write_again(
     write_object(rt.alloc(), id, object, out)
 }
 
-fn expect_written(rt: &(impl Abort + AllocGlobal), pool: &Pool<'_>) -> Result<(), AllocError> {
+/// The copies of a pool's objects are written as the bytes that were read.
+fn expect_written(
+    rt: &(impl Abort + AllocGlobal),
+    pool: &Pool<'_>,
+    bytes: &[u8],
+) -> Result<(), AllocError> {
     let mut out = Vec::new(rt.alloc());
     for (id, object) in pool.objects() {
         if id.raw() < 0xFFFF {
-            write_again(rt, *id, object, &mut out)?;
+            let copy = copied_again(rt.alloc(), object)?;
+            write_again(rt, *id, &copy, &mut out)?;
         }
     }
-    assert_eq!(rt; out.as_slice(), POOL.as_slice());
+    assert_eq!(rt; out.as_slice(), bytes);
     Ok(())
 }
 
@@ -99,18 +111,36 @@ fn reserve_again(reading: &mut Reading, count: usize) -> Result<(), AllocError> 
     }
 }
 
-#[test]
-fn want_of_memory(rt: HostRuntime) -> Result<(), Fail> {
-    let pool = read_again(rt.alloc(), &POOL)?;
-    expect_written(&rt, &pool)?;
+fn pool_of_all_kinds(alloc: Global) -> Result<Vec<u8>, AllocError> {
+    match joined(alloc, &RECORDS) {
+        Ok(bytes) => Ok(bytes),
+        Err(_) => joined(alloc, &RECORDS),
+    }
+}
+
+fn part(bytes: &[u8], from: usize, to: usize) -> &[u8] {
+    bytes.get(from..to).unwrap_or(&[])
+}
+
+// The bytes arrive in three pieces, the last of which there is room for, so that it is not refused.
+fn expect_arrived(rt: &(impl Abort + AllocGlobal), bytes: &[u8]) -> Result<(), Fail> {
     let mut reading = Reading::new(rt.alloc());
-    feed_again(&rt, &mut reading, &POOL[..5])?;
-    feed_again(&rt, &mut reading, &POOL[5..30])?;
-    reserve_again(&mut reading, 33)?;
-    // There is room, so it is not refused.
-    let last = message_again(rt.alloc(), &POOL[30..])?;
+    feed_again(rt, &mut reading, part(bytes, 0, 5))?;
+    feed_again(rt, &mut reading, part(bytes, 5, 30))?;
+    let rest = part(bytes, 30, bytes.len());
+    reserve_again(&mut reading, rest.len())?;
+    let last = message_again(rt.alloc(), rest)?;
     assert!(rt; reading.feed(last, 1).is_ok());
     let pool = pool_again(&reading)?;
-    expect_written(&rt, &pool)?;
+    expect_written(rt, &pool, bytes)?;
+    Ok(())
+}
+
+#[test]
+fn want_of_memory(rt: HostRuntime) -> Result<(), Fail> {
+    let bytes = pool_of_all_kinds(rt.alloc())?;
+    let pool = read_again(rt.alloc(), &bytes)?;
+    expect_written(&rt, &pool, &bytes)?;
+    expect_arrived(&rt, &bytes)?;
     Ok(())
 }

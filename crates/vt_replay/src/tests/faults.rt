@@ -95,7 +95,7 @@ fn is_cut_by_the_reader(alloc: Global, count: usize) -> Result<bool, Fail> {
 
 #[test]
 fn a_reader_that_fails_at_each_place(rt: HostRuntime) -> Result<(), Fail> {
-    for count in 0..LOG.len() {
+    for count in 0..=LOG.len() {
         let cut = is_cut_by_the_reader(rt.alloc(), count)?;
         assert!(&rt; cut, "{count}");
     }

@@ -141,28 +141,47 @@ fn actions_and_their_refusals(rt: HostRuntime) -> Result<(), Fail> {
     expect_scripts(&rt, &SCRIPTS)
 }
 
-const FAULTS: [OperatorFault; 9] = [
-    OperatorFault::NotShown,
-    OperatorFault::Disabled,
-    OperatorFault::Range,
-    OperatorFault::TooLong,
-    OperatorFault::WrongKind,
-    OperatorFault::NotPressed,
-    OperatorFault::Held,
-    OperatorFault::Busy,
-    OperatorFault::NoSet,
+const FAULTS: [(OperatorFault, &str); 9] = [
+    (OperatorFault::NotShown, "the object is not shown"),
+    (OperatorFault::Disabled, "the input is not enabled"),
+    (OperatorFault::Range, "the number is not accepted"),
+    (
+        OperatorFault::TooLong,
+        "the text is longer than that of the object, or of its variable",
+    ),
+    (OperatorFault::WrongKind, "the object is of another kind"),
+    (
+        OperatorFault::NotPressed,
+        "the key is not the one that is held",
+    ),
+    (OperatorFault::Held, "a key is held already"),
+    (
+        OperatorFault::Busy,
+        "a message to the working set is still being sent",
+    ),
+    (
+        OperatorFault::NoSet,
+        "no working set is shown, or there is none with a pool at the address",
+    ),
 ];
 
 // The number of a fault is one more than its place in the type.
+fn expect_fault(
+    rt: &(impl Abort + AllocGlobal),
+    place: usize,
+    fault: OperatorFault,
+    text: &str,
+) -> Result<(), Fail> {
+    assert_eq!(rt; fault as usize, place);
+    let printed = format!(in rt.alloc(); "{fault}")?;
+    assert_eq!(rt; printed.as_str(), text);
+    Ok(())
+}
+
 #[test]
-fn faults_by_their_numbers(rt: HostRuntime) -> Result<(), Fail> {
-    for (place, fault) in FAULTS.iter().enumerate() {
-        assert_eq!(rt; *fault as usize, place);
+fn faults_by_their_numbers_and_texts(rt: HostRuntime) -> Result<(), Fail> {
+    for (place, (fault, text)) in FAULTS.iter().enumerate() {
+        expect_fault(&rt, place, *fault, text)?;
     }
-    let text = format!(in rt.alloc(); "{}", OperatorFault::Busy)?;
-    assert_eq!(rt;
-        text.as_str(),
-        "a message to the working set is still being sent"
-    );
     Ok(())
 }
