@@ -115,7 +115,7 @@ def long_screens(count):
 
 
 def many_sessions(count):
-    """255 sources with a session of 1 MB each, whose packets come in turn."""
+    """All 253 sources that may hold an address beside the terminal, each with a session of 1 MB, whose packets come in turn."""
     log = Log()
     sources = [source for source in range(254) if source != OWN]
     connection = lambda source: 0x1CC80000 | OWN << 8 | source
