@@ -20,6 +20,11 @@ use Rattle.vt_server.proofs.Taking.{Takes, then-takes, takes-beside, acts-take, 
 use Rattle.vt_server.proofs.Changes.{option-true, of-changes, own-before, claims-acts, shown-acts}
 use Rattle.vt_server.proofs.Timeless.{Laws}
 
+-- a frame from another address than the own one is no echo
+pub notice-there : (a : ℕ) (s : State) (f : Frame) → a ≢ s.claims.own → source_of f ≡ a → notice_of s.claims.own s.claims.name f ≡ frame_notice s.claims.own f
+notice-there a s f apart is =
+    ap (λ b. cond b (unless_echo s.claims.name (frame_notice s.claims.own f)) (frame_notice s.claims.own f)) (ne_eqb (source_of f) s.claims.own (λ h. apart (sym is ∙ h)))
+
 -- ---- one frame after what its time ended, for an address that isn't the terminal's own
 
 module _ (laws : Laws) (a : ℕ) (s : State) (f : Frame) (verdict : Verdict) (rising : IsRising s.claims.addresses) (apart : a ≢ s.claims.own) (has : s.lost ≡ false) where
@@ -34,9 +39,6 @@ module _ (laws : Laws) (a : ℕ) (s : State) (f : Frame) (verdict : Verdict) (ri
 
   abbrev rebound : State
   rebound = after_acts recorded (changes s source m)
-
-  notice-there : source ≡ a → m ≡ frame_notice s.claims.own f
-  notice-there is = ap (λ b. cond b (unless_echo s.claims.name (frame_notice s.claims.own f)) (frame_notice s.claims.own f)) (ne_eqb source s.claims.own (λ h. apart (sym is ∙ h)))
 
   bare-before : bare a recorded ≡ with_holder (bare a s) (holder recorded a)
   bare-before = ap (λ own. record (with_holder (bare a s) (holder recorded a)) { terminal = own }) (own-before s source m)
@@ -81,7 +83,7 @@ module _ (laws : Laws) (a : ℕ) (s : State) (f : Frame) (verdict : Verdict) (ri
   hears-take =
       acts-take laws a rebound (heard_at_source s.claims.own source m f verdict) (lost-acts laws a recorded (changes s source m) has)
       (eqb source a) (Hears m f verdict) (FrameHeard f verdict) of-heard
-      (λ here. ap (λ n. by_act a (bare a rebound) (Hears n f verdict)) (ap (λ own. frame_notice own f) own-rebound ∙ sym (notice-there (eqb-true source a here))))
+      (λ here. ap (λ n. by_act a (bare a rebound) (Hears n f verdict)) (ap (λ own. frame_notice own f) own-rebound ∙ sym (notice-there a s f apart (eqb-true source a here))))
 
   frames-defence : (b : Bool) (frame : Frame) → frames_to a (cond b (ToAll frame ∷ []) []) ≡ []
   frames-defence true frame = refl

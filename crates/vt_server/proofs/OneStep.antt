@@ -52,7 +52,7 @@ behind-alike s hs ks ls alike = record {
 -- ---- an action of the operator
 
 -- whether an object is shown, where there is a pool
-abbrev IsSeenIn : Option SetState → Option ℕ → Bool → Type 0
+abbrev pub IsSeenIn : Option SetState → Option ℕ → Bool → Type 0
 IsSeenIn o object shown = IfSome object (λ id. IfSome o (λ state. Decides shown (IsShown state.objects (active_in state.objects) id)))
 
 action-one : (state : SetState) (action : ActionValue) (b d : Bool) → IsSeenIn (Some state) (object_of action) b → IsSeenIn (Some state) (object_of action) d
@@ -64,7 +64,7 @@ action-one state (Number id n) b d seen too = ap (λ (x : Bool). action_on state
 action-one state (Text id text) b d seen too = ap (λ (x : Bool). action_on state x (Text id text)) (same_from_decides b d seen too)
 action-one state (actions.Set a) b d seen too = refl
 
-operator-one : (now a : ℕ) (p : Part) (action : ActionValue) (b d : Bool) (o : Option SetState) → IsSeenIn o (object_of action) b → IsSeenIn o (object_of action) d
+pub operator-one : (now a : ℕ) (p : Part) (action : ActionValue) (b d : Bool) (o : Option SetState) → IsSeenIn o (object_of action) b → IsSeenIn o (object_of action) d
     → after_operator now a p action b o ≡ after_operator now a p action d o
 operator-one now a p action b d None seen too = refl
 operator-one now a p action b d (Some state) seen too = ap (after_action now a p) (action-one state action b d seen too)

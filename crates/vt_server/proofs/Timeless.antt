@@ -117,7 +117,7 @@ abbrev untimed_came : Came → Came
 untimed_came c = record c { place = untimed_place c.place }
 
 module _ (laws : Laws) where
-  came-timeless : (now own a : ℕ) (place : Place) (n : Notice) (frame : Frame)
+  pub came-timeless : (now own a : ℕ) (place : Place) (n : Notice) (frame : Frame)
       → untimed_came (came now own a place n frame) ≡ untimed_came (came 0 own a (untimed_place place) n frame)
   came-timeless now own a place (Claim name) frame = λ i. record { place = place-twice place i; frames = []; message = None }
   came-timeless now own a place ClaimRequest frame = λ i. record { place = place-twice place i; frames = []; message = None }
