@@ -6,6 +6,7 @@ mod Chosen
 mod Claimed
 mod ClaimsHeard
 mod Counting
+mod Deciding
 mod Ended
 mod Expiring
 mod FewRaised

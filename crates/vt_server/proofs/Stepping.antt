@@ -8,7 +8,7 @@ use Rattle.vt_names.specs.Claims.{Claimed, IsRising}
 use Rattle.vt_objects.specs.Stores.{Contents}
 use Rattle.vt_server.specs.Bus.{notice_of}
 use Rattle.vt_server.specs.Choosing.{shown_now}
-use Rattle.vt_server.specs.Happenings.{Happening, Lost, Operated, Preloaded, Response, with_holder, response, part_after_all, frames_of_all, own_part, if_so, is_at, loses, events_at, lapses, heard_happenings, after_frame, after_action_at, frame_happenings, happenings, happenings_all, frames_to, IsOrderly, IsOther, EachTakesItsOwn, OwnHappeningsDecide}
+use Rattle.vt_server.specs.Happenings.{Happening, Lost, Operated, Preloaded, Response, with_holder, response, part_after_all, frames_of_all, own_part, if_so, is_at, loses, events_at, lapses, heard_happenings, after_frame, after_action_at, frame_happenings, happenings, happenings_all, frames_to, IsOrderly, IsOther, EachTakesItsOwn}
 use Rattle.vt_server.specs.Lapses.{at_time, lapsed, sent_by_lapses}
 use Rattle.vt_server.specs.Parts.{Part, Act, Operates, Preloads, untimed_part}
 use Rattle.vt_server.specs.Steps.{Event, FrameAt, ActionAt, step, after_all, sent_by_all, settled, sent_by_settling, losing, acting, hearing, no_step, step_frame, has_no_set, selecting, at_shown, no_set, step_action, preloading}
@@ -24,7 +24,7 @@ use Rattle.vt_server.proofs.Overdue.{so}
 use Rattle.vt_server.proofs.Timeless.{Laws}
 
 -- while the terminal has its own address
-own-bare : (a : ℕ) (s : State) → s.lost ≡ false → own_part a s ≡ bare a s
+pub own-bare : (a : ℕ) (s : State) → s.lost ≡ false → own_part a s ≡ bare a s
 own-bare a s has = ap (λ b. untimed_part (with_holder (part a s) (cond b None (holder s a)))) has
 
 -- From a part of an address, a state and what was sent are what the address makes of happenings, also where the
@@ -121,7 +121,7 @@ action-takes laws a s action shown has =
 
 -- ---- every step
 
-step-ends : Laws → (a : ℕ) (s : State) (e : Event) → IsOrderly s → IsOther a s → Ends a (own_part a s) (step s e).sent (step s e).after (happenings a s e)
+pub step-ends : Laws → (a : ℕ) (s : State) (e : Event) → IsOrderly s → IsOther a s → Ends a (own_part a s) (step s e).sent (step s e).after (happenings a s e)
 step-ends laws a s (FrameAt time f verdict) orderly other = cases s.lost refl
   where
     cases : (b : Bool) → s.lost ≡ b → let step = cond b (no_step s) (step_frame s time f verdict) in
@@ -159,17 +159,17 @@ each laws = record {
 -- ---- runs
 
 module _ (laws : Laws) where
-  orderly-step : (s : State) (e : Event) → IsOrderly s → IsOrderly (step s e).after
+  pub orderly-step : (s : State) (e : Event) → IsOrderly s → IsOrderly (step s e).after
   orderly-step s e orderly = step-keeps IsOrderly (orderly-kept laws.holders) s e orderly
 
-  part-all : (a : ℕ) (s : State) (xs : List Event) → IsOrderly s → IsOther a s → own_part a (after_all s xs) ≡ part_after_all a (own_part a s) (happenings_all a s xs)
+  pub part-all : (a : ℕ) (s : State) (xs : List Event) → IsOrderly s → IsOther a s → own_part a (after_all s xs) ≡ part_after_all a (own_part a s) (happenings_all a s xs)
   part-all a s [] orderly other = refl
   part-all a s (e ∷ xs) orderly other =
       part-all a (step s e).after xs (orderly-step s e orderly) (other-step a s e other)
       ∙ ap (λ p. part_after_all a p (happenings_all a (step s e).after xs)) (step-ends laws a s e orderly other).part
       ∙ sym (responses-append a (own_part a s) (happenings a s e) (happenings_all a (step s e).after xs))
 
-  frames-all : (a : ℕ) (s : State) (xs : List Event) → IsOrderly s → IsOther a s → frames_to a (sent_by_all s xs) ≡ frames_of_all a (own_part a s) (happenings_all a s xs)
+  pub frames-all : (a : ℕ) (s : State) (xs : List Event) → IsOrderly s → IsOther a s → frames_to a (sent_by_all s xs) ≡ frames_of_all a (own_part a s) (happenings_all a s xs)
   frames-all a s [] orderly other = refl
   frames-all a s (e ∷ xs) orderly other =
       let later = happenings_all a (step s e).after xs in
@@ -178,9 +178,3 @@ module _ (laws : Laws) where
       ∙ (λ i. ended.frames i ++ frames-all a (step s e).after xs (orderly-step s e orderly) (other-step a s e other) i)
       ∙ ap (λ p. frames_of_all a (own_part a s) (happenings a s e) ++ frames_of_all a p later) ended.part
       ∙ sym (frames-responses a (own_part a s) (happenings a s e) later)
-
-  pub decide : OwnHappeningsDecide
-  decide a s t xs ys here there other then-other same happened = (
-    part-all a s xs here other ∙ (λ i. part_after_all a (same i) (happened i)) ∙ sym (part-all a t ys there then-other),
-    frames-all a s xs here other ∙ (λ i. frames_of_all a (same i) (happened i)) ∙ sym (frames-all a t ys there then-other),
-  )

@@ -1,5 +1,6 @@
 -- One address among all: what happens there, and what it makes of that (docs/PROFILE.md, "One address").
 use Rattle.std.specs.Prelude.{◌≡◌, ◌≢◌, ◌<◌, ℕ, ◌==◌, ◌&&◌, Bool, true, false, if◌then◌else◌, List, [], ◌∷◌, ◌++◌, Option, Some, None, nat_eq, is_some}
+use Rattle.std.specs.List.{AllZip}
 use Rattle.std.specs.Option.{option_eq}
 use Rattle.vt_can.specs.declared.frames.frame.Frame.{Frame}
 use Rattle.vt_can.specs.frames.Frame.{source_of}
@@ -10,6 +11,7 @@ use Rattle.vt_names.specs.Registry.{AreApart, Set, set_at}
 use Rattle.vt_objects.specs.Stores.{Contents}
 use Rattle.vt_server.specs.Bus.{notice_of, frame_notice}
 use Rattle.vt_server.specs.Choosing.{shown_now, ACTIVATE, DEACTIVATE}
+use Rattle.vt_server.specs.Findings.{AreFound}
 use Rattle.vt_server.specs.Lapses.{at_time, lapsed, is_silent}
 use Rattle.vt_server.specs.Parts.{Part, Outcome, Act, Hears, Rebinds, Preloads, TpExpires, EtpExpires, SendingExpires, FallsSilent, Operates, Raises, outcome, untimed_part}
 use Rattle.vt_server.specs.Steps.{Event, FrameAt, ActionAt, step, after_all, sent_by_all, acted, selecting, at_shown, hear_claim, answer_to, is_lost_by, preloading}
@@ -182,15 +184,28 @@ pub record EachTakesItsOwn : Type 0 where
   pub preloaded_elsewhere : (address other : ℕ) (s : State) (contents : Contents) → other ≢ address
       → own_part other (preloading s address contents) ≡ own_part other s
 
--- Two runs with the same happenings of an address, from the same part of it, leave the same part and send it
--- the same frames, whatever else they hear.
-abbrev pub OwnHappeningsDecide : Type 0
-OwnHappeningsDecide =
-    (address : ℕ) (s t : State) (xs ys : List Event) → IsOrderly s → IsOrderly t
-    → IsOther address s → IsOther address t
-    → own_part address s ≡ own_part address t → happenings_all address s xs ≡ happenings_all address t ys
-    → (own_part address (after_all s xs) ≡ own_part address (after_all t ys))
-    × (frames_to address (sent_by_all s xs) ≡ frames_to address (sent_by_all t ys))
+-- ---- The happenings of an address decide, whatever else is heard.
+
+-- The same frame, action or other happening. What is found of pools in the course of a frame or an action may be put otherwise,
+-- as where two verdicts on a transfer are right.
+abbrev pub AreAlike : Happening → Happening → Type 0
+AreAlike (FrameHeard frame verdict) (FrameHeard other found) = frame ≡ other
+AreAlike (Operated action shown) (Operated other seen) = action ≡ other
+AreAlike h k = h ≡ k
+
+-- what two runs leave at an address, and send it
+pub record IsSameAt (address : ℕ) (s t : State) (xs ys : List Event) : Type 0 where
+  pub part : own_part address (after_all s xs) ≡ own_part address (after_all t ys)
+  pub frames : frames_to address (sent_by_all s xs) ≡ frames_to address (sent_by_all t ys)
+
+-- Two runs with the same happenings of an address, from the same part of it, leave the same part and send it the same frames,
+-- whatever else they hear: with the same findings of pools, and with any that are right.
+pub record OwnHappeningsDecide : Type 0 where
+  pub same : (address : ℕ) (s t : State) (xs ys : List Event) → IsOrderly s → IsOrderly t → IsOther address s → IsOther address t
+      → own_part address s ≡ own_part address t → happenings_all address s xs ≡ happenings_all address t ys → IsSameAt address s t xs ys
+  pub alike : (address : ℕ) (s t : State) (xs ys : List Event) → IsOrderly s → IsOrderly t → IsOther address s → IsOther address t
+      → AreFound s xs → AreFound t ys
+      → own_part address s ≡ own_part address t → AllZip AreAlike (happenings_all address s xs) (happenings_all address t ys) → IsSameAt address s t xs ys
 
 -- ---- A set with a NAME has that of its address's holder, after every input. (None stands at the own address.)
 

@@ -52,7 +52,8 @@ pub fn each_takes_its_own()
 }
 
 /// The law that two runs with the same happenings of an address, from the same part of it, leave the same part
-/// and send it the same frames, whatever else is heard on the bus.
+/// and send it the same frames, whatever else is heard on the bus: with the same findings of pools, and with any
+/// that are right in both runs.
 pub fn own_happenings_decide()
     ensures { OwnHappeningsDecide }
 {
@@ -60,6 +61,9 @@ pub fn own_happenings_decide()
     vt_transport::laws::steps_are_timeless();
     vt_extended::laws::steps_are_timeless();
     vt_transport::laws::answers_are_timeless();
+    vt_pool::laws::readings_are_one();
+    vt_verify::laws::refusals_are_one();
+    vt_verify::laws::refusals_are_true();
 }
 
 /// The law that a step leaves each set with a NAME under an address whose holder has that NAME. So to close the
