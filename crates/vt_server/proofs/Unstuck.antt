@@ -1,5 +1,6 @@
 -- Pools stay in force where something happens at an address, and the runs on them end.
 use Rattle.std.proofs.Common.{◌≡◌, ◌≤◌, ◌+◌, length, ℕ, Bool, true, false, cond, eqb, List, [], ◌∷◌, ◌++◌, Option, Some, None, Result, Ok, Err, refl, sym, ap, subst, ◌∙◌, inl, inr, ◌⊎◌, arith}
+use Rattle.std.proofs.lemmas.Bool.{eqb-true}
 use Rattle.std.specs.Prelude.{IfSome}
 use Rattle.std.specs.List.{AllByRecursion}
 use Rattle.std.specs.Option.{option_map}
@@ -34,7 +35,7 @@ use Rattle.vt_layout.specs.Drawings.{DrawingsNeverStick, PathsAreChained}
 use Rattle.vt_server.specs.Commands.{store_of, after_done, content_after, deletes, state_after}
 use Rattle.vt_server.specs.Findings.{IsJudged, ends_transfer}
 use Rattle.vt_server.specs.Handling.{handled, ends_pool, transferred, end_handled, asked, commanded, TRANSFER, END_OF_POOL}
-use Rattle.vt_server.specs.Headline.{IsInForce, EndsInTime, runs_of_effect, runs_of_command, runs_of_message, runs_of_action, runs_of_operator, runs_of_event, runs_at, named}
+use Rattle.vt_server.specs.Headline.{IsInForce, EndsInTime, accepted_at, accepted_by, accepted_with, runs_of_effect, runs_of_command, runs_of_message, runs_of_action, runs_of_operator, runs_of_event, runs_at, named}
 use Rattle.vt_server.specs.Messages.{technical_reply}
 use Rattle.vt_server.specs.Operators.{action_on, is_busy}
 use Rattle.vt_server.specs.Parts.{Part, Act, Hears, Rebinds, Preloads, TpExpires, EtpExpires, SendingExpires, FallsSilent, Operates, Raises, Outcome, outcome, after_action, after_change, after_claim_heard, after_master, after_member, after_message, after_operator, raised_on, stays_under}
@@ -58,16 +59,19 @@ pub record Laws : Type 0 where
   pub drawings : DrawingsNeverStick
   pub paths : PathsAreChained
 
-abbrev pub IsEach : Option SetState → Type 0
-IsEach pool = IfSome pool IsInForce
+abbrev pub IsEach : Option Contents → Option SetState → Type 0
+IsEach last pool = IfSome pool (IsInForce last)
 
 pub all-append : {A : Type 0} (P : A → Type 0) (xs ys : List A) → AllByRecursion P xs → AllByRecursion P ys → AllByRecursion P (xs ++ ys)
 all-append P [] ys first second = second
 all-append P (x ∷ xs) ys first second = (first.0, all-append P xs ys first.1 second)
 
-either-each : (b : Bool) (x y : Outcome) → IsEach x.place.content.pool → IsEach y.place.content.pool → IsEach (cond b x y).place.content.pool
-either-each true x y first second = first
-either-each false x y first second = second
+either-each : (last : Option Contents) (b : Bool) (x y : Outcome) → IsEach last x.place.content.pool → IsEach last y.place.content.pool → IsEach last (cond b x y).place.content.pool
+either-each last true x y first second = first
+either-each last false x y first second = second
+
+not-both : (n : ℕ) → eqb n TRANSFER ≡ true → eqb n END_OF_POOL ≡ true → ⊥
+not-both n first second = let a = eqb-true n TRANSFER first in let b = eqb-true n END_OF_POOL second in omega arith
 
 -- what may happen while pools are in force: a transfer that ends is judged rightly, what is preloaded was accepted, and the
 -- events that are raised are those of being shown
@@ -77,7 +81,7 @@ MayHappen now a p (Raises event) = (event ≡ 2) ⊎ (event ≡ 1)
 MayHappen now a p (Preloads contents) = (pool : Objects) × IsVerified pool × (contents ≡ map_of pool)
 MayHappen now a p _ = Unit {0}
 
-module _ (laws : Laws) where
+module _ (laws : Laws) (last : Option Contents) where
   -- ---- runs
 
   run-ends : (pool : Objects) (store : Contents) (raised : List Raised) → IsVerified pool → IsReady pool store → length raised ≤ 3
@@ -114,8 +118,8 @@ module _ (laws : Laws) where
     shape = shape ∙ ready.shape;
   }
 
-  with-ready : (state : SetState) (objects : Contents) (is : IsInForce state) → IsReady is.accepted objects → IsInForce (with_objects state objects)
-  with-ready state objects is ready = record { accepted = is.accepted; verified = is.verified; ready = ready }
+  with-ready : (state : SetState) (objects : Contents) (is : IsInForce last state) → IsReady is.accepted objects → IsInForce last (with_objects state objects)
+  with-ready state objects is ready = record { accepted = is.accepted; is_last = is.is_last; verified = is.verified; ready = ready }
 
   -- ---- commands
 
@@ -124,14 +128,14 @@ module _ (laws : Laws) where
       let is : after old command ≡ middle = ap (left old) done in
       moved-ready pool old middle (ap shape_in (sym is) ∙ laws.shapes old command) (subst IsSound is (laws.order old command ready.sound)) ready
 
-  done-in-force : (state : SetState) (command : Command) → IsInForce state → (r : Result Contents ℕ) → effect state.objects command ≡ r
-      → IsInForce (with_objects state (after_done state.objects (events_of state.objects command) r))
+  done-in-force : (state : SetState) (command : Command) → IsInForce last state → (r : Result Contents ℕ) → effect state.objects command ≡ r
+      → IsInForce last (with_objects state (after_done state.objects (events_of state.objects command) r))
   done-in-force state command is (Ok middle) done =
       let ready = middle-ready is.accepted state.objects command middle done is.ready in
       with-ready state (store_of (run_of middle (events_of state.objects command))) is (ran-ready is.accepted middle (events_of state.objects command) is.verified ready)
   done-in-force state command is (Err bits) done = with-ready state state.objects is is.ready
 
-  done-runs : (state : SetState) (command : Command) → IsInForce state → (r : Result Contents ℕ) → effect state.objects command ≡ r
+  done-runs : (state : SetState) (command : Command) → IsInForce last state → (r : Result Contents ℕ) → effect state.objects command ≡ r
       → AllByRecursion EndsInTime (runs_of_effect state.objects command r)
   done-runs state command is (Ok middle) done = (
     run-ends is.accepted middle (events_of state.objects command) is.verified (middle-ready is.accepted state.objects command middle done is.ready)
@@ -140,75 +144,82 @@ module _ (laws : Laws) where
   )
   done-runs state command is (Err bits) done = tt
 
-  each-done : (command : Command) (o : Option SetState) → IsEach o → IsEach (option_map (state_after command) o)
+  each-done : (command : Command) (o : Option SetState) → IsEach last o → IsEach last (option_map (state_after command) o)
   each-done command None is = tt
   each-done command (Some state) is = done-in-force state command is (effect state.objects command) refl
 
-  command-keeps : (command : Command) (content : Content) → IsEach content.pool → IsEach (content_after command content).pool
+  command-keeps : (command : Command) (content : Content) → IsEach last content.pool → IsEach last (content_after command content).pool
   command-keeps command content is = cases (deletes command)
     where
-      cases : (b : Bool) → IsEach (cond b (record { pool = None; transfer = [] }) (record content { pool = option_map (state_after command) content.pool })).pool
+      cases : (b : Bool) → IsEach last (cond b (record { pool = None; transfer = [] }) (record content { pool = option_map (state_after command) content.pool })).pool
       cases true = tt
       cases false = each-done command content.pool is
 
   -- ---- messages
 
-  ended-keeps : (content : Content) (verdict : Verdict) → IsEach content.pool → IsVerdict content verdict → IsEach (ended content verdict).pool
+  ended-keeps : (content : Content) (verdict : Verdict) → IsEach last content.pool → IsVerdict content verdict
+      → IsEach (accepted_by verdict last) (ended content verdict).pool
   ended-keeps content (Accepts objects) is right = cases content.pool
     where
       ready : IsReady (merged content.pool right.pool) objects
       ready = subst (IsReady (merged content.pool right.pool)) (sym right.objects_are)
           (laws.pools (merged content.pool right.pool) right.verified.stored right.verified.acceptable)
 
-      cases : (o : Option SetState) → IsInForce (with_objects_of o objects)
-      cases None = record { accepted = merged content.pool right.pool; verified = right.verified; ready = ready }
-      cases (Some state) = record { accepted = merged content.pool right.pool; verified = right.verified; ready = ready }
+      cases : (o : Option SetState) → IsInForce (Some objects) (with_objects_of o objects)
+      cases None = record { accepted = merged content.pool right.pool; is_last = ap Some right.objects_are; verified = right.verified; ready = ready }
+      cases (Some state) = record { accepted = merged content.pool right.pool; is_last = ap Some right.objects_are; verified = right.verified; ready = ready }
   ended-keeps content (Faulty fault) is right = is
   ended-keeps content (Refuses refusal) is right = is
 
-  commanded-keeps : (content : Content) (o : Option Command) → IsEach content.pool → IsEach (commanded content o).content.pool
+  commanded-keeps : (content : Content) (o : Option Command) → IsEach last content.pool → IsEach last (commanded content o).content.pool
   commanded-keeps content None is = is
   commanded-keeps content (Some command) is = command-keeps command content is
 
-  asked-keeps : (content : Content) (bytes : List ℕ) (o : Option (List ℕ)) → IsEach content.pool → IsEach (asked content bytes o).content.pool
+  asked-keeps : (content : Content) (bytes : List ℕ) (o : Option (List ℕ)) → IsEach last content.pool → IsEach last (asked content bytes o).content.pool
   asked-keeps content bytes None is = commanded-keeps content (command_at bytes) is
   asked-keeps content bytes (Some reply) is = is
 
-  handled-keeps : (content : Content) (verdict : Verdict) (bytes : List ℕ) → IsEach content.pool → (ends_pool bytes ≡ true → IsVerdict content verdict)
-      → IsEach (handled content verdict bytes).content.pool
+  handled-keeps : (content : Content) (verdict : Verdict) (bytes : List ℕ) → IsEach last content.pool → (ends_pool bytes ≡ true → IsVerdict content verdict)
+      → IsEach (accepted_with (ends_pool bytes) verdict last) (handled content verdict bytes).content.pool
   handled-keeps content verdict [] is right = is
-  handled-keeps content verdict (function ∷ bytes) is right = cases (eqb function TRANSFER) (eqb function END_OF_POOL) right
+  handled-keeps content verdict (function ∷ bytes) is right = cases (eqb function TRANSFER) refl (eqb function END_OF_POOL) refl right
     where
       all : List ℕ
       all = function ∷ bytes
 
-      cases : (b c : Bool) → (c ≡ true → IsVerdict content verdict)
-          → IsEach (cond b (transferred content bytes) (cond c (end_handled content verdict) (asked content all (technical_reply all)))).content.pool
-      cases true c right = is
-      cases false true right = ended-keeps content verdict is (right refl)
-      cases false false right = asked-keeps content all (technical_reply all) is
+      cases : (b : Bool) → eqb function TRANSFER ≡ b → (c : Bool) → eqb function END_OF_POOL ≡ c → (c ≡ true → IsVerdict content verdict)
+          → IsEach (accepted_with c verdict last) (cond b (transferred content bytes) (cond c (end_handled content verdict) (asked content all (technical_reply all)))).content.pool
+      cases true first true second right = absurd (not-both function first second)
+      cases true first false second right = is
+      cases false first true second right = ended-keeps content verdict is (right refl)
+      cases false first false second right = asked-keeps content all (technical_reply all) is
 
-  message-keeps : (a : ℕ) (p : Part) (verdict : Verdict) (o : Option Set) (message : Option (List ℕ)) → IsEach p.place.content.pool
-      → (ends_transfer o message ≡ true → IsVerdict p.place.content verdict) → IsEach (after_message a p verdict o message).place.content.pool
+  message-keeps : (a : ℕ) (p : Part) (verdict : Verdict) (o : Option Set) (message : Option (List ℕ)) → IsEach last p.place.content.pool
+      → (ends_transfer o message ≡ true → IsVerdict p.place.content verdict)
+      → IsEach (accepted_with (ends_transfer o message) verdict last) (after_message a p verdict o message).place.content.pool
   message-keeps a p verdict (Some set) (Some bytes) is right = handled-keeps p.place.content verdict bytes is right
   message-keeps a p verdict (Some set) None is right = is
   message-keeps a p verdict None message is right = is
 
-  heard-keeps : (now a : ℕ) (p : Part) (n : Notice) (f : Frame) (verdict : Verdict) → IsJudged now a p n f verdict → IsEach p.place.content.pool
-      → IsEach (outcome now a p (Hears n f verdict)).place.content.pool
-  heard-keeps now a p (Claim name) f verdict judged is = cases p.set
+  unended : (o : Option Set) (verdict : Verdict) (pool : Option SetState) → IsEach last pool → IsEach (accepted_with (ends_transfer o None) verdict last) pool
+  unended None verdict pool is = is
+  unended (Some set) verdict pool is = is
+
+  heard-keeps : (now a : ℕ) (p : Part) (n : Notice) (f : Frame) (verdict : Verdict) → IsJudged now a p n f verdict → IsEach last p.place.content.pool
+      → IsEach (accepted_at now a p (Hears n f verdict) last) (outcome now a p (Hears n f verdict)).place.content.pool
+  heard-keeps now a p (Claim name) f verdict judged is = unended p.set verdict (outcome now a p (Hears (Claim name) f verdict)).place.content.pool (cases p.set)
     where
-      cases : (o : Option Set) → IsEach (after_claim_heard (record p { place = heard_at now p.place }) o).place.content.pool
+      cases : (o : Option Set) → IsEach last (after_claim_heard (record p { place = heard_at now p.place }) o).place.content.pool
       cases None = is
       cases (Some set) = is
-  heard-keeps now a p (Master count) f verdict judged is = cases p.holder
+  heard-keeps now a p (Master count) f verdict judged is = unended p.set verdict (outcome now a p (Hears (Master count) f verdict)).place.content.pool (cases p.holder)
     where
-      cases : (o : Option ℕ) → IsEach (after_master a (record p { place = heard_at now p.place }) o count).place.content.pool
+      cases : (o : Option ℕ) → IsEach last (after_master a (record p { place = heard_at now p.place }) o count).place.content.pool
       cases None = is
       cases (Some holder) = is
-  heard-keeps now a p (Member name) f verdict judged is = cases p.set
+  heard-keeps now a p (Member name) f verdict judged is = unended p.set verdict (outcome now a p (Hears (Member name) f verdict)).place.content.pool (cases p.set)
     where
-      cases : (o : Option Set) → IsEach (after_member (record p { place = heard_at now p.place }) o name).place.content.pool
+      cases : (o : Option Set) → IsEach last (after_member (record p { place = heard_at now p.place }) o name).place.content.pool
       cases None = is
       cases (Some set) = is
   heard-keeps now a p ClaimRequest f verdict judged is = message-keeps a (record p { place = heard_at now p.place }) verdict p.set None is (λ e. judged e)
@@ -220,11 +231,11 @@ module _ (laws : Laws) where
   heard-keeps now a p Etp f verdict judged is =
       let c = came now p.terminal a (heard_at now p.place) Etp f in message-keeps a (record p { place = c.place }) verdict p.set c.message is judged
 
-  message-runs : (o : Option SetState) (message : Option (List ℕ)) → IsEach o → AllByRecursion EndsInTime (runs_of_message o message)
+  message-runs : (o : Option SetState) (message : Option (List ℕ)) → IsEach last o → AllByRecursion EndsInTime (runs_of_message o message)
   message-runs o None is = tt
   message-runs o (Some bytes) is = cases o is (command_at bytes)
     where
-      cases : (o : Option SetState) → IsEach o → (c : Option Command) → AllByRecursion EndsInTime (runs_of_command o c)
+      cases : (o : Option SetState) → IsEach last o → (c : Option Command) → AllByRecursion EndsInTime (runs_of_command o c)
       cases None is c = tt
       cases (Some state) is None = tt
       cases (Some state) is (Some command) = done-runs state command is (effect state.objects command) refl
@@ -232,13 +243,13 @@ module _ (laws : Laws) where
   -- ---- the operator
 
   abbrev ActsInForce : Option operating.Action → Type 0
-  ActsInForce (Some (operating.Acts message start raised)) = IsInForce start × (length raised ≤ 3)
+  ActsInForce (Some (operating.Acts message start raised)) = IsInForce last start × (length raised ≤ 3)
   ActsInForce _ = Unit {0}
 
-  same-objects : (state new : SetState) → new.objects ≡ state.objects → IsInForce state → IsInForce new
-  same-objects state new same is = record { accepted = is.accepted; verified = is.verified; ready = subst (IsReady is.accepted) (sym same) is.ready }
+  same-objects : (state new : SetState) → new.objects ≡ state.objects → IsInForce last state → IsInForce last new
+  same-objects state new same is = record { accepted = is.accepted; is_last = is.is_last; verified = is.verified; ready = subst (IsReady is.accepted) (sym same) is.ready }
 
-  press-in-force : (shown : Bool) (state : SetState) (mask id : ℕ) → IsInForce state → ActsInForce (Some (operating.press shown state mask id))
+  press-in-force : (shown : Bool) (state : SetState) (mask id : ℕ) → IsInForce last state → ActsInForce (Some (operating.press shown state mask id))
   press-in-force false state mask id is = tt
   press-in-force true state mask id is = cases (operating.key_message 1 id mask (finite.get state.objects id)) state.key
     where
@@ -247,7 +258,7 @@ module _ (laws : Laws) where
       cases (Some m) (Some k) = tt
       cases (Some m) None = (same-objects state (operating.holding state (Some (operating.held id mask))) refl is, omega arith)
 
-  release-in-force : (state : SetState) (id : ℕ) → IsInForce state → ActsInForce (Some (operating.release state id))
+  release-in-force : (state : SetState) (id : ℕ) → IsInForce last state → ActsInForce (Some (operating.release state id))
   release-in-force state id is = cases state.key
     where
       cases : (k : Option HeldKey) → ActsInForce (Some (operating.release_of state id k))
@@ -258,7 +269,7 @@ module _ (laws : Laws) where
           by true = (same-objects state (operating.holding state None) refl is, omega arith)
           by false = tt
 
-  select-in-force : (shown : Bool) (state : SetState) (id : ℕ) → IsInForce state → ActsInForce (Some (operating.select shown state id))
+  select-in-force : (shown : Bool) (state : SetState) (id : ℕ) → IsInForce last state → ActsInForce (Some (operating.select shown state id))
   select-in-force false state id is = tt
   select-in-force true state id is = cases (operating.is_enabled (finite.get state.objects id))
     where
@@ -267,10 +278,10 @@ module _ (laws : Laws) where
       cases (Some false) = tt
       cases (Some true) = (same-objects state (operating.selecting state id) refl is, few-selected id state.input)
 
-  put-in-force : (state : SetState) (new : Contents) → shape_in new ≡ shape_in state.objects → IsSound new → IsInForce state → IsInForce (with_objects state new)
+  put-in-force : (state : SetState) (new : Contents) → shape_in new ≡ shape_in state.objects → IsSound new → IsInForce last state → IsInForce last (with_objects state new)
   put-in-force state new shape sound is = with-ready state new is (moved-ready is.accepted state.objects new shape sound is.ready)
 
-  number-in-force : (state : SetState) (id n : ℕ) → IsInForce state → (r : Result ℕ OperatorRefusal) → ActsInForce (Some (number_entered state id n r))
+  number-in-force : (state : SetState) (id n : ℕ) → IsInForce last state → (r : Result ℕ OperatorRefusal) → ActsInForce (Some (number_entered state id n r))
   number-in-force state id n is (Err refusal) = tt
   number-in-force state id n is (Ok at) = (
     put-in-force state (put_at state.objects at (with_number n) (finite.get state.objects at))
@@ -278,7 +289,7 @@ module _ (laws : Laws) where
     few-entered id _,
   )
 
-  text-in-force : (state : SetState) (id : ℕ) (text : List ℕ) → IsInForce state → (r : Result ℕ OperatorRefusal) → ActsInForce (Some (text_entered state id text r))
+  text-in-force : (state : SetState) (id : ℕ) (text : List ℕ) → IsInForce last state → (r : Result ℕ OperatorRefusal) → ActsInForce (Some (text_entered state id text r))
   text-in-force state id text is (Err refusal) = tt
   text-in-force state id text is (Ok at) = (
     put-in-force state (put_at state.objects at (with_text text) (finite.get state.objects at))
@@ -286,7 +297,7 @@ module _ (laws : Laws) where
     few-entered id _,
   )
 
-  action-in-force : (state : SetState) (shown : Bool) (action : ActionValue) → IsInForce state → ActsInForce (action_on state shown action)
+  action-in-force : (state : SetState) (shown : Bool) (action : ActionValue) → IsInForce last state → ActsInForce (action_on state shown action)
   action-in-force state shown (Press id) is = press-in-force shown state (active_in state.objects) id is
   action-in-force state shown (Release id) is = release-in-force state id is
   action-in-force state shown (Select id) is = select-in-force shown state id is
@@ -296,19 +307,19 @@ module _ (laws : Laws) where
   action-in-force state true (Text id text) is = text-in-force state id text is (text_place state.objects id text (finite.get state.objects id))
   action-in-force state shown (actions.Set address) is = tt
 
-  acted-keeps : (now a : ℕ) (p : Part) (o : Option operating.Action) → IsEach p.place.content.pool → ActsInForce o → IsEach (after_action now a p o).place.content.pool
+  acted-keeps : (now a : ℕ) (p : Part) (o : Option operating.Action) → IsEach last p.place.content.pool → ActsInForce o → IsEach last (after_action now a p o).place.content.pool
   acted-keeps now a p None is acts = is
   acted-keeps now a p (Some (operating.Refused refusal)) is acts = is
   acted-keeps now a p (Some (operating.Acts message start raised)) is acts =
-      either-each (is_busy message p.place.sending) _ _ is
+      either-each last (is_busy message p.place.sending) _ _ is
       (with-ready start (store_of (run_of start.objects raised)) acts.0 (ran-ready acts.0.accepted start.objects raised acts.0.verified acts.0.ready))
 
-  operator-keeps : (now a : ℕ) (p : Part) (action : ActionValue) (shown : Bool) (o : Option SetState) → IsEach p.place.content.pool → IsEach o
-      → IsEach (after_operator now a p action shown o).place.content.pool
+  operator-keeps : (now a : ℕ) (p : Part) (action : ActionValue) (shown : Bool) (o : Option SetState) → IsEach last p.place.content.pool → IsEach last o
+      → IsEach last (after_operator now a p action shown o).place.content.pool
   operator-keeps now a p action shown None is each = is
   operator-keeps now a p action shown (Some state) is each = acted-keeps now a p (action_on state shown action) is (action-in-force state shown action each)
 
-  operator-runs : (shown : Bool) (action : ActionValue) (o : Option SetState) → IsEach o → AllByRecursion EndsInTime (runs_of_operator o (λ state. action_on state shown action))
+  operator-runs : (shown : Bool) (action : ActionValue) (o : Option SetState) → IsEach last o → AllByRecursion EndsInTime (runs_of_operator o (λ state. action_on state shown action))
   operator-runs shown action None each = tt
   operator-runs shown action (Some state) each = cases (action_on state shown action) (action-in-force state shown action each)
     where
@@ -329,7 +340,7 @@ module _ (laws : Laws) where
       append-nil [] = refl
       append-nil (c ∷ l) = ap (λ (m : List Command). c ∷ m) (append-nil l)
 
-  raised-number : (state : SetState) (e : Event) → IsInForce state → IsInForce (raised_on state (event_number e))
+  raised-number : (state : SetState) (e : Event) → IsInForce last state → IsInForce last (raised_on state (event_number e))
   raised-number state e is =
       let shape = shape_in state.objects in
       let set = working_set_in state.objects in
@@ -338,29 +349,30 @@ module _ (laws : Laws) where
       (subst (IsReady is.accepted) (sym (one-run state.objects (budget shape set (event_number e)) (joined shape (listing set (event_number e)))))
       (ran-ready is.accepted state.objects raised is.verified is.ready))
 
-  raised-in-force : (state : SetState) (event : ℕ) → (event ≡ 2) ⊎ (event ≡ 1) → IsInForce state → IsInForce (raised_on state event)
-  raised-in-force state event (inl two) is = subst (λ (n : ℕ). IsInForce (raised_on state n)) (sym two) (raised-number state events.Deactivate is)
-  raised-in-force state event (inr one) is = subst (λ (n : ℕ). IsInForce (raised_on state n)) (sym one) (raised-number state events.Activate is)
+  raised-in-force : (state : SetState) (event : ℕ) → (event ≡ 2) ⊎ (event ≡ 1) → IsInForce last state → IsInForce last (raised_on state event)
+  raised-in-force state event (inl two) is = subst (λ (n : ℕ). IsInForce last (raised_on state n)) (sym two) (raised-number state events.Deactivate is)
+  raised-in-force state event (inr one) is = subst (λ (n : ℕ). IsInForce last (raised_on state n)) (sym one) (raised-number state events.Activate is)
 
-  raised-keeps : (event : ℕ) → (event ≡ 2) ⊎ (event ≡ 1) → (o : Option SetState) → IsEach o → IsEach (option_map (λ state. raised_on state event) o)
+  raised-keeps : (event : ℕ) → (event ≡ 2) ⊎ (event ≡ 1) → (o : Option SetState) → IsEach last o → IsEach last (option_map (λ state. raised_on state event) o)
   raised-keeps event which None is = tt
   raised-keeps event which (Some state) is = raised-in-force state event which is
 
-  event-runs : (event : ℕ) (o : Option SetState) → IsEach o → AllByRecursion EndsInTime (runs_of_event o event)
+  event-runs : (event : ℕ) (o : Option SetState) → IsEach last o → AllByRecursion EndsInTime (runs_of_event o event)
   event-runs event None is = tt
   event-runs event (Some state) is =
       (run-ends is.accepted state.objects (named (working_set_in state.objects) (event_at event)) is.verified is.ready (few-named (working_set_in state.objects) (event_at event)), tt)
 
   -- ---- what happens at an address
 
-  changed-keeps : (p : Part) (o : Option Set) → IsEach p.place.content.pool → IsEach (after_change p o).place.content.pool
+  changed-keeps : (p : Part) (o : Option Set) → IsEach last p.place.content.pool → IsEach last (after_change p o).place.content.pool
   changed-keeps p None is = is
-  changed-keeps p (Some set) is = either-each (stays_under set.name p.holder) _ _ is tt
+  changed-keeps p (Some set) is = either-each last (stays_under set.name p.holder) _ _ is tt
 
-  pub act-keeps : (now a : ℕ) (p : Part) (h : Act) → MayHappen now a p h → IsEach p.place.content.pool → IsEach (outcome now a p h).place.content.pool
+  pub act-keeps : (now a : ℕ) (p : Part) (h : Act) → MayHappen now a p h → IsEach last p.place.content.pool
+      → IsEach (accepted_at now a p h last) (outcome now a p h).place.content.pool
   act-keeps now a p (Hears n f verdict) may is = heard-keeps now a p n f verdict may is
   act-keeps now a p Rebinds may is = changed-keeps p p.set is
-  act-keeps now a p (Preloads contents) may is = record { accepted = may.0; verified = may.1; ready = subst (IsReady may.0) (sym may.2) (laws.pools may.0 may.1.stored may.1.acceptable) }
+  act-keeps now a p (Preloads contents) may is = record { accepted = may.0; is_last = ap Some may.2; verified = may.1; ready = subst (IsReady may.0) (sym may.2) (laws.pools may.0 may.1.stored may.1.acceptable) }
   act-keeps now a p TpExpires may is = is
   act-keeps now a p EtpExpires may is = is
   act-keeps now a p SendingExpires may is = is
@@ -368,7 +380,7 @@ module _ (laws : Laws) where
   act-keeps now a p (Operates action shown) may is = operator-keeps now a p action shown p.place.content.pool is is
   act-keeps now a p (Raises event) may is = raised-keeps event may p.place.content.pool is
 
-  pub act-runs : (now a : ℕ) (p : Part) (h : Act) → IsEach p.place.content.pool → AllByRecursion EndsInTime (runs_at now a p h)
+  pub act-runs : (now a : ℕ) (p : Part) (h : Act) → IsEach last p.place.content.pool → AllByRecursion EndsInTime (runs_at now a p h)
   act-runs now a p (Hears n f verdict) is = message-runs p.place.content.pool (came now p.terminal a p.place n f).message is
   act-runs now a p Rebinds is = tt
   act-runs now a p (Preloads contents) is = tt

@@ -1,6 +1,6 @@
 -- The promise over all that a terminal does: its sets are those of the written machine, and that machine never sticks
 -- (docs/PROOFS.md, "The headline").
-use Rattle.std.specs.Prelude.{◌≡◌, ◌≤◌, ℕ, length, if◌then◌else◌, List, [], ◌∷◌, ◌++◌, Option, Some, None, Result, Ok, Err, IfSome}
+use Rattle.std.specs.Prelude.{◌≡◌, ◌≤◌, ℕ, Bool, length, if◌then◌else◌, List, [], ◌∷◌, ◌++◌, Option, Some, None, Result, Ok, Err, IfSome}
 use Rattle.std.specs.List.{AllByRecursion}
 use Rattle.std.specs.FinMap as finite
 use Rattle.vt_can.specs.declared.frames.frame.Frame.{Frame}
@@ -22,30 +22,73 @@ use Rattle.vt_machine.specs.Showing.{soft_key_mask_of}
 use Rattle.vt_layout.specs.Drawings.{IsChained, Sticks, at_path, key_entries, mask_entries, origin, passed}
 use Rattle.vt_server.specs.Bus.{notice_of}
 use Rattle.vt_server.specs.Choosing.{choosing, shown_now, events_of_change}
+use Rattle.vt_server.specs.Findings.{ends_transfer}
 use Rattle.vt_server.specs.Lapses.{at_time, lapsed}
 use Rattle.vt_server.specs.Operators.{action_on}
-use Rattle.vt_server.specs.Parts.{Part, Act, Hears, Operates, Raises}
+use Rattle.vt_server.specs.Parts.{Part, Act, Hears, Preloads, Operates, Raises}
 use Rattle.vt_server.specs.Places.{empty}
 use Rattle.vt_server.specs.Sessions.{came}
 use Rattle.vt_server.specs.States.{TakesInputs}
 use Rattle.vt_server.specs.Steps.{Event, FrameAt, ActionAt, step, before, acts, acted, answer_to, is_lost_by, selecting, at_shown, preloading}
-use Rattle.vt_server.specs.Terminals.{State, pool_of, part, after_act, after_acts}
-use Rattle.vt_server.specs.Transfers.{Verdict}
+use Rattle.vt_server.specs.Terminals.{State, pool_of, part, with_at, after_act, after_acts}
+use Rattle.vt_server.specs.Transfers.{Verdict, Accepts}
 use Rattle.vt_server.specs.declared.bus.Notice.{Notice}
 use Rattle.vt_server.specs.declared.input.Input.{Input}
 use Rattle.vt_server.specs.declared.output.Output.{Output}
 
 -- ---- pools in force
 
--- The objects come from an accepted pool: the same IDs, kinds, macro entries and macro bytes, one working set, and references
--- and chains in order.
-pub record IsInForce (state : SetState) : Type 0 where
+-- what was accepted last at each address: a pool that was preloaded or uploaded, or an update with the objects that it left
+abbrev pub Pools : Type 0
+Pools = ℕ → Option Contents
+
+-- The objects come from the pool that was accepted last: the same IDs, kinds, macro entries and macro bytes, one working set,
+-- and references and chains in order.
+pub record IsInForce (last : Option Contents) (state : SetState) : Type 0 where
   pub accepted : Objects
+  pub is_last : last ≡ Some (map_of accepted)
   pub verified : IsVerified accepted
   pub ready : IsReady accepted state.objects
 
-abbrev pub AreInForce : State → Type 0
-AreInForce s = (address : ℕ) → IfSome (pool_of s address) IsInForce
+abbrev pub AreInForce : Pools → State → Type 0
+AreInForce pools s = (address : ℕ) → IfSome (pool_of s address) (IsInForce (pools address))
+
+-- ---- which pools are accepted in the course of an input
+
+abbrev pub accepted_by : Verdict → Option Contents → Option Contents
+accepted_by (Accepts objects) last = Some objects
+accepted_by _ last = last
+
+abbrev pub accepted_with : Bool → Verdict → Option Contents → Option Contents
+accepted_with ends verdict last = if ends then accepted_by verdict last else last
+
+-- the end of a transfer whose pool is accepted, and a pool that is preloaded
+abbrev pub accepted_at : ℕ → ℕ → Part → Act → Option Contents → Option Contents
+accepted_at now address p (Hears notice frame verdict) last =
+    accepted_with (ends_transfer p.set (came now p.terminal address p.place notice frame).message) verdict last
+accepted_at now address p (Preloads contents) last = Some contents
+accepted_at now address p _ last = last
+
+abbrev pub accepted_by_acts : State → List (ℕ × Act) → Pools → Pools
+accepted_by_acts s [] pools = pools
+accepted_by_acts s (h ∷ acts) pools =
+    accepted_by_acts (after_act s h.0 h.1) acts (with_at h.0 (accepted_at s.now h.0 (part h.0 s) h.1 (pools h.0)) pools)
+
+abbrev pub accepted_in_hearing : State → ℕ → Notice → Frame → Verdict → Pools → Pools
+accepted_in_hearing s source notice frame verdict pools =
+    if is_lost_by (answer_to s source notice) then pools
+    else accepted_by_acts (before s source notice) (acts s source notice frame verdict) pools
+
+-- An action of the operator brings no pool, and nor does a frame after the loss of the address.
+abbrev pub accepted_after : State → Event → Pools → Pools
+accepted_after s (FrameAt time frame verdict) pools =
+    if s.lost then pools
+    else accepted_in_hearing (lapsed (at_time s time)) (source_of frame) (notice_of s.claims.own s.claims.name frame) frame verdict pools
+accepted_after s (ActionAt action shown) pools = pools
+
+abbrev pub accepted_after_all : State → List Event → Pools → Pools
+accepted_after_all s [] pools = pools
+accepted_after_all s (e ∷ events) pools = accepted_after_all (step s e).after events (accepted_after s e pools)
 
 -- ---- the runs of the machine in the course of an input
 
@@ -146,18 +189,19 @@ pub record DrawsWhatIsThere (store : Contents) : Type 0 where
   pub of_keys : (mask : ℕ) (path : List ℕ) → IfSome (at_path store (key_entries store mask) origin path)
       (λ e. IsChained store (soft_key_mask_of (finite.get store mask)) (passed store (key_entries store mask) path) e.id)
 
--- What inputs leave: the sets and outputs of the written machine, each of whose runs ends in time, and pools in force, whose
--- drawings do not stick.
-pub record Keeps (old : State) (inputs : List Input) (new : State) (sent_before sent_after : List Output) : Type 0 where
+-- What inputs leave: the sets and outputs of the written machine, each of whose runs ends in time, and pools in force, each
+-- of which is the one that was accepted last, and whose drawings do not stick.
+pub record Keeps (pools : Pools) (old : State) (inputs : List Input) (new : State) (sent_before sent_after : List Output) : Type 0 where
   pub takes : TakesInputs old inputs new sent_before sent_after
   pub runs_end : AllEnd old takes.events
-  pub in_force : AreInForce new
+  pub in_force : AreInForce (accepted_after_all old takes.events pools) new
   pub drawn : (address : ℕ) → IfSome (pool_of new address) (λ state. DrawsWhatIsThere state.objects)
 
 -- A terminal has no pool at first; an accepted pool that is preloaded is in force, beside those that are; and whatever inputs it
 -- takes then keep the promise.
 pub record NeverSticks : Type 0 where
-  pub first : (s : State) → ((address : ℕ) → s.places address ≡ empty) → AreInForce s
-  pub preloaded : (s : State) (address : ℕ) (pool : Objects) → IsVerified pool → AreInForce s → AreInForce (preloading s address (map_of pool))
-  pub inputs : (old : State) (inputs : List Input) (new : State) (sent_before sent_after : List Output) → AreInForce old
-      → TakesInputs old inputs new sent_before sent_after → Keeps old inputs new sent_before sent_after
+  pub first : (s : State) → ((address : ℕ) → s.places address ≡ empty) → AreInForce (λ address. None) s
+  pub preloaded : (pools : Pools) (s : State) (address : ℕ) (pool : Objects) → IsVerified pool → AreInForce pools s
+      → AreInForce (with_at address (Some (map_of pool)) pools) (preloading s address (map_of pool))
+  pub inputs : (pools : Pools) (old : State) (inputs : List Input) (new : State) (sent_before sent_after : List Output) → AreInForce pools old
+      → TakesInputs old inputs new sent_before sent_after → Keeps pools old inputs new sent_before sent_after
