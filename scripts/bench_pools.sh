@@ -1,15 +1,17 @@
 #!/usr/bin/env bash
 # Times vt_pool: pools of 1,000, 10,000 and 60,000 containers with four children each, written and read.
-# The program stands in a folder of its own, beside copies of the two crates and of what was proved of them.
+# The program stands in a folder of its own, beside copies of the crates that it stands on and of what was proved of them.
 set -eu
 top=$(cd "$(dirname "$0")/.." && pwd)
 work=$(mktemp -d)
 trap 'rm -rf "$work"' EXIT
 mkdir -p "$work/crates/bench/src"
-cp -r "$top/crates/vt_objects" "$top/crates/vt_pool" "$work/crates/"
+for crate in kinds stores commands objects records writing pool; do
+    cp -r "$top/crates/vt_$crate" "$work/crates/"
+done
 {
-    grep -E '^vt_(objects|pool):' "$top/crates.txt"
-    echo 'bench: vt_objects vt_pool'
+    grep -E '^vt_(kinds|stores|commands|objects|records|writing|pool):' "$top/crates.txt"
+    echo 'bench: vt_kinds vt_objects vt_pool'
 } >"$work/crates.txt"
 cat >"$work/crates/bench/src/main.rt" <<'PROGRAM'
 #![tactic(auto)]

@@ -11,6 +11,7 @@ with --built they are taken as they are.
 The toolchain's `rt try --fail-alloc N` does the same to a test, but builds it anew for each number.
 """
 
+import glob
 import os
 import re
 import subprocess
@@ -102,7 +103,7 @@ def main():
         library = built_library(folder)
         for crate in chosen:
             where = f"{ROOT}/crates/{crate}"
-            if not os.path.exists(f"{where}/src/tests/{TEST}.rt"):
+            if not glob.glob(f"{where}/src/**/{TEST}.rt", recursive=True):
                 if crate in words:
                     print(f"{crate} has no test {TEST}", file=sys.stderr)
                     is_wrong = True

@@ -23,6 +23,3 @@ pub use transport::{
     Bytes, Heard, Reason, Received, Sessions, Timed, abort_bytes, append_packet, frame_of,
     is_transport_frame_to, numbered_packet, three_bytes,
 };
-
-#[cfg(test)]
-mod tests;

@@ -18,6 +18,3 @@ pub use vt_can::{Bytes, Heard};
 
 /// A growth that was refused.
 pub use std::alloc::AllocError as OutOfMemory;
-
-#[cfg(test)]
-mod tests;

@@ -1,23 +1,24 @@
 -- A path goes along a chain of inclusions.
 use Rattle.std.proofs.Common.{sym, ◌≡◌, ◌≤◌, ℕ, suc, Bool, true, false, eqb, List, [], ◌∷◌, length, Option, Some, None, refl, ap, subst, ◌∙◌, arith, ◌++◌}
+use Rattle.std.proofs.lemmas.Option.{same_Some}
 use Rattle.std.specs.Prelude.{Contains, IsTrue, slice_get}
 use Rattle.std.specs.List.{AllByRecursion}
 use Rattle.std.specs.Option.{option_map}
 use Rattle.std.specs.FinMap as finite
-use Rattle.vt_objects.specs.declared.variables.ObjectPointer.{ObjectPointer}
-use Rattle.vt_objects.specs.declared.entries.Child.{Child}
-use Rattle.vt_objects.specs.declared.kind.Kind.TheVariants as kinds
-use Rattle.vt_objects.specs.declared.object.Object.TheVariants as objects
-use Rattle.vt_objects.specs.declared.place.Place.TheVariants as places
-use Rattle.vt_objects.specs.Records.{Seen}
-use Rattle.vt_objects.specs.References.{slots_of}
-use Rattle.vt_objects.specs.Stores.{Contents}
-use Rattle.vt_verify.specs.Depths.{inclusions_of}
-use Rattle.vt_verify.specs.Inclusions.{IsChain, included_by}
-use Rattle.vt_verify.proofs.Elements.{Contains-nil, cons_case, some_is}
-use Rattle.vt_machine.specs.Showing.{ids_in, keys_of, soft_key_mask_of, behind, stands_for, is_element}
-use Rattle.vt_machine.specs.Soundness.{IsSound, is_in_order}
-use Rattle.vt_machine.proofs.Marking.{listed_included, drawn_included, is_there, behind_case, included_at}
+use Rattle.vt_kinds.specs.declared.variables.ObjectPointer.{ObjectPointer}
+use Rattle.vt_kinds.specs.declared.entries.Child.{Child}
+use Rattle.vt_kinds.specs.declared.kind.Kind.TheVariants as kinds
+use Rattle.vt_kinds.specs.declared.object.Object.TheVariants as objects
+use Rattle.vt_kinds.specs.declared.place.Place.TheVariants as places
+use Rattle.vt_kinds.specs.Records.{Seen}
+use Rattle.vt_kinds.specs.References.{slots_of}
+use Rattle.vt_stores.specs.Stores.{Contents}
+use Rattle.vt_chains.specs.Depths.{inclusions_of}
+use Rattle.vt_chains.specs.Inclusions.{IsChain, included_by}
+use Rattle.vt_chains.proofs.Elements.{Contains-nil, cons_case}
+use Rattle.vt_shown.specs.Showing.{ids_in, keys_of, soft_key_mask_of, behind, stands_for, is_element}
+use Rattle.vt_effects.specs.Soundness.{IsSound, is_in_order}
+use Rattle.vt_shown.proofs.Marking.{listed_included, drawn_included, is_there, behind_case, included_at}
 use Rattle.vt_layout.specs.declared.element.Element.{Element}
 use Rattle.vt_layout.specs.declared.element.Position.{Position}
 use Rattle.vt_layout.specs.Drawings.{origin, entered, along, at_path, entries_in, mask_entries, key_entries, IsChained, PathsAreChained, Sticks, led_through, through, passed_below, passed}
@@ -35,7 +36,7 @@ AreIncluded store id names = (name : ℕ) → eqb name 65535 ≡ false → Conta
 
 value_is : (value next : ℕ) (o : Option Seen) → option_map (λ x. value) o ≡ Some next → value ≡ next
 value_is value next None is = absurd cc
-value_is value next (Some x) is = some_is value next is
+value_is value next (Some x) is = same_Some value next is
 
 -- a pointer is no element
 no_pointer : (store : Contents) (next : ℕ) (p : ObjectPointer) → finite.get store next ≡ Some (objects.ObjectPointer p) → IsTrue (is_element (finite.get store next)) → ⊥
@@ -65,7 +66,7 @@ way_more store id name next rest least to null first stands shows way = by (fini
           each = omega (arith, le);
         }
     by (Some _) at is =
-        let moved = subst (λ (k : ℕ). IsWay store k rest least to) (sym (some_is name next is)) way in
+        let moved = subst (λ (k : ℕ). IsWay store k rest least to) (sym (same_Some name next is)) way in
         let le = moved.each in
         record { is = (first, moved.is); last = moved.last; each = omega (arith, le) }
 
@@ -97,7 +98,7 @@ way_along : (store : Contents) (path : List ℕ) (first e : Element) → finite.
     → IsWay store first.id (passed_below store path (Some first)) (length path) e.id
 way_along store [] first e null leads = record {
   is = tt;
-  last = ap (λ (k : Element). Some k.id) (some_is first e leads);
+  last = ap (λ (k : Element). Some k.id) (same_Some first e leads);
   each = omega arith;
 }
 way_along store (place ∷ path) first e null leads =

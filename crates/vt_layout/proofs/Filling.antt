@@ -5,12 +5,12 @@ use Rattle.std.proofs.lemmas.Bool.{ltb-true, ltb-false, lt-ltb, le-ltb, ne_eqb}
 use Rattle.std.specs.Prelude.{nat_lt, codes}
 use Rattle.std.specs.List.{flat_map}
 use Rattle.std.specs.FinMap as finite
-use Rattle.vt_objects.specs.declared.entries.Child.{Child}
-use Rattle.vt_objects.specs.Stores.{Contents}
+use Rattle.vt_kinds.specs.declared.entries.Child.{Child}
+use Rattle.vt_stores.specs.Stores.{Contents}
 use Rattle.vt_verify.specs.Rules.{working_sets}
 use Rattle.vt_machine.specs.Lives.{IsActive}
-use Rattle.vt_machine.specs.Machines.{shape_in}
-use Rattle.vt_machine.specs.Soundness.{IsSound}
+use Rattle.vt_effects.specs.Soundness.{shape_in}
+use Rattle.vt_effects.specs.Soundness.{IsSound}
 use Rattle.vt_machine.proofs.OneSet.{masks_are_one}
 use Rattle.vt_layout.specs.declared.element.Element.{Element}
 use Rattle.vt_layout.specs.Drawings.{Placed, origin, at_path, mask_entries, key_entries, AreAll, IsDrawing, DrawingsAreOne}

@@ -3,14 +3,15 @@ use Rattle.std.proofs.Common.{◌≡◌, ◌≤◌, inl, inr, ℕ, zero, suc, Li
 use Rattle.std.specs.Prelude.{Contains}
 use Rattle.std.specs.List.{AllByRecursion}
 use Rattle.std.specs.FinMap as finite
-use Rattle.vt_objects.specs.declared.entries.Child.{Child}
-use Rattle.vt_objects.specs.Stores.{Contents}
-use Rattle.vt_verify.proofs.Elements.{Contains-nil, Contains-head, Contains-tail, cons_case}
-use Rattle.vt_machine.specs.Showing.{stands_for}
+use Rattle.vt_kinds.specs.declared.entries.Child.{Child}
+use Rattle.vt_stores.specs.Stores.{Contents}
+use Rattle.vt_chains.proofs.Elements.{Contains-nil, Contains-head, Contains-tail, cons_case}
+use Rattle.vt_shown.specs.Showing.{stands_for}
 use Rattle.vt_layout.specs.declared.element.Element.{Element}
 use Rattle.vt_layout.specs.declared.element.Position.{Position}
 use Rattle.vt_layout.specs.Drawings.{Placed, shifted, element, entries_in, IsBefore, IsInOrder, AreAll, IsDrawing, mask_entries, key_entries}
 use Rattle.vt_layout.proofs.Walking.{Places, under, placed_with, placed_from, all_placed}
+use Rattle.vt_macros.proofs.Faultless.{all_append}
 
 -- ---- before
 
@@ -84,10 +85,6 @@ StartFrom place ps = AllByRecursion (λ p. StartsFrom place p.path) ps
 -- paths that begin with a place
 abbrev StartAt : ℕ → List Placed → Type 0
 StartAt place ps = AllByRecursion (λ p. (rest : List ℕ) × (p.path ≡ place ∷ rest)) ps
-
-all_append : {A : Type 0} (P : A → Type 0) (xs ys : List A) → AllByRecursion P xs → AllByRecursion P ys → AllByRecursion P (xs ++ ys)
-all_append P [] ys one two = two
-all_append P (x ∷ xs) ys one two = (one.0, all_append P xs ys one.1 two)
 
 all_more : {A : Type 0} (P Q : A → Type 0) (xs : List A) → ((x : A) → P x → Q x) → AllByRecursion P xs → AllByRecursion Q xs
 all_more P Q [] then all = all

@@ -1,14 +1,15 @@
 -- What is shown is what is drawn.
 use Rattle.std.proofs.Common.{◌≡◌, ◌⊎◌, inl, inr, ℕ, zero, suc, Bool, true, false, cond, eqb, List, [], ◌∷◌, ◌++◌, map, Option, Some, None, refl, sym, ap, subst, ◌∙◌}
+use Rattle.std.proofs.lemmas.Option.{same_Some}
 use Rattle.std.specs.Prelude.{Contains, IsTrue, slice_get}
 use Rattle.std.specs.FinMap as finite
-use Rattle.vt_objects.specs.declared.entries.Child.{Child}
-use Rattle.vt_objects.specs.declared.object.Object.TheVariants as objects
-use Rattle.vt_objects.specs.Records.{Seen}
-use Rattle.vt_objects.specs.Stores.{Contents}
-use Rattle.vt_verify.proofs.Elements.{Contains-nil, Contains-head, Contains-tail, cons_case, some_is}
-use Rattle.vt_machine.specs.Showing.{stands_for, is_element, ids_in, drawn_in, soft_keys, IsNamed, IsShown}
-use Rattle.vt_machine.specs.Showing.IsShown.{InMask, AmongKeys, Within}
+use Rattle.vt_kinds.specs.declared.entries.Child.{Child}
+use Rattle.vt_kinds.specs.declared.object.Object.TheVariants as objects
+use Rattle.vt_kinds.specs.Records.{Seen}
+use Rattle.vt_stores.specs.Stores.{Contents}
+use Rattle.vt_chains.proofs.Elements.{Contains-nil, Contains-head, Contains-tail, cons_case}
+use Rattle.vt_shown.specs.Showing.{stands_for, is_element, ids_in, drawn_in, soft_keys, IsNamed, IsShown}
+use Rattle.vt_shown.specs.Showing.IsShown.{InMask, AmongKeys, Within}
 use Rattle.vt_layout.specs.declared.element.Element.{Element}
 use Rattle.vt_layout.specs.declared.element.Position.{Position}
 use Rattle.vt_layout.specs.Drawings.{Placed, origin, shifted, unmoved, element, entered, along, at_path, entries_in, mask_entries, key_entries, AreAll, IsDrawing}
@@ -46,7 +47,7 @@ entry_of P (entry ∷ entries) name h then =
 pub name_of : (entries : List Child) (place : ℕ) (entry : Child) → slice_get entries place ≡ Some entry → Contains (ids_in entries) entry.id
 name_of [] place entry is = absurd cc
 name_of (first ∷ entries) zero entry is =
-    subst (λ (e : Child). Contains (first.id ∷ ids_in entries) e.id) (some_is first entry is) (Contains-head first.id (ids_in entries))
+    subst (λ (e : Child). Contains (first.id ∷ ids_in entries) e.id) (same_Some first entry is) (Contains-head first.id (ids_in entries))
 name_of (first ∷ entries) (suc place) entry is = Contains-tail first.id entry.id (ids_in entries) (name_of entries place entry is)
 
 -- ---- what is shown is met
@@ -90,7 +91,7 @@ along_more : (store : Contents) (path : List ℕ) (place : ℕ) (o : Option Elem
 along_more store path place None e leads = absurd cc
 along_more store [] place (Some o) e leads =
     along_nothing (entered store o.at place (slice_get (entries_in store (finite.get store o.id)) place))
-    ∙ ap (λ (k : Element). entered store k.at place (slice_get (entries_in store (finite.get store k.id)) place)) (some_is o e leads)
+    ∙ ap (λ (k : Element). entered store k.at place (slice_get (entries_in store (finite.get store k.id)) place)) (same_Some o e leads)
   where
     along_nothing : (o : Option Element) → along store [] o ≡ o
     along_nothing None = refl
@@ -137,7 +138,7 @@ entered_entry P store entries from place e is then = by (slice_get entries place
     by_element : (entry : Child) → slice_get entries place ≡ Some entry → (id : ℕ) → stands_for store entry.id ≡ Some id → (b : Bool) → is_element (finite.get store id) ≡ b
         → (k : Element) → k.id ≡ id → cond b (Some k) None ≡ Some e → P
     by_element entry there id stands true shows k is same =
-        let id_is : id ≡ e.id = sym is ∙ ap (λ (k : Element). k.id) (some_is k e same) in
+        let id_is : id ≡ e.id = sym is ∙ ap (λ (k : Element). k.id) (same_Some k e same) in
         then entry there (stands ∙ ap Some id_is) (subst (λ (n : ℕ). IsTrue (is_element (finite.get store n))) id_is (subst IsTrue (sym shows) refl))
     by_element entry there id stands false shows k is same = absurd cc
 
@@ -159,7 +160,7 @@ entered_named P store entries from place e is so =
 along_shown : (store : Contents) (mask : ℕ) (path : List ℕ) (o : Option Element) (e : Element) → ((first : Element) → o ≡ Some first → IsShown store mask first.id)
     → along store path o ≡ Some e → IsShown store mask e.id
 along_shown store mask path None e first leads = absurd cc
-along_shown store mask [] (Some o) e first leads = subst (λ (k : Element). IsShown store mask k.id) (some_is o e leads) (first o refl)
+along_shown store mask [] (Some o) e first leads = subst (λ (k : Element). IsShown store mask k.id) (same_Some o e leads) (first o refl)
 along_shown store mask (place ∷ path) (Some o) e first leads =
     let within = entries_in store (finite.get store o.id) in
     along_shown store mask path (entered store o.at place (slice_get within place)) e

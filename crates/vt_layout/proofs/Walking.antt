@@ -1,12 +1,13 @@
 -- The walk through entries meets the elements at all paths.
 use Rattle.std.proofs.Common.{◌≡◌, ◌≤◌, ◌+◌, inl, inr, ℕ, zero, suc, List, [], ◌∷◌, ◌++◌, map, length, Option, Some, None, refl, sym, ap, subst, ◌∙◌, arith}
+use Rattle.std.proofs.lemmas.Option.{same_Some}
 use Rattle.std.proofs.lemmas.List.Elements.{Contains-append_left, Contains-append_right, Contains-append_cases}
 use Rattle.std.specs.Prelude.{Contains, slice_get}
 use Rattle.std.specs.FinMap as finite
-use Rattle.vt_objects.specs.declared.entries.Child.{Child}
-use Rattle.vt_objects.specs.Stores.{Contents}
-use Rattle.vt_verify.proofs.Elements.{Contains-nil, Contains-head, Contains-tail, cons_case, some_is}
-use Rattle.vt_machine.specs.Showing.{stands_for}
+use Rattle.vt_kinds.specs.declared.entries.Child.{Child}
+use Rattle.vt_stores.specs.Stores.{Contents}
+use Rattle.vt_chains.proofs.Elements.{Contains-nil, Contains-head, Contains-tail, cons_case}
+use Rattle.vt_shown.specs.Showing.{stands_for}
 use Rattle.vt_layout.specs.declared.element.Element.{Element}
 use Rattle.vt_layout.specs.declared.element.Position.{Position}
 use Rattle.vt_layout.specs.Drawings.{Placed, shifted, element, entered, along, at_path, entries_in}
@@ -152,7 +153,7 @@ with_met : (depth : ℕ) (inner : Places) (store : Contents) → AreMet depth st
 with_met depth inner store met place None path e leads short = absurd cc
 with_met depth inner store met place (Some o) [] e leads short =
     let within = entries_in store (finite.get store o.id) in
-    subst (λ (k : Element). Contains (placed_with inner store place (Some o)) (placed (place ∷ []) k)) (some_is o e leads)
+    subst (λ (k : Element). Contains (placed_with inner store place (Some o)) (placed (place ∷ []) k)) (same_Some o e leads)
     (Contains-head (placed (place ∷ []) o) (map (under place) (inner within o.at)))
 with_met depth inner store met place (Some o) (q ∷ path) e leads short =
     let within = entries_in store (finite.get store o.id) in

@@ -5,21 +5,21 @@ use Rattle.std.proofs.lemmas.Bool.{ltb-true, ltb-false}
 use Rattle.std.specs.Prelude.{codes, nat_lt, OnOk, is_ok, if◌then◌else◌}
 use Rattle.std.specs.List.{flat_map}
 use Rattle.std.specs.FinMap as finite
-use Rattle.vt_objects.specs.declared.entries.Child.{Child}
-use Rattle.vt_objects.specs.declared.masks.WorkingSet.{WorkingSet}
-use Rattle.vt_objects.specs.declared.masks.DataMask.{DataMask}
-use Rattle.vt_objects.specs.declared.masks.AlarmMask.{AlarmMask}
-use Rattle.vt_objects.specs.declared.masks.Container.{Container}
-use Rattle.vt_objects.specs.declared.keys.Key.{Key}
-use Rattle.vt_objects.specs.declared.keys.Button.{Button}
-use Rattle.vt_objects.specs.declared.input_fields.InputList.{InputList}
-use Rattle.vt_objects.specs.declared.object.Object.{Object}
-use Rattle.vt_objects.specs.declared.object.Object.TheVariants as objects
-use Rattle.vt_objects.specs.Records.{Seen, seen}
-use Rattle.vt_objects.specs.Stores.{Contents}
+use Rattle.vt_kinds.specs.declared.entries.Child.{Child}
+use Rattle.vt_kinds.specs.declared.masks.WorkingSet.{WorkingSet}
+use Rattle.vt_kinds.specs.declared.masks.DataMask.{DataMask}
+use Rattle.vt_kinds.specs.declared.masks.AlarmMask.{AlarmMask}
+use Rattle.vt_kinds.specs.declared.masks.Container.{Container}
+use Rattle.vt_kinds.specs.declared.keys.Key.{Key}
+use Rattle.vt_kinds.specs.declared.keys.Button.{Button}
+use Rattle.vt_kinds.specs.declared.input_fields.InputList.{InputList}
+use Rattle.vt_kinds.specs.declared.object.Object.{Object}
+use Rattle.vt_kinds.specs.declared.object.Object.TheVariants as objects
+use Rattle.vt_kinds.specs.Records.{Seen, seen}
+use Rattle.vt_stores.specs.Stores.{Contents}
 use Rattle.vt_machine.specs.Lives.{IsActive}
-use Rattle.vt_machine.specs.Showing.{stands_for, keys_of, soft_key_mask_of}
-use Rattle.vt_machine.specs.Soundness.{IsSound}
+use Rattle.vt_shown.specs.Showing.{stands_for, keys_of, soft_key_mask_of}
+use Rattle.vt_effects.specs.Soundness.{IsSound}
 use Rattle.vt_layout.specs.declared.element.Element.{Element}
 use Rattle.vt_layout.specs.declared.element.Position.{Position}
 use Rattle.vt_layout.specs.Drawings.{origin, shifted, unmoved, element, entries_in}

@@ -2,21 +2,21 @@
 use Rattle.std.specs.Prelude.{◌≡◌, ℕ, pos, ◌+ℤ◌, ◌≤◌, ◌<◌, false, ◌==◌, if◌then◌else◌, List, [], ◌∷◌, ◌++◌, map, slice_get, Option, Some, None, Contains, ◌↔◌, ◌⊎◌, length}
 use Rattle.std.specs.List.{AllByRecursion}
 use Rattle.std.specs.FinMap as finite
-use Rattle.vt_objects.specs.declared.entries.Child.{Child}
-use Rattle.vt_objects.specs.declared.kind.Kind.TheVariants as kinds
-use Rattle.vt_objects.specs.declared.object.Object.TheVariants as objects
-use Rattle.vt_objects.specs.declared.slot.Slot.{Slot}
-use Rattle.vt_objects.specs.Records.{Seen}
-use Rattle.vt_objects.specs.References.{slots_of}
-use Rattle.vt_objects.specs.Stores.{Contents}
-use Rattle.vt_verify.specs.Depths.{inclusions_of}
-use Rattle.vt_verify.specs.Inclusions.{IsChain}
-use Rattle.vt_verify.specs.Rules.{terminal}
+use Rattle.vt_kinds.specs.declared.entries.Child.{Child}
+use Rattle.vt_kinds.specs.declared.kind.Kind.TheVariants as kinds
+use Rattle.vt_kinds.specs.declared.object.Object.TheVariants as objects
+use Rattle.vt_kinds.specs.declared.slot.Slot.{Slot}
+use Rattle.vt_kinds.specs.Records.{Seen}
+use Rattle.vt_kinds.specs.References.{slots_of}
+use Rattle.vt_stores.specs.Stores.{Contents}
+use Rattle.vt_chains.specs.Depths.{inclusions_of}
+use Rattle.vt_chains.specs.Inclusions.{IsChain}
+use Rattle.vt_chains.specs.Limits.{terminal}
 use Rattle.vt_layout.specs.declared.element.Element.{Element}
 use Rattle.vt_layout.specs.declared.element.Position.{Position}
-use Rattle.vt_machine.specs.Effects.{kind_in}
-use Rattle.vt_machine.specs.Showing.{stands_for, is_element, number_shown, item_of, soft_key_mask_of, soft_keys, drawn_in, IsShown}
-use Rattle.vt_machine.specs.Soundness.{IsSound, is_in_order}
+use Rattle.vt_effects.specs.Effects.{kind_in}
+use Rattle.vt_shown.specs.Showing.{stands_for, is_element, number_shown, item_of, soft_key_mask_of, soft_keys, drawn_in, IsShown}
+use Rattle.vt_effects.specs.Soundness.{IsSound, is_in_order}
 
 -- ---- lists of entries
 

@@ -4,13 +4,13 @@ use Rattle.std.specs.Fmt.{decimal, signed_decimal}
 use Rattle.std.specs.List.{flat_map}
 use Rattle.std.specs.FinMap as finite
 use Rattle.hex.specs.Hex.{encode_upper}
-use Rattle.vt_objects.specs.declared.object.Object.TheVariants as objects
+use Rattle.vt_kinds.specs.declared.object.Object.TheVariants as objects
 use Rattle.vt_objects.specs.Decimals.{shown_text}
-use Rattle.vt_objects.specs.Records.{Seen}
-use Rattle.vt_objects.specs.Scales.{scale_places}
-use Rattle.vt_objects.specs.Stores.{Contents}
+use Rattle.vt_kinds.specs.Records.{Seen}
+use Rattle.vt_kinds.specs.Scales.{scale_places}
+use Rattle.vt_stores.specs.Stores.{Contents}
 use Rattle.vt_machine.specs.Operating.{is_enabled}
-use Rattle.vt_machine.specs.Showing.{number_shown}
+use Rattle.vt_shown.specs.Showing.{number_shown}
 use Rattle.vt_layout.specs.declared.element.Element.{Element}
 
 -- ---- parts of lines

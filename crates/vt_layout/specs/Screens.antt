@@ -4,11 +4,11 @@ use Rattle.std.specs.Fmt.{decimal}
 use Rattle.std.specs.List.{flat_map}
 use Rattle.std.specs.FinMap as finite
 use Rattle.hex.specs.Hex.{encode_upper}
-use Rattle.vt_objects.specs.Stores.{Contents}
+use Rattle.vt_stores.specs.Stores.{Contents}
 use Rattle.vt_verify.specs.Rules.{working_sets}
 use Rattle.vt_machine.specs.Lives.{IsActive}
-use Rattle.vt_machine.specs.Machines.{shape_in}
-use Rattle.vt_machine.specs.Soundness.{IsSound}
+use Rattle.vt_effects.specs.Soundness.{shape_in}
+use Rattle.vt_effects.specs.Soundness.{IsSound}
 use Rattle.vt_layout.specs.Drawings.{Placed, IsDrawing}
 use Rattle.vt_layout.specs.Lines.{line}
 

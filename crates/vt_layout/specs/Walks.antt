@@ -1,10 +1,10 @@
 -- The elements of a list of entries, in their order, as far as some places deep.
 use Rattle.std.specs.Prelude.{ℕ, zero, suc, List, [], ◌∷◌, ◌++◌, Option, Some, None}
 use Rattle.std.specs.FinMap as finite
-use Rattle.vt_objects.specs.declared.entries.Child.{Child}
-use Rattle.vt_objects.specs.Stores.{Contents}
-use Rattle.vt_verify.specs.Rules.{terminal}
-use Rattle.vt_machine.specs.Showing.{stands_for}
+use Rattle.vt_kinds.specs.declared.entries.Child.{Child}
+use Rattle.vt_stores.specs.Stores.{Contents}
+use Rattle.vt_chains.specs.Limits.{terminal}
+use Rattle.vt_shown.specs.Showing.{stands_for}
 use Rattle.vt_layout.specs.declared.element.Element.{Element}
 use Rattle.vt_layout.specs.declared.element.Position.{Position}
 use Rattle.vt_layout.specs.Drawings.{origin, shifted, element, entries_in, mask_entries, key_entries}

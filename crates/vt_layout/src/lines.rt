@@ -2,8 +2,8 @@
 
 ghost use Rattle.std.specs.Prelude.{◌≡◌, ◌++◌, [], if◌then◌else◌, Some, OnOk, string_bytes, codes};
 ghost use Rattle.std.specs.Fmt.{decimal};
-ghost use Rattle.vt_objects.specs.declared.object.Object.TheVariants as objects;
-ghost use Rattle.vt_objects.specs.Records.{seen};
+ghost use Rattle.vt_kinds.specs.declared.object.Object.TheVariants as objects;
+ghost use Rattle.vt_kinds.specs.Records.{seen};
 ghost use Rattle.vt_layout.specs.Lines.{line_of, described, switched, standing, sized, numbered, coded};
 ghost use Rattle.vt_machine.specs.Operating.{is_enabled};
 

@@ -2,7 +2,7 @@
 
 ghost use Rattle.std.specs.Prelude.{◌≡◌, ◌↔◌, ◌++◌, IsTrue, IfOk, OnOk, Some, suc, string_bytes};
 ghost use Rattle.std.specs.FinMap as finite;
-ghost use Rattle.vt_objects.specs.Records.{seen};
+ghost use Rattle.vt_kinds.specs.Records.{seen};
 ghost use Rattle.vt_layout.specs.Lines.{line_of};
 ghost use Rattle.vt_layout.specs.Screens.{most_lines};
 ghost use Rattle.vt_layout.specs.Sheets.{with_line, finished};

@@ -3,7 +3,7 @@
 ghost use Rattle.std.specs.Prelude.{◌≡◌, ◌++◌, ◌<◌, List, OnOk, string_bytes, codes, take, Some};
 ghost use Rattle.std.specs.Option.{option_map};
 ghost use Rattle.std.specs.List.{flat_map};
-ghost use Rattle.vt_objects.specs.Scales.{scale_places};
+ghost use Rattle.vt_kinds.specs.Scales.{scale_places};
 ghost use Rattle.vt_layout.specs.Lines as parts;
 
 use crate::element::Element;

@@ -1,35 +1,5 @@
-pub mod Taking
-pub mod Moving
-pub mod Children
-pub mod AttributeChanges
-pub mod KeptFields
-pub mod Keeping
-pub mod Referring
-pub mod Written
-pub mod Puts
-pub mod InOrder
-pub mod InTurn
-pub mod Places
-pub mod WrittenSlots
-pub mod SlotsInOrder
-pub mod ShortChains
-pub mod KeepingOrder
-pub mod Shapes
-pub mod Faultless
-pub mod Running
-pub mod Ready
-pub mod Falling
-pub mod Walking
-pub mod Adding
-pub mod Executing
-pub mod Nesting
-pub mod Living
-pub mod Plain
-pub mod Filling
+mod Filling
+mod Living
+mod NullFree
 pub mod OneSet
-pub mod Indexing
-pub mod IndexOrder
-pub mod Marking
-pub mod Named
-pub mod Pointing
-pub mod NullFree
+mod Plain

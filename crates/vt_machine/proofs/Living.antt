@@ -1,47 +1,50 @@
 -- What calls on a working set begin with, and what they leave.
-use Rattle.std.proofs.Common.{◌≡◌, ◌≤◌, ◌<◌, ◌+◌, ◌-◌, ◌*◌, ◌++◌, ℕ, zero, suc, Bool, cond, List, [], ◌∷◌, map, length, slice_get, slice_index_or, true, false, Option, Some, None, Ok, refl, sym, ap, subst, ◌∙◌, arith}
+use Rattle.std.proofs.Common.{◌≡◌, ◌≤◌, ◌<◌, ◌+◌, ◌-◌, ◌*◌, ℕ, zero, suc, Bool, cond, List, [], ◌∷◌, map, length, slice_get, slice_index_or, true, false, Option, Some, None, Ok, refl, sym, ap, subst, ◌∙◌, arith, append-nil}
 use Rattle.std.proofs.lemmas.List.Sums.{sum_by-cons}
 use Rattle.std.proofs.lemmas.Cmp.{nat_cmp_total}
 use Rattle.std.specs.List.{AllByRecursion}
 use Rattle.std.specs.Option.{option_map}
 use Rattle.std.specs.FinMap as finite
-use Rattle.vt_objects.specs.declared.kind.Kind.{Kind}
-use Rattle.vt_objects.specs.declared.kind.Kind.TheVariants as kinds
-use Rattle.vt_objects.specs.declared.command.Command.{Command}
-use Rattle.vt_objects.specs.declared.object.Object.{Object}
-use Rattle.vt_objects.specs.declared.object.Object.TheVariants as objects
-use Rattle.vt_objects.specs.declared.raising.Raised.{Raised}
-use Rattle.vt_objects.specs.Records.{Seen, seen, kind_of}
-use Rattle.vt_objects.specs.Stores.{Contents, Objects, AreStored, shown, object_at, map_of, contents_of}
-use Rattle.vt_objects.proofs.Stored.{get_from}
+use Rattle.vt_kinds.specs.declared.kind.Kind.{Kind}
+use Rattle.vt_kinds.specs.declared.kind.Kind.TheVariants as kinds
+use Rattle.vt_commands.specs.declared.command.Command.{Command}
+use Rattle.vt_kinds.specs.declared.object.Object.{Object}
+use Rattle.vt_kinds.specs.declared.object.Object.TheVariants as objects
+use Rattle.vt_commands.specs.declared.raising.Raised.{Raised}
+use Rattle.vt_kinds.specs.Records.{Seen, seen, kind_of}
+use Rattle.vt_stores.specs.Stores.{Contents, Objects, AreStored, shown, object_at, map_of, contents_of}
+use Rattle.vt_stores.proofs.Stored.{get_from}
 use Rattle.vt_verify.specs.Macros.{commands}
-use Rattle.vt_verify.specs.Shapes.{Shape, shape_of, kind_at}
+use Rattle.vt_stores.specs.Shapes.{Shape, shape_of, kind_at}
 use Rattle.vt_verify.specs.Budgets.{CostsAreTotals, budget}
-use Rattle.vt_verify.specs.Depths.{IsClosed, ids_of, inclusions_of}
-use Rattle.vt_verify.specs.Inclusions.{IsShallow}
-use Rattle.vt_verify.specs.Rules.{IsAcceptable, IsWithinBudget, is_working_set, terminal}
+use Rattle.vt_chains.specs.Depths.{IsClosed, ids_of, inclusions_of}
+use Rattle.vt_chains.specs.Inclusions.{IsShallow}
+use Rattle.vt_verify.specs.Rules.{IsAcceptable, IsWithinBudget, is_working_set}
+use Rattle.vt_chains.specs.Limits.{terminal}
 use Rattle.vt_verify.specs.Triggers.{listing_of}
 use Rattle.vt_verify.proofs.Closing.{closed_store}
-use Rattle.vt_verify.proofs.Places.{found_at}
-use Rattle.vt_verify.proofs.Shapes.{kind_found, seen_kind}
-use Rattle.vt_machine.specs.declared.index.Index.{Index}
-use Rattle.vt_machine.specs.declared.levels.Levels.{Levels}
+use Rattle.vt_chains.proofs.Places.{found_at}
+use Rattle.vt_stores.proofs.Shapes.{kind_found, seen_kind}
+use Rattle.vt_macros.specs.declared.index.Index.{Index}
+use Rattle.vt_chains.specs.declared.levels.Levels.{Levels}
 use Rattle.vt_machine.specs.declared.live.HeldKey.{HeldKey}
-use Rattle.vt_machine.specs.Certificates.{AreLevels}
-use Rattle.vt_machine.specs.Changes.{Answers}
-use Rattle.vt_machine.specs.Effects.{kind_in, effect, after}
-use Rattle.vt_machine.specs.Indexes.{IsIndexOf}
+use Rattle.vt_chains.specs.Certificates.{AreLevels}
+use Rattle.vt_effects.specs.Changes.{Answers}
+use Rattle.vt_effects.specs.Effects.{kind_in, effect, after}
+use Rattle.vt_macros.specs.Indexes.{IsIndexOf}
 use Rattle.vt_machine.specs.Lives.{SetState, HasRun, IsDone, is_key, holds_key, same_kind, kept_key}
 use Rattle.vt_machine.specs.Operating.{HasActed, key_message}
-use Rattle.vt_machine.specs.Machines.{fault, shape_in, events_of, joined_all, total_budget, run}
-use Rattle.vt_machine.specs.Nested.{CanRun, HaveRun}
-use Rattle.vt_machine.specs.Runs.{IsReady}
-use Rattle.vt_machine.proofs.Adding.{ids_by}
-use Rattle.vt_machine.proofs.Executing.{answered}
-use Rattle.vt_machine.proofs.Faultless.{faultless}
-use Rattle.vt_machine.proofs.Ready.{pools_are_ready}
-use Rattle.vt_machine.proofs.Running.{run_none}
-use Rattle.vt_machine.proofs.Shapes.{shapes_stay}
+use Rattle.vt_macros.specs.Machines.{fault, events_of, joined_all, total_budget, run}
+use Rattle.vt_effects.specs.Soundness.{shape_in}
+use Rattle.vt_macros.specs.Nested.{CanRun, HaveRun}
+use Rattle.vt_macros.specs.Runs.{IsReady}
+use Rattle.vt_effects.proofs.Adding.{ids_by}
+use Rattle.vt_effects.proofs.Executing.{answered}
+use Rattle.vt_macros.proofs.Faultless.{faultless}
+use Rattle.vt_macros.proofs.Ready.{pools_are_ready}
+use Rattle.vt_macros.proofs.Running.{run_none}
+use Rattle.vt_effects.proofs.Shapes.{shapes_stay}
+use Rattle.vt_machine.proofs.OneSet.{set_kind}
 
 -- ---- the store of an accepted pool
 
@@ -76,16 +79,12 @@ stored_runs m pool index levels is stored acceptable totals indexed levelled =
 
 -- ---- runs
 
-nothing_behind : {A : Type 0} (xs : List A) → xs ++ [] ≡ xs
-nothing_behind [] = refl
-nothing_behind (x ∷ xs) = ap (λ ys. x ∷ ys) (nothing_behind xs)
-
 pub has_run : (index : Index) (old : Contents) (front : List Command) (most steps : ℕ) (new : Contents) (levels : Levels) → HaveRun index old front most steps new levels
     → HasRun old front most steps new
 has_run index old front most steps new levels ran =
     let le = ran.within in
     record {
-      ended = ap (λ (n : ℕ). run n old front) (omega (arith, le)) ∙ ap (run (steps + (most - steps)) old) (sym (nothing_behind front))
+      ended = ap (λ (n : ℕ). run n old front) (omega (arith, le)) ∙ ap (run (steps + (most - steps)) old) (sym (append-nil front))
           ∙ ran.leads [] (most - steps) ∙ run_none (most - steps) new;
       within = ran.within;
       sound = ran.can.sound;
@@ -176,10 +175,6 @@ pub set_found : {B : Type 0} (es : List (ℕ × Object B)) (place : ℕ) (e d : 
     → is_working_set (kind_of e.1) ≡ true → option_map kind_of (object_at (map shown es) e.0) ≡ Some kinds.WorkingSet
 set_found es place e d is lt stored set =
     ap (option_map kind_of) (found_at (map shown es) place e.0 (seen e.1) stored.rising (placed_at es place e d is lt)) ∙ ap Some (seen_kind e.1 ∙ set_kind (kind_of e.1) set)
-  where
-    set_kind : (k : Kind) → is_working_set k ≡ true → k ≡ kinds.WorkingSet
-    set_kind kinds.WorkingSet is = refl
-    set_kind _ is = absurd cc
 
 pub stored_set : {B : Type 0} (m : Contents) (es : List (ℕ × Object B)) (pool : Objects) (id : ℕ) → m ≡ map_of pool → map shown es ≡ pool → AreStored pool
     → option_map kind_of (object_at (map shown es) id) ≡ Some kinds.WorkingSet → kind_in m id ≡ Some kinds.WorkingSet

@@ -3,12 +3,12 @@ use Rattle.std.proofs.Common.{◌≡◌, ◌<◌, map, Option, Some, None, refl,
 use Rattle.std.specs.List.{All}
 use Rattle.std.specs.Option.{option_map}
 use Rattle.std.specs.FinMap as finite
-use Rattle.vt_objects.specs.Records.{Seen, kind_of}
-use Rattle.vt_objects.specs.Stores.{Objects, ids, map_of}
-use Rattle.vt_machine.specs.Runs.{NullIsNoObject}
+use Rattle.vt_kinds.specs.Records.{Seen, kind_of}
+use Rattle.vt_stores.specs.Stores.{Objects, ids, map_of}
+use Rattle.vt_macros.specs.Runs.{NullIsNoObject}
 use Rattle.vt_machine.proofs.Living.{kind_stays}
-use Rattle.vt_machine.proofs.Marking.{null_nowhere}
-use Rattle.vt_machine.proofs.Ready.{entries_are, shape_is}
+use Rattle.vt_shown.proofs.Marking.{null_nowhere}
+use Rattle.vt_macros.proofs.Ready.{entries_are, shape_is}
 
 none_there : (o : Option Seen) → option_map kind_of o ≡ None → o ≡ None
 none_there None is = refl

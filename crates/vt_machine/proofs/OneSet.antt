@@ -5,16 +5,17 @@ use Rattle.std.specs.Cmp.{unsigned_tied}
 use Rattle.std.specs.Option.{option_map}
 use Rattle.std.specs.Ordering.{nat_cmp, eq_by_cmp}
 use Rattle.std.specs.FinMap as finite
-use Rattle.vt_objects.specs.declared.kind.Kind.{Kind}
-use Rattle.vt_objects.specs.declared.kind.Kind.TheVariants as kinds
-use Rattle.vt_objects.specs.Records.{Seen, kind_of}
-use Rattle.vt_objects.specs.Stores.{Contents, Objects, object_at}
-use Rattle.vt_verify.specs.Shapes.{fixed, shape_of}
+use Rattle.vt_kinds.specs.declared.kind.Kind.{Kind}
+use Rattle.vt_kinds.specs.declared.kind.Kind.TheVariants as kinds
+use Rattle.vt_kinds.specs.Records.{Seen, kind_of}
+use Rattle.vt_stores.specs.Stores.{Contents, Objects, object_at}
+use Rattle.vt_stores.specs.Shapes.{fixed, shape_of}
 use Rattle.vt_verify.specs.Rules.{is_working_set, working_sets}
-use Rattle.vt_verify.proofs.Places.{get_placed}
-use Rattle.vt_machine.specs.Effects.{kind_in}
+use Rattle.vt_chains.proofs.Places.{get_placed}
+use Rattle.vt_effects.specs.Effects.{kind_in}
 use Rattle.vt_machine.specs.Lives.{ActiveMasksAreOne, IsActive, first_set, working_set_in, active_in}
-use Rattle.vt_machine.specs.Machines.{shape_in, mask_of}
+use Rattle.vt_macros.specs.Machines.{mask_of}
+use Rattle.vt_effects.specs.Soundness.{shape_in}
 
 abbrev IsSet : Objects → ℕ → Type 0
 IsSet es q = option_map kind_of (object_at es q) ≡ Some kinds.WorkingSet
@@ -110,7 +111,7 @@ pub active_is : (m : Contents) (set mask : ℕ) → working_sets (shape_in m) �
 active_is m set mask one is active = active ∙ ap (λ (k : ℕ). mask_of (finite.get m k)) (set_is m set one is)
 
 -- where there is one, there is an ID of it
-set_kind : (k : Kind) → is_working_set k ≡ true → k ≡ kinds.WorkingSet
+pub set_kind : (k : Kind) → is_working_set k ≡ true → k ≡ kinds.WorkingSet
 set_kind kinds.WorkingSet is = refl
 set_kind _ is = absurd cc
 

@@ -1,35 +1,38 @@
 -- What stays where an object is changed that names what it named: macros can run as before.
 use Rattle.std.proofs.Common.{◌≡◌, ℕ, Bool, true, false, cond, ◌==◌, ◌&&◌, eqb, List, [], ◌∷◌, map, filter, length, Option, Some, None, refl, sym, ap, subst, ◌∙◌}
+use Rattle.std.proofs.lemmas.Option.{same_Some}
 use Rattle.std.proofs.lemmas.Bool.{eqb-true}
 use Rattle.std.specs.Prelude.{Contains, IsTrue}
 use Rattle.std.specs.List.{AllByRecursion}
 use Rattle.std.specs.FinMap as finite
-use Rattle.vt_objects.specs.declared.kind.Kind.{Kind}
-use Rattle.vt_objects.specs.declared.slot.Slot.{Slot}
-use Rattle.vt_objects.specs.declared.object.Object.TheVariants as objects
-use Rattle.vt_objects.specs.Records.{Seen}
-use Rattle.vt_objects.specs.References.{slots_of}
-use Rattle.vt_objects.specs.Stores.{Contents, replaced, with_object}
-use Rattle.vt_verify.specs.Shapes.{Shape, Fixed, fixed}
+use Rattle.vt_kinds.specs.declared.kind.Kind.{Kind}
+use Rattle.vt_kinds.specs.declared.slot.Slot.{Slot}
+use Rattle.vt_kinds.specs.declared.object.Object.TheVariants as objects
+use Rattle.vt_kinds.specs.Records.{Seen}
+use Rattle.vt_kinds.specs.References.{slots_of}
+use Rattle.vt_stores.specs.Stores.{Contents, replaced, with_object}
+use Rattle.vt_stores.specs.Shapes.{Shape, Fixed, fixed}
 use Rattle.vt_verify.specs.Macros.{commands}
 use Rattle.vt_verify.specs.Budgets.{CostsAreTotals}
-use Rattle.vt_verify.specs.Rules.{IsWithinBudget, terminal, working_sets}
-use Rattle.vt_verify.specs.Inclusions.{includes, included_by}
-use Rattle.vt_verify.specs.Depths.{inclusions_of}
-use Rattle.vt_machine.specs.declared.index.Index.{Index}
-use Rattle.vt_machine.specs.declared.levels.Levels.{Levels}
-use Rattle.vt_machine.specs.Certificates.{IsCertificate, AreLevels}
-use Rattle.vt_machine.specs.Changes.{is_one_of}
-use Rattle.vt_machine.specs.Effects.{kind_in, pointer_value}
+use Rattle.vt_verify.specs.Rules.{IsWithinBudget, working_sets}
+use Rattle.vt_chains.specs.Limits.{terminal}
+use Rattle.vt_chains.specs.Inclusions.{includes, included_by}
+use Rattle.vt_chains.specs.Depths.{inclusions_of}
+use Rattle.vt_macros.specs.declared.index.Index.{Index}
+use Rattle.vt_chains.specs.declared.levels.Levels.{Levels}
+use Rattle.vt_chains.specs.Certificates.{IsCertificate, AreLevels}
+use Rattle.vt_effects.specs.Changes.{is_one_of}
+use Rattle.vt_effects.specs.Effects.{kind_in, pointer_value}
 use Rattle.vt_machine.specs.Entering.{put_at, with_number, with_text}
-use Rattle.vt_machine.specs.Indexes.{IsIndexOf}
-use Rattle.vt_machine.specs.Machines.{shape_in, fault}
-use Rattle.vt_machine.specs.Nested.{CanRun}
-use Rattle.vt_machine.specs.Soundness.{IsSound, value_fits, is_in_order}
-use Rattle.vt_machine.proofs.Adding.{ids_by}
-use Rattle.vt_machine.proofs.InOrder.{get_there, get_other, kinds_stay}
-use Rattle.vt_machine.proofs.Shapes.{shape_same}
-use Rattle.vt_machine.proofs.ShortChains.{fewer_chains}
+use Rattle.vt_macros.specs.Indexes.{IsIndexOf}
+use Rattle.vt_macros.specs.Machines.{fault}
+use Rattle.vt_effects.specs.Soundness.{shape_in}
+use Rattle.vt_macros.specs.Nested.{CanRun}
+use Rattle.vt_effects.specs.Soundness.{IsSound, value_fits, is_in_order}
+use Rattle.vt_effects.proofs.Adding.{ids_by}
+use Rattle.vt_effects.proofs.InOrder.{get_there, get_other, kinds_stay}
+use Rattle.vt_effects.proofs.Shapes.{shape_same}
+use Rattle.vt_effects.proofs.ShortChains.{fewer_chains}
 
 -- a change that touches no reference, no macro entry and no macro byte
 pub record IsPlain (change : Seen → Seen) : Type 0 where
@@ -119,11 +122,8 @@ module _ (m : Contents) (id : ℕ) (old new : Seen) (at : finite.get m id ≡ So
   slots_sound : IsSound m → (q : ℕ) (o : Seen) (b : Bool) → eqb q id ≡ b → finite.get n q ≡ Some o → AllByRecursion (λ s. IsTrue (is_in_order n s)) (slots_of o)
   slots_sound sound q o true e there =
       all_same (slots_of o)
-      (subst (λ (l : List Slot). AllByRecursion (λ s. IsTrue (is_in_order m s)) l) (sym slots ∙ ap slots_of (seen_same new o (sym (get_there m id new q e) ∙ there)))
+      (subst (λ (l : List Slot). AllByRecursion (λ s. IsTrue (is_in_order m s)) l) (sym slots ∙ ap slots_of (same_Some new o (sym (get_there m id new q e) ∙ there)))
       (sound.slots id old at))
-    where
-      seen_same : (a b : Seen) → Some a ≡ Some b → a ≡ b
-      seen_same a b is = cc
   slots_sound sound q o false e there = all_same (slots_of o) (sound.slots q o (sym (get_other m id new q e) ∙ there))
 
   pub still_sound : IsSound m → IsSound n

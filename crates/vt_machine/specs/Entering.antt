@@ -3,20 +3,20 @@ use Rattle.std.specs.Prelude.{◌≡◌, ◌%◌, ℕ, Bool, true, false, not, n
 use Rattle.std.specs.List.{list_all}
 use Rattle.std.specs.FinMap as finite
 use Rattle.byteorder.specs.Endian.{little_bytes}
-use Rattle.vt_objects.specs.declared.object.Object.TheVariants as objects
-use Rattle.vt_objects.specs.declared.event.Event.TheVariants as events
-use Rattle.vt_objects.specs.declared.raising.Raised.{Raised}
-use Rattle.vt_objects.specs.Events.{raise}
-use Rattle.vt_objects.specs.Records.{Seen}
-use Rattle.vt_objects.specs.Stores.{Contents}
-use Rattle.vt_objects.specs.Texts.{filled_up}
+use Rattle.vt_kinds.specs.declared.object.Object.TheVariants as objects
+use Rattle.vt_commands.specs.declared.event.Event.TheVariants as events
+use Rattle.vt_commands.specs.declared.raising.Raised.{Raised}
+use Rattle.vt_commands.specs.Events.{raise}
+use Rattle.vt_kinds.specs.Records.{Seen}
+use Rattle.vt_stores.specs.Stores.{Contents}
+use Rattle.vt_kinds.specs.Texts.{filled_up}
 use Rattle.vt_machine.specs.declared.operator.OperatorRefusal.{OperatorRefusal}
 use Rattle.vt_machine.specs.declared.operator.OperatorRefusal.TheVariants as refusals
-use Rattle.vt_machine.specs.Fields.{byte}
+use Rattle.vt_effects.specs.Fields.{byte}
 use Rattle.vt_machine.specs.Lives.{SetState, with_objects}
-use Rattle.vt_machine.specs.Machines.{shape_in}
+use Rattle.vt_effects.specs.Soundness.{shape_in}
 use Rattle.vt_machine.specs.Operating.{Action, Refused, Acts}
-use Rattle.vt_machine.specs.Soundness.{IsSound}
+use Rattle.vt_effects.specs.Soundness.{IsSound}
 
 -- where a value is kept: in the variable of an object, if it has one
 abbrev pub kept_at : ℕ → ℕ → ℕ

@@ -1,15 +1,4 @@
-pub mod Fields
-pub mod Changes
-pub mod Effects
-pub mod Machines
-pub mod Soundness
-pub mod Runs
-pub mod Certificates
-pub mod Replacements
-pub mod Indexes
-pub mod Nested
-pub mod Showing
-pub mod Lives
-pub mod Marks
-pub mod Operating
+-- What the contracts of this crate cite.
 pub mod Entering
+pub mod Lives
+pub mod Operating

@@ -4,23 +4,24 @@ use denote.RattleType.{RattleType}
 use Rattle.std.specs.Prelude.{◌≡◌, ◌≤◌, ◌+◌, ◌-◌, ℕ, Bool, true, false, ◌==◌, if◌then◌else◌, List, [], ◌∷◌, Option, Some, None, Result, Ok, Err, refl}
 use Rattle.std.specs.Coded.{Coded, code_by, coded×, coded_option, coded_ℕ}
 use Rattle.std.specs.FinMap as map
-use Rattle.vt_objects.specs.contracts.macro_bytes.MacroBytes as macro_bytes
-use Rattle.vt_objects.specs.contracts.object.Object as object
-use Rattle.vt_objects.specs.declared.command.Command.{Command}
-use Rattle.vt_objects.specs.declared.kind.Kind.{Kind}
-use Rattle.vt_objects.specs.declared.kind.Kind.TheVariants as kinds
-use Rattle.vt_objects.specs.Kinds.{kind_number}
-use Rattle.vt_objects.specs.Rows.{bytes_row}
-use Rattle.vt_objects.specs.Records.{kind_of}
-use Rattle.vt_objects.specs.Stores.{Contents, Objects}
+use Rattle.vt_kinds.specs.contracts.macro_bytes.MacroBytes as macro_bytes
+use Rattle.vt_kinds.specs.contracts.object.Object as object
+use Rattle.vt_commands.specs.declared.command.Command.{Command}
+use Rattle.vt_kinds.specs.declared.kind.Kind.{Kind}
+use Rattle.vt_kinds.specs.declared.kind.Kind.TheVariants as kinds
+use Rattle.vt_kinds.specs.Kinds.{kind_number}
+use Rattle.vt_stores.specs.Rows.{bytes_row}
+use Rattle.vt_kinds.specs.Records.{kind_of}
+use Rattle.vt_stores.specs.Stores.{Contents, Objects}
 use Rattle.vt_verify.specs.Rules.{is_working_set, working_sets}
 use Rattle.vt_machine.specs.contracts.live.HeldKey as held_key
 use Rattle.vt_machine.specs.declared.live.HeldKey.{HeldKey}
 use Rattle.vt_machine.specs.declared.live.Outcome.{Outcome}
 use Rattle.vt_machine.specs.declared.live.Outcome.TheVariants.{Done, Refused}
-use Rattle.vt_machine.specs.Effects.{effect, kind_in}
-use Rattle.vt_machine.specs.Machines.{Ended, shape_in, mask_of, run, joined_all, total_budget, events_of}
-use Rattle.vt_machine.specs.Soundness.{IsSound}
+use Rattle.vt_effects.specs.Effects.{effect, kind_in}
+use Rattle.vt_macros.specs.Machines.{Ended, mask_of, run, joined_all, total_budget, events_of}
+use Rattle.vt_effects.specs.Soundness.{shape_in}
+use Rattle.vt_effects.specs.Soundness.{IsSound}
 
 -- a working set's objects, the key held with the mask of its press, and the input selected
 pub record SetState : Type 0 where

@@ -3,18 +3,19 @@
 use Rattle.std.specs.Prelude.{◌≡◌, ◌%◌, ℕ, Bool, true, false, not, ◌==◌, if◌then◌else◌, List, [], ◌∷◌, ◌++◌, Decides, Option, Some, None, Result, Ok, Err}
 use Rattle.std.specs.FinMap as finite
 use Rattle.byteorder.specs.Endian.{little_bytes}
-use Rattle.vt_objects.specs.declared.object.Object.TheVariants as objects
-use Rattle.vt_objects.specs.declared.event.Event.TheVariants as events
-use Rattle.vt_objects.specs.declared.raising.Raised.{Raised}
-use Rattle.vt_objects.specs.Events.{raise}
-use Rattle.vt_objects.specs.Records.{Seen}
+use Rattle.vt_kinds.specs.declared.object.Object.TheVariants as objects
+use Rattle.vt_commands.specs.declared.event.Event.TheVariants as events
+use Rattle.vt_commands.specs.declared.raising.Raised.{Raised}
+use Rattle.vt_commands.specs.Events.{raise}
+use Rattle.vt_kinds.specs.Records.{Seen}
 use Rattle.vt_machine.specs.declared.live.HeldKey.{HeldKey}
 use Rattle.vt_machine.specs.declared.operator.Acted.{Acted}
 use Rattle.vt_machine.specs.declared.operator.OperatorRefusal.{OperatorRefusal}
 use Rattle.vt_machine.specs.declared.operator.OperatorRefusal.TheVariants as refusals
 use Rattle.vt_machine.specs.Lives.{SetState, HasRun, active_in}
-use Rattle.vt_machine.specs.Machines.{shape_in, joined_all, total_budget}
-use Rattle.vt_machine.specs.Showing.{IsShown}
+use Rattle.vt_macros.specs.Machines.{joined_all, total_budget}
+use Rattle.vt_effects.specs.Soundness.{shape_in}
+use Rattle.vt_shown.specs.Showing.{IsShown}
 
 -- what an action comes to
 pub data Action : Type 0 where

@@ -4,16 +4,16 @@ ghost use Rattle.std.specs.Prelude.{◌≡◌, ◌≤◌, ◌==◌, true, Ok, If
 ghost use Rattle.std.specs.Option.{option_map};
 ghost use Rattle.std.specs.List.{list_all};
 ghost use Rattle.std.specs.FinMap as finite;
-ghost use Rattle.vt_objects.specs.Records.{seen};
+ghost use Rattle.vt_kinds.specs.Records.{seen};
 ghost use Rattle.vt_machine.specs.Entering as entering;
 ghost use Rattle.vt_machine.specs.Entering.{text_of, text_at, text_fits};
 ghost use Rattle.vt_machine.specs.Operating.{ComesTo, ComesToShown, WouldRefuse};
 
 use crate::live::Live;
-use crate::numbers::byte;
 use crate::operator::{Acted, OperatorRefusal, message, raised};
 use arrayvec::ArrayVec;
 use byteorder::{ByteOrder, LittleEndian};
+use vt_effects::byte;
 use vt_objects::{Event, Object, ObjectId, Raised, Store};
 
 impl<S: Store> Live<S> {

@@ -8,23 +8,10 @@
 //! docs/PROFILE.md, "Commands: all rows" and the section of each command, "Attributes", "Runs", "Steps", "The operator".
 #![tactic(auto)]
 
-mod attributes;
-mod changes;
-mod effects;
 mod entries;
-mod execution;
-mod index;
 pub mod laws;
-mod levels;
 mod live;
-mod numbers;
 mod operator;
-mod pointers;
-mod raising;
-mod references;
-mod replacements;
-mod runs;
-mod showing;
 mod working_set;
 
 pub use live::{Live, Outcome};
@@ -32,6 +19,3 @@ pub use operator::{Acted, OperatorRefusal};
 
 /// A growth that was refused.
 pub use std::alloc::AllocError as OutOfMemory;
-
-#[cfg(test)]
-mod tests;

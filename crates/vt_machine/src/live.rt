@@ -3,30 +3,29 @@
 ghost use Rattle.std.specs.Prelude.{◌≡◌, ◌≤◌, ℕ, Some, None, IfOk, true, false, length};
 ghost use Rattle.std.specs.Option.{option_map};
 ghost use Rattle.std.specs.FinMap as finite;
-ghost use Rattle.vt_objects.specs.declared.kind.Kind.TheVariants as kinds;
-ghost use Rattle.vt_objects.specs.Records.{seen};
-ghost use Rattle.vt_objects.specs.Stores.{map_of};
+ghost use Rattle.vt_kinds.specs.declared.kind.Kind.TheVariants as kinds;
+ghost use Rattle.vt_kinds.specs.Records.{seen};
+ghost use Rattle.vt_stores.specs.Stores.{map_of};
 ghost use Rattle.vt_verify.specs.Budgets.{budget};
 ghost use Rattle.vt_verify.specs.Rules.{working_sets};
 ghost use Rattle.vt_verify.specs.Triggers.{listing};
-ghost use Rattle.vt_machine.specs.Effects.{kind_in};
-ghost use Rattle.vt_machine.specs.Machines.{shape_in, joined};
-ghost use Rattle.vt_machine.specs.Nested.{CanRun};
+ghost use Rattle.vt_effects.specs.Effects.{kind_in};
+ghost use Rattle.vt_macros.specs.Machines.{joined};
+ghost use Rattle.vt_effects.specs.Soundness.{shape_in};
+ghost use Rattle.vt_macros.specs.Nested.{CanRun};
 ghost use Rattle.vt_machine.specs.Operating.{HasActed};
-ghost use Rattle.vt_machine.specs.Showing.{IsShown, soft_key_mask_of};
-ghost use Rattle.vt_machine.specs.Soundness.{IsSound};
+ghost use Rattle.vt_shown.specs.Showing.{IsShown, soft_key_mask_of};
+ghost use Rattle.vt_effects.specs.Soundness.{IsSound};
 ghost use Rattle.vt_machine.specs.Lives.{HasRun, Applied, IsActive, working_set_in, active_in, is_kept, kept_key, kept_input, with_objects, renewed};
 
-use crate::execution::{execute, kind_in};
-use crate::index::Index;
-use crate::levels::Levels;
-use crate::raising::{active_mask, events_of};
-use crate::runs::{raise, raise_all};
-use crate::showing::is_shown;
-use crate::working_set::{soft_key_mask, working_set};
+use crate::working_set::working_set;
 use std::alloc::{AllocError, Global};
 use std::marker::Model;
+use vt_chains::Levels;
+use vt_effects::{execute, kind_in};
+use vt_macros::{Index, active_mask, events_of, raise, raise_all};
 use vt_objects::{Command, Object, ObjectId, Raised, SortedStore, Store};
+use vt_shown::{is_shown, soft_key_mask};
 use vt_verify::{Accepted, AcceptedParts};
 
 /// The key that an operator holds.
@@ -65,11 +64,11 @@ pub struct Live<S: Store> {
 
 impl<S: Store> Model for Live<S> {
     ghost use Rattle.std.specs.Prelude.{◌≡◌, Some, true, length};
-    ghost use Rattle.vt_verify.specs.Depths.{ids_of};
-    ghost use Rattle.vt_objects.specs.declared.kind.Kind.TheVariants as kinds;
-    ghost use Rattle.vt_machine.specs.Effects.{kind_in};
+    ghost use Rattle.vt_chains.specs.Depths.{ids_of};
+    ghost use Rattle.vt_kinds.specs.declared.kind.Kind.TheVariants as kinds;
+    ghost use Rattle.vt_effects.specs.Effects.{kind_in};
     ghost use Rattle.vt_machine.specs.Lives.{SetState, state_code, holds_key};
-    ghost use Rattle.vt_machine.specs.Nested.{CanRun};
+    ghost use Rattle.vt_macros.specs.Nested.{CanRun};
 
     ghost Value = { SetState };
 
@@ -140,7 +139,7 @@ impl<S: Store> Live<S> {
     }
 
     fn allocator(&self) -> Global {
-        *self.levels.levels.allocator()
+        *self.marks.allocator()
     }
 
     /// The objects.
@@ -210,7 +209,13 @@ impl<S: Store> Live<S> {
         ensures same { self.new ≡ self.old }
     {
         let mask = self.active_mask();
-        is_shown(&self.store, &self.levels.levels, &mut self.marks, mask, id)
+        is_shown(
+            &self.store,
+            self.levels.as_slice(),
+            &mut self.marks,
+            mask,
+            id,
+        )
     }
 
     /// Does a command, and runs the macros of the events that it raises. Delete Object Pool is for the terminal, and changes nothing

@@ -1,17 +1,15 @@
-//! The working set of a pool, and the masks that it shows.
+//! The working set of a pool.
 
 ghost use Rattle.std.specs.Prelude.{◌≡◌, Some, IfSome, IfNone, map};
 ghost use Rattle.std.specs.Option.{option_map};
-ghost use Rattle.std.specs.FinMap as finite;
-ghost use Rattle.vt_objects.specs.declared.kind.Kind.TheVariants as kinds;
-ghost use Rattle.vt_objects.specs.Records.{kind_of};
-ghost use Rattle.vt_objects.specs.Stores.{AreStored, shown, object_at};
+ghost use Rattle.vt_kinds.specs.declared.kind.Kind.TheVariants as kinds;
+ghost use Rattle.vt_kinds.specs.Records.{kind_of};
+ghost use Rattle.vt_stores.specs.Stores.{AreStored, shown, object_at};
 ghost use Rattle.vt_verify.specs.Rules as rules;
 ghost use Rattle.vt_verify.specs.Rules.{working_sets};
-ghost use Rattle.vt_verify.specs.Shapes.{shape_of};
-ghost use Rattle.vt_machine.specs.Showing as showing;
+ghost use Rattle.vt_stores.specs.Shapes.{shape_of};
 
-use vt_objects::{Kind, Object, ObjectId, Store};
+use vt_objects::{Kind, Object, ObjectId};
 
 /// The first Working Set of some objects.
 pub(crate) fn working_set(objects: &[(ObjectId, Object<Vec<u8>>)]) -> Option<ObjectId>
@@ -31,15 +29,4 @@ fn is_working_set(object: &Object<Vec<u8>>) -> bool
     ensures { result ≡ rules.is_working_set (kind_of object.now) }
 {
     object.kind() == Kind::WorkingSet
-}
-
-/// The soft key mask of a mask, NULL of what is none.
-pub(crate) fn soft_key_mask<S: Store>(store: &S, mask: ObjectId) -> ObjectId
-    ensures { result ≡ showing.soft_key_mask_of (finite.get (S.contents store.now) mask) }
-{
-    match store.get(mask) {
-        Some(Object::DataMask(mask)) => mask.soft_key_mask,
-        Some(Object::AlarmMask(mask)) => mask.soft_key_mask,
-        _ => ObjectId::from_raw(0xFFFF),
-    }
 }

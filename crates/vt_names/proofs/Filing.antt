@@ -1,11 +1,12 @@
 -- Sets filed under their addresses.
 use Rattle.std.proofs.Common.{◌≡◌, ◌≢◌, ℕ, Bool, true, false, cond, eqb, nat_eq, if◌then◌else◌, not, List, [], ◌∷◌, Option, Some, None, true≢false, refl, sym, ap, subst, ◌∙◌, eq-eqb, ne_eqb}
+use Rattle.std.proofs.lemmas.Option.{same_Some}
 use Rattle.std.specs.Map.{lookup, remove_entry, set_value, keys_of, values_of}
 use Rattle.indexmap.specs.IndexMap.{insert_entry}
 use Rattle.std.specs.List.{AllByRecursion, IsDistinct}
 use Rattle.std.proofs.lemmas.Map.Keys.{IsDistinct-head, IsDistinct-tail}
 use Rattle.vt_names.specs.Registry.{Set, Registered, AreApart, AreFiled, set_at, with_set, without, has_place, joined, joining, bound, binding}
-use Rattle.vt_names.proofs.Holding.{by_eq, some-is, none-some}
+use Rattle.vt_names.proofs.Holding.{by_eq, none-some}
 
 -- ---- the first set, and those after it
 
@@ -130,7 +131,7 @@ set_at-address a s [] there = none-some there
 set_at-address a s (t ∷ sets) there =
     let rest = set_at-address a s sets in
     by_eq t.address a
-    (λ is. ap (λ (x : Set). x.address) (sym (some-is t s (sym (set_at-first a t sets is) ∙ there))) ∙ is)
+    (λ is. ap (λ (x : Set). x.address) (sym (same_Some t s (sym (set_at-first a t sets is) ∙ there))) ∙ is)
     (λ ne. rest (sym (set_at-later a t sets ne) ∙ there))
 
 pub with_set-same : (a : ℕ) (s : Set) (sets : List Set) → set_at a sets ≡ Some s → with_set s sets ≡ sets
@@ -139,7 +140,7 @@ with_set-same a s (t ∷ sets) there =
     let rest = with_set-same a s sets in
     let own = set_at-address a s (t ∷ sets) there in
     by_eq t.address a
-    (λ is. with_set-first s t sets (is ∙ sym own) ∙ ap (λ (x : Set). x ∷ sets) (sym (some-is t s (sym (set_at-first a t sets is) ∙ there))))
+    (λ is. with_set-first s t sets (is ∙ sym own) ∙ ap (λ (x : Set). x ∷ sets) (sym (same_Some t s (sym (set_at-first a t sets is) ∙ there))))
     (λ ne. with_set-later s t sets (λ h. ne (h ∙ own)) ∙ ap (λ l. t ∷ l) (rest (sym (set_at-later a t sets ne) ∙ there)))
 
 abbrev pub after_join : Set → ℕ → Set

@@ -1,5 +1,6 @@
 -- The NAMEs kept for each address, after a claim.
 use Rattle.std.proofs.Common.{◌≡◌, ◌≢◌, ℕ, ◌<◌, Bool, true, false, true≢false, cond, ◌&&◌, eqb, eq-eqb, ne_eqb, List, [], ◌∷◌, length, get_or, Option, Some, None, refl, sym, ap, ◌∙◌, arith}
+use Rattle.std.proofs.lemmas.Option.{same_Some}
 use Rattle.std.proofs.lemmas.Bool.{eqb-true}
 use Rattle.std.proofs.lemmas.List.{get_or_default}
 use Rattle.std.proofs.lemmas.Map.Keys.{le_from_not_gt}
@@ -10,7 +11,7 @@ use Rattle.std.specs.Map.{remove_entry}
 use Rattle.std.specs.BTreeMap.{insert_entry, is_at}
 use Rattle.std.specs.BTreeSet.{BTreeSet, contains}
 use Rattle.vt_names.specs.Claims.{Addresses, IsRising, NameSets, AreHolders, ChangesOnly, has_name, with_address, address_of, holder_of}
-use Rattle.vt_names.proofs.Holding.{by_eq, some-is, none-some, inserted, removed, address-first, address-later, Above-less, Above-address, holder-address, no-holder, least-holder}
+use Rattle.vt_names.proofs.Holding.{by_eq, none-some, inserted, removed, address-first, address-later, Above-less, Above-address, holder-address, no-holder, least-holder}
 use Rattle.vt_names.proofs.Histories.{Rising-with, address-with}
 
 pub same_option : (o p : Option ℕ) → option_eq eqb o p ≡ true → o ≡ p
@@ -44,7 +45,7 @@ inserted-same n a (e ∷ es) rising found =
     let rest = inserted-same n a es rising.1 in
     inserted (λ l. l ≡ e ∷ es) n a e es
     (λ h. none-some (sym (address-later n e es (λ is. omega arith) ∙ Above-address n es (Above-less n e.0 es h rising.0)) ∙ found))
-    (λ is. ap (λ x. (e.0, x) ∷ es) (some-is a e.1 (sym found ∙ address-first n e es is)))
+    (λ is. ap (λ x. (e.0, x) ∷ es) (same_Some a e.1 (sym found ∙ address-first n e es is)))
     (λ h. ap (λ l. e ∷ l) (rest (sym (address-later n e es (λ is. omega arith)) ∙ found)))
 
 pub with-same : (es : Addresses) (n : ℕ) (o : Option ℕ) → IsRising es → address_of es n ≡ o → with_address es n o ≡ es

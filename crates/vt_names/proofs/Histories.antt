@@ -1,7 +1,8 @@
 -- What is kept of all claims that were heard.
 use Rattle.std.proofs.Common.{◌≡◌, ◌≢◌, ℕ, Bool, true, false, cond, eqb, List, [], ◌∷◌, Option, Some, None, refl, sym, ap, ◌∙◌, eq-eqb, ne_eqb}
+use Rattle.std.proofs.lemmas.Option.{same_Some}
 use Rattle.vt_names.specs.Claims.{Addresses, IsRising, Claim, AddressesAreLast, HoldersAreLeast, OtherHoldersStay, IsHolder, after_claims, with_address, claimed_address, address_of, holder_of}
-use Rattle.vt_names.proofs.Holding.{by_eq, some-is, none-some, Rising-insert, Rising-remove, address-inserted, address-inserted_other, address-removed, address-removed_other, holder-address, holder-inserted_other, holder-removed_other, no-holder, least-holder}
+use Rattle.vt_names.proofs.Holding.{by_eq, none-some, Rising-insert, Rising-remove, address-inserted, address-inserted_other, address-removed, address-removed_other, holder-address, holder-inserted_other, holder-removed_other, no-holder, least-holder}
 
 pub Rising-with : (es : Addresses) (n : ℕ) (o : Option ℕ) → IsRising es → IsRising (with_address es n o)
 Rising-with es n None rising = Rising-remove n es rising
@@ -43,7 +44,7 @@ stays-with es n (Some a) q ne not = holder-inserted_other n a q es (λ is. ne (a
 
 claims-other : (address q : ℕ) (b : Bool) → q ≢ address → cond b None (Some address) ≢ Some q
 claims-other address q true ne = λ e. none-some e
-claims-other address q false ne = λ e. ne (sym (some-is address q e))
+claims-other address q false ne = λ e. ne (sym (same_Some address q e))
 
 pub stay : OtherHoldersStay
 stay = record {

@@ -1,5 +1,6 @@
 -- The addresses of NAMEs by rising NAME, after a claim.
-use Rattle.std.proofs.Common.{Option, IfSome, ◌≡◌, ◌≢◌, ℕ, ◌<◌, ◌≤◌, Bool, true, false, cond, eqb, [], ◌∷◌, Some, None, is_some, unwrap_or, true≢false, inl, inr, refl, sym, ap, subst, ◌∙◌, arith, eq-eqb, ne_eqb}
+use Rattle.std.proofs.Common.{Option, IfSome, ◌≡◌, ◌≢◌, ℕ, ◌<◌, ◌≤◌, Bool, true, false, cond, eqb, [], ◌∷◌, Some, None, is_some, true≢false, inl, inr, refl, sym, ap, subst, ◌∙◌, arith, eq-eqb, ne_eqb}
+use Rattle.std.proofs.lemmas.Option.{same_Some}
 use Rattle.std.proofs.lemmas.Bool.{eqb-true, cases_order, false≢true}
 use Rattle.std.specs.Ordering.{nat_cmp, match_ordering}
 use Rattle.std.specs.declared.cmp.Ordering.{Ordering}
@@ -23,9 +24,6 @@ by_order {P} x y less same more = elim (cases_order x y) as (λ _. P) [
   | inl e ↦ same e
   | inr apart ↦ elim apart as (λ _. P) [ inl h ↦ less h | inr h ↦ more h ]
 ]
-
-pub some-is : {X : Type 0} (x y : X) → Some x ≡ Some y → x ≡ y
-some-is x y e = ap (λ o. unwrap_or o x) e
 
 pub none-some : {P X : Type 0} {x : X} → None ≡ Some x → P
 none-some e = absurd (true≢false (sym (ap is_some e)))
@@ -125,7 +123,7 @@ Above-holder n q h [] all e = none-some e
 Above-holder n q h (f ∷ es) all e =
     let rest = Above-holder n q h es all.1 in
     by_eq f.1 q
-    (λ is. subst (λ x. n < x) (some-is f.0 h (sym (holder-first q f es is) ∙ e)) all.0)
+    (λ is. subst (λ x. n < x) (same_Some f.0 h (sym (holder-first q f es is) ∙ e)) all.0)
     (λ other. rest (sym (holder-later q f es other) ∙ e))
 
 -- ---- the address of each NAME
@@ -182,7 +180,7 @@ holder-address q n [] rising e = none-some e
 holder-address q n (f ∷ es) rising e =
     let rest = holder-address q n es rising.1 in
     by_eq f.1 q
-    (λ is. address-first n f es (sym (some-is f.0 n (sym (holder-first q f es is) ∙ e))) ∙ ap Some is)
+    (λ is. address-first n f es (sym (same_Some f.0 n (sym (holder-first q f es is) ∙ e))) ∙ ap Some is)
     (λ other.
     let there = sym (holder-later q f es other) ∙ e in
     let above = Above-holder f.0 q n es rising.0 there in
@@ -222,7 +220,7 @@ no-holder q (f ∷ es) none n =
     by_eq f.1 q
     (λ is. none-some (sym none ∙ holder-first q f es is))
     (λ other. by_eq n f.0
-    (λ is. λ e. other (some-is f.1 q (sym (address-first n f es is) ∙ e)))
+    (λ is. λ e. other (same_Some f.1 q (sym (address-first n f es is) ∙ e)))
     (λ ne. λ e. rest (sym (holder-later q f es other) ∙ none) n (sym (address-later n f es ne) ∙ e)))
 
 pub least-holder : (q h : ℕ) (es : Addresses) → IsRising es → holder_of es q ≡ Some h → (n : ℕ) → address_of es n ≡ Some q → h ≤ n
@@ -231,10 +229,10 @@ least-holder q h (f ∷ es) rising is n e =
     let rest = least-holder q h es rising.1 in
     by_eq f.1 q
     (λ here.
-    let first = some-is f.0 h (sym (holder-first q f es here) ∙ is) in
+    let first = same_Some f.0 h (sym (holder-first q f es here) ∙ is) in
     by_eq n f.0
     (λ same. omega arith)
     (λ ne. let above = Above-found f.0 n q es rising.0 (sym (address-later n f es ne) ∙ e) in omega arith))
     (λ other. by_eq n f.0
-    (λ same. absurd (other (some-is f.1 q (sym (address-first n f es same) ∙ e))))
+    (λ same. absurd (other (same_Some f.1 q (sym (address-first n f es same) ∙ e))))
     (λ ne. rest (sym (holder-later q f es other) ∙ is) n (sym (address-later n f es ne) ∙ e)))

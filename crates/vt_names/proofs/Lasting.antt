@@ -1,9 +1,10 @@
 -- A set is that of the last registration of its address.
 use Rattle.std.proofs.Common.{◌≡◌, ◌≢◌, ℕ, zero, suc, ◌-◌, ◌<◌, ◌≤◌, inl, inr, Bool, true, false, cond, ◌||◌, nat_lt, List, [], ◌∷◌, ◌++◌, length, take, Option, Some, None, refl, sym, ap, ◌∙◌, arith, eq-eqb, ne_eqb, append-nil, subst}
+use Rattle.std.proofs.lemmas.Option.{same_Some}
 use Rattle.std.proofs.lemmas.Bool.{lt-ltb, le-ltb, cases_lt}
 use Rattle.vt_names.specs.Registry.{Set, set_at, with_set, joining, binding, preloaded, mastered, joined, bound, has_place}
 use Rattle.vt_names.specs.Registrations.{Event, Masters, Joins, Closes, Preloads, Binds, registers, closes, registration_name, registration_count, bound_name, member_names, IsOfLast, after_events}
-use Rattle.vt_names.proofs.Holding.{by_eq, some-is, none-some}
+use Rattle.vt_names.proofs.Holding.{by_eq, none-some}
 use Rattle.vt_names.proofs.Filing.{set_at-address, at-with, at-without}
 
 -- ---- a registration, and an event that is of another address or says nothing of it
@@ -118,7 +119,7 @@ written : (a q : ℕ) (e : Event) (earlier : List Event) (new s : Set) (before :
 written a q e earlier new s before its there here elsewhere =
     let is = sym (at-with q new before) ∙ there in
     by_eq a q
-    (λ own. here own (sym (some-is new s (sym (ap (λ b. cond b (Some new) (set_at q before)) (eq-eqb new.address q (sym its ∙ own))) ∙ is))))
+    (λ own. here own (sym (same_Some new s (sym (ap (λ b. cond b (Some new) (set_at q before)) (eq-eqb new.address q (sym its ∙ own))) ∙ is))))
     (λ ne. elsewhere ne (sym (ap (λ b. cond b (Some new) (set_at q before)) (ne_eqb new.address q (λ h. ne (its ∙ h)))) ∙ is))
 
 module _ (a n q : ℕ) (earlier : List Event) (s : Set) (rest : (t : Set) → set_at q (after_events earlier) ≡ Some t → IsOfLast earlier q t) where
@@ -146,7 +147,7 @@ module _ (a n q : ℕ) (earlier : List Event) (s : Set) (rest : (t : Set) → se
           (own-place true has) joins-elsewhere
       place_cases false has there =
           by_eq a q
-          (λ own. own-place false has own (sym (some-is t s (sym was ∙ ap (λ x. set_at x (after_events earlier)) own ∙ there))))
+          (λ own. own-place false has own (sym (same_Some t s (sym was ∙ ap (λ x. set_at x (after_events earlier)) own ∙ there))))
           (λ ne. joins-elsewhere ne there)
 
   binds-elsewhere : a ≢ q → set_at q (after_events earlier) ≡ Some s → IsOfLast (Binds a n ∷ earlier) q s

@@ -1,6 +1,6 @@
-mod Filing
-mod Holding
+pub mod Filing
+pub mod Hearing
 mod Histories
-mod Hearing
+pub mod Holding
 mod Lasting
 mod Registering

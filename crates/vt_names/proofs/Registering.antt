@@ -1,10 +1,11 @@
 -- The sets after all that was registered.
 use Rattle.std.proofs.Common.{◌≡◌, ◌≢◌, ℕ, zero, suc, ◌<◌, ◌≤◌, Bool, true, false, cond, eqb, List, [], ◌∷◌, ◌++◌, ◌+◌, length, Option, Some, None, is_some, true≢false, refl, sym, ap, subst, ◌∙◌, arith, eq-eqb, ne_eqb}
+use Rattle.std.proofs.lemmas.Option.{same_Some}
 use Rattle.std.proofs.lemmas.Bool.{ltb-true}
 use Rattle.std.proofs.lemmas.List.{length-append}
 use Rattle.vt_names.specs.Registry.{Set, set_at, with_set, without, joining, binding, preloaded, mastered, joined, bound, has_place}
 use Rattle.vt_names.specs.Registrations.{Event, Masters, Joins, Closes, Preloads, Binds, registers, closes, since, registered_at, AreRising, after_events, times_of, AreWithin, SetsAreRegistered}
-use Rattle.vt_names.proofs.Holding.{by_eq, some-is, none-some}
+use Rattle.vt_names.proofs.Holding.{by_eq, none-some}
 use Rattle.vt_names.proofs.Lasting.{are-last}
 use Rattle.vt_names.proofs.Filing.{set_at-first, set_at-later, with_set-first, with_set-later, without-first, without-later, set_at-address, at-with, at-without}
 
@@ -31,7 +32,7 @@ within-at a s [] there w = none-some there
 within-at a s (t ∷ sets) there w =
     let rest = within-at a s sets in
     by_eq t.address a
-    (λ is. subst (λ (x : Set). length x.members < x.count) (some-is t s (sym (set_at-first a t sets is) ∙ there)) w.0)
+    (λ is. subst (λ (x : Set). length x.members < x.count) (same_Some t s (sym (set_at-first a t sets is) ∙ there)) w.0)
     (λ ne. rest (sym (set_at-later a t sets ne) ∙ there) w.1)
 
 counted-some : (b : Bool) (c : ℕ) → eqb c 0 ≡ b → 0 < cond b 1 c
@@ -118,8 +119,8 @@ are-there (Binds a n ∷ earlier) q = is-bound a q n (set_at a (after_events ear
 
 below-cases : (b d : Bool) (o : Option ℕ) (n t : ℕ) → ((u : ℕ) → o ≡ Some u → u < n)
     → cond b (Some (since o n)) (cond d None o) ≡ Some t → t < suc n
-below-cases true d None n t small e = subst (λ x. x < suc n) (some-is n t e) (grind (arith))
-below-cases true d (Some u) n t small e = subst (λ x. x < suc n) (some-is u t e) (later u n (small u refl))
+below-cases true d None n t small e = subst (λ x. x < suc n) (same_Some n t e) (grind (arith))
+below-cases true d (Some u) n t small e = subst (λ x. x < suc n) (same_Some u t e) (later u n (small u refl))
   where
     later : (u n : ℕ) → u < n → u < suc n
     later u n h = (grind (arith))

@@ -1,5 +1,5 @@
 -- What the contracts of this crate cite.
 pub mod Claims
 pub mod Names
-pub mod Registry
 pub mod Registrations
+pub mod Registry

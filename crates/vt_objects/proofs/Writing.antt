@@ -1,20 +1,21 @@
 -- The attributes of each kind among the fields of its record.
 use Rattle.std.proofs.Common.{◌≡◌, ℕ, zero, suc, ◌%◌, ◌^◌, Bool, true, false, not, ◌||◌, ◌&&◌, ◌==◌, if◌then◌else◌, eqb, List, ◌∷◌, [], take, slice_get, Option, Some, None, refl, ap, ap₂, arith, subst, ◌∙◌, sym}
+use Rattle.std.proofs.lemmas.Option.{same_Some}
 use Rattle.std.specs.List.{AllByRecursion}
 use Rattle.std.proofs.lemmas.Bool.{or_left, or_right, and_parts, eq-eqb}
 use Rattle.std.specs.Int.{w32, cast_signed, cast_unsigned}
 use mir.ValLaws.{of_z-to_z}
 use Rattle.byteorder.specs.Endian.{little_bytes}
-use Rattle.vt_objects.specs.declared.kind.Kind.{Kind}
-use Rattle.vt_objects.specs.declared.kind.Kind.TheVariants as kinds
-use Rattle.vt_objects.specs.declared.fields.Attribute.{Attribute}
-use Rattle.vt_objects.specs.declared.fields.Field as fields
-use Rattle.vt_objects.specs.declared.fields.Field.TheVariants as names
-use Rattle.vt_objects.specs.declared.fields.ValueType.{ValueType}
-use Rattle.vt_objects.specs.declared.fields.ValueType.TheVariants as types
-use Rattle.vt_objects.specs.Layout.{field_spelling}
-use Rattle.vt_objects.specs.Attributes.{attributes_of, attribute_at, numbered, byte, width}
-use Rattle.vt_objects.specs.Records.{fields_of, names_of}
+use Rattle.vt_kinds.specs.declared.kind.Kind.{Kind}
+use Rattle.vt_kinds.specs.declared.kind.Kind.TheVariants as kinds
+use Rattle.vt_kinds.specs.declared.fields.Attribute.{Attribute}
+use Rattle.vt_kinds.specs.declared.fields.Field as fields
+use Rattle.vt_kinds.specs.declared.fields.Field.TheVariants as names
+use Rattle.vt_kinds.specs.declared.fields.ValueType.{ValueType}
+use Rattle.vt_kinds.specs.declared.fields.ValueType.TheVariants as types
+use Rattle.vt_kinds.specs.Layout.{field_spelling}
+use Rattle.vt_kinds.specs.Attributes.{attributes_of, attribute_at, numbered, byte, width}
+use Rattle.vt_kinds.specs.Records.{fields_of, names_of}
 use Rattle.vt_objects.specs.Writing.{IsNamed, IsField, field_of, written, AttributesAreFields}
 
 -- ---- each attribute is a field
@@ -57,12 +58,9 @@ each kinds.InputAttributes = (field _ _ 0 refl refl, tt)
 each kinds.ObjectPointer = (field _ _ 0 refl refl, tt)
 each kinds.Macro = tt
 
-some_is : {A : Type 0} (x y : A) → Some x ≡ Some y → x ≡ y
-some_is x y e = cc
-
 all_at : {A : Type 0} (P : A → Type 0) (xs : List A) → AllByRecursion P xs → (place : ℕ) (x : A) → slice_get xs place ≡ Some x → P x
 all_at P [] all place x e = absurd cc
-all_at P (y ∷ ys) all zero x e = subst P (some_is y x e) all.0
+all_at P (y ∷ ys) all zero x e = subst P (same_Some y x e) all.0
 all_at P (y ∷ ys) all (suc place) x e = all_at P ys all.1 place x e
 
 by_number : (kind : Kind) (number : ℕ) (attribute : Attribute) → numbered (attributes_of kind) number ≡ Some attribute → Stands kind attribute
@@ -74,7 +72,7 @@ options_of_a_list = field _ _ 5 refl refl
 
 stand_in_list : (number : ℕ) (attribute : Attribute) → attribute_at kinds.InputList number ≡ Some attribute → Stands kinds.InputList attribute
 stand_in_list number attribute = elim (number == 5) as (λ (b : Bool). (if b then Some (byte names.Options) else numbered (attributes_of kinds.InputList) number) ≡ Some attribute → Stands kinds.InputList attribute)
-    [ true ↦ (λ e. subst (Stands kinds.InputList) (some_is (byte names.Options) attribute e) options_of_a_list) | false ↦ (λ e. by_number kinds.InputList number attribute e) ]
+    [ true ↦ (λ e. subst (Stands kinds.InputList) (same_Some (byte names.Options) attribute e) options_of_a_list) | false ↦ (λ e. by_number kinds.InputList number attribute e) ]
 
 stand : (kind : Kind) (number : ℕ) (attribute : Attribute) → attribute_at kind number ≡ Some attribute → Stands kind attribute
 stand kinds.WorkingSet number attribute e = by_number kinds.WorkingSet number attribute e
@@ -198,7 +196,7 @@ found : (list : List (Option fields.Field)) (name : fields.Field) (place : ℕ) 
 found [] name place e = absurd cc
 found (None ∷ others) name zero e = absurd cc
 found (None ∷ others) name (suc place) e = found others name place e
-found (Some other ∷ others) name zero e = or_left (eqb (code name) (code other)) (has name others) (eq-eqb (code name) (code other) (ap code (sym (some_is other name (some_is (Some other) (Some name) e)))))
+found (Some other ∷ others) name zero e = or_left (eqb (code name) (code other)) (has name others) (eq-eqb (code name) (code other) (ap code (sym (same_Some other name (same_Some (Some other) (Some name) e)))))
 found (Some other ∷ others) name (suc place) e = or_right (eqb (code name) (code other)) (has name others) (found others name place e)
 
 clash : (b : Bool) → b ≡ true → not b ≡ true → ⊥
@@ -218,8 +216,8 @@ same_place (None ∷ others) distinct name zero b e f = absurd cc
 same_place (None ∷ others) distinct name (suc a) zero e f = absurd cc
 same_place (None ∷ others) distinct name (suc a) (suc b) e f = ap suc (same_place others distinct name a b e f)
 same_place (Some first ∷ others) distinct name zero zero e f = refl
-same_place (Some first ∷ others) distinct name zero (suc b) e f = absurd (alone first name others b distinct (some_is first name (some_is (Some first) (Some name) e)) f)
-same_place (Some first ∷ others) distinct name (suc a) zero e f = absurd (alone first name others a distinct (some_is first name (some_is (Some first) (Some name) f)) e)
+same_place (Some first ∷ others) distinct name zero (suc b) e f = absurd (alone first name others b distinct (same_Some first name (same_Some (Some first) (Some name) e)) f)
+same_place (Some first ∷ others) distinct name (suc a) zero e f = absurd (alone first name others a distinct (same_Some first name (same_Some (Some first) (Some name) f)) e)
 same_place (Some first ∷ others) distinct name (suc a) (suc b) e f =
     ap suc (same_place others (and_parts (not (has first others)) (are_distinct others) distinct).1 name a b e f)
 

@@ -1,17 +1,3 @@
-pub mod Scales
-pub mod Layout
-pub mod Kinds
-pub mod Tables
-pub mod Records
-pub mod References
-pub mod Listing
-pub mod Attributes
-pub mod Writing
-pub mod Stores
-pub mod Commands
-pub mod Rows
+-- What the contracts of this crate cite.
 pub mod Decimals
-pub mod Pieces
-pub mod Texts
-pub mod Events
-pub mod Targets
+pub mod Writing

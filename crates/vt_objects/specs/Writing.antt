@@ -3,14 +3,14 @@
 use Rattle.std.specs.Prelude.{◌≡◌, ℕ, Some, take, slice_get}
 use Rattle.std.specs.Int.{w32, cast_signed}
 use Rattle.byteorder.specs.Endian.{little_bytes}
-use Rattle.vt_objects.specs.declared.kind.Kind.{Kind}
-use Rattle.vt_objects.specs.declared.fields.Attribute.{Attribute}
-use Rattle.vt_objects.specs.declared.fields.Field as names
-use Rattle.vt_objects.specs.declared.fields.ValueType.{ValueType}
-use Rattle.vt_objects.specs.declared.fields.ValueType.TheVariants as types
-use Rattle.vt_objects.specs.Layout.{Field, Number, Unsigned, Signed, ScaleBytes, DecimalPlaces, Value, number, natural, integer, field_spelling}
-use Rattle.vt_objects.specs.Attributes.{attribute_at, width, lowest}
-use Rattle.vt_objects.specs.Records.{fields_of, names_of}
+use Rattle.vt_kinds.specs.declared.kind.Kind.{Kind}
+use Rattle.vt_kinds.specs.declared.fields.Attribute.{Attribute}
+use Rattle.vt_kinds.specs.declared.fields.Field as names
+use Rattle.vt_kinds.specs.declared.fields.ValueType.{ValueType}
+use Rattle.vt_kinds.specs.declared.fields.ValueType.TheVariants as types
+use Rattle.vt_kinds.specs.Layout.{Field, Number, Unsigned, Signed, ScaleBytes, DecimalPlaces, Value, number, natural, integer, field_spelling}
+use Rattle.vt_kinds.specs.Attributes.{attribute_at, width, lowest}
+use Rattle.vt_kinds.specs.Records.{fields_of, names_of}
 
 -- the field of a record in which values of a type stand
 abbrev pub field_of : ValueType → Field

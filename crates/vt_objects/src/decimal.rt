@@ -3,12 +3,12 @@
 ghost use Rattle.std.specs.Prelude.{◌≡◌, ◌<◌, ◌≤◌, ◌+◌, ◌*◌, ◌/◌, ◌^◌, ◌++◌, ◌+ℤ◌, pos, length, codes, [], if◌then◌else◌, int_lt, nat_lt, ◌&&◌, nat_abs};
 ghost use Rattle.std.specs.Fmt.{decimal};
 ghost use Rattle.arrayvec.specs.ArrayString.{array_string_len};
-ghost use Rattle.vt_objects.specs.Scales.{scale_places};
+ghost use Rattle.vt_kinds.specs.Scales.{scale_places};
 ghost use Rattle.vt_objects.specs.Decimals.{IsShown, shown_text, filled, fraction_text};
 
-use crate::scale::{Decimals, Scale};
 use arrayvec::ArrayString;
 use itoa::Buffer;
+use vt_kinds::{Decimals, Scale};
 
 /// A number and how it is shown: value and offset are added, multiplied by the scale, and rounded to the
 /// decimals, half away from zero.

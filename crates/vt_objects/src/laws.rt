@@ -1,19 +1,14 @@
 //! What the definitions come to: each function is a law, and calling it changes nothing.
 
 ghost use Rattle.vt_objects.specs.Decimals.{ShownIsOne};
-ghost use Rattle.vt_objects.specs.Pieces.{CutIsOne};
 ghost use Rattle.vt_objects.specs.Writing.{AttributesAreFields};
 
-pub use crate::has_record::objects_have_records;
+pub use vt_commands::laws::cut_is_one;
+pub use vt_writing::laws::objects_have_records;
 
 /// A number is shown in one way alone.
 pub fn shown_is_one()
     ensures { ShownIsOne }
-{}
-
-/// Bytes are cut into commands in one way alone.
-pub fn cut_is_one()
-    ensures { CutIsOne }
 {}
 
 /// Each attribute of a kind is the field of its name in the record, which gets the lowest bytes of the value as they are.

@@ -6,12 +6,12 @@ use Rattle.std.proofs.lemmas.Cmp.{nat_eq_equiv}
 use Rattle.std.proofs.lemmas.Map.Keys.{IsDistinct-head, IsDistinct-tail, IsDistinct-push}
 use Rattle.std.proofs.lemmas.List.{reverse-append}
 use Rattle.std.specs.FinMap as finite
-use Rattle.vt_objects.specs.Records.{Seen, HasRecord}
-use Rattle.vt_objects.specs.Stores.{Contents}
+use Rattle.vt_kinds.specs.Records.{Seen, HasRecord}
+use Rattle.vt_stores.specs.Stores.{Contents}
 use Rattle.vt_pool.specs.Pools.{Entry, joined, AreRecords, first_occurrences, ids, AreObjects, IsInForce, WrittenIsRead}
 use Rattle.vt_pool.specs.Places.{with_entry}
 use Rattle.vt_pool.proofs.InPlace.{entry_at, get-contents, ids_with}
-use Rattle.vt_pool.proofs.Taken.{same_record}
+use Rattle.vt_records.proofs.Taken.{same_record}
 
 -- ---- the same bytes are the same records
 

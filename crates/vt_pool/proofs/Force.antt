@@ -5,8 +5,8 @@ use Rattle.std.proofs.lemmas.Bool.{eqb-true, eqb-false, ne_eqb, eq-eqb}
 use Rattle.std.proofs.lemmas.List.{append-nil, map_push, reverse-append}
 use Rattle.std.proofs.lemmas.List.Elements.{filter-append}
 use Rattle.std.specs.FinMap as finite
-use Rattle.vt_objects.specs.Records.{Seen}
-use Rattle.vt_objects.specs.Stores.{Contents}
+use Rattle.vt_kinds.specs.Records.{Seen}
+use Rattle.vt_stores.specs.Stores.{Contents}
 use Rattle.vt_pool.specs.Pools.{Entry, ids, contents, first_occurrences, IsInForce}
 use Rattle.vt_pool.specs.Places.{with_entry}
 use Rattle.vt_pool.proofs.InPlace.{with_id, ids_with, contents_with}

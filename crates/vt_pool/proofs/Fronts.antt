@@ -5,11 +5,11 @@ use Rattle.std.proofs.lemmas.List.{length-drop, drop-drop}
 use Rattle.std.specs.Int.{Width, cast_signed}
 use Rattle.std.specs.Prelude.{ℤ}
 use Rattle.byteorder.specs.Endian.{little_number}
-use Rattle.vt_objects.specs.Layout.{Size, Unsigned, Signed, Numeral, natural, integer, bytes_in}
-use Rattle.vt_pool.specs.Reading.{bytes_at, number_at, signed_at, row_at, rows_at}
-use Rattle.vt_pool.specs.Parts.{row_size}
-use Rattle.vt_pool.proofs.Numbers.{number_short}
-use Rattle.vt_pool.proofs.Rows.{row_short}
+use Rattle.vt_kinds.specs.Layout.{Size, Unsigned, Signed, Numeral, natural, integer, bytes_in}
+use Rattle.vt_records.specs.Reading.{bytes_at, number_at, signed_at, row_at, rows_at}
+use Rattle.vt_records.specs.Reading.{row_size}
+use Rattle.vt_records.proofs.Numbers.{number_short}
+use Rattle.vt_records.proofs.Rows.{row_short}
 
 pub bytes_front : (count : ℕ) (all : List ℕ) → count ≤ length all → bytes_at count all ≡ Some (take count all, drop count all)
 unfolding bytes_at

@@ -6,9 +6,9 @@ use Rattle.std.proofs.lemmas.List.{length-map, get_or-map, map-set, map_push}
 use Rattle.std.specs.Ordering.{nat_cmp}
 use Rattle.std.specs.Cmp.{unsigned_tied, nat_cmp_total}
 use Rattle.std.specs.FinMap as finite
-use Rattle.vt_objects.specs.declared.object.Object.{Object}
-use Rattle.vt_objects.specs.Records.{Seen, seen}
-use Rattle.vt_objects.specs.Stores.{shown}
+use Rattle.vt_kinds.specs.declared.object.Object.{Object}
+use Rattle.vt_kinds.specs.Records.{Seen, seen}
+use Rattle.vt_stores.specs.Stores.{shown}
 use Rattle.vt_pool.specs.Pools.{Entry, ids, contents}
 use Rattle.vt_pool.specs.Places.{with_entry}
 

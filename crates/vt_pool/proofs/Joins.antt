@@ -2,16 +2,17 @@
 use Rattle.std.proofs.Common.{◌≡◌, ℕ, ◌+◌, ◌-◌, ◌<◌, List, [], ◌∷◌, ◌++◌, length, Result, Ok, Err, refl, sym, ap, subst, ◌∙◌, append_assoc, arith}
 use Rattle.std.specs.Prelude.{IfErr}
 use Rattle.std.proofs.lemmas.List.{length-append, flat_map_more}
-use Rattle.vt_objects.specs.Layout.{ScaleBytes, DecimalPlaces}
-use Rattle.vt_objects.specs.Records.{Seen, record_of, HasRecord}
-use Rattle.vt_pool.specs.declared.stop.Stop.{Stop}
-use Rattle.vt_pool.specs.declared.stop.Stop.TheVariants as stops
-use Rattle.vt_pool.specs.declared.fault.PoolFault.{PoolFault}
-use Rattle.vt_pool.specs.declared.fault.PoolFault.TheVariants as faults
-use Rattle.vt_pool.specs.Pools.{Entry, joined, AreRecords, NoRecordBegins, IsFaultAt, AtFirst, IsImproper, IsFault, IsWantOfMemory}
-use Rattle.vt_pool.specs.Stops.{IsStop, fault_at}
-use Rattle.vt_pool.proofs.Taken.{same_record}
-use Rattle.vt_pool.proofs.Causes.{truncated_none, null_none, other_none}
+use Rattle.vt_kinds.specs.Layout.{ScaleBytes, DecimalPlaces}
+use Rattle.vt_kinds.specs.Records.{Seen, record_of, HasRecord}
+use Rattle.vt_records.specs.declared.stop.Stop.{Stop}
+use Rattle.vt_records.specs.declared.stop.Stop.TheVariants as stops
+use Rattle.vt_records.specs.declared.fault.PoolFault.{PoolFault}
+use Rattle.vt_records.specs.declared.fault.PoolFault.TheVariants as faults
+use Rattle.vt_pool.specs.Pools.{Entry, joined, AreRecords, IsFaultAt, AtFirst, IsFault, IsWantOfMemory}
+use Rattle.vt_records.specs.Faults.{NoRecordBegins, IsImproper}
+use Rattle.vt_records.specs.Stops.{IsStop, fault_at}
+use Rattle.vt_records.proofs.Taken.{same_record}
+use Rattle.vt_records.proofs.Causes.{truncated_none, null_none, other_none}
 
 -- ---- one more record
 

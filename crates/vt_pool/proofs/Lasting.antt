@@ -1,16 +1,17 @@
 -- A fault that more bytes do not cure.
 use Rattle.std.proofs.Common.{◌≡◌, ℕ, ◌≤◌, List, [], ◌∷◌, ◌++◌, length, drop, Option, Some, refl, sym, ap, subst, ◌∙◌, append_assoc, arith, inl, inr}
 use Rattle.std.proofs.lemmas.List.{length-append}
-use Rattle.vt_objects.specs.declared.kind.Kind.{Kind}
-use Rattle.vt_objects.specs.Layout.{Field, ScaleBytes, DecimalPlaces, Value, spelling, Proper, no_counts}
-use Rattle.vt_objects.specs.Kinds.{kind_at}
-use Rattle.vt_objects.specs.Records.{fields_of, kind_of, values_of}
-use Rattle.vt_pool.specs.declared.fault.PoolFault.TheVariants as faults
-use Rattle.vt_pool.specs.Reading.{values_at}
-use Rattle.vt_pool.specs.Pools.{joined, NoRecordBegins, HasNullId, HasOtherType, HasValues, IsLeftOut, IsFirstImproper, IsImproper, IsFaultAt, id_at, type_at}
+use Rattle.vt_kinds.specs.declared.kind.Kind.{Kind}
+use Rattle.vt_kinds.specs.Layout.{Field, ScaleBytes, DecimalPlaces, Value, spelling, Proper, no_counts}
+use Rattle.vt_kinds.specs.Kinds.{kind_at}
+use Rattle.vt_kinds.specs.Records.{fields_of, kind_of, values_of}
+use Rattle.vt_records.specs.declared.fault.PoolFault.TheVariants as faults
+use Rattle.vt_records.specs.Reading.{values_at}
+use Rattle.vt_pool.specs.Pools.{joined, IsFaultAt}
+use Rattle.vt_records.specs.Faults.{NoRecordBegins, HasNullId, HasOtherType, HasValues, IsLeftOut, IsFirstImproper, IsImproper, id_at, type_at}
 use Rattle.vt_pool.specs.Arriving.{FaultsLast}
-use Rattle.vt_pool.proofs.Tables.{values_again}
-use Rattle.vt_pool.proofs.Causes.{kind_there}
+use Rattle.vt_records.proofs.Tables.{values_again}
+use Rattle.vt_records.proofs.Causes.{kind_there}
 
 -- ---- the head of a record, and what stands behind it
 

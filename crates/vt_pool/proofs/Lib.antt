@@ -1,26 +1,12 @@
-pub mod Rows
-pub mod Numbers
-pub mod Tables
-pub mod Misfits
-pub mod Heads
-pub mod FromValues
-pub mod Same
-pub mod Taken
-pub mod Causes
-pub mod Returned
-pub mod InPlace
-pub mod Force
-pub mod Joins
-pub mod Progress
-pub mod Writing
-pub mod Again
-pub mod Typed
-pub mod EntriesAgain
-pub mod Objects
-pub mod Lasting
-pub mod Fronts
-pub mod PartsPassed
-pub mod RecordsPassed
-pub mod ReadTo
-pub mod NoFaultYet
-pub mod OneReading
+mod Again
+mod Force
+mod Fronts
+mod InPlace
+mod Joins
+mod Lasting
+mod NoFaultYet
+mod OneReading
+mod PartsPassed
+mod Progress
+mod ReadTo
+mod RecordsPassed

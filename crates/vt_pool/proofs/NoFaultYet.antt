@@ -1,14 +1,15 @@
 -- Where a pool's bytes end in the front of a record, they have no fault that lasts.
 use Rattle.std.proofs.Common.{◌≡◌, ℕ, List, [], ◌∷◌, ◌++◌, length, drop, Option, Some, None, sym, ap, subst, ◌∙◌, append_assoc, arith, inl, inr}
 use Rattle.std.specs.Prelude.{IfNone}
-use Rattle.vt_objects.specs.Layout.{Field, ScaleBytes, DecimalPlaces}
-use Rattle.vt_objects.specs.Records.{record_of}
-use Rattle.vt_pool.specs.declared.fault.PoolFault.{PoolFault}
-use Rattle.vt_pool.specs.declared.fault.PoolFault.TheVariants as faults
-use Rattle.vt_pool.specs.Pools.{Entry, joined, AreRecords, NoRecordBegins, HasNullId, HasOtherType, IsTruncated, IsImproper, IsFaultAt}
+use Rattle.vt_kinds.specs.Layout.{Field, ScaleBytes, DecimalPlaces}
+use Rattle.vt_kinds.specs.Records.{record_of}
+use Rattle.vt_records.specs.declared.fault.PoolFault.{PoolFault}
+use Rattle.vt_records.specs.declared.fault.PoolFault.TheVariants as faults
+use Rattle.vt_pool.specs.Pools.{Entry, joined, AreRecords, IsFaultAt}
+use Rattle.vt_records.specs.Faults.{NoRecordBegins, HasNullId, HasOtherType, IsTruncated, IsImproper}
 use Rattle.vt_pool.specs.Arriving.{AreWholeTo, IsUnfinished, IsReadTo, HasNoFaultYet}
-use Rattle.vt_pool.proofs.Taken.{same_record}
-use Rattle.vt_pool.proofs.Causes.{truncated_none, null_none, other_none}
+use Rattle.vt_records.proofs.Taken.{same_record}
+use Rattle.vt_records.proofs.Causes.{truncated_none, null_none, other_none}
 
 -- ---- what follows the same whole records
 

@@ -4,15 +4,16 @@ use Rattle.std.specs.List.{AllByRecursion, IsDistinct}
 use Rattle.std.proofs.lemmas.List.{append-nil}
 use Rattle.std.proofs.lemmas.Map.Keys.{IsDistinct-head, IsDistinct-tail, IsDistinct-cons}
 use Rattle.std.specs.FinMap as finite
-use Rattle.vt_objects.specs.Layout.{Field, ScaleBytes, DecimalPlaces}
-use Rattle.vt_objects.specs.Records.{record_of}
-use Rattle.vt_objects.specs.Stores.{Contents}
-use Rattle.vt_pool.specs.declared.fault.PoolFault.{PoolFault}
-use Rattle.vt_pool.specs.declared.fault.PoolFault.TheVariants as faults
-use Rattle.vt_pool.specs.Pools.{Entry, joined, AreRecords, first_occurrences, ids, IsInForce, NoRecordBegins, HasNullId, HasOtherType, IsTruncated, IsImproper, IsFaultAt, IsFault, IsWantOfMemory, ReadingsAreOne, is_of_type}
+use Rattle.vt_kinds.specs.Layout.{Field, ScaleBytes, DecimalPlaces}
+use Rattle.vt_kinds.specs.Records.{record_of}
+use Rattle.vt_stores.specs.Stores.{Contents}
+use Rattle.vt_records.specs.declared.fault.PoolFault.{PoolFault}
+use Rattle.vt_records.specs.declared.fault.PoolFault.TheVariants as faults
+use Rattle.vt_pool.specs.Pools.{Entry, joined, AreRecords, first_occurrences, ids, IsInForce, IsFaultAt, IsFault, IsWantOfMemory, ReadingsAreOne, is_of_type}
+use Rattle.vt_records.specs.Faults.{NoRecordBegins, HasNullId, HasOtherType, IsTruncated, IsImproper}
 use Rattle.vt_pool.proofs.InPlace.{get-contents}
-use Rattle.vt_pool.proofs.Taken.{same_record}
-use Rattle.vt_pool.proofs.Causes.{truncated_none, null_none, other_none}
+use Rattle.vt_records.proofs.Taken.{same_record}
+use Rattle.vt_records.proofs.Causes.{truncated_none, null_none, other_none}
 use Rattle.vt_pool.proofs.Again.{joined_one, same_entries}
 
 -- ---- no ID stands twice among the first occurrences

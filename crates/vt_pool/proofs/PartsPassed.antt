@@ -3,22 +3,23 @@ use Rattle.std.proofs.Common.{◌≡◌, ℕ, ◌+◌, ◌-◌, ◌*◌, ◌<◌
 use Rattle.std.specs.Option.{option_or}
 use Rattle.std.proofs.lemmas.List.{length-append, length-drop, length-take-le, length-map, get_or-map, drop_more, drop_all}
 use Rattle.byteorder.specs.Endian.{little_number}
-use Rattle.vt_objects.specs.declared.scale.Scale.{Scale}
-use Rattle.vt_objects.specs.Scales.{scale_at}
-use Rattle.vt_objects.specs.Layout as layout
-use Rattle.vt_objects.specs.Layout.{Unsigned, Signed, natural, integer, bytes_in, Field, Number, Count, Rows, Bytes, ScaleBytes, DecimalPlaces, Value, number, rows, bytes, Objects, Macros, Others, counted, count_of, rows_spelling, no_counts}
-use Rattle.vt_pool.specs.declared.stop.Stop.{Stop}
-use Rattle.vt_pool.specs.declared.stop.Stop.TheVariants as stops
-use Rattle.vt_pool.specs.declared.fault.PoolFault.{PoolFault}
-use Rattle.vt_pool.specs.declared.fault.PoolFault.TheVariants as faults
+use Rattle.vt_kinds.specs.declared.scale.Scale.{Scale}
+use Rattle.vt_kinds.specs.Scales.{scale_at}
+use Rattle.vt_kinds.specs.Layout as layout
+use Rattle.vt_kinds.specs.Layout.{Unsigned, Signed, natural, integer, bytes_in, Field, Number, Count, Rows, Bytes, ScaleBytes, DecimalPlaces, Value, number, rows, bytes, Objects, Macros, Others, counted, count_of, rows_spelling, no_counts}
+use Rattle.vt_records.specs.declared.stop.Stop.{Stop}
+use Rattle.vt_records.specs.declared.stop.Stop.TheVariants as stops
+use Rattle.vt_records.specs.declared.fault.PoolFault.{PoolFault}
+use Rattle.vt_records.specs.declared.fault.PoolFault.TheVariants as faults
 use Rattle.vt_pool.specs.declared.parts.Counts.{Counts}
 use Rattle.vt_pool.specs.declared.parts.Part.{Part}
-use Rattle.vt_pool.specs.Stops.{fault_at}
-use Rattle.vt_pool.specs.Heads.{if_none, misfit, or_misfit, fitting}
-use Rattle.vt_pool.specs.Reading.{◌>>=◌, values_at, rows_at}
-use Rattle.vt_pool.specs.Parts.{counted_as, row_size, part_of, count_in, with_count, part_size, counts_behind, fault_without, part_fault, PassesFields}
-use Rattle.vt_pool.proofs.Numbers.{IsBytes, IsBytes-drop, number_short}
-use Rattle.vt_pool.proofs.Tables.{rows_take}
+use Rattle.vt_records.specs.Stops.{fault_at}
+use Rattle.vt_records.specs.Heads.{if_none, misfit, or_misfit, fitting}
+use Rattle.vt_records.specs.Reading.{◌>>=◌, values_at, rows_at}
+use Rattle.vt_pool.specs.Parts.{counted_as, part_of, count_in, with_count, part_size, counts_behind, fault_without, part_fault, PassesFields}
+use Rattle.vt_records.specs.Reading.{row_size}
+use Rattle.vt_records.proofs.Numbers.{IsBytes, IsBytes-drop, number_short}
+use Rattle.vt_records.proofs.Tables.{rows_take}
 use Rattle.vt_pool.proofs.Fronts.{bytes_front, bytes_short, number_front, signed_front, signed_short, rows_front, rows_short}
 
 -- ---- counts

@@ -1,9 +1,9 @@
 -- How far a pool is read: the records so far, and what they leave in force.
 use Rattle.std.proofs.Common.{◌≡◌, ℕ, ◌-◌, ◌<◌, List, [], ◌∷◌, ◌++◌, length, sym, subst}
-use Rattle.vt_objects.specs.Records.{Seen, record_of, HasRecord}
-use Rattle.vt_pool.specs.declared.stop.Stop.{Stop}
+use Rattle.vt_kinds.specs.Records.{Seen, record_of, HasRecord}
+use Rattle.vt_records.specs.declared.stop.Stop.{Stop}
 use Rattle.vt_pool.specs.Pools.{Entry, joined, AreRecords, IsInForce, IsFault}
-use Rattle.vt_pool.specs.Stops.{IsStop, fault_at}
+use Rattle.vt_records.specs.Stops.{IsStop, fault_at}
 use Rattle.vt_pool.specs.Places.{with_entry}
 use Rattle.vt_pool.proofs.Force.{in_force_push}
 use Rattle.vt_pool.proofs.Joins.{joined_push, records_push, is_fault}

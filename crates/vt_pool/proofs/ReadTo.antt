@@ -2,27 +2,27 @@
 use Rattle.std.proofs.Common.{◌≡◌, ℕ, ◌<◌, ◌≤◌, Bool, true, false, cond, eqb, leb, ◌&&◌, List, [], ◌∷◌, ◌++◌, length, drop, Option, Some, None, Result, Ok, Err, refl, sym, ap, subst, ◌∙◌, append_assoc, arith, inl, inr}
 use Rattle.std.proofs.lemmas.List.{length-append, length-drop, drop_at, drop_all, drop-append-le}
 use Rattle.byteorder.specs.Endian.{little_number}
-use Rattle.vt_objects.specs.declared.kind.Kind.{Kind}
-use Rattle.vt_objects.specs.Layout.{Value, no_counts}
-use Rattle.vt_objects.specs.Kinds.{kind_at}
-use Rattle.vt_objects.specs.Records.{Seen, fields_of, kind_of, values_of, record_of, HasRecord}
-use Rattle.vt_pool.specs.declared.stop.Stop.{Stop}
-use Rattle.vt_pool.specs.declared.stop.Stop.TheVariants as stops
-use Rattle.vt_pool.specs.declared.fault.PoolFault.{PoolFault}
-use Rattle.vt_pool.specs.Heads.{Held, fitting, fields_at, record_at}
-use Rattle.vt_pool.specs.Reading.{values_at}
+use Rattle.vt_kinds.specs.declared.kind.Kind.{Kind}
+use Rattle.vt_kinds.specs.Layout.{Value, no_counts}
+use Rattle.vt_kinds.specs.Kinds.{kind_at}
+use Rattle.vt_kinds.specs.Records.{Seen, fields_of, kind_of, values_of, record_of, HasRecord}
+use Rattle.vt_records.specs.declared.stop.Stop.{Stop}
+use Rattle.vt_records.specs.declared.stop.Stop.TheVariants as stops
+use Rattle.vt_records.specs.declared.fault.PoolFault.{PoolFault}
+use Rattle.vt_records.specs.Heads.{Held, fitting, fields_at, record_at}
+use Rattle.vt_records.specs.Reading.{values_at}
 use Rattle.vt_pool.specs.Pools.{joined, IsFault}
-use Rattle.vt_pool.specs.Stops.{fault_at}
+use Rattle.vt_records.specs.Stops.{fault_at}
 use Rattle.vt_pool.specs.Arriving.{lasting_of, AreWholeTo, IsReadTo, WereReadTo}
 use Rattle.vt_pool.specs.Parts.{PassesRecord}
-use Rattle.vt_pool.proofs.Numbers.{IsBytes, IsBytes-drop, IsBytes-rest}
-use Rattle.vt_pool.proofs.Tables.{values_take}
-use Rattle.vt_pool.proofs.Misfits.{misfit_is, fitting_err}
-use Rattle.vt_pool.proofs.Heads.{held, of_values, of_kind, record_at-short, record_at-long}
-use Rattle.vt_pool.proofs.Taken.{IsRead, is_read}
-use Rattle.vt_pool.proofs.Causes.{record_stops}
+use Rattle.vt_records.proofs.Numbers.{IsBytes, IsBytes-drop, IsBytes-rest}
+use Rattle.vt_records.proofs.Tables.{values_take}
+use Rattle.vt_records.proofs.Misfits.{misfit_is, fitting_err}
+use Rattle.vt_records.proofs.Heads.{held, of_values, of_kind, record_at-short, record_at-long}
+use Rattle.vt_records.proofs.Taken.{IsRead, is_read}
+use Rattle.vt_records.proofs.Causes.{record_stops}
 use Rattle.vt_pool.proofs.Joins.{joined_push, records_push, is_fault}
-use Rattle.vt_pool.proofs.Objects.{object_there}
+use Rattle.vt_records.proofs.FromValues.{object_there}
 use Rattle.vt_pool.proofs.Lasting.{faults_last}
 
 -- ---- a record at the front

@@ -3,19 +3,19 @@ use Rattle.std.proofs.Common.{◌≡◌, ◌≢◌, ℕ, ◌-◌, ◌≤◌, Boo
 use Rattle.std.proofs.lemmas.Bool.{eq-eqb, ne_eqb}
 use Rattle.std.proofs.lemmas.List.{drop-drop, length-drop}
 use Rattle.byteorder.specs.Endian.{little_number}
-use Rattle.vt_objects.specs.declared.kind.Kind.{Kind}
-use Rattle.vt_objects.specs.Layout.{Value}
-use Rattle.vt_objects.specs.Kinds.{kind_at}
-use Rattle.vt_objects.specs.Records.{fields_of}
-use Rattle.vt_pool.specs.declared.stop.Stop.{Stop}
-use Rattle.vt_pool.specs.declared.stop.Stop.TheVariants as stops
-use Rattle.vt_pool.specs.declared.fault.PoolFault.{PoolFault}
-use Rattle.vt_pool.specs.Stops.{fault_at}
-use Rattle.vt_pool.specs.Heads.{Held, ◌>>=◌, or_stop, other_type, fields_at, record_at}
-use Rattle.vt_pool.specs.Reading.{number_at}
+use Rattle.vt_kinds.specs.declared.kind.Kind.{Kind}
+use Rattle.vt_kinds.specs.Layout.{Value}
+use Rattle.vt_kinds.specs.Kinds.{kind_at}
+use Rattle.vt_kinds.specs.Records.{fields_of}
+use Rattle.vt_records.specs.declared.stop.Stop.{Stop}
+use Rattle.vt_records.specs.declared.stop.Stop.TheVariants as stops
+use Rattle.vt_records.specs.declared.fault.PoolFault.{PoolFault}
+use Rattle.vt_records.specs.Stops.{fault_at}
+use Rattle.vt_records.specs.Heads.{Held, ◌>>=◌, or_stop, other_type, fields_at, record_at}
+use Rattle.vt_records.specs.Reading.{number_at}
 use Rattle.vt_pool.specs.Parts.{HeadGives, PassesFields, PassesRecord}
 use Rattle.vt_pool.proofs.Fronts.{number_front}
-use Rattle.vt_pool.proofs.Heads.{of_values, of_kind, behind}
+use Rattle.vt_records.proofs.Heads.{of_values, of_kind, behind}
 
 rest_is : (x y : ℕ × List ℕ) → ◌≡◌ {A = Option (ℕ × List ℕ)} (Some x) (Some y) → x.1 ≡ y.1
 rest_is x y e = let same : x ≡ y = cc in ap (λ (z : ℕ × List ℕ). z.1) same

@@ -1,9 +1,10 @@
 -- A pool that is read as its pieces arrive (docs/PROFILE.md, "Object Pool Transfer (11)").
 use Rattle.std.specs.Prelude.{◌≡◌, ◌⊎◌, ℕ, List, [], ◌++◌, length, drop, Option, Some, None, refl}
 use Rattle.std.specs.Coded.{Coded, code_by, coded×, coded_ℕ, coded_list}
-use Rattle.vt_pool.specs.declared.fault.PoolFault.{PoolFault}
-use Rattle.vt_pool.specs.declared.fault.PoolFault.TheVariants.{Truncated, OutOfMemory}
-use Rattle.vt_pool.specs.Pools.{Entry, AreRecords, joined, IsTruncated, IsFault}
+use Rattle.vt_records.specs.declared.fault.PoolFault.{PoolFault}
+use Rattle.vt_records.specs.declared.fault.PoolFault.TheVariants.{Truncated, OutOfMemory}
+use Rattle.vt_pool.specs.Pools.{Entry, AreRecords, joined, IsFault}
+use Rattle.vt_records.specs.Faults.{IsTruncated}
 
 -- the bytes that have arrived, and how many more may come that take no memory
 pub record Arrived : Type 0 where

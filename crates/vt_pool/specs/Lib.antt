@@ -1,8 +1,5 @@
-pub mod Pools
-pub mod Reading
-pub mod Heads
-pub mod Writing
-pub mod Stops
-pub mod Places
+-- What the contracts of this crate cite.
 pub mod Arriving
 pub mod Parts
+pub mod Places
+pub mod Pools

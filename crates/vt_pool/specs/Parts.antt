@@ -1,22 +1,23 @@
 -- What the fields of a record say of its length and its faults.
 use Rattle.std.specs.Prelude.{◌≡◌, ℕ, ◌+◌, ◌*◌, ◌≤◌, List, [], ◌∷◌, length, drop, nat_le, nat_lt, ◌&&◌, Bool, true, if◌then◌else◌, Option, Some, None, Result, Ok, Err}
 use Rattle.byteorder.specs.Endian.{little_number}
-use Rattle.vt_objects.specs.declared.scale.Scale.{Scale}
-use Rattle.vt_objects.specs.Scales.{scale_at}
-use Rattle.vt_objects.specs.Layout.{Size, Unsigned, Signed, bytes_in, Field, Number, Count, Rows, Bytes, ScaleBytes, DecimalPlaces, Value, Objects, Macros, Others}
-use Rattle.vt_objects.specs.Layout as layout
+use Rattle.vt_kinds.specs.declared.scale.Scale.{Scale}
+use Rattle.vt_kinds.specs.Scales.{scale_at}
+use Rattle.vt_kinds.specs.Layout.{Size, Unsigned, Signed, bytes_in, Field, Number, Count, Rows, Bytes, ScaleBytes, DecimalPlaces, Value, Objects, Macros, Others}
+use Rattle.vt_kinds.specs.Layout as layout
 use Rattle.vt_pool.specs.declared.parts.Counted.{Counted}
 use Rattle.vt_pool.specs.declared.parts.Counted.TheVariants as counted
 use Rattle.vt_pool.specs.declared.parts.Counts.{Counts}
 use Rattle.vt_pool.specs.declared.parts.Part.{Part}
 use Rattle.vt_pool.specs.declared.parts.Part.TheVariants as parts
-use Rattle.vt_pool.specs.declared.stop.Stop.{Stop}
-use Rattle.vt_pool.specs.declared.fault.PoolFault.{PoolFault}
-use Rattle.vt_pool.specs.declared.fault.PoolFault.TheVariants as faults
-use Rattle.vt_objects.specs.declared.kind.Kind.{Kind}
-use Rattle.vt_objects.specs.Records.{fields_of}
-use Rattle.vt_pool.specs.Heads.{Held, ◌>>=◌, fields_at, record_at}
-use Rattle.vt_pool.specs.Stops.{fault_at}
+use Rattle.vt_records.specs.declared.stop.Stop.{Stop}
+use Rattle.vt_records.specs.declared.fault.PoolFault.{PoolFault}
+use Rattle.vt_records.specs.declared.fault.PoolFault.TheVariants as faults
+use Rattle.vt_kinds.specs.declared.kind.Kind.{Kind}
+use Rattle.vt_kinds.specs.Records.{fields_of}
+use Rattle.vt_records.specs.Heads.{Held, ◌>>=◌, fields_at, record_at}
+use Rattle.vt_records.specs.Reading.{row_size}
+use Rattle.vt_records.specs.Stops.{fault_at}
 
 -- ---- the parts of a record
 
@@ -24,12 +25,6 @@ abbrev pub counted_as : layout.Counted → Counted
 counted_as Objects = counted.Objects
 counted_as Macros = counted.Macros
 counted_as Others = counted.Others
-
--- how many bytes the numbers of a row take
-abbrev pub row_size : List Size → ℕ
-row_size [] = 0
-row_size (Unsigned size ∷ sizes) = size + row_size sizes
-row_size (Signed width ∷ sizes) = bytes_in width + row_size sizes
 
 abbrev pub part_of : Field → Part
 part_of (Number (Unsigned size)) = parts.Number size

@@ -1,6 +1,6 @@
 -- A list of entries with an object under an ID: in the place of the ID's entry, or at the end.
 use Rattle.std.specs.Prelude.{ℕ, List, [], ◌∷◌, ◌==◌, if◌then◌else◌}
-use Rattle.vt_objects.specs.Records.{Seen}
+use Rattle.vt_kinds.specs.Records.{Seen}
 use Rattle.vt_pool.specs.Pools.{Entry}
 
 abbrev pub with_entry : List Entry → ℕ → Seen → List Entry

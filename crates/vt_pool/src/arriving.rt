@@ -5,11 +5,11 @@ ghost use Rattle.vt_pool.specs.Arriving.{IsLasting, HasNoFaultYet, IsReadTo, Wer
 ghost use Rattle.vt_pool.specs.Pools.{Entry, AreRecords, joined, IsInForce, IsFault, IsWantOfMemory};
 
 use crate::OutOfMemory;
-use crate::fault::PoolFault;
 use crate::passing::pass_records;
 use crate::pool::{Pool, read_pool};
 use std::alloc::Global;
 use std::marker::Model;
+use vt_records::PoolFault;
 
 /// A pool that is read as its pieces arrive: its bytes so far, and how many more it has room for. However
 /// the pool was cut, it is read as a whole one. ISO 11783-6; docs/PROFILE.md, "Object Pool Transfer (11)".

@@ -1,12 +1,9 @@
 //! What the definitions come to: each function is a law, and its body does nothing.
 
 ghost use Rattle.vt_pool.specs.Arriving.{FaultsLast};
-ghost use Rattle.vt_pool.specs.Pools.{ReadingsAreOne, RecordsAreWhole, WrittenIsRead};
+ghost use Rattle.vt_pool.specs.Pools.{ReadingsAreOne, WrittenIsRead};
 
-/// No record is the front of another one.
-pub fn records_are_whole()
-    ensures { RecordsAreWhole }
-{}
+pub use vt_records::laws::records_are_whole;
 
 /// A pool's bytes have one reading: what they leave in force is one, whole records have no fault but want of memory, and of
 /// their other faults either all are of a type or none is.

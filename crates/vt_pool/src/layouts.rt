@@ -1,11 +1,11 @@
 //! The parts of the record of each kind, behind the ID and the type (docs/PROFILE.md, "Records").
 
 ghost use Rattle.std.specs.Prelude.{◌≡◌, map, true};
-ghost use Rattle.vt_objects.specs.Records.{fields_of};
+ghost use Rattle.vt_kinds.specs.Records.{fields_of};
 ghost use Rattle.vt_pool.specs.Parts.{part_of, are_countable};
 
 use crate::parts::{Counted, Part};
-use vt_objects::Kind;
+use vt_kinds::Kind;
 
 const BYTE: Part = Part::Number(1);
 

@@ -3,9 +3,9 @@
 ghost use Rattle.std.specs.Prelude.{◌≡◌, ◌<◌, ◌≤◌, ◌^◌, length, take, drop, IfSome, IfNone};
 ghost use Rattle.vt_pool.specs.Parts.{count_in, with_count, part_size, counts_behind, part_fault, IsLongEnough};
 
-use crate::fault::PoolFault;
 use byteorder::{ByteOrder, LittleEndian};
-use vt_objects::{Decimals, Scale};
+use vt_kinds::{Decimals, Scale};
+use vt_records::PoolFault;
 
 /// What a count counts.
 #[derive(Clone, Copy)]

@@ -1,18 +1,15 @@
 //! Passing over records without reading them: where they end, and which is faulty. It takes no memory.
 
 ghost use Rattle.std.specs.Prelude.{◌≡◌, ◌<◌, ◌≤◌, ◌+◌, ◌^◌, length, drop, IfOk};
-ghost use Rattle.vt_objects.specs.Records.{fields_of};
-ghost use Rattle.vt_pool.specs.Heads.{fields_at, record_at};
+ghost use Rattle.vt_kinds.specs.Records.{fields_of};
+ghost use Rattle.vt_records.specs.Heads.{fields_at, record_at};
 ghost use Rattle.vt_pool.specs.Arriving.{AreWholeTo, IsReadTo, lasting_of};
 ghost use Rattle.vt_pool.specs.Parts.{HeadGives, PassesFields, PassesRecord};
 
-use crate::fault::PoolFault;
 use crate::layouts::parts;
 use crate::parts::Counts;
-use crate::reader::Reader;
-use crate::record::kind_with;
-use crate::stop::Stop;
-use vt_objects::Kind;
+use vt_kinds::Kind;
+use vt_records::{PoolFault, Reader, Stop, kind_with};
 
 /// Passes over the whole records from a place on, at which others end. Answers the end of the last, and the
 /// fault of what follows it, if the fault lasts.

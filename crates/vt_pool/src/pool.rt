@@ -3,19 +3,17 @@
 ghost use Rattle.std.specs.Prelude.{◌≡◌, ◌<◌, [], ◌++◌, length, map, slice_set, List, ℕ, IfOk, IfErr, OnOk};
 ghost use Rattle.std.specs.Option.{option_map};
 ghost use Rattle.std.specs.FinMap as finite;
-ghost use Rattle.vt_objects.specs.Records.{seen, HasRecord};
-ghost use Rattle.vt_objects.specs.Stores.{shown};
+ghost use Rattle.vt_kinds.specs.Records.{seen, HasRecord};
+ghost use Rattle.vt_stores.specs.Stores.{shown};
 ghost use Rattle.vt_pool.specs.Pools.{Entry, AreObjects, AreRecords, joined, contents, IsInForce, IsFault, IsWantOfMemory};
-ghost use Rattle.vt_pool.specs.declared.stop.Stop.TheVariants as stops;
+ghost use Rattle.vt_records.specs.declared.stop.Stop.TheVariants as stops;
 ghost use Rattle.vt_pool.specs.Places.{with_entry};
 
-use crate::fault::PoolFault;
-use crate::record::read_record;
-use crate::stop::Stop;
 use indexmap::IndexSet;
 use std::alloc::Global;
 use std::marker::Model;
-use vt_objects::{Object, ObjectId};
+use vt_kinds::{Object, ObjectId};
+use vt_records::{PoolFault, Stop, read_record};
 
 /// The objects of a pool, each ID once, in the order in which their IDs first stood. Their texts are
 /// slices of the pool's bytes.
@@ -27,7 +25,7 @@ pub struct Pool<'a> {
 
 impl<'a> Model for Pool<'a> {
     ghost use Rattle.std.specs.Prelude.{◌≡◌, List, map};
-    ghost use Rattle.vt_objects.specs.Stores.{shown};
+    ghost use Rattle.vt_stores.specs.Stores.{shown};
     ghost use Rattle.vt_pool.specs.Pools.{Entry, ids, AreObjects};
 
     ghost Value = { List Entry };

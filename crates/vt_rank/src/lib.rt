@@ -24,6 +24,3 @@ pub use capped::costs;
 pub use circle::Circle;
 pub use graph::{Graph, Item};
 pub use ranking::{Ranks, rank};
-
-#[cfg(test)]
-mod tests;

@@ -4,18 +4,10 @@
 //! docs/PROFILE.md, "The program", has the words, the statuses and the output.
 #![tactic(auto)]
 
-mod counts;
-mod fault;
-mod options;
-mod output;
-mod program;
-mod progress;
-mod replay;
-
-use program::{Open, Status, run};
 use std::fs::{self, File};
 use std::io::{self, BufWriter, Error, ErrorKind, Write};
 use std::process::ExitCode;
+use vt_logs::{Open, Status, run};
 
 /// The files of the system.
 #[derive(Drop)]
@@ -57,6 +49,3 @@ fn main(rt: HostRuntime) -> io::Result<ExitCode> {
     )?;
     Ok(ExitCode::from(status.code()))
 }
-
-#[cfg(test)]
-mod tests;

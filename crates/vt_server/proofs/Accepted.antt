@@ -6,8 +6,8 @@ use Rattle.vt_server.specs.Hearings.{IsNoClaim}
 use Rattle.vt_server.specs.Parts.{Part, after_message, after_master, after_member, after_notice}
 use Rattle.vt_server.specs.Sessions.{came}
 use Rattle.vt_server.specs.Transfers.{Verdict}
-use Rattle.vt_server.specs.declared.bus.Notice.{Notice}
-use Rattle.vt_server.specs.declared.bus.Notice.TheVariants as notices
+use Rattle.vt_node.specs.declared.bus.Notice.{Notice}
+use Rattle.vt_node.specs.declared.bus.Notice.TheVariants as notices
 
 message-accepted : (a : ℕ) (p : Part) (v : Verdict) (o : Option Set) (m : Option (List ℕ)) → (after_message a p v o m).refused ≡ None
 message-accepted a p v None m = refl

@@ -9,8 +9,8 @@ use Rattle.vt_server.specs.Parts.{Act, Hears, Rebinds, Raises}
 use Rattle.vt_server.specs.Steps.{before, changed, changed_left, left_by, left_holder, changes, heard_at_source}
 use Rattle.vt_server.specs.Terminals.{State, holder}
 use Rattle.vt_server.specs.Transfers.{Verdict}
-use Rattle.vt_server.specs.declared.bus.Notice.{Notice}
-use Rattle.vt_server.specs.declared.bus.Notice.TheVariants.{Claim, ClaimRequest, Master, Member, Message, Tp, Etp, Nothing}
+use Rattle.vt_node.specs.declared.bus.Notice.{Notice}
+use Rattle.vt_node.specs.declared.bus.Notice.TheVariants.{Claim, ClaimRequest, Master, Member, Message, Tp, Etp, Nothing}
 
 -- ---- lists of acts with their addresses
 

@@ -3,19 +3,21 @@ use Rattle.std.proofs.Common.{◌≡◌, ℕ, true, false, cond, eqb, List, [], 
 use Rattle.std.specs.Option.{option_map, option_to_list}
 use Rattle.vt_can.specs.declared.frames.frame.Frame.{Frame}
 use Rattle.vt_names.specs.Registry.{Set, set_at}
-use Rattle.vt_objects.specs.declared.command.Command.{Command}
-use Rattle.vt_objects.specs.Commands.{command_at}
+use Rattle.vt_commands.specs.declared.command.Command.{Command}
+use Rattle.vt_commands.specs.Commands.{command_at}
 use Rattle.vt_server.specs.Commands.{content_after, error_after}
 use Rattle.vt_server.specs.Findings.{ends_transfer}
 use Rattle.vt_server.specs.Handling.{Handled, handled, asked, commanded, transferred, end_handled, TRANSFER, END_OF_POOL}
 use Rattle.vt_server.specs.Hearings.{Answers, IsReplyTo, begins_with, is_other, with_content_at, IsJudgedAt}
-use Rattle.vt_server.specs.Messages.{message_to, technical_reply}
+use Rattle.vt_node.specs.Messages.{message_to, technical_reply}
 use Rattle.vt_server.specs.Parts.{Outcome, unchanged, answered, after_message}
 use Rattle.vt_server.specs.Places.{Content, Place, with_content}
 use Rattle.vt_server.specs.Replies.{reply_to}
-use Rattle.vt_server.specs.Terminals.{State, part, put, with_at}
+use Rattle.vt_server.specs.Terminals.{State, part, put}
+use Rattle.vt_node.specs.ByAddress.{with_at}
 use Rattle.vt_server.specs.Transfers.{Verdict, IsVerdict}
-use Rattle.vt_server.proofs.Writes.{put-place, put-kept, places-same}
+use Rattle.vt_server.proofs.Writes.{put-place, put-kept}
+use Rattle.vt_node.proofs.ByAddress.{places-same}
 
 -- ---- a message that asks what the terminal is, or a command
 

@@ -1,21 +1,20 @@
 -- The changes of holders by a claim, at one address.
 use Rattle.std.proofs.Common.{◌≡◌, ◌≢◌, ℕ, Bool, true, false, cond, eqb, List, [], ◌∷◌, ◌++◌, Option, Some, None, refl, sym, ap, ◌∙◌, eq-eqb, ne_eqb, nat_eq, append-nil}
+use Rattle.std.proofs.lemmas.Option.{same_Some}
 use Rattle.std.proofs.lemmas.Bool.{eqb-true, false≢true}
 use Rattle.std.specs.Option.{option_eq}
 use Rattle.vt_names.specs.Claims.{IsRising, OtherHoldersStay, address_of}
 use Rattle.vt_server.specs.Parts.{Act, Rebinds}
 use Rattle.vt_server.specs.Steps.{before, changed, left_by, changes, changes_by}
 use Rattle.vt_server.specs.Terminals.{State, holder, after_acts}
-use Rattle.vt_server.specs.declared.bus.Notice.{Notice}
-use Rattle.vt_server.specs.declared.bus.Notice.TheVariants.{Claim, ClaimRequest, Master, Member, Message, Tp, Etp, Nothing}
-use Rattle.vt_server.proofs.Puts.{by_eq, some-is, none-some, beside}
-use Rattle.vt_server.proofs.Own.{of, of-append}
+use Rattle.vt_node.specs.declared.bus.Notice.{Notice}
+use Rattle.vt_node.specs.declared.bus.Notice.TheVariants.{Claim, ClaimRequest, Master, Member, Message, Tp, Etp, Nothing}
+use Rattle.vt_server.proofs.Puts.{beside}
+use Rattle.vt_server.proofs.Acts.{of, of-append}
+use Rattle.vt_names.proofs.Hearing.{option_same}
+use Rattle.vt_names.proofs.Holding.{by_eq, none-some}
 
 -- ---- the same holder or another
-
-pub option-same : (o : Option ℕ) → option_eq eqb o o ≡ true
-option-same None = refl
-option-same (Some x) = eq-eqb x x refl
 
 pub option-true : (x y : Option ℕ) → option_eq eqb x y ≡ true → x ≡ y
 option-true None None e = refl
@@ -53,7 +52,7 @@ module _ (law : OtherHoldersStay) (s : State) (rising : IsRising s.claims.addres
   unchanged : a ≢ source → address_of s.claims.addresses name ≢ Some a → [] ≡ change (holder s a) (holder t a)
   unchanged ne not =
       sym (ap (λ c. cond c [] (Rebinds ∷ []))
-      (ap (option_eq nat_eq (holder s a)) (law.others s.claims.addresses source name a rising ne not) ∙ option-same (holder s a)))
+      (ap (option_eq nat_eq (holder s a)) (law.others s.claims.addresses source name a rising ne not) ∙ option_same (holder s a)))
 
   of-none : (a ≢ source → address_of s.claims.addresses name ≢ Some a) → of a (changes_by s t None source) ≡ change (holder s a) (holder t a)
   of-none not =
@@ -73,14 +72,14 @@ module _ (law : OtherHoldersStay) (s : State) (rising : IsRising s.claims.addres
       ∙ by_eq left a
       (λ here. of-changed_at a left (holder s left) t here ∙ (λ i. change (holder s (here i)) (holder t (here i))))
       (λ other. of-changed_other a left (holder s left) t other
-      ∙ unchanged (λ e. ne (sym e)) (λ e. other (some-is left a (sym is-left ∙ e)))))
+      ∙ unchanged (λ e. ne (sym e)) (λ e. other (same_Some left a (sym is-left ∙ e)))))
 
   of-left : (o : Option ℕ) → address_of s.claims.addresses name ≡ o → of a (changes_by s t (left_by source o) source) ≡ change (holder s a) (holder t a)
   of-left None e = of-none (λ _. λ h. none-some (sym e ∙ h))
   of-left (Some left) e =
       by_eq left source
       (λ is. ap (λ c. of a (changes_by s t (cond c None (Some left)) source)) (eq-eqb left source is)
-      ∙ of-none (λ ne. λ h. ne (sym (some-is left a (sym e ∙ h)) ∙ is)))
+      ∙ of-none (λ ne. λ h. ne (sym (same_Some left a (sym e ∙ h)) ∙ is)))
       (λ ne. ap (λ c. of a (changes_by s t (cond c None (Some left)) source)) (ne_eqb left source ne) ∙ of-some left ne e)
 
   of-claim-changes : of a (changes s source (Claim name)) ≡ change (holder s a) (holder t a)
@@ -90,13 +89,13 @@ module _ (law : OtherHoldersStay) (s : State) (rising : IsRising s.claims.addres
 pub of-changes : OtherHoldersStay → (s : State) → IsRising s.claims.addresses → (a source : ℕ) (n : Notice)
     → of a (changes s source n) ≡ change (holder s a) (holder (before s source n) a)
 of-changes law s rising a source (Claim name) = of-claim-changes law s rising a source name
-of-changes law s rising a source ClaimRequest = sym (ap (λ c. cond c [] (Rebinds ∷ [])) (option-same (holder s a)))
-of-changes law s rising a source (Master count) = sym (ap (λ c. cond c [] (Rebinds ∷ [])) (option-same (holder s a)))
-of-changes law s rising a source (Member name) = sym (ap (λ c. cond c [] (Rebinds ∷ [])) (option-same (holder s a)))
-of-changes law s rising a source Message = sym (ap (λ c. cond c [] (Rebinds ∷ [])) (option-same (holder s a)))
-of-changes law s rising a source Tp = sym (ap (λ c. cond c [] (Rebinds ∷ [])) (option-same (holder s a)))
-of-changes law s rising a source Etp = sym (ap (λ c. cond c [] (Rebinds ∷ [])) (option-same (holder s a)))
-of-changes law s rising a source Nothing = sym (ap (λ c. cond c [] (Rebinds ∷ [])) (option-same (holder s a)))
+of-changes law s rising a source ClaimRequest = sym (ap (λ c. cond c [] (Rebinds ∷ [])) (option_same (holder s a)))
+of-changes law s rising a source (Master count) = sym (ap (λ c. cond c [] (Rebinds ∷ [])) (option_same (holder s a)))
+of-changes law s rising a source (Member name) = sym (ap (λ c. cond c [] (Rebinds ∷ [])) (option_same (holder s a)))
+of-changes law s rising a source Message = sym (ap (λ c. cond c [] (Rebinds ∷ [])) (option_same (holder s a)))
+of-changes law s rising a source Tp = sym (ap (λ c. cond c [] (Rebinds ∷ [])) (option_same (holder s a)))
+of-changes law s rising a source Etp = sym (ap (λ c. cond c [] (Rebinds ∷ [])) (option_same (holder s a)))
+of-changes law s rising a source Nothing = sym (ap (λ c. cond c [] (Rebinds ∷ [])) (option_same (holder s a)))
 
 pub own-before : (s : State) (source : ℕ) (n : Notice) → (before s source n).claims.own ≡ s.claims.own
 own-before s source (Claim name) = refl

@@ -1,5 +1,6 @@
 -- What is shown, and what its change raises.
 use Rattle.std.proofs.Common.{◌≡◌, ℕ, Bool, true, false, cond, not, List, [], ◌∷◌, ◌++◌, Option, Some, None, is_some, refl, sym, ap, ◌∙◌, append-nil, nat_eq}
+use Rattle.std.proofs.lemmas.Option.{same_Some}
 use Rattle.std.specs.Option.{option_map, option_eq}
 use Rattle.vt_machine.specs.Lives.{SetState}
 use Rattle.vt_can.specs.declared.frames.frame.Frame.{Frame}
@@ -11,9 +12,11 @@ use Rattle.vt_server.specs.declared.output.Output.{Output}
 use Rattle.vt_server.specs.declared.output.Output.TheVariants as declared
 use Rattle.vt_server.specs.Parts.{Raises, with_place, raised_on}
 use Rattle.vt_server.specs.Places.{Place, with_pool}
-use Rattle.vt_server.specs.Terminals.{State, ToAll, pool_of, pool_at, part, after_acts, sent_by_act, sent_by_acts, with_at}
-use Rattle.vt_server.proofs.Puts.{act-is, sent_by_one-is, none-some, some-is, acts-append, sent-append}
+use Rattle.vt_server.specs.Terminals.{State, ToAll, pool_of, pool_at, part, after_acts, sent_by_act, sent_by_acts}
+use Rattle.vt_node.specs.ByAddress.{with_at}
+use Rattle.vt_server.proofs.Puts.{act-is, sent_by_one-is, acts-append, sent-append}
 use Rattle.vt_server.proofs.Writes.{put-place}
+use Rattle.vt_names.proofs.Holding.{none-some}
 
 pub some-mapped : {X Y : Type 0} (f : X → Y) (o : Option X) → is_some (option_map f o) ≡ is_some o
 some-mapped f None = refl
@@ -43,7 +46,7 @@ module _ (pools : ℕ → Option SetState) where
       cases : (o : Option SetState) → Some (a, state) ≡ with_pool_at b o → display_of b o ≡ display_of a (Some state)
       cases None h = none-some (sym h)
       cases (Some other) h =
-          let same : ◌≡◌ {A = ℕ × SetState} (b, other) (a, state) = some-is (b, other) (a, state) (sym h) in
+          let same : ◌≡◌ {A = ℕ × SetState} (b, other) (a, state) = same_Some (b, other) (a, state) (sym h) in
           ap (λ (d : ℕ × SetState). display_of d.0 (Some d.1)) same
 
 -- ---- where no set has a pool

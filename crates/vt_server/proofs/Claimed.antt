@@ -4,14 +4,15 @@ use Rattle.std.specs.Option.{option_eq}
 use Rattle.vt_can.specs.declared.frames.frame.Frame.{Frame}
 use Rattle.vt_names.specs.Claims.{Claimed, address_of, holder_of}
 use Rattle.vt_names.specs.Registry.{Set, set_at, without, binding, bound}
-use Rattle.vt_server.specs.Messages.{claim_from}
+use Rattle.vt_node.specs.Messages.{claim_from}
 use Rattle.vt_server.specs.Outputs.{outputs_of}
 use Rattle.vt_server.specs.Parts.{Part, Outcome, Act, Hears, Rebinds, unchanged, with_other_set, without_set, outcome, stays_under, with_holder_name, after_change, after_claim_heard}
 use Rattle.vt_server.specs.Places.{Place, no_content, with_content, heard_at}
 use Rattle.vt_server.specs.Steps.{before, changed, changed_left, left_by, left_holder, changes_by, changes, heard_at_source, acts, acted, answer_to, is_defended, defence, sent_by_frame}
-use Rattle.vt_server.specs.Terminals.{State, Sent, ToOne, ToAll, holder, part, put, refusal, after_act, after_acts, sent_by_act, sent_by_acts, with_at}
+use Rattle.vt_server.specs.Terminals.{State, Sent, ToOne, ToAll, holder, part, put, refusal, after_act, after_acts, sent_by_act, sent_by_acts}
+use Rattle.vt_node.specs.ByAddress.{with_at}
 use Rattle.vt_server.specs.Transfers.{Verdict}
-use Rattle.vt_server.specs.declared.bus.Notice.TheVariants.{Claim}
+use Rattle.vt_node.specs.declared.bus.Notice.TheVariants.{Claim}
 use Rattle.vt_server.specs.declared.output.Output.{Output}
 use Rattle.vt_server.specs.declared.output.Output.TheVariants as declared
 use Rattle.vt_server.proofs.Changes.{claims-acts}
@@ -87,7 +88,7 @@ module _ (s : State) (a : ℕ) (was : Option ℕ) where
 
 -- ---- the changes of holders, and then the claim at its source
 
-changed-same : (was : Option ℕ) (s t : State) (a : ℕ) → s.claims ≡ t.claims → changed was s a ≡ changed was t a
+pub changed-same : (was : Option ℕ) (s t : State) (a : ℕ) → s.claims ≡ t.claims → changed was s a ≡ changed was t a
 changed-same was s t a e = ap (λ (c : Claimed). cond (option_eq nat_eq was (holder_of c.addresses a)) [] ((a, Rebinds) ∷ [])) e
 
 pub after-changes : (s t u v : State) (source name : ℕ) (left l h : Option ℕ) → t ≡ before s source (Claim name)

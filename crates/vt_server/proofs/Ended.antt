@@ -2,7 +2,7 @@
 use Rattle.std.proofs.Common.{◌≡◌, ℕ, List, []}
 use Rattle.vt_server.specs.Ends.{CarriesOut, IsJudgement, IsEnded}
 use Rattle.vt_server.specs.Places.{Content}
-use Rattle.vt_server.specs.Terminals.{with_at}
+use Rattle.vt_node.specs.ByAddress.{with_at}
 use Rattle.vt_server.specs.Transfers.{Verdict, Accepts, Faulty, Refuses, IsVerdict}
 use Rattle.vt_server.specs.declared.ending.Judgement.TheVariants as judgements
 

@@ -1,224 +1,157 @@
 -- The end of sessions that are overdue, one after the other.
-use Rattle.std.proofs.Common.{◌≡◌, ◌≢◌, ℕ, ◌+◌, true, false, cond, List, [], ◌∷◌, ◌++◌, map, Option, Some, None, refl, sym, ap, ◌∙◌, append_assoc}
+use Rattle.std.proofs.Common.{◌≡◌, ◌≢◌, ℕ, ◌+◌, ◌≤◌, Bool, cond, List, [], ◌∷◌, ◌++◌, map, None, refl, sym, ap, ◌∙◌, append_assoc, append-nil, arith}
 use Rattle.std.specs.FinMap as finite
 use Rattle.vt_can.specs.declared.frames.frame.Frame.{Frame}
-use Rattle.vt_can.specs.declared.transport.sessions.Timed.{Timed}
-use Rattle.vt_can.specs.transport.Messages.{Message}
-use Rattle.vt_can.specs.transport.Sessions.{ByAddress, Expires, NoneExpires, IsRemoved, alive, each_below, is_overdue}
+use Rattle.vt_can.specs.transport.Sessions.{ByAddress, AreOfAddresses, Expires, NoneExpires, alive, each_below, each_overdue, is_overdue}
 use Rattle.vt_can.proofs.lemmas.transport.Overdue.{session_removed, first_expires}
-use Rattle.vt_transport.specs.Protocol as tp
-use Rattle.vt_transport.specs.Senders.{timeout_frame}
-use Rattle.vt_transport.specs.SessionState as tp_session
-use Rattle.vt_extended.specs.Protocol as etp
-use Rattle.vt_extended.specs.SessionState as etp_session
-use Rattle.vt_server.specs.Lapses.{tp_due, etp_due, sending_due}
-use Rattle.vt_server.specs.Nodes.{NodeState, HasExpired, abort_by}
+use Rattle.vt_node.specs.ByAddress.{with_at}
+use Rattle.vt_node.specs.Nodes.{NodeState, HasExpired}
 use Rattle.vt_server.specs.Outputs.{outputs_of}
-use Rattle.vt_server.specs.Parts.{Act, TpExpires, EtpExpires, SendingExpires, with_place}
-use Rattle.vt_server.specs.Places.{Content, Place}
-use Rattle.vt_server.specs.Sessions.{timeout_of, sending_timeout}
-use Rattle.vt_server.specs.States.{places_by}
-use Rattle.vt_server.specs.Terminals.{State, ToOne, part, after_act, after_acts, sent_by_act, sent_by_acts, with_at}
+use Rattle.vt_server.specs.Parts.{Act, Outcome, with_place}
+use Rattle.vt_server.specs.Places.{Place}
+use Rattle.vt_server.specs.States.{state_of}
+use Rattle.vt_server.specs.Terminals.{State, ToOne, part, put, to_address, after_act, after_acts, sent_by_act, sent_by_acts}
 use Rattle.vt_server.specs.declared.output.Output.{Output}
 use Rattle.vt_server.specs.declared.output.Output.TheVariants as declared
+use Rattle.vt_server.specs.declared.terminal.Terminal.{Terminal}
 use Rattle.vt_server.proofs.Framed.{outputs-append}
-use Rattle.vt_server.proofs.Puts.{by_eq, act-is, sent_by_one-is}
-use Rattle.vt_server.proofs.Writes.{places-written, put-place}
+use Rattle.vt_server.proofs.Lanes.{Lane, abort_of, due}
+use Rattle.vt_server.proofs.Puts.{act-is, sent_by_one-is}
+use Rattle.vt_server.proofs.Writes.{put-place}
+use Rattle.vt_node.proofs.ByAddress.{places-written}
+use Rattle.vt_names.proofs.Holding.{by_eq}
 
-module _ {S : Type 0} (now : ℕ) where
-  overdue-is : (o : Option (Timed S)) → is_overdue now o ≡ true → alive now o ≡ None
-  overdue-is o is = ap (λ b. cond b None o) is
+-- ---- one session expires
 
-  alive-is : (o : Option (Timed S)) → is_overdue now o ≡ false → alive now o ≡ o
-  alive-is o is = ap (λ b. cond b None o) is
+module _ {S : Type 0} {old new : ByAddress S} {now address : ℕ} {session : S} (expired : Expires old new now address session) where
+  gone : finite.get new address ≡ None
+  gone = ap (λ (m : ByAddress S). finite.get m address) expired.removed ∙ (session_removed old address).gone
 
-  -- where none is overdue each is alive
-  pub alive-all : (old new : ByAddress S) → NoneExpires old new now → (q : ℕ) → alive now (finite.get new q) ≡ finite.get new q
-  alive-all old new none q = alive-is (finite.get new q) (ap (λ (m : ByAddress S). is_overdue now (finite.get m q)) none.stay ∙ none.none q)
+  others-stay : (q : ℕ) → q ≢ address → finite.get new q ≡ finite.get old q
+  others-stay q ne = ap (λ (m : ByAddress S). finite.get m q) expired.removed ∙ (session_removed old address).others q ne
 
-  pub due-none : (old new : ByAddress S) (what : Act) → NoneExpires old new now → each_below (λ q. is_overdue now (finite.get old q)) what 256 ≡ []
-  due-none old new what none = (first_expires S Act).none old new now what none
+  -- what is alive stays so
+  alive-same : (q : ℕ) → alive now (finite.get new q) ≡ alive now (finite.get old q)
+  alive-same q =
+      by_eq q address
+      (λ is. ap (λ r. alive now (finite.get new r)) is ∙ ap (alive now) gone
+      ∙ sym (ap (λ b. cond b None (finite.get old address)) expired.first.overdue) ∙ ap (λ r. alive now (finite.get old r)) (sym is))
+      (λ ne. ap (alive now) (others-stay q ne))
 
-  module _ (old new : ByAddress S) (address : ℕ) (session : S) (expired : Expires old new now address session) where
-    removed : IsRemoved old address
-    removed = session_removed old address
+  pub one-less : finite.len new + 1 ≡ finite.len old
+  one-less =
+      ap (λ (m : ByAddress S). finite.len m + 1) expired.removed
+      ∙ (session_removed old address).fewer (record { last = expired.last; session = session }) expired.found
 
-    pub gone : finite.get new address ≡ None
-    gone = ap (λ (m : ByAddress S). finite.get m address) expired.removed ∙ removed.gone
+-- ---- one session of a lane expires
 
-    pub others-stay : (q : ℕ) → q ≢ address → finite.get new q ≡ finite.get old q
-    others-stay q ne = ap (λ (m : ByAddress S). finite.get m q) expired.removed ∙ removed.others q ne
+due-is : {S : Type 0} (lane : Lane S) (t : Terminal) → due lane (state_of t) ≡ each_overdue t.time (lane.sessions t.node) lane.act
+due-is lane t = ap (λ (f : ℕ → Bool). each_below f lane.act 256) (λ i address. is_overdue t.time (lane.found t address i))
 
-    -- what is alive stays so
-    pub alive-same : (q : ℕ) → alive now (finite.get new q) ≡ alive now (finite.get old q)
-    alive-same q =
-        by_eq q address
-        (λ is. ap (λ r. alive now (finite.get new r)) is ∙ ap (alive now) gone
-        ∙ sym (overdue-is (finite.get old address) expired.first.overdue) ∙ ap (λ r. alive now (finite.get old r)) (sym is))
-        (λ ne. ap (alive now) (others-stay q ne))
+-- from what is now to the node's next value
+module _ {S : Type 0} (lane : Lane S) (now : Terminal) (node : NodeState) (rest : node ≡ lane.with_sessions (lane.sessions node) now.node) (frame : Frame)
+    (expired : HasExpired (lane.abort now.node.claims.own) (lane.sessions now.node) (lane.sessions node) now.time frame) where
+  abbrev current : State
+  current = state_of now
 
-    pub due-first : (what : Act) → each_below (λ q. is_overdue now (finite.get old q)) what 256
-        ≡ (address, what) ∷ each_below (λ q. is_overdue now (finite.get new q)) what 256
-    due-first what = (first_expires S Act).some old new now address session what expired
+  abbrev next : State
+  next = state_of (record now { node = node })
 
-    pub one-less : finite.len new + 1 ≡ finite.len old
-    one-less = ap (λ (m : ByAddress S). finite.len m + 1) expired.removed ∙ removed.fewer (record { last = expired.last; session = session }) expired.found
+  abbrev address : ℕ
+  address = expired.address
 
--- ---- tp
+  stays : (b : ℕ) → lane.with_session (finite.get (lane.sessions now.node) b) (current.places b) ≡ current.places b
+  stays b =
+      ap (λ (t : State). t.places b)
+      (sym (lane.placed now (lane.sessions now.node)) ∙ ap (λ (n : NodeState). state_of (record now { node = n })) (lane.same now.node))
 
--- from a state of these parts
-module _ (s : State) (contents : ℕ → Content) (node : NodeState) (heard : ℕ → Option ℕ) (is : s.places ≡ places_by contents node heard) where
-  abbrev pub with_tp : ByAddress (tp_session.SessionState) → State
-  with_tp m = record s { places = places_by contents (record node { tp = m }) heard }
+  next-is : next ≡ record current { places = with_at address (lane.with_session None (current.places address)) current.places }
+  next-is =
+      ap (λ (n : NodeState). state_of (record now { node = n })) rest ∙ lane.placed now (lane.sessions node)
+      ∙ ap (λ (places : ℕ → Place). record current { places = places })
+      (places-written address current.places (λ b. lane.with_session (finite.get (lane.sessions node) b) (current.places b)) (lane.with_session None (current.places address))
+      (ap (λ session. lane.with_session session (current.places address)) (gone expired.expired))
+      (λ b ne. ap (λ session. lane.with_session session (current.places b)) (others-stay expired.expired b ne) ∙ stays b))
 
-  module _ (m : ByAddress (tp_session.SessionState)) (frame : Frame) (expired : HasExpired (abort_by tp.protocol s.claims.own) node.tp m s.now frame) where
-    placed-tp : (with_tp m).places ≡ with_at expired.address (record (s.places expired.address) { tp = None }) s.places
-    placed-tp =
-        places-written expired.address s.places (places_by contents (record node { tp = m }) heard) (record (s.places expired.address) { tp = None })
-        ((λ i. record (places_by contents node heard expired.address) { tp = gone s.now node.tp m expired.address expired.session expired.expired i })
-        ∙ ap (λ (p : ℕ → Place). record (p expired.address) { tp = None }) (sym is))
-        (λ b ne. (λ i. record (places_by contents node heard b) { tp = others-stay s.now node.tp m expired.address expired.session expired.expired b ne i })
-        ∙ ap (λ (p : ℕ → Place). p b) (sym is))
+  after-is : after_act current address lane.act ≡ next
+  after-is =
+      act-is current address lane.act
+      ∙ ap (λ (o : Outcome). put address o current) (lane.ends current.now address (part address current))
+      ∙ put-place address current (with_place (part address current) (lane.with_session None (current.places address)) (abort_of lane.abort current.claims.own address (lane.session (current.places address)))) refl
+      ∙ sym next-is
 
-    found-tp : (s.places expired.address).tp ≡ Some (record { last = expired.expired.last; session = expired.session })
-    found-tp = ap (λ (p : ℕ → Place). (p expired.address).tp) is ∙ expired.expired.found
+  sent-is : outputs_of (sent_by_act current address lane.act) ≡ declared.Frame frame ∷ []
+  sent-is =
+      ap outputs_of (sent_by_one-is current address lane.act ∙ ap (to_address address) (lane.ends current.now address (part address current)))
+      ∙ ap (λ session. outputs_of (map (ToOne address) (abort_of lane.abort current.claims.own address session) ++ [])) (lane.found now address ∙ expired.expired.found)
+      ∙ ap (λ (f : Frame). declared.Frame f ∷ []) (sym expired.abort_is)
 
-    act-tp : after_act s expired.address TpExpires ≡ with_tp m
-    act-tp =
-        act-is s expired.address TpExpires
-        ∙ put-place expired.address s (with_place (part expired.address s) (record (s.places expired.address) { tp = None }) (timeout_of tp.protocol s.claims.own expired.address (s.places expired.address).tp)) refl
-        ∙ ap (λ (p : ℕ → Place). record s { places = p }) (sym placed-tp)
+  due-next : due lane current ≡ (address, lane.act) ∷ due lane next
+  due-next =
+      due-is lane now
+      ∙ (first_expires S Act).some (lane.sessions now.node) (lane.sessions node) now.time address expired.session lane.act expired.expired
+      ∙ ap (λ acts. (address, lane.act) ∷ acts) (sym (due-is lane (record now { node = node })))
 
-    sent-tp : outputs_of (sent_by_act s expired.address TpExpires) ≡ declared.Frame frame ∷ []
-    sent-tp =
-        ap outputs_of (sent_by_one-is s expired.address TpExpires)
-        ∙ ap (λ o. outputs_of (map (ToOne expired.address) (timeout_of tp.protocol s.claims.own expired.address o) ++ [])) found-tp
-        ∙ ap (λ (f : Frame). declared.Frame f ∷ []) (sym expired.abort_is)
+  state-next : after_acts next (due lane next) ≡ after_acts current (due lane current)
+  state-next = sym (ap (after_acts current) due-next ∙ ap (λ (t : State). after_acts t (due lane next)) after-is)
 
-    due-tp : tp_due s ≡ (expired.address, TpExpires) ∷ tp_due (with_tp m)
-    due-tp =
-        ap (λ (p : ℕ → Place). each_below (λ a. is_overdue s.now (p a).tp) TpExpires 256) is
-        ∙ due-first s.now node.tp m expired.address expired.session expired.expired TpExpires
+  sent-next : (out : List Output)
+      → (out ++ declared.Frame frame ∷ []) ++ outputs_of (sent_by_acts next (due lane next)) ≡ out ++ outputs_of (sent_by_acts current (due lane current))
+  sent-next out =
+      append_assoc out (declared.Frame frame ∷ []) (outputs_of (sent_by_acts next (due lane next)))
+      ∙ ap (λ l. out ++ l)
+      (sym (ap (λ acts. outputs_of (sent_by_acts current acts)) due-next
+      ∙ outputs-append (sent_by_act current address lane.act) (sent_by_acts (after_act current address lane.act) (due lane next))
+      ∙ (λ i. sent-is i ++ outputs_of (sent_by_acts (after-is i) (due lane next)))))
 
-    pub next-tp : after_acts (with_tp m) (tp_due (with_tp m)) ≡ after_acts s (tp_due s)
-    next-tp =
-        sym (ap (after_acts s) due-tp ∙ ap (λ (t : State). after_acts t (tp_due (with_tp m))) act-tp)
+-- ---- the sessions of a lane expire, one after the other
 
-    pub next-sent-tp : (out : List Output)
-        → (out ++ declared.Frame frame ∷ []) ++ outputs_of (sent_by_acts (with_tp m) (tp_due (with_tp m))) ≡ out ++ outputs_of (sent_by_acts s (tp_due s))
-    next-sent-tp out =
-        append_assoc out (declared.Frame frame ∷ []) (outputs_of (sent_by_acts (with_tp m) (tp_due (with_tp m))))
-        ∙ ap (λ l. out ++ l)
-        (sym (ap (λ d. outputs_of (sent_by_acts s d)) due-tp
-        ∙ outputs-append (sent_by_act s expired.address TpExpires) (sent_by_acts (after_act s expired.address TpExpires) (tp_due (with_tp m)))
-        ∙ (λ i. sent-tp i ++ outputs_of (sent_by_acts (act-tp i) (tp_due (with_tp m))))))
+-- what is still due comes to what was due, with room for the aborts and for what is to come after them
+pub record IsExpiring {S : Type 0} (lane : Lane S) (spare : ℕ) (old now : Terminal) (old_out now_out : List Output) (free : ℕ) : Type 0 where
+  pub rest : now ≡ record old { node = lane.with_sessions (lane.sessions now.node) old.node }
+  pub state : after_acts (state_of now) (due lane (state_of now)) ≡ after_acts (state_of old) (due lane (state_of old))
+  pub sent : now_out ++ outputs_of (sent_by_acts (state_of now) (due lane (state_of now))) ≡ old_out ++ outputs_of (sent_by_acts (state_of old) (due lane (state_of old)))
+  pub timely : (address : ℕ) → alive old.time (finite.get (lane.sessions now.node) address) ≡ alive old.time (finite.get (lane.sessions old.node) address)
+  pub room : finite.len (lane.sessions now.node) ≤ 256 → finite.len (lane.sessions now.node) + spare ≤ free
 
-  pub none-tp : (m : ByAddress (tp_session.SessionState)) → NoneExpires node.tp m s.now → tp_due s ≡ []
-  none-tp m none =
-      ap (λ (p : ℕ → Place). each_below (λ a. is_overdue s.now (p a).tp) TpExpires 256) is ∙ due-none s.now node.tp m TpExpires none
+module _ {S : Type 0} {lane : Lane S} {spare : ℕ} {old now : Terminal} {node : NodeState} {old_out out : List Output} {free : ℕ}
+    (so_far : IsExpiring lane spare old now old_out out free) (rest : node ≡ lane.with_sessions (lane.sessions node) now.node) where
+  pub goes-on : {frame : Frame} {new_out : List Output} {left : ℕ}
+      → HasExpired (lane.abort now.node.claims.own) (lane.sessions now.node) (lane.sessions node) now.time frame
+      → AreOfAddresses (lane.sessions now.node) → new_out ≡ out ++ declared.Frame frame ∷ [] → free ≤ left + 1
+      → IsExpiring lane spare old (record now { node = node }) old_out new_out left
+  goes-on {frame} {new_out} {left} expired addresses out-is one_taken =
+      let time-is : now.time ≡ old.time = ap (λ (t : Terminal). t.time) so_far.rest in
+      let less = one-less expired.expired in record {
+        rest =
+            ap (λ (n : NodeState). record now { node = n }) rest
+            ∙ ap (λ (t : Terminal). record t { node = lane.with_sessions (lane.sessions node) t.node }) so_far.rest
+            ∙ ap (λ (n : NodeState). record old { node = n }) (lane.twice (lane.sessions node) (lane.sessions now.node) old.node);
+        state = state-next lane now node rest frame expired ∙ so_far.state;
+        sent =
+            ap (λ l. l ++ outputs_of (sent_by_acts (state_of (record now { node = node })) (due lane (state_of (record now { node = node }))))) out-is
+            ∙ sent-next lane now node rest frame expired out
+            ∙ so_far.sent;
+        timely = λ address.
+            ap (λ time. alive time (finite.get (lane.sessions node) address)) (sym time-is)
+            ∙ alive-same expired.expired address
+            ∙ ap (λ time. alive time (finite.get (lane.sessions now.node) address)) time-is
+            ∙ so_far.timely address;
+        room = λ few. omega (arith, so_far.room addresses.at_most);
+      }
 
--- ---- etp
+  module _ (none : NoneExpires (lane.sessions now.node) (lane.sessions node) now.time) where
+    none-due : due lane (state_of now) ≡ []
+    none-due = due-is lane now ∙ (first_expires S Act).none (lane.sessions now.node) (lane.sessions node) now.time lane.act none
 
--- from a state of these parts
-module _ (s : State) (contents : ℕ → Content) (node : NodeState) (heard : ℕ → Option ℕ) (is : s.places ≡ places_by contents node heard) where
-  abbrev pub with_etp : ByAddress (etp_session.SessionState) → State
-  with_etp m = record s { places = places_by contents (record node { etp = m }) heard }
+    pub state-ends : state_of (record now { node = node }) ≡ after_acts (state_of old) (due lane (state_of old))
+    state-ends =
+        ap (λ (n : NodeState). state_of (record now { node = n })) (rest ∙ ap (λ m. lane.with_sessions m now.node) none.stay ∙ lane.same now.node)
+        ∙ sym (ap (after_acts (state_of now)) none-due)
+        ∙ so_far.state
 
-  module _ (m : ByAddress (etp_session.SessionState)) (frame : Frame) (expired : HasExpired (abort_by etp.protocol s.claims.own) node.etp m s.now frame) where
-    placed-etp : (with_etp m).places ≡ with_at expired.address (record (s.places expired.address) { etp = None }) s.places
-    placed-etp =
-        places-written expired.address s.places (places_by contents (record node { etp = m }) heard) (record (s.places expired.address) { etp = None })
-        ((λ i. record (places_by contents node heard expired.address) { etp = gone s.now node.etp m expired.address expired.session expired.expired i })
-        ∙ ap (λ (p : ℕ → Place). record (p expired.address) { etp = None }) (sym is))
-        (λ b ne. (λ i. record (places_by contents node heard b) { etp = others-stay s.now node.etp m expired.address expired.session expired.expired b ne i })
-        ∙ ap (λ (p : ℕ → Place). p b) (sym is))
-
-    found-etp : (s.places expired.address).etp ≡ Some (record { last = expired.expired.last; session = expired.session })
-    found-etp = ap (λ (p : ℕ → Place). (p expired.address).etp) is ∙ expired.expired.found
-
-    act-etp : after_act s expired.address EtpExpires ≡ with_etp m
-    act-etp =
-        act-is s expired.address EtpExpires
-        ∙ put-place expired.address s (with_place (part expired.address s) (record (s.places expired.address) { etp = None }) (timeout_of etp.protocol s.claims.own expired.address (s.places expired.address).etp)) refl
-        ∙ ap (λ (p : ℕ → Place). record s { places = p }) (sym placed-etp)
-
-    sent-etp : outputs_of (sent_by_act s expired.address EtpExpires) ≡ declared.Frame frame ∷ []
-    sent-etp =
-        ap outputs_of (sent_by_one-is s expired.address EtpExpires)
-        ∙ ap (λ o. outputs_of (map (ToOne expired.address) (timeout_of etp.protocol s.claims.own expired.address o) ++ [])) found-etp
-        ∙ ap (λ (f : Frame). declared.Frame f ∷ []) (sym expired.abort_is)
-
-    due-etp : etp_due s ≡ (expired.address, EtpExpires) ∷ etp_due (with_etp m)
-    due-etp =
-        ap (λ (p : ℕ → Place). each_below (λ a. is_overdue s.now (p a).etp) EtpExpires 256) is
-        ∙ due-first s.now node.etp m expired.address expired.session expired.expired EtpExpires
-
-    pub next-etp : after_acts (with_etp m) (etp_due (with_etp m)) ≡ after_acts s (etp_due s)
-    next-etp =
-        sym (ap (after_acts s) due-etp ∙ ap (λ (t : State). after_acts t (etp_due (with_etp m))) act-etp)
-
-    pub next-sent-etp : (out : List Output)
-        → (out ++ declared.Frame frame ∷ []) ++ outputs_of (sent_by_acts (with_etp m) (etp_due (with_etp m))) ≡ out ++ outputs_of (sent_by_acts s (etp_due s))
-    next-sent-etp out =
-        append_assoc out (declared.Frame frame ∷ []) (outputs_of (sent_by_acts (with_etp m) (etp_due (with_etp m))))
-        ∙ ap (λ l. out ++ l)
-        (sym (ap (λ d. outputs_of (sent_by_acts s d)) due-etp
-        ∙ outputs-append (sent_by_act s expired.address EtpExpires) (sent_by_acts (after_act s expired.address EtpExpires) (etp_due (with_etp m)))
-        ∙ (λ i. sent-etp i ++ outputs_of (sent_by_acts (act-etp i) (etp_due (with_etp m))))))
-
-  pub none-etp : (m : ByAddress (etp_session.SessionState)) → NoneExpires node.etp m s.now → etp_due s ≡ []
-  none-etp m none =
-      ap (λ (p : ℕ → Place). each_below (λ a. is_overdue s.now (p a).etp) EtpExpires 256) is ∙ due-none s.now node.etp m EtpExpires none
-
--- ---- sending
-
--- from a state of these parts
-module _ (s : State) (contents : ℕ → Content) (node : NodeState) (heard : ℕ → Option ℕ) (is : s.places ≡ places_by contents node heard) where
-  abbrev pub with_sending : ByAddress (Message) → State
-  with_sending m = record s { places = places_by contents (record node { sending = m }) heard }
-
-  module _ (m : ByAddress (Message)) (frame : Frame) (expired : HasExpired (timeout_frame s.claims.own) node.sending m s.now frame) where
-    placed-sending : (with_sending m).places ≡ with_at expired.address (record (s.places expired.address) { sending = None }) s.places
-    placed-sending =
-        places-written expired.address s.places (places_by contents (record node { sending = m }) heard) (record (s.places expired.address) { sending = None })
-        ((λ i. record (places_by contents node heard expired.address) { sending = gone s.now node.sending m expired.address expired.session expired.expired i })
-        ∙ ap (λ (p : ℕ → Place). record (p expired.address) { sending = None }) (sym is))
-        (λ b ne. (λ i. record (places_by contents node heard b) { sending = others-stay s.now node.sending m expired.address expired.session expired.expired b ne i })
-        ∙ ap (λ (p : ℕ → Place). p b) (sym is))
-
-    found-sending : (s.places expired.address).sending ≡ Some (record { last = expired.expired.last; session = expired.session })
-    found-sending = ap (λ (p : ℕ → Place). (p expired.address).sending) is ∙ expired.expired.found
-
-    act-sending : after_act s expired.address SendingExpires ≡ with_sending m
-    act-sending =
-        act-is s expired.address SendingExpires
-        ∙ put-place expired.address s (with_place (part expired.address s) (record (s.places expired.address) { sending = None }) (sending_timeout s.claims.own expired.address (s.places expired.address).sending)) refl
-        ∙ ap (λ (p : ℕ → Place). record s { places = p }) (sym placed-sending)
-
-    sent-sending : outputs_of (sent_by_act s expired.address SendingExpires) ≡ declared.Frame frame ∷ []
-    sent-sending =
-        ap outputs_of (sent_by_one-is s expired.address SendingExpires)
-        ∙ ap (λ o. outputs_of (map (ToOne expired.address) (sending_timeout s.claims.own expired.address o) ++ [])) found-sending
-        ∙ ap (λ (f : Frame). declared.Frame f ∷ []) (sym expired.abort_is)
-
-    due-sending : sending_due s ≡ (expired.address, SendingExpires) ∷ sending_due (with_sending m)
-    due-sending =
-        ap (λ (p : ℕ → Place). each_below (λ a. is_overdue s.now (p a).sending) SendingExpires 256) is
-        ∙ due-first s.now node.sending m expired.address expired.session expired.expired SendingExpires
-
-    pub next-sending : after_acts (with_sending m) (sending_due (with_sending m)) ≡ after_acts s (sending_due s)
-    next-sending =
-        sym (ap (after_acts s) due-sending ∙ ap (λ (t : State). after_acts t (sending_due (with_sending m))) act-sending)
-
-    pub next-sent-sending : (out : List Output)
-        → (out ++ declared.Frame frame ∷ []) ++ outputs_of (sent_by_acts (with_sending m) (sending_due (with_sending m))) ≡ out ++ outputs_of (sent_by_acts s (sending_due s))
-    next-sent-sending out =
-        append_assoc out (declared.Frame frame ∷ []) (outputs_of (sent_by_acts (with_sending m) (sending_due (with_sending m))))
-        ∙ ap (λ l. out ++ l)
-        (sym (ap (λ d. outputs_of (sent_by_acts s d)) due-sending
-        ∙ outputs-append (sent_by_act s expired.address SendingExpires) (sent_by_acts (after_act s expired.address SendingExpires) (sending_due (with_sending m)))
-        ∙ (λ i. sent-sending i ++ outputs_of (sent_by_acts (act-sending i) (sending_due (with_sending m))))))
-
-  pub none-sending : (m : ByAddress (Message)) → NoneExpires node.sending m s.now → sending_due s ≡ []
-  none-sending m none =
-      ap (λ (p : ℕ → Place). each_below (λ a. is_overdue s.now (p a).sending) SendingExpires 256) is ∙ due-none s.now node.sending m SendingExpires none
+    pub sent-ends : out ≡ old_out ++ outputs_of (sent_by_acts (state_of old) (due lane (state_of old)))
+    sent-ends =
+        sym (append-nil out)
+        ∙ sym (ap (λ acts. out ++ outputs_of (sent_by_acts (state_of now) acts)) none-due)
+        ∙ so_far.sent

@@ -11,15 +11,17 @@ use Rattle.vt_server.specs.Parts.{Part, Outcome, Hears, after_message, after_cam
 use Rattle.vt_server.specs.Places.{Place, heard_at}
 use Rattle.vt_server.specs.Sessions.{Came, came}
 use Rattle.vt_server.specs.Steps.{acted, sent_by_frame, defence, heard_at_source}
-use Rattle.vt_server.specs.Terminals.{State, Sent, ToOne, part, put, refusal, to_address, after_acts, sent_by_act, sent_by_acts, with_at}
+use Rattle.vt_server.specs.Terminals.{State, Sent, ToOne, part, put, refusal, to_address, after_acts, sent_by_act, sent_by_acts}
+use Rattle.vt_node.specs.ByAddress.{with_at}
 use Rattle.vt_server.specs.Transfers.{Verdict, Faulty, IsVerdict}
-use Rattle.vt_pool.specs.declared.fault.PoolFault.TheVariants as faults
-use Rattle.vt_server.specs.declared.bus.Notice.{Notice}
-use Rattle.vt_server.specs.declared.bus.Notice.TheVariants as notices
+use Rattle.vt_records.specs.declared.fault.PoolFault.TheVariants as faults
+use Rattle.vt_node.specs.declared.bus.Notice.{Notice}
+use Rattle.vt_node.specs.declared.bus.Notice.TheVariants as notices
 use Rattle.vt_server.specs.declared.output.Output.{Output}
 use Rattle.vt_server.specs.declared.output.Output.TheVariants as declared
-use Rattle.vt_server.proofs.Puts.{at-own, act-is, sent_by_one-is}
-use Rattle.vt_server.proofs.Writes.{places-twice}
+use Rattle.vt_server.proofs.Puts.{act-is, sent_by_one-is}
+use Rattle.vt_node.proofs.ByAddress.{at-own}
+use Rattle.vt_node.proofs.ByAddress.{places-twice}
 
 -- where none is asked for
 pub any_verdict : Verdict

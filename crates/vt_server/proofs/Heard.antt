@@ -9,27 +9,28 @@ use Rattle.vt_transport.specs.Protocol as tp
 use Rattle.vt_transport.specs.Wire.{tp_frame}
 use Rattle.vt_extended.specs.Protocol as etp
 use Rattle.vt_extended.specs.Wire.{etp_frame}
-use Rattle.vt_server.specs.Bus.{notice_of}
+use Rattle.vt_node.specs.Bus.{notice_of}
 use Rattle.vt_server.specs.Findings.{IsJudged, ends_transfer}
 use Rattle.vt_server.specs.Hearings.{IsReadyWith, IsReadyNow, IsReadyForMessage, IsReadyBy, HasRoom, HasUpload, IsNoClaim, TakesNotice, TakesFrame, TakesClaim, Hears, timely, message_by}
 use Rattle.vt_server.specs.Holders.{AreFormer}
 use Rattle.vt_server.specs.Lapses.{at_time, lapsed, sent_by_lapses}
 use Rattle.vt_server.specs.Outputs.{outputs_of, frames_of}
 use Rattle.vt_server.specs.Parts.{Part, Outcome, unchanged, after_message, after_master, after_member, after_notice, behind, with_other_set}
-use Rattle.vt_server.specs.Registries.{Watched}
+use Rattle.vt_node.specs.Registries.{Watched}
 use Rattle.vt_server.specs.Places.{Content, Place, heard_at}
-use Rattle.vt_server.specs.Receiving.{taken}
+use Rattle.vt_node.specs.Receiving.{taken}
 use Rattle.vt_server.specs.Rooms.{HasLapsed}
 use Rattle.vt_server.specs.Sessions.{came, message_to_terminal}
 use Rattle.vt_server.specs.States.{state_of, places_by, TakesInput}
 use Rattle.vt_server.specs.Steps as steps
 use Rattle.vt_server.specs.Steps.{FrameAt, Step, answer_to, is_lost_by, is_defended, defence, losing, acted, acting, sent_by_frame, sent_by_settling, settled, hearing, step_frame, no_step}
-use Rattle.vt_server.specs.Terminals.{State, part, put, with_at}
+use Rattle.vt_server.specs.Terminals.{State, part, put}
+use Rattle.vt_node.specs.ByAddress.{with_at}
 use Rattle.vt_server.specs.Transfers.{Verdict, IsVerdict}
 use Rattle.vt_server.specs.Uploads.{content_of, room_of}
-use Rattle.vt_server.specs.Watches.{heard_of}
-use Rattle.vt_server.specs.declared.bus.Notice.{Notice}
-use Rattle.vt_server.specs.declared.bus.Notice.TheVariants as notices
+use Rattle.vt_node.specs.Watches.{heard_of}
+use Rattle.vt_node.specs.declared.bus.Notice.{Notice}
+use Rattle.vt_node.specs.declared.bus.Notice.TheVariants as notices
 use Rattle.vt_server.specs.declared.claiming.FormerHolders.{FormerHolders}
 use Rattle.vt_server.specs.declared.input.Input.TheVariants as inputs
 use Rattle.vt_server.specs.declared.output.Output.{Output}

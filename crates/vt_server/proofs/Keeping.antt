@@ -7,19 +7,21 @@ use Rattle.vt_can.specs.lines.Actions.{ActionValue, Press, Release, Select, Numb
 use Rattle.vt_can.specs.lines.Actions as actions
 use Rattle.vt_names.specs.Claims.{Claimed, OtherHoldersStay}
 use Rattle.vt_names.specs.Registry.{AreApart, Set, set_at, with_set, is_of}
-use Rattle.vt_objects.specs.Stores.{Contents}
-use Rattle.vt_server.specs.Bus.{notice_of}
+use Rattle.vt_stores.specs.Stores.{Contents}
+use Rattle.vt_node.specs.Bus.{notice_of}
 use Rattle.vt_server.specs.Choosing.{choosing, shown_now, selected_now, events_of_change}
-use Rattle.vt_server.specs.Happenings.{IsOrderly, IsOther}
+use Rattle.vt_server.specs.Orderly.{IsOrderly, IsOther}
 use Rattle.vt_server.specs.Lapses.{at_time, lapsed, silences, tp_due, etp_due, sending_due, after_tp_timeouts, after_etp_timeouts, after_timeouts}
 use Rattle.vt_server.specs.Parts.{Act, Operates, Preloads, outcome}
 use Rattle.vt_server.specs.Steps.{Event, FrameAt, ActionAt, step, before, acts, answer_to, is_lost_by, settled, losing, acted, acting, hearing, no_step, step_frame, selecting, at_shown, step_action, preloading}
 use Rattle.vt_server.specs.Terminals.{State, pool_of, pool_at, part, after_act, after_acts, with_set_at}
 use Rattle.vt_server.specs.Transfers.{Verdict}
-use Rattle.vt_server.specs.declared.bus.Notice.{Notice}
-use Rattle.vt_server.specs.declared.bus.Notice.TheVariants.{Claim, ClaimRequest, Master, Member, Message, Tp, Etp, Nothing}
-use Rattle.vt_server.proofs.Puts.{by_eq, none-some, set_at-first, set_at-later, with_set-first, with_set-later, act-is}
-use Rattle.vt_server.proofs.Own.{at-with_other}
+use Rattle.vt_node.specs.declared.bus.Notice.{Notice}
+use Rattle.vt_node.specs.declared.bus.Notice.TheVariants.{Claim, ClaimRequest, Master, Member, Message, Tp, Etp, Nothing}
+use Rattle.vt_server.proofs.Puts.{act-is}
+use Rattle.vt_node.proofs.Sets.{at-with_other}
+use Rattle.vt_names.proofs.Filing.{set_at-first, set_at-later, with_set-first, with_set-later}
+use Rattle.vt_names.proofs.Holding.{by_eq, none-some}
 
 -- what the parts of a step keep
 pub record IsKept (P : State → Type 0) : Type 0 where

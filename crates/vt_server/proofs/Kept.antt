@@ -5,7 +5,7 @@ use Rattle.std.specs.Prelude.{slice_set}
 use Rattle.vt_machine.specs.Lives.{SetState}
 use Rattle.vt_pool.specs.Arriving.{Arrived}
 use Rattle.vt_server.specs.Uploads.{AreKept}
-use Rattle.vt_server.proofs.Puts.{by_eq, none-some}
+use Rattle.vt_names.proofs.Holding.{by_eq, none-some}
 
 module _ (pools : List (Option SetState)) (transfers : List (Option Arrived)) (may : Bool) (kept : AreKept pools transfers may) where
   pub kept-upload : (m : ℕ) (transfer : Option Arrived) → AreKept pools (slice_set transfers m transfer) may

@@ -1,46 +1,27 @@
 mod Accepted
-mod ActsAt
+pub mod Acts
+pub mod ActsAt
 mod Answered
-mod Changes
+pub mod Changes
 mod Chosen
-mod Claimed
-mod ClaimsHeard
-mod Counting
-mod Deciding
+pub mod Claimed
 mod Ended
 mod Expiring
-mod FewRaised
-mod FewRuns
 mod Framed
-mod Happened
 mod Heard
-mod Held
-mod InForce
-mod Keeping
+pub mod Keeping
 mod Kept
-mod Listing
+mod Lanes
 mod Messaged
-mod OneStep
-mod OneVerdict
-mod Overdue
-mod Own
-mod Packets
 mod Performed
 mod Preloaded
 mod Prepared
-mod Puts
+pub mod Puts
 mod Registered
-mod Replies
 mod Running
-mod Sending
-mod Settling
-mod Silencing
-mod Stepping
-mod Taking
-mod Timeless
+pub mod Silencing
 mod Unclaimed
 mod Undrawn
-mod Unstuck
 mod Uploaded
-mod Watching
+mod Watched
 mod Writes

@@ -1,5 +1,6 @@
 -- What a call on the set leaves, and the message that it sends.
 use Rattle.std.proofs.Common.{suc, ◌&&◌, ◌≡◌, ◌≤◌, ℕ, Bool, true, false, cond, is_some, List, [], ◌∷◌, length, Option, Some, None, Result, Ok, Err, true≢false, refl, sym, ap, subst, arith}
+use Rattle.std.proofs.lemmas.Option.{same_Some}
 use Rattle.std.proofs.lemmas.Bool.Decides.{nat_tests}
 use Rattle.std.proofs.lemmas.Bool.{eqb-true}
 use Rattle.std.specs.Prelude.{◌==◌}
@@ -8,11 +9,11 @@ use Rattle.vt_can.specs.Assigned.{VT_TO_ECU}
 use Rattle.vt_can.specs.lines.Actions.{ActionValue}
 use Rattle.vt_can.specs.lines.Actions as actions
 use Rattle.vt_transport.specs.Wire.{rts_frame}
-use Rattle.vt_objects.specs.declared.object.Object.TheVariants as objects
-use Rattle.vt_objects.specs.declared.raising.Raised.{Raised}
-use Rattle.vt_objects.specs.declared.event.Event.TheVariants as events
-use Rattle.vt_objects.specs.Events.{raise}
-use Rattle.vt_objects.specs.Records.{Seen}
+use Rattle.vt_kinds.specs.declared.object.Object.TheVariants as objects
+use Rattle.vt_commands.specs.declared.raising.Raised.{Raised}
+use Rattle.vt_commands.specs.declared.event.Event.TheVariants as events
+use Rattle.vt_commands.specs.Events.{raise}
+use Rattle.vt_kinds.specs.Records.{Seen}
 use Rattle.vt_machine.specs.declared.live.HeldKey.{HeldKey}
 use Rattle.vt_machine.specs.declared.operator.Acted.{Acted}
 use Rattle.vt_machine.specs.declared.operator.OperatorRefusal.{OperatorRefusal}
@@ -23,13 +24,13 @@ use Rattle.vt_machine.specs.Operating as operating
 use Rattle.vt_machine.specs.Operating.{Action, Refused, Acts, HasActed, key_message, press_with, release_of, or_none, select_if, is_enabled}
 use Rattle.vt_server.specs.Acting.{Comes, IsShort}
 use Rattle.vt_server.specs.Commands.{store_of}
-use Rattle.vt_server.specs.Messages.{message_to}
+use Rattle.vt_node.specs.Messages.{message_to}
 use Rattle.vt_server.specs.Operators.{action_on, filled, is_long, message_frames, sending_after, ran}
 use Rattle.vt_server.specs.Parts as parts
 use Rattle.vt_server.specs.Parts.{refused_by, with_place, after_action}
 use Rattle.vt_server.specs.Places.{with_pool}
 use Rattle.vt_server.specs.declared.output.OperatorFault.TheVariants as faults
-use Rattle.vt_server.proofs.Puts.{none-some, some-is}
+use Rattle.vt_names.proofs.Holding.{none-some}
 
 -- ---- what a call on the set leaves
 
@@ -108,8 +109,8 @@ Fits (Refused refusal) = Unit {0}
 Fits (Acts message start raised) = length message ≤ 8
 
 key-fits : (code id mask : ℕ) (o : Option Seen) (message : List ℕ) → key_message code id mask o ≡ Some message → length message ≤ 8
-key-fits code id mask (Some (objects.Key o)) message is = let count : length message ≡ 8 = ap length (sym (some-is _ message is)) in omega arith
-key-fits code id mask (Some (objects.Button o)) message is = let count : length message ≡ 8 = ap length (sym (some-is _ message is)) in omega arith
+key-fits code id mask (Some (objects.Key o)) message is = let count : length message ≡ 8 = ap length (sym (same_Some _ message is)) in omega arith
+key-fits code id mask (Some (objects.Button o)) message is = let count : length message ≡ 8 = ap length (sym (same_Some _ message is)) in omega arith
 key-fits code id mask _ message is = absurd cc
 
 press-fits : (state : SetState) (mask id : ℕ) (m : Option (List ℕ)) (key : Option HeldKey) → ((message : List ℕ) → m ≡ Some message → length message ≤ 8) → Fits (press_with state mask id m key)
@@ -150,15 +151,15 @@ shown-fits false f e h = subst Fits (sym e) tt
 
 short-fits : (p : SetState) (shown : Bool) (action : ActionValue) (x : Action) → IsShort action → action_on p shown action ≡ Some x → Fits x
 short-fits p shown (actions.Press id) x short e =
-    subst Fits (some-is _ x e) (shown-fits shown (λ b. operating.press b p (active_in p.objects) id) refl
+    subst Fits (same_Some _ x e) (shown-fits shown (λ b. operating.press b p (active_in p.objects) id) refl
     (press-fits p (active_in p.objects) id (key_message 1 id (active_in p.objects) (finite.get p.objects id)) p.key (key-fits 1 id (active_in p.objects) (finite.get p.objects id))))
-short-fits p shown (actions.Release id) x short e = subst Fits (some-is _ x e) (release-fits p id p.key)
+short-fits p shown (actions.Release id) x short e = subst Fits (same_Some _ x e) (release-fits p id p.key)
 short-fits p shown (actions.Select id) x short e =
-    subst Fits (some-is _ x e) (shown-fits shown (λ b. operating.select b p id) refl (select-fits p id (is_enabled (finite.get p.objects id))))
+    subst Fits (same_Some _ x e) (shown-fits shown (λ b. operating.select b p id) refl (select-fits p id (is_enabled (finite.get p.objects id))))
 short-fits p shown (actions.Number id n) x short e =
-    subst Fits (some-is _ x e) (shown-fits shown (λ b. enter_number b p id n) refl (number-fits p id n (number_place id n (finite.get p.objects id))))
+    subst Fits (same_Some _ x e) (shown-fits shown (λ b. enter_number b p id n) refl (number-fits p id n (number_place id n (finite.get p.objects id))))
 short-fits p shown (actions.Text id text) x short e =
-    subst Fits (some-is _ x e) (shown-fits shown (λ b. enter_text b p id text) refl (text-fits p id text (text_place p.objects id text (finite.get p.objects id)) short))
+    subst Fits (same_Some _ x e) (shown-fits shown (λ b. enter_text b p id text) refl (text-fits p id text (text_place p.objects id text (finite.get p.objects id)) short))
 short-fits p shown (actions.Set address) x short e = none-some e
 
 pub short-message : (p : SetState) (shown : Bool) (action : ActionValue) (message : List ℕ) (start : SetState) (raised : List Raised)

@@ -1,6 +1,7 @@
 -- What an action of the operator comes to on the set that is shown: the calls on the set and on the contents, the outcome at its
 -- address, and the step.
 use Rattle.std.proofs.Common.{suc, append_assoc, get_or, ◌≡◌, ◌≤◌, ◌<◌, ℕ, Bool, true, false, cond, not, is_some, List, [], ◌∷◌, ◌++◌, length, IfSome, Option, Some, None, Result, Ok, Err, true≢false, refl, sym, ap, subst, ◌∙◌, append-nil, arith}
+use Rattle.std.proofs.lemmas.Option.{same_Some}
 use Rattle.std.proofs.lemmas.Bool.Decides.{same_from_decides, nat_tests}
 use Rattle.std.specs.Prelude.{Decides, slice_set}
 use Rattle.std.specs.FinMap as finite
@@ -13,16 +14,16 @@ use Rattle.vt_can.specs.lines.Actions as actions
 use Rattle.vt_can.specs.transport.Messages.{Message}
 use Rattle.vt_can.proofs.lemmas.transport.ByAddress.{get-put, get-put_other}
 use Rattle.vt_transport.specs.Wire.{rts_frame}
-use Rattle.vt_objects.specs.declared.raising.Raised.{Raised}
+use Rattle.vt_commands.specs.declared.raising.Raised.{Raised}
 use Rattle.vt_machine.specs.declared.operator.Acted.{Acted}
 use Rattle.vt_machine.specs.declared.operator.OperatorRefusal.{OperatorRefusal}
 use Rattle.vt_machine.specs.Entering.{enter_text, text_entered, text_place, text_message}
 use Rattle.vt_machine.specs.Lives.{SetState, active_in}
 use Rattle.vt_machine.specs.Operating.{Action, Refused, Acts, refusal_of}
-use Rattle.vt_machine.specs.Showing.{IsShown}
+use Rattle.vt_shown.specs.Showing.{IsShown}
 use Rattle.vt_server.specs.Acting.{IsSeenIn, Comes, Performs, PerformsAt, IsActedOn, WouldBeRefused, IsShort, TakesAction, happens}
 use Rattle.vt_server.specs.Choosing.{pool_shown, pool_shown_by, with_pool_at}
-use Rattle.vt_server.specs.Nodes.{NodeState}
+use Rattle.vt_node.specs.Nodes.{NodeState}
 use Rattle.vt_server.specs.Operators.{action_on, object_of, fault_of, is_long, message_frames, ran}
 use Rattle.vt_server.specs.Outputs.{outputs_of}
 use Rattle.vt_server.specs.Parts as parts
@@ -30,7 +31,8 @@ use Rattle.vt_server.specs.Parts.{Act, Operates, unchanged, refused_by, with_pla
 use Rattle.vt_server.specs.Places.{Content, Place, with_pool}
 use Rattle.vt_server.specs.States.{places_by, TakesInput}
 use Rattle.vt_server.specs.Steps.{ActionAt, selecting, has_no_set, no_set, at_shown, settled, sent_by_settling, no_step, step_action}
-use Rattle.vt_server.specs.Terminals.{State, part, pool_of, pool_at, put, to_address, after_acts, sent_by_acts, with_at}
+use Rattle.vt_server.specs.Terminals.{State, part, pool_of, pool_at, put, to_address, after_acts, sent_by_acts}
+use Rattle.vt_node.specs.ByAddress.{with_at}
 use Rattle.vt_server.specs.Uploads.{content_by}
 use Rattle.vt_pool.specs.Arriving.{Arrived}
 use Rattle.vt_server.specs.declared.input.Input.TheVariants as inputs
@@ -41,8 +43,11 @@ use Rattle.vt_server.specs.declared.output.Output.TheVariants as declared
 use Rattle.vt_can.specs.declared.lines.line.Action as line
 use Rattle.vt_server.proofs.Framed.{outputs-append}
 use Rattle.vt_server.proofs.Messaged.{refused-is, acting-is, comes-acts, not-long, short-came, busy-came, long-came, short-message}
-use Rattle.vt_server.proofs.Puts.{none-some, some-is, act-is, sent_by_one-is, at-own, at-other}
-use Rattle.vt_server.proofs.Writes.{place-written, places-same, places-written, content-placed, put-place, put-kept}
+use Rattle.vt_server.proofs.Puts.{act-is, sent_by_one-is}
+use Rattle.vt_node.proofs.ByAddress.{at-own, at-other}
+use Rattle.vt_server.proofs.Writes.{content-placed, put-place, put-kept}
+use Rattle.vt_node.proofs.ByAddress.{place-written, places-same, places-written}
+use Rattle.vt_names.proofs.Holding.{none-some}
 
 -- ---- what is performed where there is a pool
 
@@ -56,7 +61,7 @@ pub performed : (old : Option SetState) (p : SetState) (action : ActionValue) (r
 performed None p action result pool e h = none-some e
 performed (Some o) p action result None e h = absurd h
 performed (Some o) p action result (Some q) e h =
-    record { after = q; performs = subst (λ (x : SetState). Performs x action result q) (some-is o p e) h; is = refl }
+    record { after = q; performs = subst (λ (x : SetState). Performs x action result q) (same_Some o p e) h; is = refl }
 
 -- ---- the set that is shown
 
@@ -71,7 +76,7 @@ shown-at pools (Some b) a e = by (pools b) refl e
   where
     by : (q : Option SetState) → pools b ≡ q → Some a ≡ option_map (λ (found : ℕ × SetState). found.0) (with_pool_at b q) → IsShownAt pools (Some b) a
     by None is e = none-some (sym e)
-    by (Some p) is e = let same = some-is a b e in record { state = p; at = ap Some (sym same); pool = ap pools same ∙ is }
+    by (Some p) is e = let same = same_Some a b e in record { state = p; at = ap Some (sym same); pool = ap pools same ∙ is }
 
 -- no pool is shown
 none-shown : (s : State) (o : Option ℕ) → None ≡ option_map (λ (found : ℕ × SetState). found.0) (pool_shown_by (pool_of s) o) → pool_at s o ≡ None
@@ -208,7 +213,7 @@ module _ (s : State) (action : ActionValue) (kept : (selecting s action ≡ s) �
 -- ---- a text whose message goes out in packets
 
 would-refuse : (x : Action) (r : OperatorRefusal) → Some r ≡ refusal_of x → x ≡ Refused r
-would-refuse (Refused q) r e = ap Refused (sym (some-is r q e))
+would-refuse (Refused q) r e = ap Refused (sym (same_Some r q e))
 would-refuse (Acts message start raised) r e = none-some (sym e)
 
 record IsDone (x : Action) (message : List ℕ) : Type 0 where

@@ -3,15 +3,17 @@ use Rattle.std.proofs.Common.{◌≡◌, ℕ, List, [], Option, Some, None, sym,
 use Rattle.std.specs.FinMap as finite
 use Rattle.vt_machine.specs.Lives.{SetState}
 use Rattle.vt_names.specs.Registry.{Set, with_set, preloaded}
-use Rattle.vt_objects.specs.Stores.{Contents}
+use Rattle.vt_stores.specs.Stores.{Contents}
 use Rattle.vt_server.specs.Commands.{fresh}
-use Rattle.vt_server.specs.Nodes.{NodeState}
+use Rattle.vt_node.specs.Nodes.{NodeState}
 use Rattle.vt_server.specs.Parts.{Preloads}
 use Rattle.vt_server.specs.Places.{Content, Place}
 use Rattle.vt_server.specs.States.{places_by}
-use Rattle.vt_server.specs.Terminals.{State, after_act, with_at}
-use Rattle.vt_server.proofs.Puts.{at-own, at-other, act-is}
-use Rattle.vt_server.proofs.Writes.{places-written}
+use Rattle.vt_server.specs.Terminals.{State, after_act}
+use Rattle.vt_node.specs.ByAddress.{with_at}
+use Rattle.vt_server.proofs.Puts.{act-is}
+use Rattle.vt_node.proofs.ByAddress.{at-own, at-other}
+use Rattle.vt_node.proofs.ByAddress.{places-written}
 
 module _ (contents : ℕ → Content) (node : NodeState) (heard : ℕ → Option ℕ) (a : ℕ) (objects : Contents) (pool : SetState) (is : pool ≡ fresh objects) where
   abbrev pub content_then : Content

@@ -17,7 +17,7 @@ use Rattle.vt_extended.specs.Wire.{etp_frame}
 use Rattle.vt_server.specs.Hearings.{IsPrepared, IsReady, IsReadyWith, IsReadyForMessage, RoomsStay}
 use Rattle.vt_server.specs.Holders.{AreFormer}
 use Rattle.vt_server.specs.Lapses.{at_time, lapsed, sent_by_lapses}
-use Rattle.vt_server.specs.Nodes.{NodeState}
+use Rattle.vt_node.specs.Nodes.{NodeState}
 use Rattle.vt_server.specs.Places.{Content, watched}
 use Rattle.vt_server.specs.Rooms.{HasLapsed}
 use Rattle.vt_server.specs.Sessions.{message_to_terminal}
@@ -25,8 +25,8 @@ use Rattle.vt_server.specs.States.{state_of}
 use Rattle.vt_server.specs.Steps.{hear_claim, answer_to, is_lost_by, is_defended, left_by, left_holder}
 use Rattle.vt_server.specs.Terminals.{State}
 use Rattle.vt_server.specs.Uploads.{content_of, room_of}
-use Rattle.vt_server.specs.declared.bus.Notice.{Notice}
-use Rattle.vt_server.specs.declared.bus.Notice.TheVariants as notices
+use Rattle.vt_node.specs.declared.bus.Notice.{Notice}
+use Rattle.vt_node.specs.declared.bus.Notice.TheVariants as notices
 use Rattle.vt_server.specs.declared.claiming.FormerHolders.{FormerHolders}
 use Rattle.vt_server.specs.declared.hearing.Ready.{Ready}
 use Rattle.vt_server.specs.declared.hearing.Ready.TheVariants as readies

@@ -1,16 +1,10 @@
 -- The sets in their order, one after the other.
-use Rattle.std.proofs.Common.{◌≡◌, ◌≤◌, ℕ, zero, suc, true, false, cond, List, [], ◌∷◌, length, drop, arith, Option, Some, None, is_some, sym, ap, ◌∙◌}
+use Rattle.std.proofs.Common.{◌≡◌, ℕ, suc, true, false, cond, List, drop, Option, Some, is_some, sym, ap, ◌∙◌}
 use Rattle.std.specs.List.{slice_get}
 use Rattle.vt_machine.specs.Lives.{SetState}
 use Rattle.vt_names.specs.Registry.{Set}
 use Rattle.vt_server.specs.Choosing.{alarm_in, louder, loudest, first_with_pool}
-use Rattle.vt_server.proofs.Puts.{none-some, some-is}
-
--- what stands from a place on
-pub dropped : {X : Type 0} (xs : List X) (i : ℕ) (x : X) → slice_get xs i ≡ Some x → drop i xs ≡ x ∷ drop (suc i) xs
-dropped [] i x e = none-some e
-dropped (y ∷ xs) zero x e = ap (λ z. z ∷ xs) (some-is y x e)
-dropped (y ∷ xs) (suc i) x e = dropped xs i x e
+use Rattle.vt_node.proofs.Ordered.{dropped}
 
 module _ (pools : ℕ → Option SetState) (sets : List Set) (place : ℕ) (set : Set) (there : slice_get sets place ≡ Some set) where
   pub first-passed : is_some (pools set.address) ≡ false → first_with_pool pools (drop place sets) ≡ first_with_pool pools (drop (suc place) sets)
@@ -25,9 +19,3 @@ module _ (pools : ℕ → Option SetState) (sets : List Set) (place : ℕ) (set 
 
   pub louder-next : louder set.address (alarm_in (pools set.address)) (loudest pools (drop (suc place) sets)) ≡ loudest pools (drop place sets)
   louder-next = sym (ap (loudest pools) (dropped sets place set there))
-
--- Where nothing stands the list has ended.
-pub beyond : {X : Type 0} (xs : List X) (i : ℕ) → slice_get xs i ≡ None → length xs ≤ i
-beyond [] i none = omega arith
-beyond (x ∷ xs) zero none = none-some (sym none)
-beyond (x ∷ xs) (suc i) none = let rest = beyond xs i none in omega arith

@@ -1,20 +1,28 @@
 -- The end of sets that are silent, one after the other.
 use Rattle.std.proofs.Common.{◌≡◌, ◌≢◌, ◌<◌, ◌≤◌, ℕ, Bool, true, false, cond, not, List, [], ◌∷◌, length, map, Some, None, refl, sym, ap, subst, ◌∙◌, inl, inr, arith}
+use Rattle.std.proofs.lemmas.Option.{same_Some}
 use Rattle.std.specs.List.{filter}
 use Rattle.vt_names.specs.Registry.{Set, is_of, set_at, without}
-use Rattle.vt_server.specs.Lapses.{first_silent, is_silent, silent, silences}
+use Rattle.vt_server.specs.Lapses.{first_silent, silent, silences}
+use Rattle.vt_node.specs.Watches.{is_silent}
 use Rattle.vt_server.specs.Parts.{Act, FallsSilent}
 use Rattle.vt_server.specs.Places.{Content, Place, no_content, with_content}
-use Rattle.vt_server.specs.Registries.{Watched}
+use Rattle.vt_node.specs.Registries.{Watched}
 use Rattle.vt_server.specs.Rooms.{ClosesSets}
 use Rattle.vt_server.specs.States.{state_of, places_by}
-use Rattle.vt_server.specs.Terminals.{State, after_act, after_acts, with_at}
+use Rattle.vt_server.specs.Terminals.{State, after_act, after_acts}
+use Rattle.vt_node.specs.ByAddress.{with_at}
 use Rattle.vt_server.specs.Uploads.{content_of, room_of}
-use Rattle.vt_server.specs.Watches.{heard_of}
+use Rattle.vt_node.specs.Watches.{heard_of}
 use Rattle.vt_server.specs.declared.contents.Contents.{Contents}
 use Rattle.vt_server.specs.declared.terminal.Terminal.{Terminal}
-use Rattle.vt_server.proofs.Puts.{by_eq, some-is, none-some, set_at-first, set_at-later, without-first, without-later, none-same, at-own, at-other, act-is}
-use Rattle.vt_server.proofs.Writes.{places-same, content-placed, state-is}
+use Rattle.vt_server.proofs.Puts.{act-is}
+use Rattle.vt_node.proofs.Sets.{none-same}
+use Rattle.vt_node.proofs.ByAddress.{at-own, at-other}
+use Rattle.vt_server.proofs.Writes.{content-placed, state-is}
+use Rattle.vt_node.proofs.ByAddress.{places-same}
+use Rattle.vt_names.proofs.Filing.{set_at-first, set_at-later, without-first, without-later}
+use Rattle.vt_names.proofs.Holding.{by_eq, none-some}
 
 -- ---- lists of sets
 
@@ -129,7 +137,7 @@ module _ (s : State) where
           → (b : Bool) → silent s x ≡ b → cond b (Some x.address) (first_silent s sets) ≡ Some a
           → after_acts t (falls (cond b (x ∷ filter (silent s) sets) (filter (silent s) sets))) ≡ after_acts (closed a t) (falls (filter (silent s) (without a (x ∷ sets))))
       cases rest true e first =
-          let is : x.address ≡ a = some-is x.address a first in
+          let is : x.address ≡ a = same_Some x.address a first in
           ap (λ (u : State). after_acts u (falls (filter (silent s) sets))) (closed-is x.address t ∙ ap (λ b. closed b t) is)
           ∙ skip a (closed a t) (out-own a t) (filter (silent s) sets)
           ∙ ap (λ l. after_acts (closed a t) (falls l)) (both (λ set. not (is_of a set)) (silent s) sets)
@@ -150,7 +158,7 @@ module _ (s : State) where
           → (b : Bool) → cond b (Some x.address) (first_silent s sets) ≡ Some a → length (without a (x ∷ sets)) < length (x ∷ sets)
       cases rest true first =
           let few = without-fewer a sets in
-          subst (λ (l : List Set). length l < length (x ∷ sets)) (sym (without-first a x sets (some-is x.address a first))) (omega arith)
+          subst (λ (l : List Set). length l < length (x ∷ sets)) (sym (without-first a x sets (same_Some x.address a first))) (omega arith)
       cases rest false first =
           let few = rest first in
           by_eq x.address a

@@ -4,7 +4,7 @@ use Rattle.vt_names.specs.Claims.{Claimed}
 use Rattle.vt_server.specs.Lapses.{lapsed, sent_by_lapses, tp_due, etp_due, sending_due, silences, silent, after_tp_timeouts, after_etp_timeouts, after_timeouts}
 use Rattle.vt_server.specs.Parts.{Act, TpExpires, EtpExpires, SendingExpires, FallsSilent, Outcome, outcome}
 use Rattle.vt_server.specs.Terminals.{State, part, put, to_address, after_act, after_acts, sent_by_act, sent_by_acts}
-use Rattle.vt_server.proofs.Overdue.{AllActs, all-below, all-silences}
+use Rattle.vt_server.proofs.Acts.{AllActs, all-below, all-silences}
 use Rattle.vt_server.proofs.Puts.{act-is, sent_by_one-is}
 
 abbrev pub with_claims : Claimed → State → State

@@ -1,21 +1,21 @@
 -- Where the same set is shown with the same pool, the screen is the same; and which inputs leave it so. A command that is
 -- refused does, and so does an upload or an action; time and claims take pools away, and change none.
 use mathlib.Core.Bool.{beq}
-use Rattle.std.proofs.Common.{◌≡◌, ◌≢◌, ℕ, Bool, true, false, cond, not, ◌||◌, List, [], ◌∷◌, map, Option, Some, None, is_some, true≢false, refl, sym, ap, subst, ◌∙◌, nat_eq}
+use Rattle.std.proofs.Common.{◌≡◌, ◌≢◌, ℕ, Bool, true, false, cond, not, List, [], ◌∷◌, map, Option, Some, None, is_some, true≢false, refl, sym, ap, subst, ◌∙◌, nat_eq}
 use Rattle.std.specs.List.{filter}
 use Rattle.std.specs.Option.{option_eq, option_map}
 use Rattle.std.specs.Prelude.{Result, Ok, Err}
 use Rattle.vt_can.specs.declared.frames.frame.Frame.{Frame}
 use Rattle.vt_can.specs.frames.Frame.{source_of}
 use Rattle.vt_can.specs.lines.Actions.{ActionValue}
-use Rattle.vt_machine.specs.Effects.{effect}
+use Rattle.vt_effects.specs.Effects.{effect}
 use Rattle.vt_machine.specs.Lives.{SetState, with_objects}
-use Rattle.vt_machine.specs.Machines.{events_of}
+use Rattle.vt_macros.specs.Machines.{events_of}
 use Rattle.vt_machine.specs.declared.operator.OperatorRefusal.{OperatorRefusal}
 use Rattle.vt_names.specs.Registry.{Set}
-use Rattle.vt_objects.specs.Stores.{Contents}
-use Rattle.vt_objects.specs.declared.command.Command.{Command}
-use Rattle.vt_objects.specs.declared.raising.Raised.{Raised}
+use Rattle.vt_stores.specs.Stores.{Contents}
+use Rattle.vt_commands.specs.declared.command.Command.{Command}
+use Rattle.vt_commands.specs.declared.raising.Raised.{Raised}
 use Rattle.vt_server.specs.Acting.{PerformsAt}
 use Rattle.vt_server.specs.Commands.{after_done, content_after, deletes, error_after, error_in, error_of, state_after}
 use Rattle.vt_server.specs.Hearings.{IsPrepared}
@@ -26,21 +26,25 @@ use Rattle.vt_server.specs.Places.{Content, Place, heard_at, no_content}
 use Rattle.vt_server.specs.Screens.{IsScreenAt, IsScreenOfShown, KeepsScreen, ShowsSame, ShowsWhatIsLeft, TellsChanges}
 use Rattle.vt_server.specs.States.{state_of}
 use Rattle.vt_server.specs.Steps.{before, changes, heard_at_source, acts, acted}
-use Rattle.vt_server.specs.Terminals.{State, pool_of, pool_at, part, put, after_act, after_acts, with_at}
+use Rattle.vt_server.specs.Terminals.{State, pool_of, pool_at, part, put, after_act, after_acts}
+use Rattle.vt_node.specs.ByAddress.{with_at}
 use Rattle.vt_server.specs.Transfers.{Verdict, Accepts, Faulty, Refuses, ended, end_of_pool, end_reply}
 use Rattle.vt_server.specs.Uploads.{content_of}
-use Rattle.vt_server.specs.declared.bus.Notice.{Notice}
-use Rattle.vt_server.specs.declared.bus.Notice.TheVariants.{Claim}
+use Rattle.vt_node.specs.declared.bus.Notice.{Notice}
+use Rattle.vt_node.specs.declared.bus.Notice.TheVariants.{Claim}
 use Rattle.vt_server.specs.declared.contents.Contents as declared
 use Rattle.vt_server.specs.declared.hearing.Ready.{Ready}
 use Rattle.vt_server.specs.declared.hearing.Ready.TheVariants as readies
 use Rattle.vt_server.specs.declared.terminal.Terminal.{Terminal}
 use Rattle.vt_server.proofs.ActsAt.{AllAt, at-append, at-below, at-changes, at-heard}
-use Rattle.vt_server.proofs.Changes.{option-same, shown-acts}
+use Rattle.vt_server.proofs.Changes.{shown-acts}
 use Rattle.vt_server.proofs.Framed.{any_verdict}
 use Rattle.vt_server.proofs.Keeping.{lapsed-keeps}
 use Rattle.vt_server.proofs.Messaged.{refused-is}
-use Rattle.vt_server.proofs.Puts.{by_eq, act-is, at-own, at-other}
+use Rattle.vt_server.proofs.Puts.{act-is}
+use Rattle.vt_node.proofs.ByAddress.{at-own, at-other}
+use Rattle.vt_names.proofs.Hearing.{option_same}
+use Rattle.vt_names.proofs.Holding.{by_eq}
 
 -- ---- the text
 
@@ -68,10 +72,6 @@ same-at s t shown each = record { shown = shown; pool = ap (pool_at t) shown ∙
 same-by : (s t : State) → t.shown ≡ s.shown → ((b : ℕ) → pool_of t b ≡ pool_of s b) → ShowsSame s t
 same-by s t shown each = same-at s t shown (λ b is. each b)
 
-pub neither : (a b : Bool) → (a || b) ≡ false → (a ≡ false) × (b ≡ false)
-neither true b e = absurd (true≢false e)
-neither false b e = (refl, e)
-
 pools-kept : (old new : ℕ → Content) (a : ℕ) (x : Content) → new ≡ with_at a x old → x.pool ≡ (old a).pool → (b : ℕ) → (new b).pool ≡ (old b).pool
 pools-kept old new a x is same b =
     ap (λ (k : ℕ → Content). (k b).pool) is
@@ -84,7 +84,7 @@ pools-other old new a x is b ne = ap (λ (k : ℕ → Content). (k b).pool) is �
 
 other-shown : (shown : Option ℕ) (a b : ℕ) → option_eq nat_eq shown (Some a) ≡ false → shown ≡ Some b → b ≢ a
 other-shown shown a b other is here =
-    true≢false (sym (option-same (Some a)) ∙ ap (λ o. option_eq nat_eq o (Some a)) (sym (is ∙ ap Some here)) ∙ other)
+    true≢false (sym (option_same (Some a)) ∙ ap (λ o. option_eq nat_eq o (Some a)) (sym (is ∙ ap Some here)) ∙ other)
 
 module _ (t : Terminal) (contents : declared.Contents) (a : ℕ) (x : Content) (is : content_of contents ≡ with_at a x (content_of t.contents)) where
   -- the content of an address is another, with the pool that it had

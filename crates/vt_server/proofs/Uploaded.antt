@@ -14,28 +14,30 @@ use Rattle.vt_server.specs.Ends.{IsEnded}
 use Rattle.vt_server.specs.Findings.{ends_transfer}
 use Rattle.vt_server.specs.Handling.{asked, transferred, end_handled, TRANSFER, END_OF_POOL}
 use Rattle.vt_server.specs.Hearings.{Answers, IsReplyTo, TakesMessage, TakesNotice, begins_with, is_other, with_content_at}
-use Rattle.vt_server.specs.Messages.{message_to, technical_reply}
-use Rattle.vt_server.specs.Nodes.{NodeState, HasTaken, HasAnswered, tp_taken, etp_taken, sender_answer}
+use Rattle.vt_node.specs.Messages.{message_to, technical_reply}
+use Rattle.vt_node.specs.Nodes.{NodeState, HasTaken, HasAnswered, tp_taken, etp_taken, sender_answer}
 use Rattle.vt_server.specs.Outputs.{frames_of}
 use Rattle.vt_server.specs.Parts.{unchanged, after_message}
 use Rattle.vt_server.specs.Places.{Content, Place, with_piece}
-use Rattle.vt_server.specs.Receiving.{frames_in, message_in}
+use Rattle.vt_node.specs.Receiving.{frames_in, message_in}
 use Rattle.vt_server.specs.Sessions.{Came, came_tp, came_etp, message_to_terminal}
 use Rattle.vt_server.specs.States.{state_of, places_by}
-use Rattle.vt_server.specs.Terminals.{State, part, put, with_at}
+use Rattle.vt_server.specs.Terminals.{State, part, put}
+use Rattle.vt_node.specs.ByAddress.{with_at}
 use Rattle.vt_server.specs.Transfers.{ended}
 use Rattle.vt_server.specs.Uploads.{content_of}
-use Rattle.vt_server.specs.Watches.{heard_of}
+use Rattle.vt_node.specs.Watches.{heard_of}
 use Rattle.vt_server.specs.declared.contents.Contents.{Contents}
 use Rattle.vt_server.specs.declared.ending.Judgement.{Judgement}
-use Rattle.vt_server.specs.declared.bus.Notice.TheVariants as notices
+use Rattle.vt_node.specs.declared.bus.Notice.TheVariants as notices
 use Rattle.vt_server.specs.declared.output.Output.{Output}
 use Rattle.vt_server.specs.declared.output.Output.TheVariants as declared
 use Rattle.vt_server.specs.declared.terminal.Terminal.{Terminal}
 use Rattle.vt_server.proofs.Answered.{answers-by, other-handled, piece-handled, end-handled, piece-ends_none, other-ends_none}
 use Rattle.vt_server.proofs.Framed.{any_verdict, with_place_at, takes-came}
-use Rattle.vt_server.proofs.Puts.{none-some}
-use Rattle.vt_server.proofs.Writes.{content-placed, places-written, put-kept}
+use Rattle.vt_server.proofs.Writes.{content-placed, put-kept}
+use Rattle.vt_node.proofs.ByAddress.{places-written}
+use Rattle.vt_names.proofs.Holding.{none-some}
 
 -- ---- the content of one address
 

@@ -13,8 +13,9 @@ use Rattle.vt_machine.specs.Lives.{SetState}
 use Rattle.vt_machine.specs.Entering.{enter_text}
 use Rattle.vt_machine.specs.Operating.{Action, ComesTo, WouldRefuse}
 use Rattle.vt_server.specs.Places.{Content}
-use Rattle.vt_server.specs.Terminals.{State, with_at, after_acts, sent_by_acts}
-use Rattle.vt_machine.specs.Showing.{IsShown}
+use Rattle.vt_server.specs.Terminals.{State, after_acts, sent_by_acts}
+use Rattle.vt_node.specs.ByAddress.{with_at}
+use Rattle.vt_shown.specs.Showing.{IsShown}
 use Rattle.vt_machine.specs.Lives.{active_in}
 use Rattle.vt_server.specs.Operators.{action_on, object_of}
 

@@ -6,12 +6,12 @@ use Rattle.byteorder.specs.Endian.{little_bytes}
 use Rattle.vt_can.specs.Assigned.{FILL, GLOBAL_ADDRESS, NULL_ADDRESS}
 use Rattle.vt_can.specs.declared.frames.frame.Frame.{Frame}
 use Rattle.vt_names.specs.Registry.{Set}
-use Rattle.vt_objects.specs.declared.object.Object.TheVariants as objects
-use Rattle.vt_objects.specs.Records.{Seen}
+use Rattle.vt_kinds.specs.declared.object.Object.TheVariants as objects
+use Rattle.vt_kinds.specs.Records.{Seen}
 use Rattle.vt_machine.specs.Lives.{SetState}
 use Rattle.vt_machine.specs.Lives.{active_in}
-use Rattle.vt_machine.specs.Showing.{soft_key_mask_of}
-use Rattle.vt_server.specs.Messages.{message_to}
+use Rattle.vt_shown.specs.Showing.{soft_key_mask_of}
+use Rattle.vt_node.specs.Messages.{message_to}
 use Rattle.vt_server.specs.declared.choosing.Alarm.{Alarm}
 use Rattle.vt_server.specs.Parts.{Act, Raises}
 use Rattle.vt_server.specs.Terminals.{State, Sent, ToAll, pool_of, pool_at}

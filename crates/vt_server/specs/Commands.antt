@@ -1,16 +1,16 @@
 -- What a command makes of the pool of its working set (docs/PROFILE.md, "Commands: form, tests, error byte and events", "Runs").
 use Rattle.std.specs.Prelude.{ℕ, Bool, true, false, if◌then◌else◌, List, Option, Some, None, Result, Ok, Err}
 use Rattle.std.specs.Option.{option_map}
-use Rattle.vt_objects.specs.declared.command.Command.{Command}
-use Rattle.vt_objects.specs.declared.command.Command.TheVariants.{DeletePool}
-use Rattle.vt_objects.specs.declared.raising.Raised.{Raised}
-use Rattle.vt_objects.specs.Stores.{Contents}
+use Rattle.vt_commands.specs.declared.command.Command.{Command}
+use Rattle.vt_commands.specs.declared.command.Command.TheVariants.{DeletePool}
+use Rattle.vt_commands.specs.declared.raising.Raised.{Raised}
+use Rattle.vt_stores.specs.Stores.{Contents}
 use Rattle.vt_machine.specs.declared.live.Outcome.{Outcome}
 use Rattle.vt_machine.specs.declared.live.Outcome.TheVariants.{Done, Refused}
-use Rattle.vt_machine.specs.Effects.{effect}
+use Rattle.vt_effects.specs.Effects.{effect}
 use Rattle.vt_machine.specs.Lives.{SetState, with_objects}
 use Rattle.vt_server.specs.Places.{Content, no_content}
-use Rattle.vt_machine.specs.Machines.{End, Ended, Sticks, run_of, events_of}
+use Rattle.vt_macros.specs.Machines.{End, Ended, Sticks, run_of, events_of}
 
 -- a pool in whose set no key is held and no input is selected
 abbrev pub fresh : Contents → SetState

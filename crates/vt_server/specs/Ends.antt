@@ -2,7 +2,7 @@
 use Rattle.std.specs.Prelude.{◌≡◌, ℕ, List}
 use Rattle.vt_server.specs.Places.{Content}
 use Rattle.vt_server.specs.Transfers.{Verdict, Accepts, Faulty, Refuses, IsVerdict, ended, with_objects_of, end_reply}
-use Rattle.vt_server.specs.Terminals.{with_at}
+use Rattle.vt_node.specs.ByAddress.{with_at}
 use Rattle.vt_server.specs.declared.ending.Judgement.{Judgement}
 use Rattle.vt_server.specs.declared.ending.Judgement.TheVariants as judgements
 

@@ -7,8 +7,8 @@ use Rattle.vt_can.specs.frames.Frame.{source_of}
 use Rattle.vt_can.specs.lines.Actions.{action_value}
 use Rattle.vt_names.specs.Registry.{Set}
 use Rattle.vt_machine.specs.Lives.{active_in}
-use Rattle.vt_machine.specs.Showing.{IsShown}
-use Rattle.vt_server.specs.Bus.{notice_of}
+use Rattle.vt_shown.specs.Showing.{IsShown}
+use Rattle.vt_node.specs.Bus.{notice_of}
 use Rattle.vt_server.specs.Handling.{ends_pool}
 use Rattle.vt_server.specs.Lapses.{at_time, lapsed}
 use Rattle.vt_server.specs.Operators.{object_of}
@@ -17,7 +17,7 @@ use Rattle.vt_server.specs.Sessions.{came}
 use Rattle.vt_server.specs.Steps.{Event, FrameAt, ActionAt, step}
 use Rattle.vt_server.specs.Terminals.{State, part, pool_at}
 use Rattle.vt_server.specs.Transfers.{Verdict, IsVerdict}
-use Rattle.vt_server.specs.declared.bus.Notice.{Notice}
+use Rattle.vt_node.specs.declared.bus.Notice.{Notice}
 use Rattle.vt_server.specs.declared.input.Input.{Input}
 use Rattle.vt_server.specs.declared.input.Input.TheVariants as inputs
 

@@ -1,10 +1,10 @@
 -- The messages from the master of a set: what each changes, and its reply (docs/PROFILE.md, "Other messages", "Commands: all rows").
 use Rattle.std.specs.Prelude.{ℕ, ◌==◌, Bool, false, if◌then◌else◌, List, [], ◌∷◌, Option, Some, None}
 use Rattle.std.specs.Option.{option_map}
-use Rattle.vt_objects.specs.declared.command.Command.{Command}
-use Rattle.vt_objects.specs.Commands.{command_at}
+use Rattle.vt_commands.specs.declared.command.Command.{Command}
+use Rattle.vt_commands.specs.Commands.{command_at}
 use Rattle.vt_server.specs.Commands.{content_after, error_after}
-use Rattle.vt_server.specs.Messages.{technical_reply}
+use Rattle.vt_node.specs.Messages.{technical_reply}
 use Rattle.vt_server.specs.Places.{Content, with_piece}
 use Rattle.vt_server.specs.Replies.{reply_to}
 use Rattle.vt_server.specs.Transfers.{Verdict, ended, end_reply}

@@ -14,7 +14,7 @@ use Rattle.vt_server.specs.Ends.{IsJudgement}
 use Rattle.vt_server.specs.Findings.{IsJudged, ends_transfer}
 use Rattle.vt_server.specs.Handling.{TRANSFER, END_OF_POOL, asked}
 use Rattle.vt_server.specs.Holders.{AreFormer}
-use Rattle.vt_server.specs.Messages.{technical_reply}
+use Rattle.vt_node.specs.Messages.{technical_reply}
 use Rattle.vt_server.specs.Outputs.{outputs_of, frames_of}
 use Rattle.vt_server.specs.Parts.{Part, after_message, after_notice}
 use Rattle.vt_server.specs.Places.{Content, Place, with_content}
@@ -22,12 +22,13 @@ use Rattle.vt_server.specs.Sessions.{came}
 use Rattle.vt_server.specs.States.{state_of}
 use Rattle.vt_server.specs.Steps as steps
 use Rattle.vt_server.specs.Steps.{is_lost_by, answer_to, is_defended, hearing, acted, sent_by_frame}
-use Rattle.vt_server.specs.Terminals.{State, with_at, part, put}
+use Rattle.vt_server.specs.Terminals.{State, part, put}
+use Rattle.vt_node.specs.ByAddress.{with_at}
 use Rattle.vt_server.specs.Transfers.{Verdict, IsVerdict}
 use Rattle.vt_server.specs.Uploads.{content_of, room_of}
 use Rattle.vt_server.specs.declared.claiming.FormerHolders.{FormerHolders}
-use Rattle.vt_server.specs.declared.bus.Notice.{Notice}
-use Rattle.vt_server.specs.declared.bus.Notice.TheVariants as notices
+use Rattle.vt_node.specs.declared.bus.Notice.{Notice}
+use Rattle.vt_node.specs.declared.bus.Notice.TheVariants as notices
 use Rattle.vt_server.specs.declared.hearing.Ready.{Ready}
 use Rattle.vt_server.specs.declared.hearing.Ready.TheVariants as readies
 use Rattle.vt_server.specs.declared.output.Output.{Output}

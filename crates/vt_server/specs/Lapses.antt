@@ -1,8 +1,9 @@
 -- What the time of a frame line ends: sessions that are silent for too long, and then sets (docs/PROFILE.md, "The order of a
 -- step", "Timeouts", "Silence").
-use Rattle.std.specs.Prelude.{ℕ, max, ◌-◌, Bool, false, nat_lt, if◌then◌else◌, List, [], ◌∷◌, ◌++◌, map, filter, Option, Some, None}
+use Rattle.std.specs.Prelude.{ℕ, max, Bool, if◌then◌else◌, List, [], ◌∷◌, ◌++◌, map, filter, Option, Some, None}
 use Rattle.vt_can.specs.transport.Sessions.{each_below, is_overdue}
 use Rattle.vt_names.specs.Registry.{Set}
+use Rattle.vt_node.specs.Watches.{is_silent}
 use Rattle.vt_server.specs.Parts.{Act, TpExpires, EtpExpires, SendingExpires, FallsSilent}
 use Rattle.vt_server.specs.Places.{watched}
 use Rattle.vt_server.specs.Terminals.{State, Sent, after_acts, sent_by_acts}
@@ -10,11 +11,6 @@ use Rattle.vt_server.specs.Terminals.{State, Sent, after_acts, sent_by_acts}
 -- Time never goes back, and a frame line begins the silence of addresses that were preloaded.
 abbrev pub at_time : State → ℕ → State
 at_time s time = record s { now = max s.now time; places = λ address. watched (max s.now time) (s.places address) }
-
--- more than 3,000,000 microseconds without a frame
-abbrev pub is_silent : ℕ → Option ℕ → Bool
-is_silent now None = false
-is_silent now (Some last) = nat_lt 3000000 (now - last)
 
 abbrev pub silent : State → Set → Bool
 silent s set = is_silent s.now (s.places set.address).heard
@@ -55,8 +51,3 @@ sent_by_lapses s =
 abbrev pub first_silent : State → List Set → Option ℕ
 first_silent s [] = None
 first_silent s (set ∷ sets) = if silent s set then Some set.address else first_silent s sets
-
--- so by when the addresses were last heard
-abbrev pub first_silent_of : ℕ → (ℕ → Option ℕ) → List Set → Option ℕ
-first_silent_of now heard [] = None
-first_silent_of now heard (set ∷ sets) = if is_silent now (heard set.address) then Some set.address else first_silent_of now heard sets

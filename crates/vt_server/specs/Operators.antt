@@ -11,12 +11,12 @@ use Rattle.vt_machine.specs.declared.operator.OperatorRefusal.TheVariants as ref
 use Rattle.vt_machine.specs.Entering.{enter_number, enter_text}
 use Rattle.vt_machine.specs.Lives.{SetState, with_objects}
 use Rattle.vt_machine.specs.Lives.{active_in}
-use Rattle.vt_machine.specs.Machines.{run_of}
+use Rattle.vt_macros.specs.Machines.{run_of}
 use Rattle.vt_machine.specs.Operating as operating
 use Rattle.vt_machine.specs.Operating.{press, release, select}
-use Rattle.vt_objects.specs.declared.raising.Raised.{Raised}
+use Rattle.vt_commands.specs.declared.raising.Raised.{Raised}
 use Rattle.vt_server.specs.Commands.{store_of}
-use Rattle.vt_server.specs.Messages.{message_to}
+use Rattle.vt_node.specs.Messages.{message_to}
 use Rattle.vt_server.specs.declared.output.OperatorFault.{OperatorFault}
 use Rattle.vt_server.specs.declared.output.OperatorFault.TheVariants as faults
 

@@ -6,22 +6,23 @@ use Rattle.vt_can.specs.lines.Actions.{ActionValue}
 use Rattle.vt_transport.specs.Protocol as tp
 use Rattle.vt_extended.specs.Protocol as etp
 use Rattle.vt_names.specs.Registry.{Set, mastered, has_place, joined, preloaded, bound}
-use Rattle.vt_objects.specs.Stores.{Contents}
+use Rattle.vt_stores.specs.Stores.{Contents}
 use Rattle.vt_verify.specs.Triggers.{listing}
 use Rattle.vt_verify.specs.Budgets.{budget}
 use Rattle.vt_machine.specs.Lives.{SetState, with_objects}
 use Rattle.vt_machine.specs.Lives.{working_set_in}
-use Rattle.vt_machine.specs.Machines.{shape_in, joined as commands_at, run}
+use Rattle.vt_macros.specs.Machines.{joined as commands_at, run}
+use Rattle.vt_effects.specs.Soundness.{shape_in}
 use Rattle.vt_machine.specs.Operating as operating
 use Rattle.vt_server.specs.Commands.{fresh, store_of}
 use Rattle.vt_server.specs.Handling.{Handled, handled}
-use Rattle.vt_server.specs.Messages.{message_to}
+use Rattle.vt_node.specs.Messages.{message_to}
 use Rattle.vt_server.specs.Operators.{action_on, fault_of, is_busy, message_frames, sending_after, ran}
 use Rattle.vt_server.specs.Places.{Place, no_content, with_content, with_pool, heard_at, untimed_place}
 use Rattle.vt_server.specs.Sessions.{Came, came, timeout_of, sending_timeout}
 use Rattle.vt_server.specs.Transfers.{Verdict}
-use Rattle.vt_server.specs.declared.bus.Notice.{Notice}
-use Rattle.vt_server.specs.declared.bus.Notice.TheVariants.{Claim, Master, Member}
+use Rattle.vt_node.specs.declared.bus.Notice.{Notice}
+use Rattle.vt_node.specs.declared.bus.Notice.TheVariants.{Claim, Master, Member}
 use Rattle.vt_server.specs.declared.output.OperatorFault.{OperatorFault}
 use Rattle.vt_server.specs.declared.output.OperatorFault.TheVariants.{Busy}
 

@@ -12,9 +12,9 @@ use Rattle.vt_transport.specs.Senders.{timeout_frame}
 use Rattle.vt_transport.specs.Wire.{tp_frame}
 use Rattle.vt_extended.specs.Protocol as etp
 use Rattle.vt_server.specs.Places.{Place}
-use Rattle.vt_server.specs.Receiving.{taken}
-use Rattle.vt_server.specs.declared.bus.Notice.{Notice}
-use Rattle.vt_server.specs.declared.bus.Notice.TheVariants.{Message, Tp, Etp}
+use Rattle.vt_node.specs.Receiving.{taken}
+use Rattle.vt_node.specs.declared.bus.Notice.{Notice}
+use Rattle.vt_node.specs.declared.bus.Notice.TheVariants.{Message, Tp, Etp}
 
 -- what the frame leaves of the place, the frames to the address, and the bytes of a message to the terminal that is whole
 pub record Came : Type 0 where

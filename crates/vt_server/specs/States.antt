@@ -2,13 +2,13 @@
 use Rattle.std.specs.Prelude.{◌≡◌, ℕ, Option, List, ◌++◌}
 use Rattle.std.specs.FinMap as finite
 use Rattle.vt_server.specs.Findings.{IsEventOf, AreEventsOf, IsFound, AreFound}
-use Rattle.vt_server.specs.Nodes.{NodeState}
+use Rattle.vt_node.specs.Nodes.{NodeState}
 use Rattle.vt_server.specs.Outputs.{outputs_of}
 use Rattle.vt_server.specs.Places.{Content, Place}
 use Rattle.vt_server.specs.Steps.{Event, step, after_all, sent_by_all}
 use Rattle.vt_server.specs.Terminals.{State}
 use Rattle.vt_server.specs.Uploads.{content_of}
-use Rattle.vt_server.specs.Watches.{heard_of}
+use Rattle.vt_node.specs.Watches.{heard_of}
 use Rattle.vt_server.specs.declared.input.Input.{Input}
 use Rattle.vt_server.specs.declared.output.Output.{Output}
 use Rattle.vt_server.specs.declared.terminal.Terminal.{Terminal}

@@ -8,16 +8,16 @@ use Rattle.vt_can.specs.lines.Actions.{ActionValue, Set}
 use Rattle.vt_names.specs.Claims.{Claimed, heard, address_of, answer}
 use Rattle.vt_names.specs.declared.claims.Heard.{Heard}
 use Rattle.vt_names.specs.declared.claims.Heard.TheVariants as claims
-use Rattle.vt_server.specs.Bus.{notice_of}
+use Rattle.vt_node.specs.Bus.{notice_of}
 use Rattle.vt_server.specs.Choosing.{choosing, shown_now, events_of_change, display, status}
 use Rattle.vt_server.specs.Lapses.{at_time, lapsed, sent_by_lapses}
-use Rattle.vt_server.specs.Messages.{claim_from}
-use Rattle.vt_objects.specs.Stores.{Contents}
+use Rattle.vt_node.specs.Messages.{claim_from}
+use Rattle.vt_stores.specs.Stores.{Contents}
 use Rattle.vt_server.specs.Parts.{Act, Hears, Rebinds, Operates, Preloads}
 use Rattle.vt_server.specs.Terminals.{State, Sent, ToAll, Refused, holder, pool_of, pool_at, after_act, after_acts, sent_by_acts}
 use Rattle.vt_server.specs.Transfers.{Verdict}
-use Rattle.vt_server.specs.declared.bus.Notice.{Notice}
-use Rattle.vt_server.specs.declared.bus.Notice.TheVariants.{Claim, ClaimRequest}
+use Rattle.vt_node.specs.declared.bus.Notice.{Notice}
+use Rattle.vt_node.specs.declared.bus.Notice.TheVariants.{Claim, ClaimRequest}
 use Rattle.vt_server.specs.declared.output.OperatorFault.TheVariants.{NoSet}
 
 -- What comes to the terminal, with what is found of the pools: the verdict on the transfer that a frame ends, and whether

@@ -1,9 +1,10 @@
 -- The terminal, and what happens at its addresses in turn (docs/PROFILE.md, "The step").
-use Rattle.std.specs.Prelude.{ℕ, ◌==◌, Bool, if◌then◌else◌, List, [], ◌∷◌, ◌++◌, map, Option, Some, None}
+use Rattle.std.specs.Prelude.{ℕ, Bool, List, [], ◌∷◌, ◌++◌, map, Option, Some, None}
 use Rattle.vt_can.specs.declared.frames.frame.Frame.{Frame}
 use Rattle.vt_names.specs.Claims.{Claimed, holder_of}
 use Rattle.vt_names.specs.Registry.{Set, set_at, with_set, without}
 use Rattle.vt_machine.specs.Lives.{SetState}
+use Rattle.vt_node.specs.ByAddress.{with_at}
 use Rattle.vt_server.specs.Places.{Place}
 use Rattle.vt_server.specs.Parts.{Part, Outcome, Act, outcome}
 use Rattle.vt_server.specs.declared.output.OperatorFault.{OperatorFault}
@@ -51,9 +52,6 @@ pool_at s (Some address) = pool_of s address
 abbrev pub with_set_at : ℕ → Option Set → List Set → List Set
 with_set_at address None sets = without address sets
 with_set_at address (Some set) sets = with_set set sets
-
-abbrev pub with_at : {X : Type 0} → ℕ → X → (ℕ → X) → ℕ → X
-with_at address x places other = if other == address then x else places other
 
 abbrev pub put : ℕ → Outcome → State → State
 put address after s = record s { sets = with_set_at address after.set s.sets; places = with_at address after.place s.places }

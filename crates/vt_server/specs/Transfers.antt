@@ -1,15 +1,16 @@
 -- The end of an upload: what the bytes of a transfer come to (docs/PROFILE.md, "End of Object Pool (12)", "Updates of a pool").
 use Rattle.std.specs.Prelude.{◌≡◌, ℕ, List, [], ◌∷◌, ◌++◌, slice_index, Option, Some, None}
 use Rattle.byteorder.specs.Endian.{little_bytes}
-use Rattle.vt_objects.specs.Stores.{Contents, Objects, by_rising_id, map_of}
-use Rattle.vt_pool.specs.declared.fault.PoolFault.{PoolFault}
-use Rattle.vt_pool.specs.declared.fault.PoolFault.TheVariants as faults
+use Rattle.vt_stores.specs.Stores.{Contents, Objects, by_rising_id, map_of}
+use Rattle.vt_records.specs.declared.fault.PoolFault.{PoolFault}
+use Rattle.vt_records.specs.declared.fault.PoolFault.TheVariants as faults
 use Rattle.vt_pool.specs.Pools as pools
 use Rattle.vt_pool.specs.Pools.{Entry, AreRecords, IsFault, IsInForce, joined}
 use Rattle.vt_verify.specs.declared.refusal.Refusal.{Refusal}
 use Rattle.vt_verify.specs.declared.refusal.Refusal.TheVariants as refusals
 use Rattle.vt_verify.specs.Rules as rules
-use Rattle.vt_verify.specs.Rules.{IsVerified, IsRefused, terminal}
+use Rattle.vt_verify.specs.Rules.{IsVerified, IsRefused}
+use Rattle.vt_chains.specs.Limits.{terminal}
 use Rattle.vt_verify.specs.Updates.{updated}
 use Rattle.vt_machine.specs.Lives.{SetState, renewed}
 use Rattle.vt_server.specs.Commands.{fresh}

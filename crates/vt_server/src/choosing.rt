@@ -3,7 +3,7 @@
 ghost use Rattle.std.specs.Prelude.{◌≡◌, ◌≤◌, ◌+◌, ◌++◌, ℕ, [], ◌∷◌, None, Some, false, is_some, vec_len, vec_capacity};
 ghost use Rattle.std.specs.FinMap as finite;
 ghost use Rattle.std.specs.Option.{option_map};
-ghost use Rattle.vt_objects.specs.Records.{seen};
+ghost use Rattle.vt_kinds.specs.Records.{seen};
 ghost use Rattle.vt_server.specs.Choosing as choosing;
 ghost use Rattle.vt_server.specs.Displays.{display_value, found_pool};
 ghost use Rattle.vt_server.specs.Outputs.{outputs_of};
@@ -12,8 +12,8 @@ ghost use Rattle.vt_server.specs.States.{state_of};
 ghost use Rattle.vt_server.specs.Steps.{settled, sent_by_settling};
 ghost use Rattle.vt_server.specs.Terminals as spec;
 
-use crate::messages::status_frame;
 use crate::output::{Output, send};
+use crate::status::status_frame;
 use crate::terminal::Terminal;
 use vt_can::assigned::NULL_ADDRESS;
 use vt_machine::Live;

@@ -3,21 +3,21 @@
 ghost use Rattle.std.specs.Prelude.{◌≡◌, ◌+◌, ◌≤◌, IfOk, OnOk, OnErr, vec_len, vec_capacity};
 ghost use Rattle.vt_names.specs.Claims.{address_of};
 ghost use Rattle.vt_server.specs.Hearings.{TakesClaim};
-ghost use Rattle.vt_server.specs.Messages as messages;
+ghost use Rattle.vt_node.specs.Messages as messages;
 ghost use Rattle.vt_server.specs.Parts.{after_claim_heard, stays_under};
 ghost use Rattle.vt_server.specs.Screens.{redraws};
 ghost use Rattle.vt_server.specs.States.{state_of};
 ghost use Rattle.vt_server.specs.Holders.{AreFormer};
 ghost use Rattle.vt_server.specs.Steps as steps;
 ghost use Rattle.vt_server.specs.Terminals as spec;
-ghost use Rattle.vt_server.specs.declared.bus.Notice.TheVariants as notices;
+ghost use Rattle.vt_node.specs.declared.bus.Notice.TheVariants as notices;
 
 use crate::OutOfMemory;
-use crate::messages::claim_from;
 use crate::output::{Output, send};
 use crate::terminal::Terminal;
 use vt_can::Frame;
 use vt_names::Name;
+use vt_node::claim_from;
 
 /// The holders, before a claim, of the addresses that it may give another one.
 #[derive(Drop)]

@@ -2,14 +2,14 @@
 
 ghost use Rattle.std.specs.Prelude.{◌≡◌, ◌≤◌, ◌+◌, ◌++◌, ◌∷◌, ◌≢◌, ℕ, [], None, Some, false, length, drop, IfOk, IfNone, IsSome, OnOk, OnErr};
 ghost use Rattle.std.specs.Option.{option_map};
-ghost use Rattle.vt_objects.specs.Stores.{map_of};
+ghost use Rattle.vt_stores.specs.Stores.{map_of};
 ghost use Rattle.vt_server.specs.Commands.{content_after, error_after};
 ghost use Rattle.vt_can.specs.lines.Actions.{action_value};
 ghost use Rattle.vt_server.specs.Acting.{IsActedOn, WouldBeRefused};
 ghost use Rattle.vt_server.specs.Ends.{IsJudgement, IsEnded};
 ghost use Rattle.vt_server.specs.Parts.{raised_on};
 ghost use Rattle.vt_server.specs.Places.{no_content, with_piece};
-ghost use Rattle.vt_server.specs.Terminals.{with_at};
+ghost use Rattle.vt_node.specs.ByAddress.{with_at};
 ghost use Rattle.vt_server.specs.Uploads.{content_of, room_of};
 
 use crate::OutOfMemory;

@@ -2,7 +2,7 @@
 
 ghost use Rattle.std.specs.Prelude.{◌≡◌, ◌++◌, ◌+◌, ◌<◌, ◌≤◌, ℕ, List, false, true, IsOk, IfOk, OnOk, OnErr, vec_len, vec_capacity};
 ghost use Rattle.vt_can.specs.frames.Frame.{source_of};
-ghost use Rattle.vt_server.specs.Bus.{notice_of};
+ghost use Rattle.vt_node.specs.Bus.{notice_of};
 ghost use Rattle.vt_server.specs.Choosing.{display};
 ghost use Rattle.vt_server.specs.Displays.{display_value};
 ghost use Rattle.vt_server.specs.Hearings.{IsPrepared, IsReady, IsNoClaim, HasRoom, HasUpload, Hears, TakesFrame, TakesNotice};
@@ -12,20 +12,19 @@ ghost use Rattle.vt_server.specs.Screens.{KeepsScreen, ShowsWhatIsLeft, TellsCha
 ghost use Rattle.vt_server.specs.States.{state_of, TakesInput};
 ghost use Rattle.vt_server.specs.Steps as steps;
 ghost use Rattle.vt_server.specs.Terminals as spec;
-ghost use Rattle.vt_server.specs.declared.bus.Notice.TheVariants as notices;
+ghost use Rattle.vt_node.specs.declared.bus.Notice.TheVariants as notices;
 ghost use Rattle.vt_server.specs.declared.input.Input.TheVariants as inputs;
 
 use crate::OutOfMemory;
-use crate::bus::{Notice, notice_of};
 use crate::choosing::Display;
 use crate::claiming::FormerHolders;
-use crate::messages::claim_from;
 use crate::output::{Output, send};
 use crate::terminal::Terminal;
 use crate::uploading::Upload;
 use vt_can::Frame;
 use vt_can::assigned::NULL_ADDRESS;
 use vt_names::Heard;
+use vt_node::{Notice, claim_from, notice_of};
 
 /// Room for the outputs of one input, of which there are at most 1,024: a frame is never answered by a receiver and by the sender
 /// at once, but there is room for both.

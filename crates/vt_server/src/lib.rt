@@ -2,12 +2,11 @@
 //!
 //! - `Terminal` takes each `Input`, a frame or an action of the operator, and appends each `Output`, a frame or an
 //!   `OperatorFault`; a run of inputs that memory is refused for ends with a `RunFault`.
-//! - `laws` has what the definitions come to, `the_machine_never_sticks` first.
+//! - `laws` has what every terminal keeps; the laws over all that a terminal does are in vt_laws.
 //!
 //! docs/PROFILE.md, "The step", has the rules.
 #![tactic(auto)]
 
-mod bus;
 mod choosing;
 mod claiming;
 mod commands;
@@ -17,16 +16,13 @@ mod hearing;
 mod input;
 mod lapsing;
 pub mod laws;
-mod messages;
-mod node;
 mod operating;
 mod operator;
 mod output;
 mod receiving;
+mod status;
 mod terminal;
 mod uploading;
-mod watch;
-mod watched;
 
 pub use input::Input;
 pub use output::{OperatorFault, Output};
@@ -34,6 +30,3 @@ pub use terminal::{RunFault, Terminal};
 
 /// A growth that was refused.
 pub use std::alloc::AllocError as OutOfMemory;
-
-#[cfg(test)]
-mod tests;

@@ -12,11 +12,11 @@ ghost use Rattle.vt_server.specs.declared.input.Input.TheVariants as inputs;
 
 use crate::OutOfMemory;
 use crate::hearing::MOST_OUTPUTS;
-use crate::messages::message_to;
 use crate::operating::{filled, text_message};
 use crate::output::{OperatorFault, Output, refuse, send};
 use crate::terminal::Terminal;
 use vt_can::Action;
+use vt_node::message_to;
 use vt_transport::SendFault;
 
 /// The most bytes of a text whose message is one frame.

@@ -10,13 +10,13 @@ ghost use Rattle.vt_extended.specs.Protocol as etp;
 ghost use Rattle.vt_extended.specs.Wire.{etp_frame};
 ghost use Rattle.vt_server.specs.Hearings.{IsReadyForMessage, IsReadyWith, IsReadyNow, Answers, begins_with, TakesNotice, TakesMessage, message_by};
 ghost use Rattle.vt_server.specs.Handling.{TRANSFER};
-ghost use Rattle.vt_server.specs.Receiving.{frames_in, message_in};
+ghost use Rattle.vt_node.specs.Receiving.{frames_in, message_in};
 ghost use Rattle.vt_server.specs.Sessions.{message_to_terminal};
 ghost use Rattle.vt_server.specs.Screens.{TellsChanges};
 ghost use Rattle.vt_server.specs.States.{state_of};
 ghost use Rattle.vt_server.specs.Terminals as spec;
 ghost use Rattle.vt_server.specs.Uploads.{content_of, room_of};
-ghost use Rattle.vt_server.specs.declared.bus.Notice.TheVariants as notices;
+ghost use Rattle.vt_node.specs.declared.bus.Notice.TheVariants as notices;
 
 use crate::output::{Output, send, send_all};
 use crate::terminal::Terminal;

@@ -3,7 +3,7 @@
 ghost use Rattle.std.specs.Prelude.{◌≡◌, ◌≢◌, ◌≤◌, ◌++◌, ◌<◌, ℕ, [], ◌∷◌, None, Some, true, false, is_some, IsOk, IfOk, IfErr, OnOk, OnErr, length, take};
 ghost use Rattle.std.specs.Option.{option_map};
 ghost use Rattle.vt_names.specs.Registry.{set_at};
-ghost use Rattle.vt_objects.specs.Stores.{map_of};
+ghost use Rattle.vt_stores.specs.Stores.{map_of};
 ghost use Rattle.vt_server.specs.Places.{empty};
 ghost use Rattle.vt_server.specs.Screens.{GainsScreenOf, KeepsScreen, redraws};
 ghost use Rattle.vt_server.specs.States.{state_of, TakesInput, TakesInputs};
@@ -12,14 +12,13 @@ ghost use Rattle.vt_server.specs.Steps.{preloading};
 use crate::OutOfMemory;
 use crate::contents::Contents;
 use crate::input::Input;
-use crate::node::Node;
 use crate::output::Output;
-use crate::watched::WatchedRegistry;
 use std::alloc::Global;
 use thiserror::Error;
 use vt_layout::draw;
 use vt_machine::Live;
 use vt_names::Name;
+use vt_node::{Node, WatchedRegistry};
 use vt_objects::SortedStore;
 use vt_verify::Accepted;
 

@@ -12,9 +12,9 @@ ghost use Rattle.vt_server.specs.Uploads.{content_of, room_of};
 use crate::OutOfMemory;
 use crate::commands::reply_to;
 use crate::ending::{ACCEPTED, Judgement};
-use crate::messages::{message_to, technical_reply};
 use crate::terminal::Terminal;
 use vt_can::Frame;
+use vt_node::{message_to, technical_reply};
 use vt_objects::Command;
 
 /// The function of a piece of a pool.

@@ -1,5 +1,5 @@
 -- The packets of a message as frames.
-use Rattle.std.proofs.Common.{◌≡◌, ℕ, zero, suc, ◌+◌, ◌-◌, ◌*◌, ◌<◌, List, [], ◌∷◌, ◌++◌, length, take, drop, map, min, refl, sym, ap, ◌∙◌, arith, inl, inr}
+use Rattle.std.proofs.Common.{◌≡◌, ℕ, zero, suc, ◌+◌, ◌-◌, ◌*◌, ◌<◌, List, [], ◌∷◌, ◌++◌, length, take, drop, map, min, refl, sym, ap, ◌∙◌, arith, inl, inr, append-nil}
 use Rattle.std.proofs.lemmas.List.{take_all, length-drop, take-append-le}
 use Rattle.std.proofs.lemmas.Bool.{cases_lt}
 use Rattle.vt_can.specs.Assigned.{FILL}
@@ -19,10 +19,6 @@ filled_short (a ∷ b ∷ c ∷ d ∷ e ∷ []) h = refl
 filled_short (a ∷ b ∷ c ∷ d ∷ e ∷ f ∷ []) h = refl
 filled_short (a ∷ b ∷ c ∷ d ∷ e ∷ f ∷ g ∷ xs) h = absurd (omega arith)
 
-append-[] : (xs : List ℕ) → xs ++ [] ≡ xs
-append-[] [] = refl
-append-[] (x ∷ xs) = ap (λ ys. x ∷ ys) (append-[] xs)
-
 filled : (xs : List ℕ) (n : ℕ) → n ≡ min (length xs) 7 → take n xs ++ drop n fill ≡ take 7 (xs ++ fill)
 filled xs n is =
     elim (cases_lt (length xs) 7) [
@@ -32,7 +28,7 @@ filled xs n is =
           ∙ ap (λ ys. ys ++ drop (length xs) fill) (take_all (length xs) xs (omega arith)) ∙ filled_short xs short)
       | inr long ↦
           (let seven : n ≡ 7 = omega arith in
-          ap (λ (k : ℕ). take k xs ++ drop k fill) seven ∙ append-[] (take 7 xs) ∙ sym (take-append-le 7 xs fill long))
+          ap (λ (k : ℕ). take k xs ++ drop k fill) seven ∙ append-nil (take 7 xs) ∙ sym (take-append-le 7 xs fill long))
     ]
 
 -- the bytes that are copied into a packet, with what fills it up

@@ -1,9 +1,9 @@
 -- The last rules of a pool, after those before them.
 use Rattle.std.proofs.Common.{◌≡◌, None, arith}
 use Rattle.vt_rank.specs.Paths.{HasNoCircle}
-use Rattle.vt_verify.specs.declared.limits.Limits.{Limits}
-use Rattle.vt_verify.specs.Shapes.{shape_of}
-use Rattle.vt_objects.specs.Stores.{Objects}
+use Rattle.vt_chains.specs.declared.limits.Limits.{Limits}
+use Rattle.vt_stores.specs.Shapes.{shape_of}
+use Rattle.vt_stores.specs.Stores.{Objects}
 use Rattle.vt_verify.specs.Triggers.{triggered}
 use Rattle.vt_verify.specs.Rules.{macro_missing, macro_wrong_kind, GreaterLimitsAccept, IsAcceptable, IsWithinBudget, HoldBefore, TargetsAreThere, AttributesAreThere, TriggersAreNoCircle, BudgetsAreWithin}
 

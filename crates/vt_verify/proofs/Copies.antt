@@ -2,7 +2,7 @@
 use Rattle.std.proofs.Common.{ℕ, ◌<◌, [], ◌∷◌}
 use Rattle.std.proofs.lemmas.List.Elements.{All-nil, All-cons}
 use Rattle.std.specs.List.{All}
-use Rattle.vt_objects.specs.Stores.{Objects, AreNamed, ids}
+use Rattle.vt_stores.specs.Stores.{Objects, AreNamed, ids}
 use Rattle.vt_pool.specs.Pools.{AreObjects, AreRecords}
 
 all_named : (pool : Objects) → AreRecords pool → All (λ id. id < 0xFFFF) (ids pool)

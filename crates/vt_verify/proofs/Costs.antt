@@ -6,14 +6,14 @@ use Rattle.std.proofs.lemmas.Bool.{cases_lt}
 use Rattle.std.specs.Prelude.{sum_by, slice_index_or}
 use Rattle.std.specs.Option.{option_to_list}
 use Rattle.std.specs.List.{flat_map}
-use Rattle.vt_objects.specs.declared.command.Command.{Command}
+use Rattle.vt_commands.specs.declared.command.Command.{Command}
 use Rattle.vt_rank.specs.declared.graph.Graph.{Graph}
 use Rattle.vt_rank.specs.declared.graph.Item.TheVariants as items
 use Rattle.vt_rank.specs.Graphs.{group_of}
 use Rattle.vt_rank.specs.Costs as graphs
 use Rattle.vt_rank.specs.Costs.{greatest, group_total, item_cost, node_total, group_cost}
 use Rattle.vt_verify.specs.declared.listing.Listing.{Listing}
-use Rattle.vt_verify.specs.Shapes.{Shape}
+use Rattle.vt_stores.specs.Shapes.{Shape}
 use Rattle.vt_verify.specs.Macros.{commands}
 use Rattle.vt_verify.specs.Triggers.{listing, row_listings, changes_mask, masks, listed}
 use Rattle.vt_verify.specs.Budgets as pools
@@ -24,14 +24,14 @@ use Rattle.vt_verify.proofs.Graphs.{everywhere, group_listed, groups_listed, gro
 
 -- ---- sums
 
-sums_of_sums : {A B : Type 0} (f : B → ℕ) (h : A → List B) (xs : List A) → sum_by f (flat_map h xs) ≡ sum_by (λ x. sum_by f (h x)) xs
+pub sums_of_sums : {A B : Type 0} (f : B → ℕ) (h : A → List B) (xs : List A) → sum_by f (flat_map h xs) ≡ sum_by (λ x. sum_by f (h x)) xs
 sums_of_sums f h [] = refl
 sums_of_sums f h (x ∷ xs) =
     sum_by-append f (h x) (flat_map h xs)
     ∙ ap (λ n. sum_by f (h x) + n) (sums_of_sums f h xs)
     ∙ sym (sum_by-cons (λ x. sum_by f (h x)) x xs)
 
-same_sums : {A : Type 0} (f h : A → ℕ) (xs : List A) → ((x : A) → f x ≡ h x) → sum_by f xs ≡ sum_by h xs
+pub same_sums : {A : Type 0} (f h : A → ℕ) (xs : List A) → ((x : A) → f x ≡ h x) → sum_by f xs ≡ sum_by h xs
 same_sums f h xs equal = ap (λ f. sum_by f xs) (everywhere equal)
 
 none_added : (n : ℕ) → n ≡ max 0 n

@@ -4,7 +4,7 @@ use Rattle.std.proofs.lemmas.Bool.{ne_eqb}
 use Rattle.std.specs.Prelude.{is_some, IsTrue}
 use Rattle.std.specs.Option.{option_map, option_to_list}
 use Rattle.std.specs.List.{flat_map}
-use Rattle.vt_objects.specs.Pieces.{cut, cut_within, IsSplit, CutIsOne}
+use Rattle.vt_commands.specs.Pieces.{cut, cut_within, IsSplit, CutIsOne}
 use Rattle.vt_verify.specs.Macros.{cut_or_none, macro_command, commands_of}
 
 pub some_mapped : {A B : Type 0} (f : A → B) (x : Option A) → is_some (option_map f x) ≡ is_some x

@@ -1,20 +1,17 @@
 -- The budgets of events, at their places.
 use Rattle.std.proofs.Common.{◌≡◌, ℕ, suc, ◌+◌, ◌<◌, Bool, true, false, cond, List, [], ◌∷◌, map, length, Option, Some, None, refl, sym, ap, ap₂, subst, ◌∙◌, arith}
 use Rattle.std.proofs.lemmas.Bool.{eqb-true, or_from}
-use Rattle.std.proofs.lemmas.Option.{slice_get-map, get_or_from_slice_get}
+use Rattle.std.proofs.lemmas.Option.{slice_get-map, get_or_from_slice_get, same_Some}
 use Rattle.std.specs.Prelude.{nat_eq, sum_by, slice_get, slice_index, slice_index_or}
 use Rattle.std.specs.Option.{option_map}
 use Rattle.std.specs.List.{position_from}
-use Rattle.vt_objects.proofs.Rising.{both_true}
+use Rattle.vt_stores.proofs.Rising.{both_true}
 use Rattle.vt_verify.specs.declared.listing.Listing.{Listing}
-use Rattle.vt_verify.specs.Shapes.{Shape}
+use Rattle.vt_stores.specs.Shapes.{Shape}
 use Rattle.vt_verify.specs.Triggers.{listing, listed}
 use Rattle.vt_verify.specs.TriggerGraphs.{is_event_of, has, listed_events}
 use Rattle.vt_verify.specs.Budgets.{cost, budget}
 use Rattle.vt_verify.proofs.Graphs.{unlisted}
-
-some_is : {X : Type 0} (x y : X) → Some x ≡ Some y → x ≡ y
-some_is x y e = cc
 
 -- ---- at each place the budget of the event that stands there
 
@@ -48,7 +45,7 @@ record IsFoundAt (events : List Listing) (i : ℕ) (q : Listing) (k : ℕ) : Typ
 found_case : (e : Listing) (events : List Listing) (i : ℕ) (q : Listing) (k : ℕ) (rest : Option ℕ) (b : Bool) → is_event_of q e ≡ b
     → (rest ≡ Some k → IsFoundAt events (i + 1) q k) → cond b (Some i) rest ≡ Some k → IsFoundAt (e ∷ events) i q k
 found_case e events i q k rest true is later some =
-    let same = some_is i k some in record { place = 0; sum = omega (arith, same); there = ap Some (same_event q e is) }
+    let same = same_Some i k some in record { place = 0; sum = omega (arith, same); there = ap Some (same_event q e is) }
 found_case e events i q k rest false is later some =
     let at = later some in
     let sum = at.sum in record { place = suc at.place; sum = omega (arith, sum); there = at.there }

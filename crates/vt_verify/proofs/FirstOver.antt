@@ -1,5 +1,6 @@
 -- The first macro or object over the greatest budget, in the graph of the triggers and in the pool.
-use Rattle.std.proofs.Common.{◌≡◌, ℕ, zero, suc, ◌+◌, ◌<◌, ◌≤◌, Bool, true, false, cond, List, [], ◌∷◌, ◌++◌, map, length, get_or, Option, Some, None, refl, sym, ap, subst, ◌∙◌, arith, inl, inr}
+use Rattle.std.proofs.Common.{◌≡◌, ℕ, zero, suc, ◌+◌, ◌<◌, ◌≤◌, Bool, true, false, cond, List, [], ◌∷◌, ◌++◌, map, length, get_or, Option, Some, refl, sym, ap, subst, ◌∙◌, arith, inl, inr}
+use Rattle.std.proofs.lemmas.Option.{same_Some}
 use Rattle.std.proofs.lemmas.Bool.{eqb-true, cases_lt}
 use Rattle.std.proofs.lemmas.List.{append_assoc, get_or_past, length-map}
 use Rattle.std.specs.Prelude.{IsTrue, nat_eq, sum_by, slice_get, slice_index_or}
@@ -12,19 +13,17 @@ use Rattle.vt_rank.specs.declared.budget.OverBudget.TheVariants as over
 use Rattle.vt_rank.specs.Costs as graphs
 use Rattle.vt_rank.specs.Costs.{group_cost}
 use Rattle.vt_verify.specs.declared.listing.Listing.{Listing}
-use Rattle.vt_verify.specs.Shapes.{Shape, shape_of}
-use Rattle.vt_objects.specs.Stores.{Objects, IsRising}
+use Rattle.vt_stores.specs.Shapes.{Shape, shape_of}
+use Rattle.vt_stores.specs.Stores.{Objects, IsRising}
 use Rattle.vt_verify.specs.Triggers.{listing, listed}
 use Rattle.vt_verify.specs.Rules.{IsFirstOver}
 use Rattle.vt_verify.specs.Rules.IsFirstOver.{Macro, Object}
 use Rattle.vt_verify.specs.TriggerGraphs.{AreTriggers, is_event_of, if_any, if_listed, event_numbers, listed_events, group_of_event}
-use Rattle.vt_objects.proofs.Rising.{three, both_true}
-use Rattle.vt_verify.proofs.ListedEvents.{is_below, rising_shape}
+use Rattle.vt_stores.proofs.Rising.{three, both_true}
+use Rattle.vt_verify.proofs.ListedEvents.{rising_shape}
 use Rattle.vt_verify.proofs.Graphs.{groups_at}
 use Rattle.vt_verify.proofs.Costs.{cost_is, group_cost_is, budget_within, costs_within}
-
-same_event : (e raised : Listing) → Some e ≡ Some raised → e ≡ raised
-same_event e raised is = ap (λ (o : Option Listing). elim o [ None ↦ e | Some r ↦ r ]) is
+use Rattle.vt_stores.proofs.Searching.{is_below}
 
 -- ---- events by rising ID
 
@@ -90,7 +89,7 @@ events_climb shape rising = objects_climb shape shape rising 0 (all_from_zero sh
 
 pub there : (events : List Listing) (k : ℕ) (raised : Listing) → slice_get events k ≡ Some raised → (k < length events) × (raised ≡ slice_index_or events k raised)
 there [] k raised is = absurd cc
-there (e ∷ events) zero raised is = (omega arith, sym (same_event e raised is))
+there (e ∷ events) zero raised is = (omega arith, sym (same_Some e raised is))
 there (e ∷ events) (suc k) raised is =
     let later = there events k raised is in
     let inside = later.0 in
@@ -102,14 +101,11 @@ record IsAtPlace (events : List Listing) (i : ℕ) (q : Listing) (k : ℕ) : Typ
   inside : place < length events
   same_id : (d : Listing) → (get_or events place d).id ≡ q.id
 
-same_some : (i k : ℕ) → Some i ≡ Some k → i ≡ k
-same_some i k is = ap (λ (o : Option ℕ). elim o [ None ↦ i | Some n ↦ n ]) is
-
 place_case : (e : Listing) (events : List Listing) (i : ℕ) (q : Listing) (k : ℕ) (rest : Option ℕ) (b : Bool) → is_event_of q e ≡ b
     → (rest ≡ Some k → IsAtPlace events (i + 1) q k) → cond b (Some i) rest ≡ Some k → IsAtPlace (e ∷ events) i q k
 place_case e events i q k rest true is later some =
     let parts = both_true (nat_eq q.id e.id) (nat_eq q.event e.event) is in
-    let same = same_some i k some in record {
+    let same = same_Some i k some in record {
       place = 0;
       sum = omega arith;
       inside = omega arith;

@@ -8,20 +8,20 @@ use Rattle.std.specs.Prelude.{IsTrue, nat_eq, nat_le, slice_index, slice_index_o
 use Rattle.std.specs.Option.{option_to_list}
 use Rattle.std.specs.List.{flat_map, list_any, position_from}
 use Rattle.std.specs.Ordering.{nat_cmp, eq_by_cmp}
-use Rattle.vt_objects.specs.declared.command.Command.{Command}
+use Rattle.vt_commands.specs.declared.command.Command.{Command}
 use Rattle.vt_rank.specs.declared.graph.Graph.{Graph}
 use Rattle.vt_rank.specs.declared.graph.Item.TheVariants as items
 use Rattle.vt_rank.specs.Graphs as graphs
 use Rattle.vt_rank.specs.Paths.{IsPath, IsDistinct, IsCircle, HasNoCircle, IsLeastOnCircles}
 use Rattle.vt_rank.specs.Graphs.{lists, items_of, group_of, nodes_of}
 use Rattle.vt_verify.specs.declared.listing.Listing.{Listing}
-use Rattle.vt_verify.specs.Shapes.{Shape, Fixed, fixed_at}
+use Rattle.vt_stores.specs.Shapes.{Shape, Fixed, fixed_at}
 use Rattle.vt_verify.specs.Macros.{is_macro, commands_of, commands_in, commands}
 use Rattle.vt_verify.specs.Triggers.{listing, row_listings, changes_mask, hidden, masks, is_event, listed, listed_in, triggered_by, triggered}
 use Rattle.vt_verify.specs.Rules.{IsLeastCircle}
 use Rattle.vt_verify.specs.TriggerGraphs.{AreTriggers, is_event_of, has, if_any, if_listed, event_numbers, listed_events, group_of_event, groups_of, command_items, AreListings}
 use Rattle.vt_verify.proofs.Passes.{each_of_each}
-use Rattle.vt_objects.proofs.Rising.{both_true}
+use Rattle.vt_stores.proofs.Rising.{both_true}
 use Rattle.vt_verify.proofs.ListedEvents.{tied_same, from, numbers_are}
 
 -- functions that are equal at each place

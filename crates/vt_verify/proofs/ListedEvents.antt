@@ -14,26 +14,27 @@ use Rattle.std.specs.declared.cmp.Ordering.TheVariants.{Less, Equal, Greater}
 use Rattle.std.specs.Ordering.{nat_cmp, is_eq, is_lt, eq_by_cmp}
 use Rattle.std.specs.FinMap as finite
 use Rattle.std.specs.FinMap.Entries.{below_all}
-use Rattle.vt_objects.specs.declared.entries.MacroEntry.{MacroEntry}
-use Rattle.vt_objects.specs.declared.object.Object.{Object}
-use Rattle.vt_objects.specs.Pieces.{cut}
-use Rattle.vt_objects.specs.Records.{Seen, seen, kind_of}
-use Rattle.vt_objects.specs.declared.kind.Kind.{Kind}
-use Rattle.vt_objects.specs.Stores.{shown, Objects, IsRising}
+use Rattle.vt_kinds.specs.declared.entries.MacroEntry.{MacroEntry}
+use Rattle.vt_kinds.specs.declared.object.Object.{Object}
+use Rattle.vt_commands.specs.Pieces.{cut}
+use Rattle.vt_kinds.specs.Records.{Seen, seen, kind_of}
+use Rattle.vt_kinds.specs.declared.kind.Kind.{Kind}
+use Rattle.vt_stores.specs.Stores.{shown, Objects, IsRising}
 use Rattle.vt_rank.specs.declared.graph.Item.{Item}
 use Rattle.vt_rank.specs.declared.graph.Item.TheVariants as items
 use Rattle.vt_verify.specs.declared.listing.Listing.{Listing}
 use Rattle.vt_verify.specs.Lists.{first_failing}
-use Rattle.vt_verify.specs.Shapes.{Shape, Fixed, fixed, shape_of, fixed_at}
-use Rattle.vt_objects.specs.declared.command.Command.{Command}
-use Rattle.vt_objects.specs.declared.command.Command.TheVariants.{DeletePool}
-use Rattle.vt_objects.specs.Commands.{command_at}
+use Rattle.vt_stores.specs.Shapes.{Shape, Fixed, fixed, shape_of, fixed_at}
+use Rattle.vt_commands.specs.declared.command.Command.{Command}
+use Rattle.vt_commands.specs.declared.command.Command.TheVariants.{DeletePool}
+use Rattle.vt_commands.specs.Commands.{command_at}
 use Rattle.vt_verify.specs.Macros.{Piece, bytes_in, named_macro, macros, is_whole, pieces, pieces_of, placed, cut_or_none, is_allowed, but_delete_pool, macro_command, commands_of, commands}
 use Rattle.vt_verify.specs.Triggers.{listing, is_mask, masks, is_event, macros_at, listed, listed_in}
 use Rattle.vt_verify.proofs.Passes.{all_pass, each_of_each}
-use Rattle.vt_verify.proofs.Shapes.{seen_kind}
-use Rattle.vt_objects.proofs.Rising.{Three, three, below, same, above, equal, greater, both_true}
+use Rattle.vt_stores.proofs.Shapes.{seen_kind}
+use Rattle.vt_stores.proofs.Rising.{three, equal, greater, both_true}
 use Rattle.vt_verify.specs.TriggerGraphs.{is_event_of, has, events_in, groups_in, non_empty, if_any, if_listed, event_numbers, listed_events, group_of_event, groups_of}
+use Rattle.vt_stores.proofs.Searching.{is_below}
 
 is_equal : (o : Ordering) → is_eq o ≡ true → o ≡ Equal
 is_equal Less is = absurd cc
@@ -271,15 +272,6 @@ others q [] all = refl
 others q (e ∷ shape) all =
     list_any-append (is_event_of q) (events_of e) (flat_map events_of shape)
     ∙ neither (has (events_of e) q) (has (flat_map events_of shape) q) (other_events q e.0 e.1 event_numbers all.0) (others q shape all.1)
-
-pub is_below : (a b : ℕ) → Three a b → IsTrue (is_lt (nat_cmp a b)) → a < b
-is_below a b (below lt) is = lt
-is_below a b (same e) is =
-    let never : false ≡ true = subst (λ (o : Ordering). is_lt o ≡ true) (ap (nat_cmp a) (sym e) ∙ equal a) is in
-    absurd cc
-is_below a b (above lt) is =
-    let never : false ≡ true = subst (λ (o : Ordering). is_lt o ≡ true) (greater a b lt) is in
-    absurd cc
 
 module _ {B : Type 0} where
   below_at : (a : ℕ) (es : List (ℕ × Object B)) (i : ℕ) (e : ℕ × Object B) → i < length es → e ≡ get_or es i e → IsTrue (below_all nat_cmp a (map shown es)) → a < e.0

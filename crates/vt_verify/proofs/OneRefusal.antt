@@ -1,15 +1,16 @@
 -- Two refusals of a pool say the same.
-use Rattle.std.proofs.Common.{◌≡◌, ◌<◌, ◌≤◌, ℕ, zero, suc, List, [], ◌∷◌, take, Option, Some, None, unwrap_or, refl, sym, ap, ap₂, subst, ◌∙◌, arith, inl, inr}
+use Rattle.std.proofs.Common.{◌≡◌, ◌<◌, ◌≤◌, ℕ, zero, suc, List, [], ◌∷◌, take, Option, Some, None, refl, sym, ap, ap₂, subst, ◌∙◌, arith, inl, inr}
+use Rattle.std.proofs.lemmas.Option.{same_Some}
 use Rattle.std.proofs.lemmas.Bool.{cases_lt}
 use Rattle.std.specs.Prelude.{IfSome, slice_get, slice_index}
 use Rattle.std.specs.List.{AllByRecursion}
 use Rattle.vt_rank.specs.Paths.{IsCircle, IsLeastOnCircles}
-use Rattle.vt_objects.specs.Stores.{Objects}
-use Rattle.vt_verify.specs.declared.limits.Limits.{Limits}
+use Rattle.vt_stores.specs.Stores.{Objects}
+use Rattle.vt_chains.specs.declared.limits.Limits.{Limits}
 use Rattle.vt_verify.specs.declared.reference.Reference.{Reference}
 use Rattle.vt_verify.specs.declared.refusal.Refusal.{Refusal}
 use Rattle.vt_verify.specs.declared.refusal.Refusal.TheVariants as refusals
-use Rattle.vt_verify.specs.Shapes.{Shape, shape_of}
+use Rattle.vt_stores.specs.Shapes.{Shape, shape_of}
 use Rattle.vt_verify.specs.Macros.{Piece}
 use Rattle.vt_verify.specs.Triggers.{triggered}
 use Rattle.vt_verify.specs.Rules.{Rule, HasWorkingSet, HasOneWorkingSet, ReferencesAreThere, ReferencesFit, ChainsAreShort, MacrosAreWhole, CommandsAreAllowed, TargetsAreThere, TargetsFit, AttributesAreThere, TriggersAreNoCircle, BudgetsAreWithin, rules, place, Holds, missing, wrong_kind, cut_short, other_command, macro_missing, macro_wrong_kind, other_attribute, Names, IsAt, IsLeastCircle, IsFirstOver, IsFirstToFail, IsRefused, IsWantOfMemory, rule_of, SaysTheSame, RefusalsAreOne}
@@ -18,13 +19,10 @@ use Rattle.vt_verify.proofs.Refusals.{first_rules_fail}
 
 -- ---- one rule is the first to fail
 
-some_is : {A : Type 0} (x y : A) → Some x ≡ Some y → x ≡ y
-some_is x y e = ap (λ o. unwrap_or o x) e
-
 all_at : {A : Type 0} (P : A → Type 0) (xs : List A) (n i : ℕ) (x : A) → slice_get xs i ≡ Some x → i < n → AllByRecursion P (take n xs) → P x
 all_at P [] n i x is lt all = absurd cc
 all_at P (y ∷ ys) zero i x is lt all = absurd (omega arith)
-all_at P (y ∷ ys) (suc n) zero x is lt all = subst P (some_is y x is) all.0
+all_at P (y ∷ ys) (suc n) zero x is lt all = subst P (same_Some y x is) all.0
 all_at P (y ∷ ys) (suc n) (suc i) x is lt all = all_at P ys n i x is (omega arith) all.1
 
 at_place : (rule : Rule) → slice_get rules (place rule) ≡ Some rule
@@ -42,7 +40,7 @@ at_place TriggersAreNoCircle = refl
 at_place BudgetsAreWithin = refl
 
 same_place : (a b : Rule) → place a ≡ place b → a ≡ b
-same_place a b same = some_is a b (sym (at_place a) ∙ ap (slice_get rules) same ∙ at_place b)
+same_place a b same = same_Some a b (sym (at_place a) ∙ ap (slice_get rules) same ∙ at_place b)
 
 module _ (limits : Limits) (objects : Objects) where
   never_before : (a b : Rule) → IsFirstToFail limits objects a → IsFirstToFail limits objects b → place a < place b → ⊥
@@ -75,12 +73,12 @@ module _ (limits : Limits) (objects : Objects) where
 
 names_one : (first : Option Reference) (parent id of other : ℕ) (says : ℕ → ℕ → Refusal) → Names first parent id → Names first of other → says parent id ≡ says of other
 names_one first parent id of other says x y =
-    let same : x.0 ≡ y.0 = some_is x.0 y.0 (sym x.1 ∙ y.1) in
+    let same : x.0 ≡ y.0 = same_Some x.0 y.0 (sym x.1 ∙ y.1) in
     ap₂ says (sym x.2 ∙ ap (λ (r : Reference). r.parent) same ∙ y.2) (sym x.3 ∙ ap (λ (r : Reference). r.id) same ∙ y.3)
 
 at_one : (first : Option Piece) (id at of other : ℕ) (says : ℕ → ℕ → Refusal) → IsAt first id at → IsAt first of other → says id at ≡ says of other
 at_one first id at of other says x y =
-    let same : x.0 ≡ y.0 = some_is x.0 y.0 (sym x.1 ∙ y.1) in
+    let same : x.0 ≡ y.0 = same_Some x.0 y.0 (sym x.1 ∙ y.1) in
     ap₂ says (sym x.2 ∙ ap (λ (p : Piece). p.id) same ∙ y.2) (sym x.3 ∙ ap (λ (p : Piece). p.at) same ∙ y.3)
 
 -- the first macro whose bytes end inside a command
@@ -89,7 +87,7 @@ IsCutShort first id = (m : ℕ × List ℕ) × (first ≡ Some m) × (m.0 ≡ id
 
 cut_one : (first : Option (ℕ × List ℕ)) (id other : ℕ) → IsCutShort first id → IsCutShort first other → id ≡ other
 cut_one first id other x y =
-    let same : x.0 ≡ y.0 = some_is x.0 y.0 (sym x.1 ∙ y.1) in
+    let same : x.0 ≡ y.0 = same_Some x.0 y.0 (sym x.1 ∙ y.1) in
     sym x.2 ∙ ap (λ (m : ℕ × List ℕ). m.0) same ∙ y.2
 
 -- the first macro of a circle is not below the least on any

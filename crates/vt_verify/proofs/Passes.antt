@@ -3,12 +3,12 @@ use Rattle.std.proofs.Common.{◌≡◌, ℕ, suc, ◌+◌, ◌<◌, Bool, true,
 use Rattle.std.proofs.Math.Seq.{drop-cons}
 use Rattle.std.proofs.lemmas.Grind.{flat_map-append}
 use Rattle.std.specs.List.{flat_map}
-use Rattle.vt_objects.specs.declared.object.Object.{Object}
-use Rattle.vt_objects.specs.Records.{Seen}
-use Rattle.vt_objects.specs.Stores.{shown, Objects}
+use Rattle.vt_kinds.specs.declared.object.Object.{Object}
+use Rattle.vt_kinds.specs.Records.{Seen}
+use Rattle.vt_stores.specs.Stores.{shown, Objects}
 use Rattle.std.specs.Option.{option_map}
 use Rattle.vt_verify.specs.Lists.{first_failing}
-use Rattle.vt_verify.specs.Shapes.{Fixed, fixed, shape_of}
+use Rattle.vt_stores.specs.Shapes.{Fixed, fixed, shape_of}
 
 module _ {R : Type 0} (test : R → Bool) where
   failing_case : (b : Bool) (x : R) (first rest : Option R) (r : R) → (first ≡ Some r → rest ≡ Some r) → cond b first (Some x) ≡ Some r → cond b rest (Some x) ≡ Some r

@@ -1,11 +1,11 @@
 -- The pieces of a macro's bytes, tested one after the other.
 use Rattle.std.proofs.Common.{◌≡◌, ℕ, ◌+◌, ◌-◌, ◌≤◌, Bool, true, false, cond, List, ◌∷◌, length, Some, refl, ap, ◌∙◌, arith}
 use Rattle.std.proofs.lemmas.List.{length-append}
-use Rattle.vt_objects.specs.Pieces.{IsSplit}
+use Rattle.vt_commands.specs.Pieces.{IsSplit}
 use Rattle.vt_verify.specs.declared.macros.PieceTest.{PieceTest}
 use Rattle.vt_verify.specs.declared.macros.PieceTest.TheVariants.{IsAllowed, HasAttribute}
 use Rattle.vt_verify.specs.Lists.{first_failing}
-use Rattle.vt_verify.specs.Shapes.{Shape}
+use Rattle.vt_stores.specs.Shapes.{Shape}
 use Rattle.vt_verify.specs.Macros.{placed, cut_or_none}
 use Rattle.vt_verify.specs.Targets.{piece_passes}
 

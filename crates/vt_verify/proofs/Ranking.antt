@@ -6,7 +6,7 @@ use Rattle.std.specs.List.Sorted.{IsNonDecreasingBy}
 use Rattle.vt_rank.specs.declared.graph.Graph.{Graph}
 use Rattle.vt_rank.specs.Paths.{AreRanks}
 use Rattle.vt_verify.specs.declared.listing.Listing.{Listing}
-use Rattle.vt_verify.specs.Shapes.{Shape}
+use Rattle.vt_stores.specs.Shapes.{Shape}
 use Rattle.vt_verify.specs.TriggerGraphs.{AreTriggers}
 use Rattle.vt_verify.specs.Orders.{named_macros, IsByRank}
 use Rattle.vt_verify.proofs.Graphs.{triggered_is}

@@ -1,8 +1,8 @@
 -- A pool that meets all rules is refused for none of them.
 use Rattle.std.proofs.Common.{◌≡◌, ℕ, Option, Some, None, arith}
 use Rattle.vt_verify.specs.declared.refusal.Refusal.TheVariants as refusals
-use Rattle.vt_verify.specs.Shapes.{shape_of}
-use Rattle.vt_objects.specs.Stores.{Objects}
+use Rattle.vt_stores.specs.Shapes.{shape_of}
+use Rattle.vt_stores.specs.Stores.{Objects}
 use Rattle.vt_verify.specs.Rules.{IsFirstOver, Macro, Object, IsWithinBudget, RefusalsAreTrue, FirstRulesFail}
 
 none_some : {A : Type 0} (o : Option A) (x : A) → o ≡ None → o ≡ Some x → ⊥

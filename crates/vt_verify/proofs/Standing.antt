@@ -3,16 +3,16 @@ use Rattle.std.proofs.Common.{◌≡◌, ◌≢◌, Bool, true, false, cond, Lis
 use Rattle.std.proofs.lemmas.Bool.{eq-eqb, ne_eqb}
 use Rattle.std.specs.Prelude.{IsTrue, is_some, ◌&&◌}
 use Rattle.std.specs.Option.{option_map}
-use Rattle.vt_objects.specs.declared.kind.Kind.{Kind}
-use Rattle.vt_objects.specs.declared.object.Object.{Object}
-use Rattle.vt_objects.specs.Records.{Seen, seen, kind_of}
-use Rattle.vt_objects.specs.Stores.{Objects, AreStored, object_at}
-use Rattle.vt_objects.proofs.Stored.{get_from, null_free}
+use Rattle.vt_kinds.specs.declared.kind.Kind.{Kind}
+use Rattle.vt_kinds.specs.declared.object.Object.{Object}
+use Rattle.vt_kinds.specs.Records.{Seen, seen, kind_of}
+use Rattle.vt_stores.specs.Stores.{Objects, AreStored, object_at}
+use Rattle.vt_stores.proofs.Stored.{get_from, null_free}
 use Rattle.vt_verify.specs.declared.reference.Reference.{Reference}
 use Rattle.vt_verify.specs.Lists.{first_failing}
-use Rattle.vt_verify.specs.Shapes.{shape_of, kind_at}
+use Rattle.vt_stores.specs.Shapes.{shape_of, kind_at}
 use Rattle.vt_verify.specs.References.{is_there, fits, may_stand, allows, pointed, with_value}
-use Rattle.vt_verify.proofs.Shapes.{kind_found, seen_kind}
+use Rattle.vt_stores.proofs.Shapes.{kind_found, seen_kind}
 
 -- ---- two tests at once
 

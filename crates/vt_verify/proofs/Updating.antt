@@ -4,7 +4,7 @@ use Rattle.std.proofs.lemmas.Bool.{cases_eq, ne_eqb, or_from}
 use Rattle.std.proofs.lemmas.Cmp.{nat_cmp_total}
 use Rattle.std.proofs.lemmas.List.{map-append, take_all}
 use Rattle.std.proofs.lemmas.List.Elements.{All-push}
-use Rattle.std.proofs.lemmas.Option.{get_or_from_slice_get}
+use Rattle.std.proofs.lemmas.Option.{get_or_from_slice_get, same_Some}
 use Rattle.std.proofs.lemmas.Map.Keys.{IsDistinct-push}
 use Rattle.std.specs.Cmp.{nat_eq_equiv}
 use Rattle.std.specs.Prelude.{slice_get}
@@ -13,15 +13,14 @@ use Rattle.std.specs.Ordering.{nat_cmp, is_eq, eq_by_cmp}
 use Rattle.std.specs.declared.cmp.Ordering.{Ordering}
 use Rattle.std.specs.FinMap as finite
 use Rattle.std.specs.FinMap.Entries.{below_all, find-append}
-use Rattle.vt_objects.specs.Records.{Seen}
-use Rattle.vt_objects.specs.Stores.{Objects, Contents, AreNamed, IsRising, ids, object_at, by_rising_id}
-use Rattle.vt_objects.proofs.Rising.{three, both_true, equal, greater}
-use Rattle.vt_objects.proofs.Searching.{other_id}
+use Rattle.vt_kinds.specs.Records.{Seen}
+use Rattle.vt_stores.specs.Stores.{Objects, Contents, AreNamed, IsRising, ids, object_at, by_rising_id}
+use Rattle.vt_stores.proofs.Rising.{three, both_true, equal, greater}
+use Rattle.vt_stores.proofs.Searching.{other_id}
 use Rattle.vt_verify.specs.Updates.{updated, or_else, unless, UpdatesReplace}
-use Rattle.vt_verify.proofs.Elements.{some_is}
 use Rattle.vt_pool.specs.Pools.{contents}
-use Rattle.vt_verify.specs.Depths.{Stands, ids_of}
-use Rattle.vt_verify.proofs.Places.{rising, above_at, stands_of, object_of, get_placed, within}
+use Rattle.vt_chains.specs.Depths.{Stands, ids_of}
+use Rattle.vt_chains.proofs.Places.{rising, above_at, stands_of, object_of, get_placed, within}
 
 -- ---- what is found in lists that are joined
 
@@ -46,7 +45,7 @@ replaces m update id =
 
 take_one : {A : Type 0} (es : List A) (place : ℕ) (e : A) → slice_get es place ≡ Some e → take (place + 1) es ≡ take place es ++ e ∷ []
 take_one [] place e is = absurd cc
-take_one (x ∷ es) zero e is = ap (λ (y : _). y ∷ []) (some_is x e is)
+take_one (x ∷ es) zero e is = ap (λ (y : _). y ∷ []) (same_Some x e is)
 take_one (x ∷ es) (suc place) e is =
     let one : suc place + 1 ≡ suc (place + 1) = omega arith in
     ap (λ (n : ℕ). take n (x ∷ es)) one ∙ ap (λ (l : List _). x ∷ l) (take_one es place e is)
@@ -152,7 +151,7 @@ unless_case m update made next place id o (Some u) there lt looks becomes is =
 there_of : (m : Contents) (place id : ℕ) (o : Seen) → Stands (ids_of m) place id → finite.get m id ≡ Some o → slice_get (finite.entries m) place ≡ Some (id, o)
 there_of m place id o stands is =
     let at = object_of (finite.entries m) place id stands in
-    let same = some_is at.0 o (sym (get_placed m place id at.0 at.1) ∙ is) in
+    let same = same_Some at.0 o (sym (get_placed m place id at.0 at.1) ∙ is) in
     at.1 ∙ ap (λ (x : Seen). Some (id, x)) same
 
 below_null : (list : List ℕ) (place id : ℕ) → All (λ (k : ℕ). k < 0xFFFF) list → Stands list place id → id < 0xFFFF

@@ -1,11 +1,11 @@
 -- What macros cost, and what events may cost (docs/PROFILE.md, "Costs and budgets").
 use Rattle.std.specs.Prelude.{◌≡◌, ℕ, zero, suc, ◌+◌, if◌then◌else◌, sum_by, List, map}
-use Rattle.vt_objects.specs.declared.command.Command.{Command}
+use Rattle.vt_commands.specs.declared.command.Command.{Command}
 use Rattle.vt_rank.specs.Costs.{greatest}
-use Rattle.vt_objects.specs.declared.event.Event.TheVariants.{Hide}
-use Rattle.vt_objects.specs.Events.{event_number}
+use Rattle.vt_commands.specs.declared.event.Event.TheVariants.{Hide}
+use Rattle.vt_commands.specs.Events.{event_number}
 use Rattle.vt_verify.specs.declared.listing.Listing.{Listing}
-use Rattle.vt_verify.specs.Shapes.{Shape}
+use Rattle.vt_stores.specs.Shapes.{Shape}
 use Rattle.vt_verify.specs.Macros.{commands}
 use Rattle.vt_verify.specs.TriggerGraphs.{listed_events}
 use Rattle.vt_verify.specs.Triggers.{listing, listed, row_listings, changes_mask, masks}

@@ -1,14 +1,12 @@
-pub mod Lists
-pub mod Shapes
-pub mod References
-pub mod Inclusions
-pub mod Depths
-pub mod Macros
-pub mod Targets
-pub mod Triggers
+-- What the contracts of this crate cite.
 pub mod Budgets
-pub mod TriggerGraphs
-pub mod Rules
-pub mod Reports
+pub mod Lists
+pub mod Macros
 pub mod Orders
+pub mod References
+pub mod Reports
+pub mod Rules
+pub mod Targets
+pub mod TriggerGraphs
+pub mod Triggers
 pub mod Updates

@@ -2,13 +2,13 @@
 use Rattle.std.specs.Prelude.{ℕ, ◌+◌, Bool, true, false, nat_le, ◌&&◌, if◌then◌else◌, List, [], ◌∷◌, length, map, Option, Some, None, is_some}
 use Rattle.std.specs.Option.{option_to_list}
 use Rattle.std.specs.List.{flat_map}
-use Rattle.vt_objects.specs.declared.kind.Kind.{Kind}
-use Rattle.vt_objects.specs.declared.kind.Kind.TheVariants as kinds
-use Rattle.vt_objects.specs.declared.command.Command.{Command}
-use Rattle.vt_objects.specs.declared.command.Command.TheVariants.{DeletePool}
-use Rattle.vt_objects.specs.Commands.{command_at}
-use Rattle.vt_objects.specs.Pieces.{cut}
-use Rattle.vt_verify.specs.Shapes.{Shape, Fixed, fixed_at}
+use Rattle.vt_kinds.specs.declared.kind.Kind.{Kind}
+use Rattle.vt_kinds.specs.declared.kind.Kind.TheVariants as kinds
+use Rattle.vt_commands.specs.declared.command.Command.{Command}
+use Rattle.vt_commands.specs.declared.command.Command.TheVariants.{DeletePool}
+use Rattle.vt_commands.specs.Commands.{command_at}
+use Rattle.vt_commands.specs.Pieces.{cut}
+use Rattle.vt_stores.specs.Shapes.{Shape, Fixed, fixed_at}
 
 abbrev pub is_macro : Kind → Bool
 is_macro kinds.Macro = true

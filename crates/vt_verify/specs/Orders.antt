@@ -1,7 +1,7 @@
 -- The macros of a pool in the order of their triggers (docs/PROFILE.md, "Triggers and circles").
 use Rattle.std.specs.Prelude.{◌≡◌, ℕ, List, ◌∷◌, ◌++◌, Contains, IsPermutation}
 use Rattle.std.specs.List.{flat_map}
-use Rattle.vt_verify.specs.Shapes.{Shape}
+use Rattle.vt_stores.specs.Shapes.{Shape}
 use Rattle.vt_verify.specs.Triggers.{run_by_name, triggered}
 
 -- the macros that can be named, by rising ID

@@ -1,18 +1,18 @@
 -- The IDs that objects name, and what may stand there (docs/PROFILE.md, "Places and their kinds", "Pointers").
 use Rattle.std.specs.Prelude.{ℕ, Bool, true, nat_le, ◌&&◌, ◌==◌, if◌then◌else◌, List, [], ◌∷◌, map, Option, Some, None, is_some}
 use Rattle.std.specs.List.{flat_map}
-use Rattle.vt_objects.specs.declared.kind.Kind.{Kind}
-use Rattle.vt_objects.specs.declared.kinds.Kinds.{Kinds}
-use Rattle.vt_objects.specs.declared.kinds.Kinds.TheVariants as sets
-use Rattle.vt_objects.specs.declared.slot.Slot.{Slot}
-use Rattle.vt_objects.specs.declared.object.Object.TheVariants as objects
-use Rattle.vt_objects.specs.Records.{Seen}
-use Rattle.vt_objects.specs.References.{slots_of, is_member}
+use Rattle.vt_kinds.specs.declared.kind.Kind.{Kind}
+use Rattle.vt_kinds.specs.declared.kinds.Kinds.{Kinds}
+use Rattle.vt_kinds.specs.declared.kinds.Kinds.TheVariants as sets
+use Rattle.vt_kinds.specs.declared.slot.Slot.{Slot}
+use Rattle.vt_kinds.specs.declared.object.Object.TheVariants as objects
+use Rattle.vt_kinds.specs.Records.{Seen}
+use Rattle.vt_kinds.specs.References.{slots_of, is_member}
 use Rattle.vt_verify.specs.declared.reference.Reference.{Reference}
 use Rattle.vt_verify.specs.declared.reference.Test.{Test}
 use Rattle.vt_verify.specs.declared.reference.Test.TheVariants.{IsThere, Fits, Stands}
-use Rattle.vt_verify.specs.Shapes.{Shape, kind_at}
-use Rattle.vt_objects.specs.Stores.{Objects, object_at}
+use Rattle.vt_stores.specs.Shapes.{Shape, kind_at}
+use Rattle.vt_stores.specs.Stores.{Objects, object_at}
 
 -- ---- tests of a reference
 

@@ -5,8 +5,8 @@ use Rattle.std.specs.List.{flat_map}
 use Rattle.vt_verify.specs.declared.listing.Listing.{Listing}
 use Rattle.vt_verify.specs.declared.refusal.Refusal.{Refusal}
 use Rattle.vt_verify.specs.declared.refusal.Refusal.TheVariants as refusals
-use Rattle.vt_verify.specs.Shapes.{Shape, shape_of}
-use Rattle.vt_objects.specs.Stores.{Objects}
+use Rattle.vt_stores.specs.Shapes.{Shape, shape_of}
+use Rattle.vt_stores.specs.Stores.{Objects}
 use Rattle.vt_verify.specs.Budgets.{budget}
 use Rattle.vt_verify.specs.TriggerGraphs.{listed_events}
 

@@ -2,18 +2,19 @@
 -- "Verification of a pool").
 use Rattle.std.specs.Prelude.{◌≡◌, ◌≤◌, ◌<◌, ℕ, Bool, true, false, List, [], ◌∷◌, filter, length, take, slice_index, Option, Some, None, IfSome}
 use Rattle.std.specs.List.{flat_map, AllByRecursion}
-use Rattle.vt_objects.specs.declared.kind.Kind.{Kind}
-use Rattle.vt_objects.specs.declared.kind.Kind.TheVariants as kinds
+use Rattle.vt_kinds.specs.declared.kind.Kind.{Kind}
+use Rattle.vt_kinds.specs.declared.kind.Kind.TheVariants as kinds
 use Rattle.vt_rank.specs.Paths.{IsCircle, IsDistinct, HasNoCircle, IsLeastOnCircles}
-use Rattle.vt_verify.specs.declared.limits.Limits.{Limits}
+use Rattle.vt_chains.specs.declared.limits.Limits.{Limits}
 use Rattle.vt_verify.specs.declared.reference.Reference.{Reference}
 use Rattle.vt_verify.specs.declared.refusal.Refusal.{Refusal}
 use Rattle.vt_verify.specs.declared.refusal.Refusal.TheVariants as refusals
 use Rattle.vt_verify.specs.Lists.{first_failing}
-use Rattle.vt_verify.specs.Shapes.{Shape, shape_of}
-use Rattle.vt_objects.specs.Stores.{Objects, AreStored}
+use Rattle.vt_stores.specs.Shapes.{Shape, shape_of}
+use Rattle.vt_stores.specs.Stores.{Objects, AreStored}
 use Rattle.vt_verify.specs.References.{references, is_there, fits, values_of}
-use Rattle.vt_verify.specs.Inclusions.{included, IsShallow, IsTooDeep}
+use Rattle.vt_chains.specs.Limits.{terminal}
+use Rattle.vt_chains.specs.Inclusions.{included, IsShallow, IsTooDeep}
 use Rattle.vt_verify.specs.Macros.{Piece, macros, is_whole, pieces, is_allowed}
 use Rattle.vt_verify.specs.Targets.{macro_references, has_attribute}
 use Rattle.vt_verify.specs.Triggers.{triggered}
@@ -82,10 +83,6 @@ abbrev pub rules : List Rule
 rules =
     HasWorkingSet ∷ HasOneWorkingSet ∷ ReferencesAreThere ∷ ReferencesFit ∷ ChainsAreShort ∷ MacrosAreWhole
     ∷ CommandsAreAllowed ∷ TargetsAreThere ∷ TargetsFit ∷ AttributesAreThere ∷ TriggersAreNoCircle ∷ BudgetsAreWithin ∷ []
-
--- the limits of this terminal
-abbrev pub terminal : Limits
-terminal = record { inclusions = 32; steps = 1000000 }
 
 abbrev pub Holds : Limits → Objects → Rule → Type 0
 Holds limits objects HasWorkingSet = 1 ≤ working_sets (shape_of objects)

@@ -2,19 +2,19 @@
 -- (docs/PROFILE.md, "Commands in macros", "Macro entries").
 use Rattle.std.specs.Prelude.{ℕ, Bool, true, false, List, ◌++◌, filter, map, Option, Some, None, is_some}
 use Rattle.std.specs.List.{flat_map}
-use Rattle.vt_objects.specs.declared.kind.Kind.{Kind}
-use Rattle.vt_objects.specs.declared.kinds.Kinds.TheVariants as sets
-use Rattle.vt_objects.specs.declared.entries.MacroEntry.{MacroEntry}
-use Rattle.vt_objects.specs.declared.command.Command.{Command}
-use Rattle.vt_objects.specs.declared.command.Command.TheVariants.{ChangeAttribute}
-use Rattle.vt_objects.specs.declared.target.Target.{Target}
-use Rattle.vt_objects.specs.Attributes.{attribute_at}
-use Rattle.vt_objects.specs.Events.{is_listable}
-use Rattle.vt_objects.specs.Targets.{object_of, targets}
+use Rattle.vt_kinds.specs.declared.kind.Kind.{Kind}
+use Rattle.vt_kinds.specs.declared.kinds.Kinds.TheVariants as sets
+use Rattle.vt_kinds.specs.declared.entries.MacroEntry.{MacroEntry}
+use Rattle.vt_commands.specs.declared.command.Command.{Command}
+use Rattle.vt_commands.specs.declared.command.Command.TheVariants.{ChangeAttribute}
+use Rattle.vt_commands.specs.declared.target.Target.{Target}
+use Rattle.vt_kinds.specs.Attributes.{attribute_at}
+use Rattle.vt_commands.specs.Events.{is_listable}
+use Rattle.vt_commands.specs.Targets.{object_of, targets}
 use Rattle.vt_verify.specs.declared.reference.Reference.{Reference}
 use Rattle.vt_verify.specs.declared.macros.PieceTest.{PieceTest}
 use Rattle.vt_verify.specs.declared.macros.PieceTest.TheVariants.{IsAllowed, HasAttribute}
-use Rattle.vt_verify.specs.Shapes.{Shape, Fixed, kind_at}
+use Rattle.vt_stores.specs.Shapes.{Shape, Fixed, kind_at}
 use Rattle.vt_verify.specs.Macros.{Piece, commands_in, macro_command, is_allowed}
 
 -- a macro that can be named

@@ -2,15 +2,15 @@
 use Rattle.std.specs.Prelude.{◌≡◌, ◌<◌, ℕ, List, [], ◌∷◌, ◌++◌, map, if◌then◌else◌, Option, slice_index_or, nat_eq, ◌&&◌, Bool}
 use Rattle.std.specs.Option.{option_to_list}
 use Rattle.std.specs.List.{flat_map, list_any, position_from}
-use Rattle.vt_objects.specs.declared.command.Command.{Command}
+use Rattle.vt_commands.specs.declared.command.Command.{Command}
 use Rattle.vt_rank.specs.declared.graph.Graph.{Graph}
 use Rattle.vt_rank.specs.declared.graph.Item.{Item}
 use Rattle.vt_rank.specs.declared.graph.Item.TheVariants as items
 use Rattle.vt_rank.specs.Graphs.{items_of, lists}
-use Rattle.vt_objects.specs.declared.event.Event.TheVariants.{Hide}
-use Rattle.vt_objects.specs.Events.{event_number}
+use Rattle.vt_commands.specs.declared.event.Event.TheVariants.{Hide}
+use Rattle.vt_commands.specs.Events.{event_number}
 use Rattle.vt_verify.specs.declared.listing.Listing.{Listing}
-use Rattle.vt_verify.specs.Shapes.{Shape, Fixed}
+use Rattle.vt_stores.specs.Shapes.{Shape, Fixed}
 use Rattle.vt_verify.specs.Macros.{commands}
 use Rattle.vt_verify.specs.Triggers.{listing, row_listings, changes_mask, masks, listed, listed_in}
 

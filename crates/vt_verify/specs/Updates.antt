@@ -1,8 +1,8 @@
 -- What an update leaves of a store (docs/PROFILE.md, "Updates of a pool").
 use Rattle.std.specs.Prelude.{◌≡◌, ℕ, [], ◌∷◌, ◌++◌, Option, Some, None}
 use Rattle.std.specs.FinMap as finite
-use Rattle.vt_objects.specs.Records.{Seen}
-use Rattle.vt_objects.specs.Stores.{Objects, Contents, object_at, by_rising_id}
+use Rattle.vt_kinds.specs.Records.{Seen}
+use Rattle.vt_stores.specs.Stores.{Objects, Contents, object_at, by_rising_id}
 
 -- the objects of an update, and those of the store under other IDs
 abbrev pub updated : Contents → Objects → Objects

@@ -2,16 +2,17 @@
 
 ghost use Rattle.std.specs.Prelude.{◌≡◌, ◌++◌, map, Some, is_some, string_bytes, IfOk, OnOk, OnErr, IsTrue};
 ghost use Rattle.std.specs.List.{flat_map};
-ghost use Rattle.vt_objects.specs.Commands.{command_at};
-ghost use Rattle.vt_objects.specs.Pieces.{cut};
-ghost use Rattle.vt_objects.specs.Stores.{shown, AreStored};
-ghost use Rattle.vt_verify.specs.Shapes.{shape_of};
+ghost use Rattle.vt_commands.specs.Commands.{command_at};
+ghost use Rattle.vt_commands.specs.Pieces.{cut};
+ghost use Rattle.vt_stores.specs.Stores.{shown, AreStored};
+ghost use Rattle.vt_stores.specs.Shapes.{shape_of};
 ghost use Rattle.vt_verify.specs.Macros.{cut_or_none, commands};
-ghost use Rattle.vt_verify.specs.Depths.{HasDepths};
+ghost use Rattle.vt_chains.specs.Depths.{HasDepths};
 ghost use Rattle.vt_verify.specs.TriggerGraphs.{AreListings};
 ghost use Rattle.vt_verify.specs.Budgets.{CostsAreTotals, budget};
 ghost use Rattle.vt_verify.specs.Orders.{IsByRank};
-ghost use Rattle.vt_verify.specs.Rules.{IsAcceptable, IsVerified, terminal};
+ghost use Rattle.vt_verify.specs.Rules.{IsAcceptable, IsVerified};
+ghost use Rattle.vt_chains.specs.Limits.{terminal};
 ghost use Rattle.vt_verify.specs.Reports.{report_text, budget_line};
 
 use crate::budgets::Budgets;
@@ -42,11 +43,12 @@ pub struct AcceptedParts {
 }
 
 impl Model for Accepted {
-    ghost use Rattle.vt_objects.specs.Stores.{Objects, AreStored};
+    ghost use Rattle.vt_stores.specs.Stores.{Objects, AreStored};
     ghost use Rattle.vt_rank.specs.Graphs.{lists};
-    ghost use Rattle.vt_verify.specs.Shapes.{shape_of};
-    ghost use Rattle.vt_verify.specs.Rules.{IsAcceptable, terminal};
-    ghost use Rattle.vt_verify.specs.Depths.{HasDepths};
+    ghost use Rattle.vt_stores.specs.Shapes.{shape_of};
+    ghost use Rattle.vt_verify.specs.Rules.{IsAcceptable};
+    ghost use Rattle.vt_chains.specs.Limits.{terminal};
+    ghost use Rattle.vt_chains.specs.Depths.{HasDepths};
     ghost use Rattle.vt_verify.specs.TriggerGraphs.{AreListings};
     ghost use Rattle.vt_verify.specs.Budgets.{CostsAreTotals, AreBudgets};
     ghost use Rattle.vt_verify.specs.Orders.{IsByRank};

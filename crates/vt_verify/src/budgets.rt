@@ -3,7 +3,7 @@
 ghost use Rattle.std.specs.Prelude.{◌≡◌, IfOk};
 ghost use Rattle.vt_rank.specs.Costs.{AreCosts};
 ghost use Rattle.vt_rank.specs.Graphs.{lists};
-ghost use Rattle.vt_verify.specs.Shapes.{Shape};
+ghost use Rattle.vt_stores.specs.Shapes.{Shape};
 ghost use Rattle.vt_verify.specs.TriggerGraphs.{AreTriggers, AreListings};
 ghost use Rattle.vt_verify.specs.Budgets.{AreBudgets};
 

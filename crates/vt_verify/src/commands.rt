@@ -2,8 +2,8 @@
 
 ghost use Rattle.std.specs.Prelude.{◌≡◌};
 ghost use Rattle.std.specs.Option.{option_map};
-ghost use Rattle.vt_objects.specs.Records.{seen};
-ghost use Rattle.vt_verify.specs.Shapes.{fixed};
+ghost use Rattle.vt_kinds.specs.Records.{seen};
+ghost use Rattle.vt_stores.specs.Shapes.{fixed};
 ghost use Rattle.vt_verify.specs.Macros.{bytes_in, macro_command};
 
 use vt_objects::{Command, Object, ObjectId};

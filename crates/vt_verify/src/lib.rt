@@ -3,8 +3,8 @@
 //!
 //! - `verify` and `verify_update` answer an `Accepted` pool, or the first `Refusal`. It is taken apart as `AcceptedParts`, with its
 //!   `Listings` of what runs at each event.
-//! - `find_depths` finds the depths of a store's objects, or a `Chain` that is too long. The `Limits` of this terminal are
-//!   `TERMINAL_LIMITS`.
+//! - `find_depths` of vt_chains finds the depths of a store's objects, or a `Chain` that is too long; the `Limits` of this terminal
+//!   are `TERMINAL_LIMITS`.
 //! - `laws` has what the definitions come to.
 //!
 //! docs/PROFILE.md, "Verification of a pool", has the rules, "Costs and budgets" what an event costs, and "Reports"
@@ -13,10 +13,8 @@
 
 mod accepted;
 mod budgets;
-mod chains;
 mod commands;
 pub mod laws;
-mod limits;
 mod listing;
 mod macros;
 mod objects;
@@ -29,14 +27,10 @@ mod triggers;
 mod verification;
 
 pub use accepted::{Accepted, AcceptedParts};
-pub use chains::{Chain, find_depths};
-pub use limits::{Limits, TERMINAL_LIMITS};
 pub use listing::Listings;
 pub use refusal::Refusal;
 pub use verification::{verify, verify_update};
+pub use vt_chains::{Chain, Limits, TERMINAL_LIMITS, find_depths};
 
 /// A growth that was refused.
 pub use std::alloc::AllocError as OutOfMemory;
-
-#[cfg(test)]
-mod tests;

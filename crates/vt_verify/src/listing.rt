@@ -1,9 +1,9 @@
 //! The events at which macros run, by their numbers.
 
 ghost use Rattle.std.specs.Prelude.{◌≡◌, ◌<◌, ◌≤◌, ◌++◌, ℕ, [], map, IfOk, OnOk, false};
-ghost use Rattle.vt_objects.specs.Records.{seen};
+ghost use Rattle.vt_kinds.specs.Records.{seen};
 ghost use Rattle.vt_rank.specs.Graphs.{lists};
-ghost use Rattle.vt_verify.specs.Shapes.{shape_of, fixed};
+ghost use Rattle.vt_stores.specs.Shapes.{shape_of, fixed};
 ghost use Rattle.vt_verify.specs.Triggers.{listing, listing_of, listed, listed_in, run_by_name, macros_at};
 ghost use Rattle.vt_verify.specs.TriggerGraphs.{events_in, groups_in, has, if_any, non_empty, listed_events, macros_of, AreListings};
 

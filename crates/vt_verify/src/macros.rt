@@ -2,11 +2,11 @@
 
 ghost use Rattle.std.specs.Prelude.{◌≡◌, ◌-◌, length, None, IfSome, IsTrue, is_some};
 ghost use Rattle.std.specs.Option.{option_map};
-ghost use Rattle.vt_objects.specs.Pieces.{cut};
+ghost use Rattle.vt_commands.specs.Pieces.{cut};
 ghost use Rattle.vt_verify.specs.Lists.{first_failing};
 ghost use Rattle.std.specs.List.{flat_map};
-ghost use Rattle.vt_objects.specs.Records.{seen};
-ghost use Rattle.vt_verify.specs.Shapes.{shape_of, fixed};
+ghost use Rattle.vt_kinds.specs.Records.{seen};
+ghost use Rattle.vt_stores.specs.Shapes.{shape_of, fixed};
 ghost use Rattle.vt_verify.specs.Macros.{bytes_in, named_macro, is_whole, pieces, pieces_of};
 ghost use Rattle.vt_verify.specs.Targets.{piece_passes};
 ghost use Rattle.vt_verify.specs.Rules as rules;

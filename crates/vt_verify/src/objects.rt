@@ -2,14 +2,14 @@
 
 ghost use Rattle.std.specs.Prelude.{◌≡◌, IfOk, OnOk, map};
 ghost use Rattle.std.specs.FinMap as finite;
-ghost use Rattle.vt_objects.specs.Records.{seen};
-ghost use Rattle.vt_objects.specs.Stores.{shown, by_rising_id, AreStored};
+ghost use Rattle.vt_kinds.specs.Records.{seen};
+ghost use Rattle.vt_stores.specs.Stores.{shown, by_rising_id, AreStored};
 ghost use Rattle.vt_pool.specs.Pools.{AreObjects, contents};
-ghost use Rattle.vt_verify.specs.Shapes.{kind_at, shape_of};
+ghost use Rattle.vt_stores.specs.Shapes.{kind_at, shape_of};
 ghost use Rattle.vt_verify.specs.Updates.{updated, unless};
 
-use crate::chains::entry;
 use std::alloc::{AllocError, Global};
+use vt_chains::entry;
 use vt_objects::{Kind, Object, ObjectId, SortedStore, Store};
 use vt_pool::Pool;
 

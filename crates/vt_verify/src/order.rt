@@ -1,9 +1,9 @@
 //! The order of macros by their ranks.
 
 ghost use Rattle.std.specs.Prelude.{◌≡◌, ◌++◌, IfOk, OnOk};
-ghost use Rattle.vt_objects.specs.Records.{seen};
+ghost use Rattle.vt_kinds.specs.Records.{seen};
 ghost use Rattle.vt_rank.specs.Paths.{AreRanks};
-ghost use Rattle.vt_verify.specs.Shapes.{shape_of, fixed};
+ghost use Rattle.vt_stores.specs.Shapes.{shape_of, fixed};
 ghost use Rattle.vt_verify.specs.Triggers.{run_by_name};
 ghost use Rattle.vt_verify.specs.TriggerGraphs.{AreTriggers};
 ghost use Rattle.vt_verify.specs.Orders.{named_macros, IsByRank};

@@ -1,7 +1,7 @@
 //! One ID that an object names.
 
 ghost use Rattle.std.specs.Prelude.{◌≡◌};
-ghost use Rattle.vt_verify.specs.Shapes.{shape_of};
+ghost use Rattle.vt_stores.specs.Shapes.{shape_of};
 ghost use Rattle.vt_verify.specs.References.{of_slot, is_there, fits, stands, passes, may_stand};
 ghost use Rattle.vt_verify.specs.Targets.{of_target, macro_reference};
 

@@ -3,10 +3,10 @@
 ghost use Rattle.std.specs.Prelude.{◌≡◌, None, Some, IsTrue};
 ghost use Rattle.std.specs.Option.{option_to_list};
 ghost use Rattle.std.specs.List.{flat_map};
-ghost use Rattle.vt_objects.specs.Records.{seen};
+ghost use Rattle.vt_kinds.specs.Records.{seen};
 ghost use Rattle.vt_verify.specs.Lists.{first_failing};
-ghost use Rattle.vt_verify.specs.Shapes.{shape_of};
-ghost use Rattle.vt_objects.specs.Stores.{AreStored, object_at};
+ghost use Rattle.vt_stores.specs.Shapes.{shape_of};
+ghost use Rattle.vt_stores.specs.Stores.{AreStored, object_at};
 ghost use Rattle.vt_verify.specs.References.{is_there, fits, slot_references, pointed, with_value, values_of};
 ghost use Rattle.vt_verify.specs.Rules as rules;
 

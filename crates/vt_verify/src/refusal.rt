@@ -4,10 +4,10 @@ ghost use Rattle.std.specs.Prelude.{◌≡◌, Some};
 ghost use Rattle.vt_verify.specs.declared.refusal.Refusal.TheVariants as refusals;
 ghost use Rattle.vt_verify.specs.Reports.{numbers, refusal_text};
 
-use crate::chains::Chain;
 use arrayvec::ArrayVec;
 use std::alloc::AllocError;
 use std::fmt;
+use vt_chains::Chain;
 use vt_objects::ObjectId;
 
 /// The first rule that a pool breaks, and its first culprit by rising ID, or a chain or a circle that there is

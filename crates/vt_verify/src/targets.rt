@@ -3,11 +3,11 @@
 ghost use Rattle.std.specs.Prelude.{◌≡◌, map, None, Some, IfSome, IsTrue, is_some};
 ghost use Rattle.std.specs.Option.{option_to_list};
 ghost use Rattle.std.specs.List.{flat_map};
-ghost use Rattle.vt_objects.specs.Pieces.{cut};
-ghost use Rattle.vt_objects.specs.Records.{seen};
-ghost use Rattle.vt_objects.specs.Targets.{object_of};
+ghost use Rattle.vt_commands.specs.Pieces.{cut};
+ghost use Rattle.vt_kinds.specs.Records.{seen};
+ghost use Rattle.vt_commands.specs.Targets.{object_of};
 ghost use Rattle.vt_verify.specs.Lists.{first_failing};
-ghost use Rattle.vt_verify.specs.Shapes.{shape_of, kind_at, fixed};
+ghost use Rattle.vt_stores.specs.Shapes.{shape_of, kind_at, fixed};
 ghost use Rattle.vt_verify.specs.References.{passes};
 ghost use Rattle.vt_verify.specs.Macros.{bytes_in, macro_command, commands_of};
 ghost use Rattle.vt_verify.specs.Targets.{of_target, kind_for, target_references, command_has_attribute, entry_references, own_references, macro_references};

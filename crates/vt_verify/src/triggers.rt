@@ -3,10 +3,10 @@
 ghost use Rattle.std.specs.Prelude.{◌≡◌, ◌<◌, ◌++◌, ◌∷◌, ℕ, [], map, None, IfOk, OnOk, IsTrue, slice_index_or, is_some, if◌then◌else◌};
 ghost use Rattle.std.specs.Option.{option_map, option_to_list};
 ghost use Rattle.std.specs.List.{flat_map};
-ghost use Rattle.vt_objects.specs.Events.{event_number};
-ghost use Rattle.vt_objects.specs.Pieces.{cut};
+ghost use Rattle.vt_commands.specs.Events.{event_number};
+ghost use Rattle.vt_commands.specs.Pieces.{cut};
 ghost use Rattle.vt_rank.specs.Graphs.{lists};
-ghost use Rattle.vt_verify.specs.Shapes.{shape_of, fixed_at};
+ghost use Rattle.vt_stores.specs.Shapes.{shape_of, fixed_at};
 ghost use Rattle.vt_verify.specs.Macros.{bytes_in, macro_command, commands_of, commands};
 ghost use Rattle.vt_verify.specs.Triggers.{listing, is_mask, masks, changes_mask};
 ghost use Rattle.vt_verify.specs.TriggerGraphs.{AreTriggers, command_items, group_of_event, groups_of};

@@ -1,20 +1,19 @@
 //! The tests of a pool, in their order.
 
 ghost use Rattle.std.specs.Prelude.{◌≡◌, ◌≤◌, OnOk, IfOk, IfErr};
-ghost use Rattle.vt_objects.specs.Stores.{AreStored, by_rising_id};
+ghost use Rattle.vt_stores.specs.Stores.{AreStored, by_rising_id};
 ghost use Rattle.vt_rank.specs.Costs.{AreCosts};
 ghost use Rattle.vt_rank.specs.Paths.{AreRanks, HasNoCircle};
-ghost use Rattle.vt_verify.specs.Shapes.{shape_of};
+ghost use Rattle.vt_stores.specs.Shapes.{shape_of};
 ghost use Rattle.vt_verify.specs.Budgets.{CostsAreTotals};
-ghost use Rattle.vt_verify.specs.Depths.{HasDepths};
+ghost use Rattle.vt_chains.specs.Depths.{HasDepths};
 ghost use Rattle.vt_verify.specs.TriggerGraphs.{AreTriggers};
 ghost use Rattle.vt_verify.specs.Updates.{updated};
-ghost use Rattle.vt_verify.specs.Rules.{IsAcceptable, IsVerified, IsRefused, IsWantOfMemory, HoldBefore, ReferencesAreThere, ChainsAreShort, MacrosAreWhole, TargetsAreThere, AttributesAreThere, TriggersAreNoCircle, BudgetsAreWithin, terminal};
+ghost use Rattle.vt_verify.specs.Rules.{IsAcceptable, IsVerified, IsRefused, IsWantOfMemory, HoldBefore, ReferencesAreThere, ChainsAreShort, MacrosAreWhole, TargetsAreThere, AttributesAreThere, TriggersAreNoCircle, BudgetsAreWithin};
+ghost use Rattle.vt_chains.specs.Limits.{terminal};
 
 use crate::accepted::Accepted;
 use crate::budgets::Budgets;
-use crate::chains::find_depths;
-use crate::limits::{Limits, TERMINAL_LIMITS};
 use crate::macros::{PieceTest, cut_short, failing_piece};
 use crate::objects::{sorted, updated};
 use crate::order::by_rank;
@@ -24,6 +23,7 @@ use crate::refusal::Refusal;
 use crate::targets::failing_target;
 use crate::triggers::Triggers;
 use std::alloc::Global;
+use vt_chains::{Limits, TERMINAL_LIMITS, find_depths};
 use vt_objects::{Kind, ObjectId, SortedStore, Store};
 use vt_pool::Pool;
 use vt_rank::{Costs, OverBudget, Ranks, costs, rank};

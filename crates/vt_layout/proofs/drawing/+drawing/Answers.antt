@@ -2,7 +2,7 @@ use Rattle.std.proofs.Common.{◌∙◌, refl, sym, ap, ◌+◌, ◌-◌, ◌≡
 use Rattle.vt_layout.specs.Drawings.{element, unmoved}
 use Rattle.vt_layout.specs.Sheets.{with_elements, IsNear}
 use Rattle.vt_layout.specs.Walks.{elements, with_drawn}
-use Rattle.vt_machine.specs.Showing.{stands_for}
+use Rattle.vt_shown.specs.Showing.{stands_for}
 use Rattle.vt_layout.proofs.Writing.{becomes_next, level, no_level, full_page, none_drawn, none_within}
 use Rattle.vt_layout.proofs.drawing.+drawing.Goals as goal
 

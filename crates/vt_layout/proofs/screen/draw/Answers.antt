@@ -1,6 +1,6 @@
 use Rattle.std.proofs.Common.{◌≡◌, ◌++◌, ◌∙◌, None, map, subst, ap, string_bytes}
 use Rattle.std.specs.FinMap as finite
-use Rattle.vt_objects.specs.Stores.{Contents}
+use Rattle.vt_stores.specs.Stores.{Contents}
 use Rattle.vt_layout.specs.Lines.{line}
 use Rattle.vt_layout.specs.Screens.{heading, cut}
 use Rattle.vt_layout.specs.Walks.{drawing}

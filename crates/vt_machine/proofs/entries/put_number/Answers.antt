@@ -1,4 +1,4 @@
-use Rattle.vt_objects.specs.Records.{seen}
+use Rattle.vt_kinds.specs.Records.{seen}
 use Rattle.vt_machine.specs.Entering.{with_number}
 use Rattle.vt_machine.proofs.Plain.{put_changed}
 use Rattle.vt_machine.proofs.entries.put_number.Goals as goal

@@ -1,4 +1,4 @@
-use Rattle.vt_objects.specs.Records.{fields_of}
+use Rattle.vt_kinds.specs.Records.{fields_of}
 use Rattle.vt_pool.proofs.PartsPassed.{IsPassed}
 use Rattle.vt_pool.proofs.passing.pass_fields.Given as goal
 

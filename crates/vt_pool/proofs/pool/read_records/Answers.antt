@@ -1,5 +1,5 @@
 use Rattle.std.proofs.Common.{◌-◌, ◌<◌, length, refl, arith, rules}
-use Rattle.vt_objects.specs.Records.{seen}
+use Rattle.vt_kinds.specs.Records.{seen}
 use Rattle.vt_pool.proofs.Progress.{one_more, faulty_next}
 use Rattle.vt_pool.proofs.pool.read_records.Goals as goal
 

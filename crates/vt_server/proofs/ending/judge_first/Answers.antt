@@ -1,5 +1,5 @@
 use Rattle.std.proofs.Common.{subst, ap, ◌∙◌}
-use Rattle.vt_objects.specs.Stores.{map_of}
+use Rattle.vt_stores.specs.Stores.{map_of}
 use Rattle.vt_verify.specs.Rules.{IsVerified}
 use Rattle.vt_server.specs.Transfers.{Accepts, Refuses}
 use Rattle.vt_server.proofs.ending.judge_first.Goals as goal

@@ -1,6 +1,7 @@
 use Rattle.std.proofs.Common.{◌≡◌, subst, ap, ◌∙◌}
-use Rattle.vt_objects.specs.Stores.{Contents, map_of}
-use Rattle.vt_verify.specs.Rules.{IsVerified, IsRefused, terminal}
+use Rattle.vt_stores.specs.Stores.{Contents, map_of}
+use Rattle.vt_verify.specs.Rules.{IsVerified, IsRefused}
+use Rattle.vt_chains.specs.Limits.{terminal}
 use Rattle.vt_verify.specs.Updates.{updated}
 use Rattle.vt_server.specs.Transfers.{Accepts, Refuses}
 use Rattle.vt_server.proofs.ending.judge_update.Goals as goal

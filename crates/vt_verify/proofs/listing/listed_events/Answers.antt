@@ -1,9 +1,9 @@
 use Rattle.std.proofs.Common.{ℕ, List, ◌++◌, ◌≤◌, length, map, sym, ap, ap₂, refl, subst, ◌∙◌, arith}
 use Rattle.std.proofs.lemmas.List.{take_all}
 use Rattle.std.specs.List.{flat_map}
-use Rattle.vt_objects.specs.Stores.{shown, Objects, IsRising}
+use Rattle.vt_stores.specs.Stores.{shown, Objects, IsRising}
 use Rattle.vt_verify.specs.declared.listing.Listing.{Listing}
-use Rattle.vt_verify.specs.Shapes.{shape_of}
+use Rattle.vt_stores.specs.Shapes.{shape_of}
 use Rattle.vt_verify.specs.Triggers.{listing}
 use Rattle.vt_verify.specs.TriggerGraphs.{has}
 use Rattle.vt_verify.proofs.ListedEvents.{events_of, groups_of_events, not_yet, one_more, events_listed, groups_listed}

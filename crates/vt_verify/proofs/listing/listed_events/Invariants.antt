@@ -1,8 +1,8 @@
 use Rattle.std.proofs.Common.{◌≡◌, take, map}
 use Rattle.std.specs.List.{flat_map}
-use Rattle.vt_objects.specs.Stores.{shown}
+use Rattle.vt_stores.specs.Stores.{shown}
 use Rattle.vt_rank.specs.Graphs.{lists}
-use Rattle.vt_verify.specs.Shapes.{shape_of}
+use Rattle.vt_stores.specs.Shapes.{shape_of}
 use Rattle.vt_verify.proofs.ListedEvents.{events_of, groups_of_events}
 use Rattle.vt_verify.proofs.listing.listed_events.Given as goal
 

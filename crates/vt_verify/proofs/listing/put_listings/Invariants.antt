@@ -1,8 +1,8 @@
 use Rattle.std.proofs.Common.{◌≡◌, ◌≤◌, ◌-◌, ◌++◌, ℕ, drop, false}
 use Rattle.std.specs.List.{flat_map}
-use Rattle.vt_objects.specs.Records.{seen}
+use Rattle.vt_kinds.specs.Records.{seen}
 use Rattle.vt_rank.specs.Graphs.{lists}
-use Rattle.vt_verify.specs.Shapes.{fixed}
+use Rattle.vt_stores.specs.Shapes.{fixed}
 use Rattle.vt_verify.specs.Triggers.{listing, listed_in}
 use Rattle.vt_verify.specs.TriggerGraphs.{has, if_any, non_empty, event_numbers, events_in, groups_in}
 use Rattle.vt_verify.proofs.listing.put_listings.Given as goal

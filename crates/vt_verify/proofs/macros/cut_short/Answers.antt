@@ -2,8 +2,8 @@ use Rattle.std.proofs.Common.{ℕ, List, sym, ap, ◌∙◌}
 use Rattle.std.specs.List.{flat_map}
 use Rattle.std.specs.Option.{option_map}
 use Rattle.vt_verify.specs.Lists.{first_failing}
-use Rattle.vt_verify.specs.Shapes.{fixed}
-use Rattle.vt_objects.specs.Stores.{Objects}
+use Rattle.vt_stores.specs.Shapes.{fixed}
+use Rattle.vt_stores.specs.Stores.{Objects}
 use Rattle.vt_verify.specs.Macros.{named_macro, is_whole}
 use Rattle.vt_verify.proofs.Passes.{over_objects}
 use Rattle.vt_verify.proofs.macros.cut_short.Goals as goal

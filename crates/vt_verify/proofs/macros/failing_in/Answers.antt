@@ -1,7 +1,7 @@
 use Rattle.std.proofs.Common.{ℕ, List, Option, ◌-◌, length, sym, ap, ◌∙◌}
 use Rattle.std.specs.Option.{option_map}
 use Rattle.vt_verify.specs.Lists.{first_failing}
-use Rattle.vt_verify.specs.Shapes.{shape_of}
+use Rattle.vt_stores.specs.Shapes.{shape_of}
 use Rattle.vt_verify.specs.Macros.{Piece, placed, cut_or_none}
 use Rattle.vt_verify.specs.Targets.{piece_passes}
 use Rattle.vt_verify.proofs.Cuts.{next_piece, no_piece, rest_is_whole}

@@ -2,8 +2,8 @@ use Rattle.std.proofs.Common.{ℕ, List, sym, ap, ◌∙◌}
 use Rattle.std.specs.List.{flat_map}
 use Rattle.std.specs.Option.{option_map}
 use Rattle.vt_verify.specs.Lists.{first_failing}
-use Rattle.vt_verify.specs.Shapes.{Fixed, fixed, shape_of}
-use Rattle.vt_objects.specs.Stores.{Objects}
+use Rattle.vt_stores.specs.Shapes.{Fixed, fixed, shape_of}
+use Rattle.vt_stores.specs.Stores.{Objects}
 use Rattle.vt_verify.specs.Macros.{Piece, named_macro, is_whole, pieces_of}
 use Rattle.vt_verify.specs.Targets.{piece_passes}
 use Rattle.vt_verify.proofs.Passes.{over_objects, each_of_each, all_pass_at, told_fails, told_passes}

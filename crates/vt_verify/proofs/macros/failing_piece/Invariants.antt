@@ -1,9 +1,9 @@
 use Rattle.std.proofs.Common.{◌≡◌, ℕ, drop, map, None}
 use Rattle.std.specs.List.{flat_map}
 use Rattle.std.specs.Option.{option_map}
-use Rattle.vt_objects.specs.Stores.{shown}
+use Rattle.vt_stores.specs.Stores.{shown}
 use Rattle.vt_verify.specs.Lists.{first_failing}
-use Rattle.vt_verify.specs.Shapes.{fixed, shape_of}
+use Rattle.vt_stores.specs.Shapes.{fixed, shape_of}
 use Rattle.vt_verify.specs.Macros.{named_macro, is_whole, pieces, pieces_of}
 use Rattle.vt_verify.specs.Targets.{piece_passes}
 use Rattle.vt_verify.proofs.macros.failing_piece.Given as goal

@@ -1,6 +1,6 @@
 use Rattle.std.proofs.Common.{◌≡◌, length}
 use Rattle.std.specs.Prelude.{is_some}
-use Rattle.vt_objects.specs.Pieces.{cut}
+use Rattle.vt_commands.specs.Pieces.{cut}
 use Rattle.vt_verify.proofs.macros.is_whole.Given as goal
 
 abbrev pub invariant-loop-next : goal.invariant-loop-next

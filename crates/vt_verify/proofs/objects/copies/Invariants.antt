@@ -1,5 +1,5 @@
 use Rattle.std.proofs.Common.{◌≡◌, take, map}
-use Rattle.vt_objects.specs.Stores.{shown}
+use Rattle.vt_stores.specs.Stores.{shown}
 use Rattle.vt_verify.proofs.objects.copies.Given as goal
 
 abbrev pub invariant-loop-id : goal.invariant-loop-id

@@ -1,5 +1,5 @@
 use Rattle.std.proofs.Common.{ap, ◌∙◌}
-use Rattle.vt_objects.specs.Stores.{by_rising_id}
+use Rattle.vt_stores.specs.Stores.{by_rising_id}
 use Rattle.vt_verify.proofs.Copies.{named_of}
 use Rattle.vt_verify.proofs.objects.sorted.Goals as goal
 

@@ -1,5 +1,5 @@
 use Rattle.std.proofs.Common.{map}
-use Rattle.vt_objects.specs.Stores.{shown}
+use Rattle.vt_stores.specs.Stores.{shown}
 use Rattle.vt_verify.proofs.Updating.{IsUpdating}
 use Rattle.vt_verify.proofs.objects.updated.Given as goal
 

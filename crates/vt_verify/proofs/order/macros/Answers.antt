@@ -1,8 +1,8 @@
 use Rattle.std.proofs.Common.{ℕ, List, ◌≤◌, ◌++◌, length, map, sym, ap, ◌∙◌, arith}
 use Rattle.std.proofs.lemmas.List.{take_all}
-use Rattle.vt_objects.specs.Records.{seen}
-use Rattle.vt_objects.specs.Stores.{shown, Objects}
-use Rattle.vt_verify.specs.Shapes.{Fixed, fixed, shape_of}
+use Rattle.vt_kinds.specs.Records.{seen}
+use Rattle.vt_stores.specs.Stores.{shown, Objects}
+use Rattle.vt_stores.specs.Shapes.{Fixed, fixed, shape_of}
 use Rattle.vt_verify.specs.Triggers.{run_by_name}
 use Rattle.vt_verify.specs.Orders.{named_macros}
 use Rattle.vt_verify.proofs.ListedEvents.{one_more}

@@ -1,6 +1,6 @@
 use Rattle.std.proofs.Common.{◌≡◌, take, map}
-use Rattle.vt_objects.specs.Stores.{shown}
-use Rattle.vt_verify.specs.Shapes.{shape_of}
+use Rattle.vt_stores.specs.Stores.{shown}
+use Rattle.vt_stores.specs.Shapes.{shape_of}
 use Rattle.vt_verify.specs.Orders.{named_macros}
 use Rattle.vt_verify.proofs.order.macros.Given as goal
 

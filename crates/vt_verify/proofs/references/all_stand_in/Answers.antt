@@ -1,9 +1,9 @@
 use Rattle.std.proofs.Common.{List, map, refl, sym, ap, ◌∙◌}
 use Rattle.std.specs.List.{flat_map}
-use Rattle.vt_objects.specs.declared.slot.Slot.{Slot}
+use Rattle.vt_kinds.specs.declared.slot.Slot.{Slot}
 use Rattle.vt_verify.specs.declared.reference.Reference.{Reference}
 use Rattle.vt_verify.specs.Lists.{first_failing}
-use Rattle.vt_verify.specs.Shapes.{shape_of}
+use Rattle.vt_stores.specs.Shapes.{shape_of}
 use Rattle.vt_verify.specs.References.{is_there, fits, of_slot, with_value}
 use Rattle.vt_verify.proofs.Passes.{passes_in}
 use Rattle.vt_verify.proofs.Standing.{passed}

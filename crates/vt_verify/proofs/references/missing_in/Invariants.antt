@@ -1,7 +1,7 @@
 use Rattle.std.proofs.Common.{◌≡◌, map}
-use Rattle.vt_objects.specs.Records.{seen}
+use Rattle.vt_kinds.specs.Records.{seen}
 use Rattle.vt_verify.specs.Lists.{first_failing}
-use Rattle.vt_verify.specs.Shapes.{shape_of}
+use Rattle.vt_stores.specs.Shapes.{shape_of}
 use Rattle.vt_verify.specs.References.{is_there, of_slot, slot_references}
 use Rattle.vt_verify.proofs.references.missing_in.Given as goal
 

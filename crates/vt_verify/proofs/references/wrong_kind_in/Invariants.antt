@@ -1,8 +1,8 @@
 use Rattle.std.proofs.Common.{◌≡◌, map}
 use Rattle.std.specs.List.{flat_map}
-use Rattle.vt_objects.specs.Records.{seen}
+use Rattle.vt_kinds.specs.Records.{seen}
 use Rattle.vt_verify.specs.Lists.{first_failing}
-use Rattle.vt_verify.specs.Shapes.{shape_of}
+use Rattle.vt_stores.specs.Shapes.{shape_of}
 use Rattle.vt_verify.specs.References.{fits, of_slot, with_value, values_of}
 use Rattle.vt_verify.proofs.references.wrong_kind_in.Given as goal
 

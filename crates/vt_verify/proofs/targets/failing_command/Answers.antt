@@ -2,9 +2,9 @@ use Rattle.std.proofs.Common.{List, sym, ap, ◌∙◌}
 use Rattle.std.proofs.lemmas.Grind.{flat_map-append}
 use Rattle.std.specs.List.{flat_map}
 use Rattle.std.specs.Option.{option_to_list}
-use Rattle.vt_objects.specs.declared.command.Command.{Command}
+use Rattle.vt_commands.specs.declared.command.Command.{Command}
 use Rattle.vt_verify.specs.Lists.{first_failing}
-use Rattle.vt_verify.specs.Shapes.{shape_of}
+use Rattle.vt_stores.specs.Shapes.{shape_of}
 use Rattle.vt_verify.specs.References.{passes}
 use Rattle.vt_verify.specs.Macros.{macro_command, commands_of}
 use Rattle.vt_verify.specs.Targets.{target_references}

@@ -1,9 +1,9 @@
 use Rattle.std.proofs.Common.{◌≡◌, length}
 use Rattle.std.specs.Prelude.{is_some, IsTrue}
 use Rattle.std.specs.List.{flat_map}
-use Rattle.vt_objects.specs.Pieces.{cut}
+use Rattle.vt_commands.specs.Pieces.{cut}
 use Rattle.vt_verify.specs.Lists.{first_failing}
-use Rattle.vt_verify.specs.Shapes.{shape_of}
+use Rattle.vt_stores.specs.Shapes.{shape_of}
 use Rattle.vt_verify.specs.References.{passes}
 use Rattle.vt_verify.specs.Macros.{commands_of}
 use Rattle.vt_verify.specs.Targets.{target_references}

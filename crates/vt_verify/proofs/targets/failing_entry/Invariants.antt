@@ -1,6 +1,6 @@
 use Rattle.std.proofs.Common.{◌≡◌, drop}
 use Rattle.vt_verify.specs.Lists.{first_failing}
-use Rattle.vt_verify.specs.Shapes.{shape_of}
+use Rattle.vt_stores.specs.Shapes.{shape_of}
 use Rattle.vt_verify.specs.References.{passes}
 use Rattle.vt_verify.specs.Targets.{entry_references}
 use Rattle.vt_verify.proofs.targets.failing_entry.Given as goal

@@ -1,8 +1,8 @@
 use Rattle.std.proofs.Common.{◌≡◌, drop, map, None}
 use Rattle.std.specs.List.{flat_map}
-use Rattle.vt_objects.specs.Stores.{shown}
+use Rattle.vt_stores.specs.Stores.{shown}
 use Rattle.vt_verify.specs.Lists.{first_failing}
-use Rattle.vt_verify.specs.Shapes.{fixed, shape_of}
+use Rattle.vt_stores.specs.Shapes.{fixed, shape_of}
 use Rattle.vt_verify.specs.References.{passes}
 use Rattle.vt_verify.specs.Macros.{named_macro, is_whole}
 use Rattle.vt_verify.specs.Targets.{own_references, macro_references}

@@ -1,6 +1,6 @@
 use Rattle.std.proofs.Common.{◌≡◌, ◌++◌, drop, map}
-use Rattle.vt_objects.specs.Stores.{shown}
-use Rattle.vt_verify.specs.Shapes.{shape_of}
+use Rattle.vt_stores.specs.Stores.{shown}
+use Rattle.vt_stores.specs.Shapes.{shape_of}
 use Rattle.vt_verify.specs.Triggers.{listing, masks}
 use Rattle.vt_verify.specs.TriggerGraphs.{groups_of}
 use Rattle.vt_verify.proofs.triggers.hidden.Given as goal

@@ -2,8 +2,8 @@ use Rattle.std.proofs.Common.{◌≡◌, List, Some, None, refl, sym, ap, subst,
 use Rattle.std.proofs.lemmas.List.{append-nil}
 use Rattle.std.specs.Prelude.{IfOk}
 use Rattle.std.specs.List.{flat_map}
-use Rattle.vt_objects.specs.declared.command.Command.{Command}
-use Rattle.vt_verify.specs.Shapes.{shape_of}
+use Rattle.vt_commands.specs.declared.command.Command.{Command}
+use Rattle.vt_stores.specs.Shapes.{shape_of}
 use Rattle.vt_verify.specs.Macros.{commands_of}
 use Rattle.vt_verify.specs.TriggerGraphs.{command_items}
 use Rattle.vt_verify.proofs.ListedEvents.{whole_bytes, commands_found}

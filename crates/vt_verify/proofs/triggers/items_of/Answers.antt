@@ -4,7 +4,7 @@ use Rattle.std.proofs.lemmas.List.{append-nil}
 use Rattle.std.specs.List.{flat_map}
 use Rattle.std.specs.Option.{option_to_list}
 use Rattle.vt_rank.specs.declared.graph.Item.{Item}
-use Rattle.vt_objects.specs.declared.command.Command.{Command}
+use Rattle.vt_commands.specs.declared.command.Command.{Command}
 use Rattle.vt_verify.specs.Macros.{macro_command, commands_of}
 use Rattle.vt_verify.specs.TriggerGraphs.{command_items}
 use Rattle.vt_verify.proofs.Cuts.{next_command, no_command, rest_is_whole}

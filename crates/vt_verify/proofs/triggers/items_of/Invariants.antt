@@ -1,7 +1,7 @@
 use Rattle.std.proofs.Common.{◌≡◌, ◌++◌, length}
 use Rattle.std.specs.Prelude.{is_some, IsTrue}
 use Rattle.std.specs.List.{flat_map}
-use Rattle.vt_objects.specs.Pieces.{cut}
+use Rattle.vt_commands.specs.Pieces.{cut}
 use Rattle.vt_verify.specs.Macros.{commands_of}
 use Rattle.vt_verify.specs.TriggerGraphs.{command_items}
 use Rattle.vt_verify.proofs.triggers.items_of.Given as goal

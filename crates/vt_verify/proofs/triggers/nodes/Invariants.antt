@@ -2,7 +2,7 @@ use Rattle.std.proofs.Common.{◌≡◌, ◌<◌, ℕ, [], length}
 use Rattle.std.specs.Prelude.{slice_index_or}
 use Rattle.std.specs.List.{flat_map}
 use Rattle.vt_rank.specs.Graphs.{lists}
-use Rattle.vt_verify.specs.Shapes.{shape_of}
+use Rattle.vt_stores.specs.Shapes.{shape_of}
 use Rattle.vt_verify.specs.Macros.{commands}
 use Rattle.vt_verify.specs.TriggerGraphs.{command_items}
 use Rattle.vt_verify.proofs.triggers.nodes.Given as goal

@@ -1,6 +1,6 @@
 use Rattle.std.proofs.Common.{◌≡◌, ◌<◌, ◌∙◌, length, sym, subst, rules}
 use Rattle.vt_rank.specs.Costs.{IsFirstOver}
-use Rattle.vt_verify.specs.Shapes.{shape_of}
+use Rattle.vt_stores.specs.Shapes.{shape_of}
 use Rattle.vt_verify.specs.Rules as pools
 use Rattle.vt_verify.proofs.Acceptance.{acceptable}
 use Rattle.vt_verify.proofs.Costs.{costs_are_totals, is_within}

@@ -1,7 +1,7 @@
 use Rattle.std.proofs.Common.{sym, ◌∙◌}
-use Rattle.vt_verify.specs.Shapes.{shape_of}
+use Rattle.vt_stores.specs.Shapes.{shape_of}
 use Rattle.vt_verify.specs.References.{is_there, fits}
-use Rattle.vt_verify.specs.Rules.{terminal}
+use Rattle.vt_chains.specs.Limits.{terminal}
 use Rattle.vt_verify.specs.Targets.{macro_references}
 use Rattle.vt_verify.proofs.Acceptance.{before_attributes}
 use Rattle.vt_verify.proofs.Standing.{both_pass}

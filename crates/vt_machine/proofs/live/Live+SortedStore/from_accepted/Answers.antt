@@ -1,9 +1,9 @@
 use Rattle.std.proofs.Common.{sym, ap, subst}
-use Rattle.vt_objects.specs.Stores.{Objects, map_of}
-use Rattle.vt_verify.specs.Depths.{HasDepths}
-use Rattle.vt_verify.specs.Rules.{terminal}
-use Rattle.vt_verify.specs.Shapes.{shape_of}
-use Rattle.vt_machine.specs.Indexes.{IsIndexOf}
+use Rattle.vt_stores.specs.Stores.{Objects, map_of}
+use Rattle.vt_chains.specs.Depths.{HasDepths}
+use Rattle.vt_chains.specs.Limits.{terminal}
+use Rattle.vt_stores.specs.Shapes.{shape_of}
+use Rattle.vt_macros.specs.Indexes.{IsIndexOf}
 use Rattle.vt_machine.proofs.Living.{stored_runs}
 use Rattle.vt_machine.proofs.live.Live+SortedStore.from_accepted.Goals as goal
 

@@ -1,6 +1,6 @@
 use Rattle.std.proofs.Common.{◌≡◌, None, IfOk, ap, subst, ◌∙◌}
-use Rattle.vt_objects.specs.Stores.{Contents}
-use Rattle.vt_machine.specs.Effects.{kind_in}
+use Rattle.vt_stores.specs.Stores.{Contents}
+use Rattle.vt_effects.specs.Effects.{kind_in}
 use Rattle.vt_machine.specs.Lives.{SetState}
 use Rattle.vt_machine.proofs.Living.{stored_is, stored_closed, stored_shallow, stored_runs}
 use Rattle.vt_machine.proofs.live.Live.new.Goals as goal

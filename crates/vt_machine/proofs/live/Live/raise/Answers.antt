@@ -1,8 +1,9 @@
 use Rattle.std.proofs.Common.{ap, subst, ◌∙◌}
-use Rattle.vt_objects.specs.Stores.{Contents}
+use Rattle.vt_stores.specs.Stores.{Contents}
 use Rattle.vt_verify.specs.Budgets.{budget}
 use Rattle.vt_verify.specs.Triggers.{listing}
-use Rattle.vt_machine.specs.Machines.{shape_in, joined}
+use Rattle.vt_macros.specs.Machines.{joined}
+use Rattle.vt_effects.specs.Soundness.{shape_in}
 use Rattle.vt_machine.specs.Lives.{HasRun}
 use Rattle.vt_machine.proofs.Living.{key_stays, has_run, kind_stays, marks_stay}
 use Rattle.vt_machine.proofs.live.Live.raise.Goals as goal

@@ -1,5 +1,5 @@
 use Rattle.std.proofs.Common.{◌≡◌, ap, subst}
-use Rattle.vt_objects.specs.Stores.{Contents}
+use Rattle.vt_stores.specs.Stores.{Contents}
 use Rattle.vt_machine.specs.Lives.{working_set_in}
 use Rattle.vt_machine.proofs.OneSet.{set_is}
 use Rattle.vt_machine.proofs.live.Live.working_set.Goals as goal

@@ -1,6 +1,6 @@
 use Rattle.std.proofs.Common.{rules, ◌≡◌, ◌*◌, ◌/◌, ◌^◌, ◌+◌, ◌+ℤ◌, ◌<◌, ◌++◌, ◌&&◌, ℕ, ℤ, pos, nat_abs, nat_lt, int_lt, [], cond, codes, ap, subst, ◌∙◌}
 use Rattle.std.specs.Fmt.{decimal}
-use Rattle.vt_objects.specs.Scales.{scale_places}
+use Rattle.vt_kinds.specs.Scales.{scale_places}
 use Rattle.vt_objects.specs.Decimals.{IsShown, shown_text, fraction_text}
 use Rattle.vt_objects.proofs.Rounding.{is_shown, shown_text_is}
 use Rattle.vt_objects.proofs.decimal.Decimal.shown.Goals as goal

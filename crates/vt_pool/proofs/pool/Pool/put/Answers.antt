@@ -1,7 +1,7 @@
 use Rattle.std.proofs.Common.{◌≡◌, Bool, true, false, not, List, ◌∷◌, [], ◌++◌, set, map, eqb, sym, ap, ◌∙◌}
 use Rattle.std.specs.List.{list_any}
-use Rattle.vt_objects.specs.Records.{seen}
-use Rattle.vt_objects.specs.Stores.{shown}
+use Rattle.vt_kinds.specs.Records.{seen}
+use Rattle.vt_stores.specs.Stores.{shown}
 use Rattle.vt_pool.specs.Pools.{Entry}
 use Rattle.vt_pool.specs.Places.{with_entry}
 use Rattle.vt_pool.proofs.InPlace.{shown_set, shown_push, same_ids}

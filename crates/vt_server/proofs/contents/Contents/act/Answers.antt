@@ -2,7 +2,7 @@ use Rattle.std.proofs.Common.{◌<◌, get_or, length, Some, None, sym, ap, subs
 use Rattle.std.proofs.lemmas.List.{get_or_default}
 use Rattle.vt_can.specs.lines.Actions.{action_value}
 use Rattle.vt_server.specs.Acting.{PerformsAt}
-use Rattle.vt_server.specs.Terminals.{with_at}
+use Rattle.vt_node.specs.ByAddress.{with_at}
 use Rattle.vt_server.specs.Uploads.{Kept, content_of}
 use Rattle.vt_server.proofs.Performed.{performed-at, pools-written}
 use Rattle.vt_server.proofs.contents.Contents.act.Goals as goal

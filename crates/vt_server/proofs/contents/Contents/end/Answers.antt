@@ -1,7 +1,7 @@
 use Rattle.std.proofs.Common.{None, [], sym, ap, ◌∙◌, subst, arith}
 use Rattle.std.specs.Prelude.{slice_set}
 use Rattle.vt_server.specs.Ends.{IsJudgement, IsEnded}
-use Rattle.vt_server.specs.Terminals.{with_at}
+use Rattle.vt_node.specs.ByAddress.{with_at}
 use Rattle.vt_server.specs.Uploads.{Kept, content_of}
 use Rattle.vt_server.proofs.Ended.{ends-refused}
 use Rattle.vt_server.proofs.Writes.{upload-written}

@@ -1,5 +1,5 @@
 use Rattle.std.proofs.Common.{[], Some, None, ap, ◌∙◌, arith}
-use Rattle.vt_server.specs.Terminals.{with_at}
+use Rattle.vt_node.specs.ByAddress.{with_at}
 use Rattle.vt_server.specs.Uploads.{Kept, content_of}
 use Rattle.vt_server.proofs.Kept.{kept-put}
 use Rattle.vt_server.proofs.Writes.{contents-written}

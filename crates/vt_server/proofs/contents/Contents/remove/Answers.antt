@@ -1,6 +1,6 @@
 use Rattle.std.proofs.Common.{None, ap, ◌∙◌, arith}
 use Rattle.vt_server.specs.Places.{no_content}
-use Rattle.vt_server.specs.Terminals.{with_at}
+use Rattle.vt_node.specs.ByAddress.{with_at}
 use Rattle.vt_server.specs.Uploads.{Kept, content_of}
 use Rattle.vt_server.proofs.Kept.{kept-removed}
 use Rattle.vt_server.proofs.Writes.{contents-written}

@@ -4,13 +4,13 @@ use Rattle.vt_can.specs.lines.Actions.{action_value}
 use Rattle.vt_machine.specs.declared.operator.Acted.{Acted}
 use Rattle.vt_machine.specs.declared.operator.OperatorRefusal.{OperatorRefusal}
 use Rattle.vt_server.specs.Acting.{PerformsAt}
-use Rattle.vt_server.specs.Messages.{message_to}
+use Rattle.vt_node.specs.Messages.{message_to}
 use Rattle.vt_server.specs.Operators.{filled}
 use Rattle.vt_server.specs.Places.{Content}
 use Rattle.vt_server.specs.States.{state_of}
 use Rattle.vt_server.specs.Terminals.{pool_of}
 use Rattle.vt_server.specs.Uploads.{content_of}
-use Rattle.vt_server.specs.Watches.{heard_of}
+use Rattle.vt_node.specs.Watches.{heard_of}
 use Rattle.vt_server.specs.declared.output.OperatorFault.{OperatorFault}
 use Rattle.vt_server.specs.declared.output.Output.TheVariants as declared
 use Rattle.vt_can.specs.declared.frames.frame.Frame.{Frame}

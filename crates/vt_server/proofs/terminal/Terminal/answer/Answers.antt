@@ -2,18 +2,19 @@ use lib.Pointwise.{pointwise}
 use Rattle.std.proofs.Common.{◌≡◌, ℕ, List, drop, Option, Some, None, nat_eq, true≢false, refl, sym, ap, subst, ◌∙◌}
 use Rattle.vt_can.specs.declared.frames.frame.Frame.{Frame}
 use Rattle.vt_server.specs.Hearings.{Answers, IsReadyNow}
-use Rattle.vt_server.specs.Messages.{message_to}
+use Rattle.vt_node.specs.Messages.{message_to}
 use Rattle.vt_server.specs.Places.{Content, with_piece}
 use Rattle.vt_server.specs.States.{state_of}
-use Rattle.vt_server.specs.Terminals.{with_at}
+use Rattle.vt_node.specs.ByAddress.{with_at}
 use Rattle.vt_server.specs.Transfers.{ended, end_of_pool}
 use Rattle.vt_server.specs.Uploads.{content_of, room_of}
 use Rattle.vt_server.proofs.Answered.{answers-none}
 use Rattle.vt_server.proofs.Framed.{any_verdict}
-use Rattle.vt_server.proofs.Undrawn.{end-same, neither, same-elsewhere, same-pool}
+use Rattle.vt_server.proofs.Undrawn.{end-same, same-elsewhere, same-pool}
 use Rattle.vt_server.proofs.Uploaded.{contents-state, piece-answered, end-answered, other-answered}
 use Rattle.vt_server.proofs.terminal.Terminal.answer.Goals as goal
 use Rattle.vt_server.proofs.terminal.Terminal.answer.Goals.{then-eq, else-eq}
+use Rattle.vt_effects.proofs.Moving.{either_false}
 
 pub returns-then-not-registered-clause-answers : goal.returns-then-not-registered-clause-answers
 returns-then-not-registered-clause-answers c = answers-none (state_of c.args.self.now) c.args.source c.args.bytes.now any_verdict c.if-not-registered.ensures
@@ -74,7 +75,7 @@ returns-after-eq-clause-tells c none =
     let a = c.args.source in
     let ended-by = c.end-reply.ensures in
     let left : Content = ended (content_of t.contents a) ended-by.verdict in
-    let told = neither t.redraws c.if-eq.self none in (
+    let told = either_false t.redraws c.if-eq.self none in (
       told.0,
       elim c.if-eq.branch [
         | then-eq w ↦ same-elsewhere t c.end-reply.new.self a left ended-by.content (sym w.eq-then-eq.ensures ∙ sym w.self-is ∙ told.1)

@@ -5,12 +5,12 @@ use Rattle.vt_can.specs.lines.Actions as actions
 use Rattle.vt_machine.specs.Lives.{SetState}
 use Rattle.vt_transport.specs.Wire.{rts_frame}
 use Rattle.vt_server.specs.Acting.{PerformsAt}
-use Rattle.vt_server.specs.Nodes.{NodeState}
+use Rattle.vt_node.specs.Nodes.{NodeState}
 use Rattle.vt_server.specs.Places.{Content, Place}
 use Rattle.vt_server.specs.States.{state_of, places_by}
 use Rattle.vt_server.specs.Terminals.{pool_of}
 use Rattle.vt_server.specs.Uploads.{content_of}
-use Rattle.vt_server.specs.Watches.{heard_of}
+use Rattle.vt_node.specs.Watches.{heard_of}
 use Rattle.vt_server.specs.declared.output.OperatorFault.{OperatorFault}
 use Rattle.vt_server.specs.declared.output.Output.TheVariants as declared
 use Rattle.vt_server.proofs.Performed.{shown-at, takes-none, takes-fault, takes-busy, takes-long, started-places}

@@ -1,24 +1,11 @@
-use Rattle.std.proofs.Common.{◌≡◌, ◌≤◌, ◌+◌, ◌++◌, ◌-◌, ℕ, List, vec_len, vec_capacity}
+use Rattle.std.proofs.Common.{◌-◌, vec_len, vec_capacity}
 use Rattle.std.specs.FinMap as finite
-use Rattle.vt_can.specs.transport.Sessions.{alive}
-use Rattle.vt_server.specs.Lapses.{etp_due}
-use Rattle.vt_server.specs.Outputs.{outputs_of}
-use Rattle.vt_server.specs.States.{state_of}
-use Rattle.vt_server.specs.Terminals.{after_acts, sent_by_acts}
-use Rattle.vt_server.specs.declared.output.Output.{Output}
-use Rattle.vt_server.specs.declared.terminal.Terminal.{Terminal}
+use Rattle.vt_server.proofs.Expiring.{IsExpiring}
+use Rattle.vt_server.proofs.Lanes.{etp_lane}
 use Rattle.vt_server.proofs.terminal.Terminal.expire_etp.Given as goal
 
--- what is still due comes to what was due, and there is room for the aborts
-pub record IsExpiring (old now : Terminal) (old_out now_out : List Output) (free : ℕ) : Type 0 where
-  pub rest : now ≡ record old { node = record old.node { etp = now.node.etp } }
-  pub state : after_acts (state_of now) (etp_due (state_of now)) ≡ after_acts (state_of old) (etp_due (state_of old))
-  pub sent : now_out ++ outputs_of (sent_by_acts (state_of now) (etp_due (state_of now))) ≡ old_out ++ outputs_of (sent_by_acts (state_of old) (etp_due (state_of old)))
-  pub timely : (address : ℕ) → alive old.time (finite.get now.node.etp address) ≡ alive old.time (finite.get old.node.etp address)
-  pub room : finite.len now.node.etp ≤ 256 → finite.len now.node.etp + 514 ≤ free
-
 abbrev pub invariant-loop-abort : goal.invariant-loop-abort
-invariant-loop-abort l = IsExpiring l.fn.self l.self l.fn.outputs.items l.outputs.items (vec_capacity l.outputs - vec_len l.outputs)
+invariant-loop-abort l = IsExpiring etp_lane 514 l.fn.self l.self l.fn.outputs.items l.outputs.items (vec_capacity l.outputs - vec_len l.outputs)
 
 abbrev pub decreases-loop-abort : goal.decreases-loop-abort
 decreases-loop-abort l = finite.len l.self.node.etp

@@ -5,7 +5,8 @@ use Rattle.vt_server.specs.Choosing.{first_with_pool}
 use Rattle.vt_server.specs.States.{state_of}
 use Rattle.vt_server.specs.Terminals.{pool_of}
 use Rattle.vt_server.proofs.Chosen.{some-mapped}
-use Rattle.vt_server.proofs.Registered.{beyond, first-passed, first-found}
+use Rattle.vt_server.proofs.Registered.{first-passed, first-found}
+use Rattle.vt_node.proofs.Ordered.{beyond}
 use Rattle.vt_server.proofs.terminal.Terminal.first_with_pool.Goals as goal
 use Rattle.vt_server.proofs.terminal.Terminal.first_with_pool.Goals.{in-Some+else-is_some, in_default}
 

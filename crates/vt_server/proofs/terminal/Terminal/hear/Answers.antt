@@ -1,13 +1,14 @@
 use mathlib.Core.Bool.{beq}
 use Rattle.std.proofs.Common.{◌++◌, not, sym, ◌∙◌}
-use Rattle.vt_server.specs.Bus.{notice_of}
+use Rattle.vt_node.specs.Bus.{notice_of}
 use Rattle.vt_server.specs.Lapses.{at_time, lapsed}
 use Rattle.vt_server.specs.Outputs.{outputs_of}
 use Rattle.vt_server.specs.States.{state_of}
 use Rattle.vt_server.proofs.Heard.{takes-line, takes-lost}
 use Rattle.vt_server.proofs.Prepared.{ready-then, prepared-display, prepared-sent}
-use Rattle.vt_server.proofs.Undrawn.{line-kept, neither, prepared-shows, same-flag}
+use Rattle.vt_server.proofs.Undrawn.{line-kept, prepared-shows, same-flag}
 use Rattle.vt_server.proofs.terminal.Terminal.hear.Goals as goal
+use Rattle.vt_effects.proofs.Moving.{either_false}
 
 pub returns-then-self-clause-ok : goal.returns-then-self-clause-ok
 returns-then-self-clause-ok c = takes-lost (state_of c.args.self.now) c.args.time c.args.frame.now c.args.outputs.now.items c.if-self.true
@@ -44,7 +45,7 @@ returns-clause-same c none =
     let now = c.max-now.result in
     let has = c.has_pool.result in
     let had = c.has_pool-had_pool.result in
-    let told = neither c.finish.new.self.redraws (not (beq has had)) none in
+    let told = either_false c.finish.new.self.redraws (not (beq has had)) none in
     line-kept s (state_of t) (state_of c.lapse.new.self) (state_of c.finish.new.self) now
     (prepared-shows s t now c.notice_of-notice.result c.args.frame.now c.in_ok-ready.ready c.in_ok-ready.ensures.ok)
     c.lapse.ensures.state (c.finish.ensures.tells told.0) (sym c.has_pool.ensures ∙ same-flag has had told.1 ∙ c.has_pool-had_pool.ensures)

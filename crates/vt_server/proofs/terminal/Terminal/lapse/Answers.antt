@@ -4,8 +4,8 @@ use Rattle.vt_server.specs.Outputs.{outputs_of}
 use Rattle.vt_server.specs.Places.{watched}
 use Rattle.vt_server.specs.States.{state_of}
 use Rattle.vt_server.specs.Terminals.{State, Sent, after_acts, sent_by_acts}
-use Rattle.vt_server.specs.Registries.{Watched}
-use Rattle.vt_server.specs.Watches.{heard_of}
+use Rattle.vt_node.specs.Registries.{Watched}
+use Rattle.vt_node.specs.Watches.{heard_of}
 use Rattle.vt_server.specs.declared.output.Output.{Output}
 use Rattle.vt_server.specs.declared.terminal.Terminal.{Terminal}
 use Rattle.vt_server.proofs.Framed.{outputs-append}

@@ -1,7 +1,7 @@
 use Rattle.std.proofs.Common.{ℕ, [], ◌∷◌, ◌++◌, ap, ◌∙◌}
 use Rattle.vt_can.specs.Assigned.{NULL_ADDRESS}
 use Rattle.vt_can.specs.declared.frames.frame.Frame.{Frame}
-use Rattle.vt_server.specs.Messages.{claim_from}
+use Rattle.vt_node.specs.Messages.{claim_from}
 use Rattle.vt_server.specs.declared.output.Output.TheVariants as declared
 use Rattle.vt_server.proofs.terminal.Terminal.lose.Goals as goal
 

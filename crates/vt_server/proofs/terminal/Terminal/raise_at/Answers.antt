@@ -6,7 +6,7 @@ use Rattle.vt_server.specs.Places.{Content}
 use Rattle.vt_server.specs.States.{state_of, places_by}
 use Rattle.vt_server.specs.Terminals.{after_acts}
 use Rattle.vt_server.specs.Uploads.{content_of}
-use Rattle.vt_server.specs.Watches.{heard_of}
+use Rattle.vt_node.specs.Watches.{heard_of}
 use Rattle.vt_server.proofs.Chosen.{raised-place}
 use Rattle.vt_server.proofs.Writes.{content-placed}
 use Rattle.vt_server.proofs.terminal.Terminal.raise_at.Goals as goal

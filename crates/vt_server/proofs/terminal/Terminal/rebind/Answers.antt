@@ -4,7 +4,7 @@ use Rattle.vt_server.specs.Parts.{stays_under}
 use Rattle.vt_server.specs.Places.{no_content}
 use Rattle.vt_server.specs.States.{state_of, places_by}
 use Rattle.vt_server.specs.Uploads.{content_of}
-use Rattle.vt_server.specs.Watches.{heard_of}
+use Rattle.vt_node.specs.Watches.{heard_of}
 use Rattle.vt_server.proofs.Claimed.{rebind-none, rebind-kept, rebind-closed}
 use Rattle.vt_server.proofs.Writes.{content-placed}
 use Rattle.vt_server.proofs.terminal.Terminal.rebind.Goals as goal

@@ -1,7 +1,7 @@
 use Rattle.std.proofs.Common.{◌++◌, Bool, cond, Some, None, sym, ap, ◌∙◌, append-nil, ne_eqb}
 use Rattle.vt_can.specs.declared.transport.heard.Heard.{Heard}
 use Rattle.vt_server.specs.Outputs.{frames_of}
-use Rattle.vt_server.specs.Receiving.{frames_in, message_in}
+use Rattle.vt_node.specs.Receiving.{frames_in, message_in}
 use Rattle.vt_server.specs.Sessions.{message_to_terminal}
 use Rattle.vt_server.specs.States.{state_of}
 use Rattle.vt_server.proofs.Uploaded.{none-taken}

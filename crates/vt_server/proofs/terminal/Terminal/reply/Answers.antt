@@ -1,16 +1,18 @@
 use Rattle.std.proofs.Common.{◌≡◌, ℕ, List, Option, Some, None, sym, ap, subst, ◌∙◌}
+use Rattle.std.proofs.lemmas.Option.{same_Some}
 use Rattle.vt_server.specs.Commands.{content_after}
 use Rattle.vt_server.specs.Hearings.{IsReplyTo}
 use Rattle.vt_server.specs.Places.{Content}
 use Rattle.vt_server.specs.States.{state_of, places_by}
 use Rattle.vt_server.specs.Uploads.{content_of}
-use Rattle.vt_server.specs.Watches.{heard_of}
+use Rattle.vt_node.specs.Watches.{heard_of}
 use Rattle.vt_server.proofs.Answered.{is-ignored, is-commanded}
-use Rattle.vt_server.proofs.Puts.{none-some, some-is}
-use Rattle.vt_server.proofs.Undrawn.{command-same, neither, same-elsewhere, same-pool}
+use Rattle.vt_server.proofs.Undrawn.{command-same, same-elsewhere, same-pool}
 use Rattle.vt_server.proofs.Writes.{content-placed}
 use Rattle.vt_server.proofs.terminal.Terminal.reply.Goals as goal
 use Rattle.vt_server.proofs.terminal.Terminal.reply.Goals.{then-error-eq0, else-error-eq0}
+use Rattle.vt_effects.proofs.Moving.{either_false}
+use Rattle.vt_names.proofs.Holding.{none-some}
 
 pub returns-in_err-command-clause-replies : goal.returns-in_err-command-clause-replies
 returns-in_err-command-clause-replies c =
@@ -59,13 +61,13 @@ returns-clause-tells c none =
     let a = c.args.source in
     let command = c.in_ok-command.command in
     let before : Content = content_of t.contents a in
-    let told = neither t.redraws c.if-error-eq0.self none in (
+    let told = either_false t.redraws c.if-error-eq0.self none in (
       told.0,
       elim c.if-error-eq0.branch [
         | then-error-eq0 w ↦
             same-elsewhere t c.apply.new.self a (content_after command before) c.in_ok-error.ensures.content (sym w.eq.ensures ∙ sym w.self-is ∙ told.1)
         | else-error-eq0 w ↦
             same-pool t c.apply.new.self a (content_after command before) c.in_ok-error.ensures.content
-            (command-same command before (λ h. w.if-error-eq0.false (some-is c.in_ok-error.error 0 (c.in_ok-error.ensures.error ∙ h))))
+            (command-same command before (λ h. w.if-error-eq0.false (same_Some c.in_ok-error.error 0 (c.in_ok-error.ensures.error ∙ h))))
       ],
     )

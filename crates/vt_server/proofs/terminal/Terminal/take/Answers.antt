@@ -7,8 +7,8 @@ use Rattle.vt_server.specs.Places.{Place}
 use Rattle.vt_server.specs.States.{state_of}
 use Rattle.vt_server.specs.Terminals.{State, Sent}
 use Rattle.vt_server.specs.Uploads.{content_of, room_of}
-use Rattle.vt_server.specs.Watches.{heard_of}
-use Rattle.vt_server.specs.declared.bus.Notice.TheVariants as notices
+use Rattle.vt_node.specs.Watches.{heard_of}
+use Rattle.vt_node.specs.declared.bus.Notice.TheVariants as notices
 use Rattle.vt_server.proofs.Framed.{takes-echo, takes-heard}
 use Rattle.vt_server.proofs.Heard.{upload-judges, came-reads, defence-none, heard-state}
 use Rattle.vt_server.proofs.Accepted.{accepted}

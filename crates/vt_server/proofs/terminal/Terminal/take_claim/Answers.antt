@@ -4,8 +4,8 @@ use Rattle.vt_server.specs.States.{state_of, places_by}
 use Rattle.vt_server.specs.Steps.{before, changes}
 use Rattle.vt_server.specs.Terminals.{after_acts}
 use Rattle.vt_server.specs.Uploads.{content_of}
-use Rattle.vt_server.specs.Watches.{heard_of}
-use Rattle.vt_server.specs.declared.bus.Notice.TheVariants.{Claim}
+use Rattle.vt_node.specs.Watches.{heard_of}
+use Rattle.vt_node.specs.declared.bus.Notice.TheVariants.{Claim}
 use Rattle.vt_server.proofs.Claimed.{after-changes, acted-own, acted-other, sent-nothing, sent-defence}
 use Rattle.vt_server.proofs.Writes.{heard-placed}
 use Rattle.vt_server.proofs.terminal.Terminal.take_claim.Goals as goal

@@ -4,10 +4,10 @@ use Rattle.vt_server.specs.Hearings.{TakesNotice}
 use Rattle.vt_server.specs.Parts.{after_master}
 use Rattle.vt_server.specs.States.{state_of}
 use Rattle.vt_server.specs.Terminals.{State, part, put}
-use Rattle.vt_server.specs.declared.bus.Notice.{Notice}
-use Rattle.vt_server.specs.declared.bus.Notice.TheVariants.{Member}
+use Rattle.vt_node.specs.declared.bus.Notice.{Notice}
+use Rattle.vt_node.specs.declared.bus.Notice.TheVariants.{Member}
 use Rattle.vt_server.proofs.Heard.{takes-master, takes-member, takes-nothing, idle-by}
-use Rattle.vt_server.proofs.Watching.{registry-state}
+use Rattle.vt_server.proofs.Watched.{registry-state}
 use Rattle.vt_server.proofs.terminal.Terminal.take_notice.Goals as goal
 
 pub returns-in-Master-clause-takes : goal.returns-in-Master-clause-takes

@@ -1,9 +1,9 @@
 use Rattle.std.proofs.Common.{ℕ, map, Some, None, refl, sym, ap, ap₂, ◌∙◌}
 use Rattle.std.proofs.lemmas.List.{append-nil}
-use Rattle.vt_objects.specs.declared.command.Command.{Command}
-use Rattle.vt_objects.specs.Pieces.{cut_within}
-use Rattle.vt_objects.specs.Stores.{Objects}
-use Rattle.vt_verify.specs.Shapes.{shape_of}
+use Rattle.vt_commands.specs.declared.command.Command.{Command}
+use Rattle.vt_commands.specs.Pieces.{cut_within}
+use Rattle.vt_stores.specs.Stores.{Objects}
+use Rattle.vt_stores.specs.Shapes.{shape_of}
 use Rattle.vt_verify.specs.Macros.{cut_or_none, commands_of, commands}
 use Rattle.vt_verify.proofs.ListedEvents.{whole_bytes, allowed_pieces, pieces_read, commands_found}
 use Rattle.vt_verify.proofs.accepted.Accepted.macro_bytes.Goals as goal

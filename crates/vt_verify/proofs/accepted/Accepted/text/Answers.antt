@@ -1,9 +1,9 @@
 use Rattle.std.proofs.Common.{◌≡◌, ◌≤◌, List, ◌++◌, Some, length, rules, ap, subst, ◌∙◌}
 use Rattle.std.specs.Prelude.{slice_get}
 use Rattle.std.specs.List.{flat_map}
-use Rattle.vt_objects.specs.Stores.{Objects}
+use Rattle.vt_stores.specs.Stores.{Objects}
 use Rattle.vt_verify.specs.declared.listing.Listing.{Listing}
-use Rattle.vt_verify.specs.Shapes.{shape_of}
+use Rattle.vt_stores.specs.Shapes.{shape_of}
 use Rattle.vt_verify.specs.Budgets.{budget}
 use Rattle.vt_verify.specs.TriggerGraphs.{listed_events}
 use Rattle.vt_verify.specs.Reports.{report_text, count_line, event_line, budget_line}

@@ -1,5 +1,5 @@
 use Rattle.vt_rank.specs.Graphs.{lists}
-use Rattle.vt_verify.specs.Shapes.{shape_of}
+use Rattle.vt_stores.specs.Shapes.{shape_of}
 use Rattle.vt_verify.proofs.Graphs.{listings_are}
 use Rattle.vt_verify.proofs.listing.Listings.of_objects.Goals as goal
 

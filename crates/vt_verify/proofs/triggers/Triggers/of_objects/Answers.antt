@@ -2,7 +2,7 @@ use Rattle.std.proofs.Common.{List, map, [], sym, ap, ◌∙◌}
 use Rattle.std.proofs.lemmas.List.{get_or-take}
 use Rattle.vt_rank.specs.Graphs.{lists, items_of}
 use Rattle.vt_verify.specs.declared.listing.Listing.{Listing}
-use Rattle.vt_verify.specs.Shapes.{shape_of}
+use Rattle.vt_stores.specs.Shapes.{shape_of}
 use Rattle.vt_verify.specs.Triggers.{listed}
 use Rattle.vt_verify.proofs.triggers.Triggers.of_objects.Goals as goal
 

@@ -1,0 +1,22 @@
+use Rattle.std.proofs.Common.{◌+◌, ◌*◌}
+use Rattle.vt_chains.specs.Depths.{ids_of, inclusions_of}
+use Rattle.vt_chains.proofs.Settling.{IsSearch}
+use Rattle.vt_chains.proofs.chains.+settle.Given as goal
+
+abbrev pub decreases-settle : goal.decreases-settle
+decreases-settle g l = 4 * l.most + 3
+
+abbrev pub decreases-settle_entry : goal.decreases-settle_entry
+decreases-settle_entry g l = 4 * l.most + 2
+
+abbrev pub decreases-deepest : goal.decreases-deepest
+decreases-deepest g l = 4 * l.most + 1
+
+abbrev pub decreases-settle_included : goal.decreases-settle_included
+decreases-settle_included g l = 4 * l.most
+
+abbrev pub invariant-deepest-loop-slot : goal.invariant-deepest-loop-slot
+invariant-deepest-loop-slot g l =
+    (goal.iterator-deepest-loop-slot g).can_next l.slot-iterator
+    × (goal.iterator-deepest-loop-slot g).is_finite l.slot-iterator
+    × IsSearch (ids_of (g.S.Store.contents l.store)) (inclusions_of (g.S.Store.contents l.store)) l.fn.depths l.depths l.fn.id l.deepest l.most l.slot-iterator

@@ -1,0 +1,16 @@
+use Rattle.std.proofs.Common.{◌+◌, sym, subst, arith}
+use Rattle.vt_chains.specs.Depths.{ids_of, inclusions_of}
+use Rattle.vt_chains.proofs.Places.{within}
+use Rattle.vt_chains.proofs.Settling.{IsGrowing, growing_more}
+use Rattle.vt_chains.proofs.chains.chain_from.Goals as goal
+
+pub loop-step-preserved : goal.loop-step-preserved
+loop-step-preserved g c =
+    let m = g.S.Store.contents c.args.store.now in
+    let lt = c.loop-step-test.true in
+    let deep = c.next-place.ensures.deep in
+    let each = c.requires.found.each in
+    let inside = within (ids_of m) c.next-place.result _ c.entry-in-loop-step.ensures.stands in
+    subst (IsGrowing (ids_of m) (inclusions_of m) c.args.depths.now c.args.place c.next-place.result (c.loop-step.step + 1) c.args.count) (sym c.push-in-loop-step.ensures.items)
+    (growing_more (ids_of m) (inclusions_of m) c.args.depths.now c.args.place c.loop-step.place c.next-place.result c.loop-step.step c.args.count _ c.loop-step.chain.items lt
+    c.next-place.ensures.next (omega (arith, deep, lt)) (omega (arith, inside, each)) c.next-place.ensures.found c.entry-in-loop-step.ensures.stands c.loop-step.invariant)

@@ -1,0 +1,21 @@
+use Rattle.std.proofs.Common.{arith}
+use Rattle.std.specs.FinMap as finite
+use Rattle.vt_chains.specs.Depths.{ids_of, inclusions_of}
+use Rattle.vt_chains.proofs.Including.{sourced}
+use Rattle.vt_chains.proofs.Settling.{all_found, show_shallow}
+use Rattle.vt_chains.proofs.chains.find_depths.Goals as goal
+
+pub returns-clause-ok : goal.returns-clause-ok
+returns-clause-ok g c =
+    let m = g.S.Store.contents c.args.store.now in
+    let most = c.requires.most in
+    let end = c.loop-place-test.false in
+    let len = c.loop-place.auto.depths in
+    let all = c.loop-place.auto.place-end in
+    all_found (ids_of m) (inclusions_of m) c.loop-place.depths c.args.most (omega (arith, most)) c.loop-place.invariant.0
+    (λ place lt. c.loop-place.invariant.1 place (omega (arith, lt, end, len, all)))
+
+pub returns-clause-shallow : goal.returns-clause-shallow
+returns-clause-shallow g c =
+    let m = g.S.Store.contents c.args.store.now in
+    show_shallow (ids_of m) (inclusions_of m) c.args.most c.loop-place.depths (sourced (finite.entries m)) (returns-clause-ok g c)

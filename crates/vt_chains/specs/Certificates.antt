@@ -1,0 +1,41 @@
+-- The certificate that no chain of inclusions is too long: a level for each object, which falls with each inclusion
+-- (docs/PROFILE.md, "Inclusions and chains").
+use Rattle.std.specs.Prelude.{◌≡◌, ◌≤◌, ◌⊎◌, ℕ, List, length, slice_index, Contains}
+use Rattle.vt_stores.specs.Stores.{Contents}
+use Rattle.vt_chains.specs.Depths.{ids_of, inclusions_of, Stands, IsBelow, IsClosed}
+use Rattle.vt_chains.specs.Inclusions.{IsShallow}
+use Rattle.vt_chains.specs.Limits.{terminal}
+use Rattle.vt_chains.specs.declared.levels.Levels.{Levels}
+
+-- What is included is there, at a lower level, and no level is above the most inclusions in a row.
+pub record IsCertificate (ids : List ℕ) (included : ℕ → List ℕ) (levels : List ℕ) : Type 0 where
+  pub each : length levels ≡ length ids
+  pub within : (place : ℕ) → slice_index levels place ≤ terminal.inclusions
+  pub falls : (place id : ℕ) → Stands ids place id → (other : ℕ) → Contains (included id) other → IsBelow ids levels other (slice_index levels place)
+
+-- a certificate but for one inclusion, of which the level may not fall
+pub record IsCertificateBut (ids : List ℕ) (included : ℕ → List ℕ) (levels : List ℕ) (from to : ℕ) : Type 0 where
+  pub each : length levels ≡ length ids
+  pub within : (place : ℕ) → slice_index levels place ≤ terminal.inclusions
+  pub falls : (place id : ℕ) → Stands ids place id → (other : ℕ) → Contains (included id) other
+      → IsBelow ids levels other (slice_index levels place) ⊎ ((id ≡ from) × (other ≡ to))
+  pub closed : IsClosed ids included
+
+-- a chain has more inclusions than the terminal allows
+abbrev pub HasLongChain : Contents → Type 0
+HasLongChain store = IsShallow terminal.inclusions (inclusions_of store) → ⊥
+
+-- the levels of a store, and room for as many others
+pub record AreLevels (store : Contents) (levels : Levels) : Type 0 where
+  pub certificate : IsCertificate (ids_of store) (inclusions_of store) levels.levels.items
+  pub room : length levels.spare.items ≡ length (ids_of store)
+
+-- those of a store but for one inclusion
+pub record AreLevelsBut (store : Contents) (levels : Levels) (from to : ℕ) : Type 0 where
+  pub certificate : IsCertificateBut (ids_of store) (inclusions_of store) levels.levels.items from to
+  pub room : length levels.spare.items ≡ length (ids_of store)
+
+-- the same levels, and as much room
+pub record HasSameLevels (old new : Levels) : Type 0 where
+  pub levels : new.levels.items ≡ old.levels.items
+  pub room : length new.spare.items ≡ length old.spare.items

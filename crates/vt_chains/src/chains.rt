@@ -1,0 +1,218 @@
+//! Chains of inclusions.
+
+ghost use Rattle.std.specs.Prelude.{◌≡◌, ◌≢◌, ◌≤◌, ◌<◌, ◌+◌, ℕ, IfOk, IfErr, IfSome, IfNone, OnOk, length, slice_index, Contains, Some};
+ghost use Rattle.std.specs.FinMap as finite;
+ghost use Rattle.vt_kinds.specs.Records.{seen};
+ghost use Rattle.vt_stores.specs.Stores.{Objects};
+ghost use Rattle.vt_chains.specs.Inclusions.{IsShallow, IsTooDeep, includes};
+ghost use Rattle.vt_chains.specs.Depths.{ids_of, inclusions_of, Stands, IsAt, IsBelow, IsClosed, AreDepths, unset, IsDepth, AreFound, Keeps, BeginsChain, IncludesChain};
+
+use arrayvec::ArrayVec;
+use vt_kinds::{Object, ObjectId, Place, Slot, slots};
+use vt_stores::Store;
+
+/// The IDs of a chain, each of which includes the next: one more than 33 inclusions at most.
+pub type Chain = ArrayVec<ObjectId, 34>;
+
+/// No depth was found yet.
+const UNSET: u8 = 255;
+
+/// Finds for each object of a store, by rising ID, its depth: the most inclusions in a row that begin with it. Or else it
+/// answers a chain with one inclusion more than `most`; the depths are then of no use. Each object is looked at once.
+/// docs/PROFILE.md, "Inclusions and chains".
+pub fn find_depths<S: Store>(store: &S, depths: &mut [u8], most: u8) -> Result<(), Chain>
+    requires each { length depths.old ≡ length (ids_of (S.contents store.now)) }
+    requires closed { IsClosed (ids_of (S.contents store.now)) (inclusions_of (S.contents store.now)) }
+    requires most { most ≤ 32 }
+    ensures ok { OnOk result (AreDepths (ids_of (S.contents store.now)) (inclusions_of (S.contents store.now)) most depths.new) }
+    ensures shallow { OnOk result (IsShallow most (inclusions_of (S.contents store.now))) }
+    ensures err { IfErr result (λ chain. IsTooDeep most (inclusions_of (S.contents store.now)) chain.items) }
+{
+    depths.fill(UNSET);
+    for place in 0..depths.len() {
+        settle(store, depths, place, most)?;
+    }
+    Ok(())
+}
+
+/// Finds the depth of the object at a place, or a chain of one inclusion more than `most` that begins with it.
+#[cycle(settle)]
+fn settle<S: Store>(store: &S, depths: &mut [u8], place: usize, most: u8) -> Result<u8, Chain>
+    requires found { AreFound (ids_of (S.contents store.now)) (inclusions_of (S.contents store.now)) depths.old }
+    requires closed { IsClosed (ids_of (S.contents store.now)) (inclusions_of (S.contents store.now)) }
+    requires place { place < length depths.old }
+    requires most { most ≤ 32 }
+    ensures found { AreFound (ids_of (S.contents store.now)) (inclusions_of (S.contents store.now)) depths.new }
+    ensures keeps { Keeps depths.old depths.new }
+    ensures within { IfOk result (λ depth. depth ≤ most) }
+    ensures ok { IfOk result (λ depth. slice_index depths.new place ≡ depth) }
+    ensures err { IfErr result (λ chain. (id : ℕ) → Stands (ids_of (S.contents store.now)) place id → BeginsChain (inclusions_of (S.contents store.now)) id (most + 1) chain.items) }
+{
+    let depth = depths[place];
+    if depth == UNSET {
+        return settle_entry(store, depths, place, most);
+    }
+    if depth > most {
+        return Err(chain_from(store, depths, place, most + 1));
+    }
+    Ok(depth)
+}
+
+/// Finds the depth of the object at a place by those of what it includes.
+#[cycle(settle)]
+fn settle_entry<S: Store>(store: &S, depths: &mut [u8], place: usize, most: u8) -> Result<u8, Chain>
+    requires found { AreFound (ids_of (S.contents store.now)) (inclusions_of (S.contents store.now)) depths.old }
+    requires closed { IsClosed (ids_of (S.contents store.now)) (inclusions_of (S.contents store.now)) }
+    requires place { place < length depths.old }
+    requires most { most ≤ 32 }
+    ensures found { AreFound (ids_of (S.contents store.now)) (inclusions_of (S.contents store.now)) depths.new }
+    ensures keeps { Keeps depths.old depths.new }
+    ensures within { IfOk result (λ depth. depth ≤ most) }
+    ensures ok { IfOk result (λ depth. slice_index depths.new place ≡ depth) }
+    ensures err { IfErr result (λ chain. (id : ℕ) → Stands (ids_of (S.contents store.now)) place id → BeginsChain (inclusions_of (S.contents store.now)) id (most + 1) chain.items) }
+{
+    let (id, object) = entry(store, place);
+    match deepest(store, depths, id, object, most) {
+        Ok(depth) => {
+            depths[place] = depth;
+            Ok(depth)
+        }
+        Err(mut chain) => {
+            chain.insert(0, id);
+            Err(chain)
+        }
+    }
+}
+
+/// One more than the greatest depth of what an object includes, or a chain of `most` inclusions that begins with an ID
+/// that it includes.
+#[cycle(settle)]
+fn deepest<S: Store>(
+    store: &S,
+    depths: &mut [u8],
+    id: ObjectId,
+    object: &Object<Vec<u8>>,
+    most: u8,
+) -> Result<u8, Chain>
+    requires object { finite.get (S.contents store.now) id ≡ Some (seen object.now) }
+    requires found { AreFound (ids_of (S.contents store.now)) (inclusions_of (S.contents store.now)) depths.old }
+    requires closed { IsClosed (ids_of (S.contents store.now)) (inclusions_of (S.contents store.now)) }
+    requires most { most ≤ 32 }
+    ensures found { AreFound (ids_of (S.contents store.now)) (inclusions_of (S.contents store.now)) depths.new }
+    ensures keeps { Keeps depths.old depths.new }
+    ensures within { IfOk result (λ depth. depth ≤ most) }
+    ensures ok { IfOk result (IsDepth (ids_of (S.contents store.now)) (inclusions_of (S.contents store.now)) depths.new id) }
+    ensures err { IfErr result (λ chain. IncludesChain (inclusions_of (S.contents store.now)) id most chain.items) }
+{
+    let mut deepest = 0;
+    for slot in slots(object) {
+        if includes(&slot) {
+            let depth = settle_included(store, depths, slot.id, most)?;
+            deepest = deepest.max(depth + 1);
+        }
+    }
+    Ok(deepest)
+}
+
+/// Finds the depth of an ID that is included, less than `most`, or a chain of `most` inclusions that begins with it.
+#[cycle(settle)]
+fn settle_included<S: Store>(
+    store: &S,
+    depths: &mut [u8],
+    id: ObjectId,
+    most: u8,
+) -> Result<u8, Chain>
+    requires there { (place : ℕ) × Stands (ids_of (S.contents store.now)) place id }
+    requires found { AreFound (ids_of (S.contents store.now)) (inclusions_of (S.contents store.now)) depths.old }
+    requires closed { IsClosed (ids_of (S.contents store.now)) (inclusions_of (S.contents store.now)) }
+    requires most { most ≤ 32 }
+    ensures found { AreFound (ids_of (S.contents store.now)) (inclusions_of (S.contents store.now)) depths.new }
+    ensures keeps { Keeps depths.old depths.new }
+    ensures within { IfOk result (λ depth. depth < most) }
+    ensures ok { IfOk result (λ depth. IsAt (ids_of (S.contents store.now)) depths.new id depth) }
+    ensures err { IfErr result (λ chain. BeginsChain (inclusions_of (S.contents store.now)) id most chain.items) }
+{
+    if most == 0 {
+        let mut chain = ArrayVec::new();
+        chain.push(id);
+        return Err(chain);
+    }
+    settle(store, depths, place_of(store, id), most - 1)
+}
+
+/// The place of an ID that is there.
+fn place_of<S: Store>(store: &S, id: ObjectId) -> usize
+    requires { (place : ℕ) × Stands (ids_of (S.contents store.now)) place id }
+    ensures { Stands (ids_of (S.contents store.now)) result id }
+{
+    match store.place(id) {
+        Some(place) => place,
+        None => unreachable!(),
+    }
+}
+
+/// The object at a place, and its ID.
+pub fn entry<S: Store>(store: &S, place: usize) -> (ObjectId, &Object<Vec<u8>>)
+    requires { place < length (ids_of (S.contents store.now)) }
+    ensures stands { Stands (ids_of (S.contents store.now)) place result.0 }
+    ensures object { finite.get (S.contents store.now) result.0 ≡ Some (seen result.1.now) }
+{
+    match store.entry_at(place) {
+        Some(entry) => entry,
+        None => unreachable!(),
+    }
+}
+
+/// The chain of so many inclusions that begins with the object at a place, which is at least as deep.
+fn chain_from<S: Store>(store: &S, depths: &[u8], place: usize, count: u8) -> Chain
+    requires found { AreFound (ids_of (S.contents store.now)) (inclusions_of (S.contents store.now)) depths.now }
+    requires closed { IsClosed (ids_of (S.contents store.now)) (inclusions_of (S.contents store.now)) }
+    requires place { place < length depths.now }
+    requires is_found { slice_index depths.now place ≢ unset }
+    requires deep { count ≤ slice_index depths.now place }
+    requires count { count ≤ 33 }
+    ensures { (id : ℕ) → Stands (ids_of (S.contents store.now)) place id → BeginsChain (inclusions_of (S.contents store.now)) id count result.items }
+{
+    let mut chain = ArrayVec::new();
+    let mut place = place;
+    chain.push(entry(store, place).0);
+    for step in 0..count {
+        place = next(store, depths, place, count - 1 - step);
+        chain.push(entry(store, place).0);
+    }
+    chain
+}
+
+/// The place of an ID that is included by the object at a place, of at least this depth.
+fn next<S: Store>(store: &S, depths: &[u8], place: usize, depth: u8) -> usize
+    requires found { AreFound (ids_of (S.contents store.now)) (inclusions_of (S.contents store.now)) depths.now }
+    requires closed { IsClosed (ids_of (S.contents store.now)) (inclusions_of (S.contents store.now)) }
+    requires place { place < length depths.now }
+    requires is_found { slice_index depths.now place ≢ unset }
+    requires deep { depth < slice_index depths.now place }
+    ensures next { (id : ℕ) → Stands (ids_of (S.contents store.now)) place id → (other : ℕ) × Contains (inclusions_of (S.contents store.now) id) other × Stands (ids_of (S.contents store.now)) result other }
+    ensures deep { depth ≤ slice_index depths.now result }
+    ensures found { slice_index depths.now result ≢ unset }
+{
+    let (_, object) = entry(store, place);
+    for slot in slots(object) {
+        if includes(&slot) {
+            let next = place_of(store, slot.id);
+            if depths[next] >= depth {
+                return next;
+            }
+        }
+    }
+    unreachable!()
+}
+
+/// Whether the slot is an inclusion: a child, a key, an item, or the value of a pointer. NULL is none.
+fn includes(slot: &Slot) -> bool
+    ensures { result ≡ includes slot.now }
+{
+    let is_inclusion = matches!(
+        slot.place,
+        Place::Child(_) | Place::Key(_) | Place::Item(_) | Place::Value
+    );
+    is_inclusion && !slot.id.is_null()
+}

@@ -1,0 +1,63 @@
+-- The commands of an implement and their bytes (ISO 11783-6; docs/PROFILE.md, "Commands").
+use Rattle.std.specs.Prelude.{ℕ, ℤ, List, [], ◌∷◌, take, drop, length, nat_le, ◌==◌, ◌&&◌, if◌then◌else◌, Option, Some, None, slice_index}
+use Rattle.std.specs.Int.{w16, cast_signed}
+use Rattle.byteorder.specs.Endian.{little_number}
+use Rattle.vt_commands.specs.declared.command.Command.{Command}
+use Rattle.vt_commands.specs.declared.command.Command.TheVariants.{HideShow, EnableDisable, ControlAudio, SetVolume, ChangeChildLocation, ChangeSize, ChangeBackgroundColour, ChangeNumericValue, ChangeEndPoint, ChangeFontAttributes, ChangeLineAttributes, ChangeFillAttributes, ChangeActiveMask, ChangeSoftKeyMask, ChangeAttribute, ChangePriority, ChangeListItem, DeletePool, ChangeStringValue, ChangeChildPosition, ExecuteMacro}
+
+-- the byte at a place, and the numbers of two and four bytes from a place
+abbrev pub byte : List ℕ → ℕ → ℕ
+byte bytes place = slice_index bytes place
+
+abbrev pub word : List ℕ → ℕ → ℕ
+word bytes place = little_number 2 (drop place bytes)
+
+abbrev pub signed_word : List ℕ → ℕ → ℤ
+signed_word bytes place = cast_signed w16 (word bytes place)
+
+abbrev pub long : List ℕ → ℕ → ℕ
+long bytes place = little_number 4 (drop place bytes)
+
+-- A row of the table: the function of a command, the least number of its bytes, and what they say.
+pub record Row : Type 0 where
+  pub function : ℕ
+  pub least : ℕ
+  pub command : List ℕ → Command
+
+abbrev row : ℕ → ℕ → (List ℕ → Command) → Row
+row function least command = record { function = function; least = least; command = command }
+
+abbrev pub rows : List Row
+rows =
+    row 0xA0 8 (λ b. HideShow (word b 1) (byte b 3))
+    ∷ row 0xA1 8 (λ b. EnableDisable (word b 1) (byte b 3))
+    ∷ row 0xA3 8 (λ b. ControlAudio (byte b 1) (word b 2) (word b 4) (word b 6))
+    ∷ row 0xA4 8 (λ b. SetVolume (byte b 1))
+    ∷ row 0xA5 8 (λ b. ChangeChildLocation (word b 1) (word b 3) (byte b 5) (byte b 6))
+    ∷ row 0xA6 8 (λ b. ChangeSize (word b 1) (word b 3) (word b 5))
+    ∷ row 0xA7 8 (λ b. ChangeBackgroundColour (word b 1) (byte b 3))
+    ∷ row 0xA8 8 (λ b. ChangeNumericValue (word b 1) (long b 4))
+    ∷ row 0xA9 8 (λ b. ChangeEndPoint (word b 1) (word b 3) (word b 5) (byte b 7))
+    ∷ row 0xAA 8 (λ b. ChangeFontAttributes (word b 1) (byte b 3) (byte b 4) (byte b 5) (byte b 6))
+    ∷ row 0xAB 8 (λ b. ChangeLineAttributes (word b 1) (byte b 3) (byte b 4) (word b 5))
+    ∷ row 0xAC 8 (λ b. ChangeFillAttributes (word b 1) (byte b 3) (byte b 4) (word b 5))
+    ∷ row 0xAD 8 (λ b. ChangeActiveMask (word b 1) (word b 3))
+    ∷ row 0xAE 8 (λ b. ChangeSoftKeyMask (byte b 1) (word b 2) (word b 4))
+    ∷ row 0xAF 8 (λ b. ChangeAttribute (word b 1) (byte b 3) (long b 4))
+    ∷ row 0xB0 8 (λ b. ChangePriority (word b 1) (byte b 3))
+    ∷ row 0xB1 8 (λ b. ChangeListItem (word b 1) (byte b 3) (word b 4))
+    ∷ row 0xB2 8 (λ b. DeletePool)
+    ∷ row 0xB3 5 (λ b. ChangeStringValue (word b 1) (word b 3) (take (word b 3) (drop 5 b)))
+    ∷ row 0xB4 9 (λ b. ChangeChildPosition (word b 1) (word b 3) (signed_word b 5) (signed_word b 7))
+    ∷ row 0xBE 8 (λ b. ExecuteMacro (word b 1))
+    ∷ []
+
+-- the command of the row that has the function of the bytes, where they are at least as many
+abbrev pub command_among : List Row → List ℕ → Option Command
+command_among [] bytes = None
+command_among (r ∷ rs) bytes =
+    if byte bytes 0 == r.function && nat_le r.least (length bytes) then Some (r.command bytes) else command_among rs bytes
+
+-- The command that a message's bytes are, if they are one.
+abbrev pub command_at : List ℕ → Option Command
+command_at bytes = command_among rows bytes

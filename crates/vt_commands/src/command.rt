@@ -1,0 +1,300 @@
+//! The commands of an implement.
+
+ghost use Rattle.std.specs.Prelude.{◌≡◌, ◌≢◌, ◌≤◌, ◌+◌, length, ◌↔◌};
+ghost use Rattle.vt_commands.specs.Commands as commands;
+ghost use Rattle.vt_commands.specs.Commands.{command_at};
+
+use byteorder::{ByteOrder, LittleEndian};
+use vt_kinds::{LongText, ObjectId};
+
+/// A command that changes the objects of a working set. Its numbers are those of its bytes; none of them is
+/// tested yet.
+#[derive(Drop)]
+pub enum Command<'a> {
+    /// Hide (state 0) or show (state 1) a container, function A0.
+    HideShow {
+        id: ObjectId,
+        state: u8,
+    },
+    /// Disable (state 0) or enable (state 1) an input, function A1.
+    EnableDisable {
+        id: ObjectId,
+        state: u8,
+    },
+    /// Sound the audio signal, function A3: how often, in Hz, and for how many milliseconds on and off.
+    ControlAudio {
+        count: u8,
+        frequency: u16,
+        on: u16,
+        off: u16,
+    },
+    /// Set the volume in percent, function A4.
+    SetVolume {
+        volume: u8,
+    },
+    /// Move a child by dx and dy, each less 127 pixels, function A5.
+    ChangeChildLocation {
+        parent: ObjectId,
+        child: ObjectId,
+        dx: u8,
+        dy: u8,
+    },
+    /// Set width and height in pixels, function A6.
+    ChangeSize {
+        id: ObjectId,
+        width: u16,
+        height: u16,
+    },
+    /// Set the background colour, function A7.
+    ChangeBackgroundColour {
+        id: ObjectId,
+        colour: u8,
+    },
+    /// Set the value, function A8.
+    ChangeNumericValue {
+        id: ObjectId,
+        value: u32,
+    },
+    /// Set the end point of a line, function A9.
+    ChangeEndPoint {
+        id: ObjectId,
+        width: u16,
+        height: u16,
+        direction: u8,
+    },
+    /// Set the fields of a font, function AA.
+    ChangeFontAttributes {
+        id: ObjectId,
+        colour: u8,
+        size: u8,
+        font_type: u8,
+        style: u8,
+    },
+    /// Set the fields of line attributes, function AB.
+    ChangeLineAttributes {
+        id: ObjectId,
+        colour: u8,
+        width: u8,
+        line_art: u16,
+    },
+    /// Set the fields of fill attributes, function AC.
+    ChangeFillAttributes {
+        id: ObjectId,
+        fill_type: u8,
+        colour: u8,
+        pattern: ObjectId,
+    },
+    /// Show another mask of a working set, function AD.
+    ChangeActiveMask {
+        working_set: ObjectId,
+        mask: ObjectId,
+    },
+    /// Give a mask other soft keys, function AE. The type is 1 for a data mask and 2 for an alarm mask.
+    ChangeSoftKeyMask {
+        mask_type: u8,
+        mask: ObjectId,
+        keys: ObjectId,
+    },
+    /// Set the attribute of a number, function AF.
+    ChangeAttribute {
+        id: ObjectId,
+        number: u8,
+        value: u32,
+    },
+    /// Set the priority of an alarm mask, function B0.
+    ChangePriority {
+        id: ObjectId,
+        priority: u8,
+    },
+    /// Put an item in a list, function B1.
+    ChangeListItem {
+        id: ObjectId,
+        index: u8,
+        item: ObjectId,
+    },
+    /// Delete the object pool, function B2.
+    DeletePool,
+    /// Set a text, function B3: its first bytes, as many as its length says or as there are.
+    ChangeStringValue {
+        id: ObjectId,
+        length: u16,
+        text: LongText<&'a [u8]>,
+    },
+    /// Move a child to x and y, function B4.
+    ChangeChildPosition {
+        parent: ObjectId,
+        child: ObjectId,
+        x: i16,
+        y: i16,
+    },
+    /// Run a macro by its ID, function BE.
+    ExecuteMacro {
+        id: ObjectId,
+    },
+}
+
+impl<'a> Command<'a> {
+    /// The command that the bytes of a message are, or `None` where its function is none of a command's
+    /// or it is shorter than its command. Bytes that follow a command are ignored.
+    pub fn read(bytes: &'a [u8]) -> Option<Command<'a>>
+        ensures { result ≡ command_at bytes.now }
+    {
+        match *bytes.first()? {
+            0xB3 => string_value(bytes),
+            0xB4 => child_position(bytes),
+            _ => eight_bytes(bytes),
+        }
+    }
+}
+
+/// Change String Value, where there are five bytes.
+fn string_value<'a>(bytes: &'a [u8]) -> Option<Command<'a>>
+    ensures { commands.byte bytes.now 0 ≡ 0xB3 → result ≡ command_at bytes.now }
+{
+    if bytes.len() < 5 {
+        return None;
+    }
+    let (front, text) = bytes.split_at(5);
+    let length = word(front, 3);
+    let count = text.len().min(usize::from(length));
+    Some(Command::ChangeStringValue {
+        id: id(front, 1),
+        length,
+        text: LongText::new(&text[..count]),
+    })
+}
+
+/// Change Child Position, where there are nine bytes.
+fn child_position<'a>(bytes: &[u8]) -> Option<Command<'a>>
+    ensures { commands.byte bytes.now 0 ≡ 0xB4 → result ≡ command_at bytes.now }
+{
+    if bytes.len() < 9 {
+        return None;
+    }
+    Some(Command::ChangeChildPosition {
+        parent: id(bytes, 1),
+        child: id(bytes, 3),
+        x: word(bytes, 5).cast_signed(),
+        y: word(bytes, 7).cast_signed(),
+    })
+}
+
+/// The commands of eight bytes, where there are as many.
+fn eight_bytes<'a>(bytes: &[u8]) -> Option<Command<'a>>
+    ensures { commands.byte bytes.now 0 ≢ 0xB3 → commands.byte bytes.now 0 ≢ 0xB4 → result ≡ command_at bytes.now }
+{
+    if bytes.len() < 8 {
+        return None;
+    }
+    match bytes[0] {
+        0xA0 => Some(Command::HideShow {
+            id: id(bytes, 1),
+            state: bytes[3],
+        }),
+        0xA1 => Some(Command::EnableDisable {
+            id: id(bytes, 1),
+            state: bytes[3],
+        }),
+        0xA3 => Some(Command::ControlAudio {
+            count: bytes[1],
+            frequency: word(bytes, 2),
+            on: word(bytes, 4),
+            off: word(bytes, 6),
+        }),
+        0xA4 => Some(Command::SetVolume { volume: bytes[1] }),
+        0xA5 => Some(Command::ChangeChildLocation {
+            parent: id(bytes, 1),
+            child: id(bytes, 3),
+            dx: bytes[5],
+            dy: bytes[6],
+        }),
+        0xA6 => Some(Command::ChangeSize {
+            id: id(bytes, 1),
+            width: word(bytes, 3),
+            height: word(bytes, 5),
+        }),
+        0xA7 => Some(Command::ChangeBackgroundColour {
+            id: id(bytes, 1),
+            colour: bytes[3],
+        }),
+        0xA8 => Some(Command::ChangeNumericValue {
+            id: id(bytes, 1),
+            value: long(bytes, 4),
+        }),
+        0xA9 => Some(Command::ChangeEndPoint {
+            id: id(bytes, 1),
+            width: word(bytes, 3),
+            height: word(bytes, 5),
+            direction: bytes[7],
+        }),
+        0xAA => Some(Command::ChangeFontAttributes {
+            id: id(bytes, 1),
+            colour: bytes[3],
+            size: bytes[4],
+            font_type: bytes[5],
+            style: bytes[6],
+        }),
+        0xAB => Some(Command::ChangeLineAttributes {
+            id: id(bytes, 1),
+            colour: bytes[3],
+            width: bytes[4],
+            line_art: word(bytes, 5),
+        }),
+        0xAC => Some(Command::ChangeFillAttributes {
+            id: id(bytes, 1),
+            fill_type: bytes[3],
+            colour: bytes[4],
+            pattern: id(bytes, 5),
+        }),
+        0xAD => Some(Command::ChangeActiveMask {
+            working_set: id(bytes, 1),
+            mask: id(bytes, 3),
+        }),
+        0xAE => Some(Command::ChangeSoftKeyMask {
+            mask_type: bytes[1],
+            mask: id(bytes, 2),
+            keys: id(bytes, 4),
+        }),
+        0xAF => Some(Command::ChangeAttribute {
+            id: id(bytes, 1),
+            number: bytes[3],
+            value: long(bytes, 4),
+        }),
+        0xB0 => Some(Command::ChangePriority {
+            id: id(bytes, 1),
+            priority: bytes[3],
+        }),
+        0xB1 => Some(Command::ChangeListItem {
+            id: id(bytes, 1),
+            index: bytes[3],
+            item: id(bytes, 4),
+        }),
+        0xB2 => Some(Command::DeletePool),
+        0xBE => Some(Command::ExecuteMacro { id: id(bytes, 1) }),
+        _ => None,
+    }
+}
+
+/// The ID at a place.
+fn id(bytes: &[u8], place: usize) -> ObjectId
+    requires { place + 2 ≤ length bytes.now }
+    ensures { result ≡ commands.word bytes.now place }
+{
+    ObjectId::from_raw(word(bytes, place))
+}
+
+/// The number of two bytes at a place.
+fn word(bytes: &[u8], place: usize) -> u16
+    requires { place + 2 ≤ length bytes.now }
+    ensures { result ≡ commands.word bytes.now place }
+{
+    LittleEndian::read_u16(&bytes[place..])
+}
+
+/// The number of four bytes at a place.
+fn long(bytes: &[u8], place: usize) -> u32
+    requires { place + 4 ≤ length bytes.now }
+    ensures { result ≡ commands.long bytes.now place }
+{
+    LittleEndian::read_u32(&bytes[place..])
+}

@@ -1,0 +1,25 @@
+//! The commands of an ISOBUS virtual terminal (ISO 11783-6): their bytes, what they name, the attributes that they write and the
+//! events that they raise.
+//!
+//! - `Command` is read from its bytes; `split_command` takes one command off the bytes of a macro.
+//! - `targets` gives each `Target` that a command names, `attribute` the `Attribute` of a number, and `row_events` each `Event` that is
+//!   `Raised` by a command.
+//! - `laws` has what the definitions come to.
+//!
+//! docs/PROFILE.md has the tables: "Commands" for the bytes of the commands, "Attributes" for what Change Attribute writes.
+#![tactic(auto)]
+
+mod attributes;
+mod command;
+mod event;
+pub mod laws;
+mod pieces;
+mod raising;
+mod target;
+
+pub use attributes::attribute;
+pub use command::Command;
+pub use event::Event;
+pub use pieces::split_command;
+pub use raising::{Raised, row_events};
+pub use target::{Target, targets};

@@ -1,0 +1,148 @@
+//! What the commands of macros name.
+
+ghost use Rattle.std.specs.Prelude.{◌≡◌, ◌++◌, Some};
+ghost use Rattle.std.specs.Option.{option_to_list};
+ghost use Rattle.vt_commands.specs.Targets.{object, object_or_null, object_of, pointer_value, attribute_target, targets};
+
+use crate::attributes::attribute;
+use crate::command::Command;
+use vt_kinds::{Kind, Kinds, ObjectId, ValueType};
+
+/// An ID that a command names, and what has to stand there where the command is in a macro.
+#[derive(Clone, Copy, Debug, PartialEq, Eq)]
+pub struct Target {
+    /// The ID, or NULL.
+    pub id: ObjectId,
+    /// Whether it may be NULL.
+    pub may_be_null: bool,
+    /// The kinds that may stand there.
+    pub kinds: Kinds,
+}
+
+impl<'a> Command<'a> {
+    /// The object that the command is for: the one that it changes, or the macro that it runs. The first ID that it
+    /// names, if it names any.
+    pub fn object(&self) -> Option<ObjectId>
+        ensures { result ≡ object_of self.now }
+    {
+        match *self {
+            Command::ControlAudio { .. } | Command::SetVolume { .. } | Command::DeletePool => None,
+            Command::ChangeChildLocation { parent, .. }
+            | Command::ChangeChildPosition { parent, .. } => Some(parent),
+            Command::ChangeActiveMask { working_set, .. } => Some(working_set),
+            Command::ChangeSoftKeyMask { mask, .. } => Some(mask),
+            Command::HideShow { id, .. }
+            | Command::EnableDisable { id, .. }
+            | Command::ChangeSize { id, .. }
+            | Command::ChangeBackgroundColour { id, .. }
+            | Command::ChangeNumericValue { id, .. }
+            | Command::ChangeEndPoint { id, .. }
+            | Command::ChangeFontAttributes { id, .. }
+            | Command::ChangeLineAttributes { id, .. }
+            | Command::ChangeFillAttributes { id, .. }
+            | Command::ChangeAttribute { id, .. }
+            | Command::ChangePriority { id, .. }
+            | Command::ChangeListItem { id, .. }
+            | Command::ChangeStringValue { id, .. }
+            | Command::ExecuteMacro { id } => Some(id),
+        }
+    }
+}
+
+/// The IDs that a command names, in the order of its bytes: two at most. Whether a value is one depends on `kind`, the
+/// kind of the object that the command is for, if that is there (docs/PROFILE.md, "Commands in macros").
+pub fn targets(command: &Command<'_>, kind: Option<Kind>) -> (Option<Target>, Option<Target>)
+    ensures { targets kind command.now ≡ option_to_list result.0 ++ option_to_list result.1 }
+{
+    match *command {
+        Command::HideShow { id, .. } => (object(id, Kinds::Containers), None),
+        Command::EnableDisable { id, .. } => (object(id, Kinds::Inputs), None),
+        Command::ControlAudio { .. } | Command::SetVolume { .. } | Command::DeletePool => {
+            (None, None)
+        }
+        Command::ChangeChildLocation { parent, child, .. }
+        | Command::ChangeChildPosition { parent, child, .. } => {
+            (object(parent, Kinds::Parents), object(child, Kinds::Drawn))
+        }
+        Command::ChangeSize { id, .. } => (object(id, Kinds::Sized), None),
+        Command::ChangeBackgroundColour { id, .. } => (object(id, Kinds::Coloured), None),
+        Command::ChangeNumericValue { id, value } => {
+            (object(id, Kinds::Numeric), pointer_value(kind, value))
+        }
+        Command::ChangeEndPoint { id, .. } => (object(id, Kinds::Lines), None),
+        Command::ChangeFontAttributes { id, .. } => (object(id, Kinds::Fonts), None),
+        Command::ChangeLineAttributes { id, .. } => (object(id, Kinds::LineAttributes), None),
+        Command::ChangeFillAttributes { id, pattern, .. } => (
+            object(id, Kinds::FillAttributes),
+            object_or_null(pattern, Kinds::Pictures),
+        ),
+        Command::ChangeActiveMask { working_set, mask } => (
+            object(working_set, Kinds::WorkingSets),
+            object(mask, Kinds::Masks),
+        ),
+        Command::ChangeSoftKeyMask { mask, keys, .. } => (
+            object(mask, Kinds::Masks),
+            object_or_null(keys, Kinds::SoftKeyMasks),
+        ),
+        Command::ChangeAttribute { id, number, value } => (
+            object(id, Kinds::WithAttributes),
+            attribute_target(kind, number, value),
+        ),
+        Command::ChangePriority { id, .. } => (object(id, Kinds::AlarmMasks), None),
+        Command::ChangeListItem { id, item, .. } => (
+            object(id, Kinds::InputLists),
+            object_or_null(item, Kinds::Drawn),
+        ),
+        Command::ChangeStringValue { id, .. } => (object(id, Kinds::Texts), None),
+        Command::ExecuteMacro { id } => (object(id, Kinds::Macros), None),
+    }
+}
+
+fn object(id: ObjectId, kinds: Kinds) -> Option<Target>
+    ensures { result ≡ Some (object id kinds) }
+{
+    Some(Target {
+        id,
+        may_be_null: false,
+        kinds,
+    })
+}
+
+fn object_or_null(id: ObjectId, kinds: Kinds) -> Option<Target>
+    ensures { result ≡ Some (object_or_null id kinds) }
+{
+    Some(Target {
+        id,
+        may_be_null: true,
+        kinds,
+    })
+}
+
+/// The value that Change Numeric Value gives a pointer.
+fn pointer_value(kind: Option<Kind>, value: u32) -> Option<Target>
+    ensures { option_to_list result ≡ pointer_value kind value }
+{
+    match kind? {
+        Kind::ObjectPointer => {
+            let named = ObjectId::from_raw((value % 65_536) as u16);
+            object_or_null(named, Kinds::AllButPointers)
+        }
+        _ => None,
+    }
+}
+
+/// The value that Change Attribute gives an attribute that is a reference.
+fn attribute_target(kind: Option<Kind>, number: u8, value: u32) -> Option<Target>
+    ensures { option_to_list result ≡ attribute_target kind number value }
+{
+    let kind = kind?;
+    let value_type = attribute(kind, number)?.value_type;
+    match value_type {
+        ValueType::Reference(place) => Some(Target {
+            id: ObjectId::from_raw(value_type.lowest(value) as u16),
+            may_be_null: place.allows_null(),
+            kinds: place.kinds(kind),
+        }),
+        _ => None,
+    }
+}

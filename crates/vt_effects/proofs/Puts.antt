@@ -1,0 +1,41 @@
+-- What a write through a store leaves, where the object's new value is what a command makes of it.
+use Rattle.std.proofs.Common.{◌≡◌, ℕ, Bool, true, false, cond, eqb, Option, Some, Result, Ok, Err, refl, sym, ap, subst, ◌∙◌}
+use Rattle.std.proofs.lemmas.Bool.{eqb-true}
+use Rattle.std.specs.Cmp.{unsigned_tied, nat_cmp_total}
+use Rattle.std.specs.FinMap as finite
+use Rattle.vt_kinds.specs.declared.kind.Kind.{Kind}
+use Rattle.vt_commands.specs.declared.command.Command.{Command}
+use Rattle.vt_kinds.specs.Records.{Seen}
+use Rattle.vt_stores.specs.Stores.{Contents, replaced, with_object}
+use Rattle.vt_effects.specs.Changes.{left, changed, Answers}
+use Rattle.vt_effects.specs.Effects.{put, changed_at, changed_in}
+
+at_key : (m : Contents) (id q : ℕ) (o : Seen) (b : Bool) → eqb q id ≡ b → finite.get m id ≡ Some o → cond b (Some o) (finite.get m q) ≡ finite.get m q
+at_key m id q o true same at = sym at ∙ ap (finite.get m) (sym (eqb-true q id same))
+at_key m id q o false other at = refl
+
+-- to put an object where it stands changes nothing
+pub insert-same : (m : Contents) (id : ℕ) (o : Seen) → finite.get m id ≡ Some o → finite.insert m id o ≡ m
+insert-same m id o at = finite.same_map nat_cmp_total finite.nat_cmp-IsAntisymmetric _ _ (λ q.
+    finite.get-insert nat_cmp_total m id o q ∙ ap (λ b. cond b (Some o) (finite.get m q)) (unsigned_tied q id) ∙ at_key m id q o (eqb q id) refl at)
+
+settled : (m : Contents) (id : ℕ) (old : Seen) (made : Result Seen ℕ) → finite.get m id ≡ Some old → finite.insert m id (left old made) ≡ left m (put m id made)
+settled m id old (Ok o) at = refl
+settled m id old (Err error) at = insert-same m id old at
+
+pub put_left : (m after : Contents) (id : ℕ) (command : Command) (named : Option Kind) (old new : Seen) → Some old ≡ finite.get m id
+    → after ≡ with_object m id new → new ≡ left old (changed command named old) → after ≡ left m (changed_in m id command named)
+put_left m after id command named old new at wrote is =
+    wrote ∙ ap (λ (f : Option Seen). replaced f m id new) (sym at) ∙ ap (finite.insert m id) is
+    ∙ settled m id old (changed command named old) (sym at)
+    ∙ ap (λ (f : Option Seen). left m (changed_at m id command named f)) at
+
+answers_put : (r : Result (Unit {0}) ℕ) (m : Contents) (id : ℕ) (made : Result Seen ℕ) → Answers r made → Answers r (put m id made)
+answers_put (Ok done) m id (Ok o) is = tt
+answers_put (Err error) m id (Err other) is = is
+answers_put (Ok done) m id (Err other) is = is
+answers_put (Err error) m id (Ok o) is = is
+
+pub put_answers : (r : Result (Unit {0}) ℕ) (m : Contents) (id : ℕ) (command : Command) (named : Option Kind) (old : Seen) → Some old ≡ finite.get m id
+    → Answers r (changed command named old) → Answers r (changed_in m id command named)
+put_answers r m id command named old at is = subst (λ (f : Option Seen). Answers r (changed_at m id command named f)) at (answers_put r m id (changed command named old) is)

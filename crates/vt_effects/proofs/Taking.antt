@@ -1,0 +1,80 @@
+-- What a field takes, as a test.
+use Rattle.std.proofs.Common.{◌≡◌, ◌≢◌, inl, inr, ℕ, ◌^◌, ◌%◌, Bool, true, false, cond, Option, Some, None, is_some, refl, sym, subst}
+use Rattle.std.proofs.lemmas.Bool.{eqb-true, eq-eqb, le-leb, leb-true}
+use Rattle.std.specs.Prelude.{IsTrue, ◌==◌}
+use Rattle.vt_kinds.specs.declared.kind.Kind.{Kind}
+use Rattle.vt_kinds.specs.declared.kinds.Kinds.{Kinds}
+use Rattle.vt_kinds.specs.declared.place.Place.{Place}
+use Rattle.vt_kinds.specs.declared.scale.Scale.{Scale}
+use Rattle.vt_kinds.specs.declared.scale.Scale.TheVariants.{One, Tenth, Hundredth, Thousandth}
+use Rattle.vt_kinds.specs.declared.fields.ValueType.{ValueType}
+use Rattle.vt_kinds.specs.declared.fields.ValueType.TheVariants as types
+use Rattle.vt_kinds.specs.Scales.{scale_number, scale_at, IsScale}
+use Rattle.vt_kinds.specs.References.{members, allowed, may_be_null}
+use Rattle.vt_kinds.specs.Attributes.{Accepts, MayStand, IsAmong, lowest}
+use Rattle.vt_effects.specs.Fields.{word}
+use Rattle.vt_effects.specs.Changes.{takes, is_one_of}
+
+-- two tests that are passed alike
+pub alike : (a b : Bool) → (IsTrue a → IsTrue b) → (IsTrue b → IsTrue a) → a ≡ b
+alike true true there back = refl
+alike false false there back = refl
+alike true false there back = sym (there refl)
+alike false true there back = back refl
+
+-- ---- references
+
+is_among : (kinds : Kinds) (named : Option Kind) → IsTrue (is_one_of kinds named) → IsAmong (members kinds) named
+is_among kinds None is = absurd cc
+is_among kinds (Some kind) is = is
+
+is_one : (kinds : Kinds) (named : Option Kind) → IsAmong (members kinds) named → IsTrue (is_one_of kinds named)
+is_one kinds None is = absurd is
+is_one kinds (Some kind) is = is
+
+stands : (kind : Kind) (place : Place) (id : ℕ) (named : Option Kind) (d : Bool) → (id == 0xFFFF) ≡ d
+    → IsTrue (cond d (may_be_null place) (is_one_of (allowed kind place) named)) → MayStand kind place id named
+stands kind place id named true null is = inl (eqb-true id 0xFFFF null, is)
+stands kind place id named false null is = inr (other, is_among (allowed kind place) named is)
+  where
+    other : id ≢ 0xFFFF
+    other e = let same : (id == 0xFFFF) ≡ true = eq-eqb id 0xFFFF e in absurd cc
+
+may : (kind : Kind) (place : Place) (id : ℕ) (named : Option Kind) (d : Bool) → (id == 0xFFFF) ≡ d
+    → MayStand kind place id named → IsTrue (cond d (may_be_null place) (is_one_of (allowed kind place) named))
+may kind place id named true null (inl is) = is.1
+may kind place id named true null (inr is) = absurd (is.0 (eqb-true id 0xFFFF null))
+may kind place id named false null (inl is) = let same : (id == 0xFFFF) ≡ true = eq-eqb id 0xFFFF is.0 in absurd cc
+may kind place id named false null (inr is) = is_one (allowed kind place) named is.1
+
+-- ---- scales
+
+one_more : (n : ℕ) (s : Scale) (rest : Option Scale) (d : Bool) → (n == scale_number s) ≡ d → (is_some rest ≡ true → IsScale n)
+    → is_some (cond d (Some s) rest) ≡ true → IsScale n
+one_more n s rest true same later is = (s, eqb-true n (scale_number s) same)
+one_more n s rest false same later is = later is
+
+is_scale : (n : ℕ) → is_some (scale_at n) ≡ true → IsScale n
+is_scale n is =
+    one_more n One _ _ refl (one_more n Tenth _ _ refl (one_more n Hundredth _ _ refl (one_more n Thousandth _ _ refl (λ never. absurd cc)))) is
+
+scale_is : (n : ℕ) (s : Scale) → n ≡ scale_number s → is_some (scale_at n) ≡ true
+scale_is n One e = subst (λ (m : ℕ). is_some (scale_at m) ≡ true) (sym e) refl
+scale_is n Tenth e = subst (λ (m : ℕ). is_some (scale_at m) ≡ true) (sym e) refl
+scale_is n Hundredth e = subst (λ (m : ℕ). is_some (scale_at m) ≡ true) (sym e) refl
+scale_is n Thousandth e = subst (λ (m : ℕ). is_some (scale_at m) ≡ true) (sym e) refl
+
+-- ---- all
+
+pub takes_is : (kind : Kind) (sort : ValueType) (n : ℕ) (named : Option Kind) (b : Bool) → n % 2 ^ 32 ≡ n → (IsTrue b → Accepts kind sort (lowest sort n) named)
+    → (Accepts kind sort (lowest sort n) named → IsTrue b) → b ≡ takes kind sort n named
+takes_is kind types.Byte n named b fits there back = back tt
+takes_is kind types.Word n named b fits there back = back tt
+takes_is kind types.Long n named b fits there back = back tt
+takes_is kind types.SignedLong n named b fits there back = back tt
+takes_is kind (types.Reference place) n named b fits there back =
+    alike b _ (λ is. may kind place (word n) named (word n == 0xFFFF) refl (there is)) (λ is. back (stands kind place (word n) named (word n == 0xFFFF) refl is))
+takes_is kind types.Priority n named b fits there back = alike b _ (λ is. le-leb (n % 256) 2 (there is)) (λ is. back (leb-true (n % 256) 2 is))
+takes_is kind types.Scale n named b fits there back =
+    alike b _ (λ is. subst (λ (m : ℕ). is_some (scale_at m) ≡ true) fits (scale_is (n % 2 ^ 32) (there is).0 (there is).1)) (λ is. back (is_scale (n % 2 ^ 32) (subst (λ (m : ℕ). is_some (scale_at m) ≡ true) (sym fits) is)))
+takes_is kind types.Decimals n named b fits there back = alike b _ (λ is. le-leb (n % 256) 7 (there is)) (λ is. back (leb-true (n % 256) 7 is))

@@ -1,0 +1,5 @@
+use Rattle.vt_effects.proofs.Keeping.{changes_keep}
+use Rattle.vt_effects.proofs.laws.changes_keep.Goals as goal
+
+pub returns : goal.returns
+returns c = changes_keep

@@ -1,0 +1,5 @@
+use Rattle.vt_effects.proofs.KeepingOrder.{commands_keep_order}
+use Rattle.vt_effects.proofs.laws.commands_keep_order.Goals as goal
+
+pub returns : goal.returns
+returns c = commands_keep_order

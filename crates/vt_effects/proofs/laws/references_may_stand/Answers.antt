@@ -1,0 +1,5 @@
+use Rattle.vt_effects.proofs.Written.{references_written}
+use Rattle.vt_effects.proofs.laws.references_may_stand.Goals as goal
+
+pub returns : goal.returns
+returns c = references_written

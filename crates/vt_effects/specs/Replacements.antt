@@ -1,0 +1,55 @@
+-- Commands that put another ID in the place of one that an object includes: the value of a pointer, or an item of a list
+-- (docs/PROFILE.md, "Inclusions and chains").
+use Rattle.std.specs.Prelude.{◌≡◌, ℕ, Bool, true, false, not, ◌==◌, ◌||◌, if◌then◌else◌, set, slice_get, Option, Some, None}
+use Rattle.std.specs.Option.{option_map}
+use Rattle.std.specs.FinMap as finite
+use Rattle.vt_kinds.specs.declared.slot.Slot.{Slot}
+use Rattle.vt_kinds.specs.declared.object.Object.TheVariants as objects
+use Rattle.vt_commands.specs.declared.command.Command.{Command}
+use Rattle.vt_commands.specs.declared.command.Command.TheVariants.{ChangeNumericValue, ChangeAttribute, ChangeListItem}
+use Rattle.vt_kinds.specs.Records.{Seen}
+use Rattle.vt_stores.specs.Stores.{Contents}
+use Rattle.vt_effects.specs.declared.pointers.Pointed.{Pointed}
+use Rattle.vt_effects.specs.declared.replacements.Replacement.{Replacement}
+use Rattle.vt_effects.specs.Changes.{is_one_of}
+use Rattle.vt_effects.specs.Fields.{word}
+use Rattle.vt_effects.specs.Effects.{kind_in, pointer_value, places_allow, value_drawn}
+
+-- the item at an index of a list
+abbrev pub item_at : ℕ → Option Seen → Option ℕ
+item_at index (Some (objects.InputList o)) = slice_get o.items index
+item_at index _ = None
+
+abbrev pub replacement : ℕ → ℕ → ℕ → Replacement
+replacement holder after before = record { holder = holder; before = before; after = after }
+
+-- what a command replaces, if it does
+abbrev pub replaced : Contents → Command → Option Replacement
+replaced store (ChangeNumericValue id value) = option_map (replacement id (word value)) (pointer_value (finite.get store id))
+replaced store (ChangeAttribute id number value) = option_map (replacement id (word value)) (pointer_value (finite.get store id))
+replaced store (ChangeListItem id index item) = option_map (replacement id item) (item_at index (finite.get store id))
+replaced store command = None
+
+-- the ID fits wherever it is to stand, and a pointer's value wherever the pointer stands
+abbrev pub fits : Contents → Command → Bool
+fits store (ChangeNumericValue id value) = places_allow store id (word value)
+fits store (ChangeAttribute id number value) = places_allow store id (word value)
+fits store (ChangeListItem id index item) = value_drawn store (pointer_value (finite.get store item))
+fits store command = true
+
+-- a slot allows the value of a pointer, where it names the pointer
+abbrev pub slot_allows : Pointed → Slot → Bool
+slot_allows p slot = not (slot.id == p.pointer) || (if p.value == 0xFFFF then true else is_one_of slot.kinds p.kind)
+
+-- the value that a pointer has is of the kind of another one
+pub record IsOfThatKind (store : Contents) (p : Pointed) : Type 0 where
+  pub value : ℕ
+  pub held : pointer_value (finite.get store p.pointer) ≡ Some value
+  pub there : (value == 0xFFFF) ≡ false
+  pub same : kind_in store value ≡ p.kind
+
+-- an object with the ID put back that was replaced
+abbrev pub restored : Command → ℕ → Seen → Seen
+restored (ChangeListItem id index item) before (objects.InputList o) = objects.InputList (record o { items = set o.items index before })
+restored command before (objects.ObjectPointer o) = objects.ObjectPointer (record o { value = before })
+restored command before o = o

@@ -1,0 +1,94 @@
+//! What commands make of the objects that they are for.
+
+ghost use Rattle.std.specs.Prelude.{◌≡◌};
+ghost use Rattle.vt_kinds.specs.Records.{seen};
+ghost use Rattle.vt_effects.specs.Changes.{Answers, left, changed};
+
+mod attribute_objects;
+mod attributes;
+mod children;
+mod masks;
+mod sizes;
+mod states;
+mod texts;
+mod values;
+
+use attribute_objects::{change_fill_attributes, change_font, change_line_attributes};
+use attributes::{change_attribute, execute_macro};
+use children::{change_location, change_position};
+use masks::{change_active_mask, change_priority, change_soft_key_mask};
+use sizes::{change_colour, change_end_point, change_size};
+use states::{enable_disable, hide_show};
+use texts::change_text;
+use values::{change_item, change_value};
+use vt_commands::Command;
+use vt_kinds::{Child, Kind, Object};
+
+/// Makes of an object what a command says, where the command is for this object. `named` is the kind of the object of the
+/// other ID that the command names, if that is there. A refusal is the error byte of the command's reply, with the bit of the
+/// first test that fails, and leaves the object as it was (ISO 11783-6; docs/PROFILE.md, "Commands: all rows").
+pub fn change(
+    object: &mut Object<Vec<u8>>,
+    command: &Command<'_>,
+    named: Option<Kind>,
+) -> Result<(), u8>
+    ensures result { Answers result (changed command.now named (seen object.old)) }
+    ensures object { seen object.new ≡ left (seen object.old) (changed command.now named (seen object.old)) }
+{
+    match *command {
+        Command::HideShow { state, .. } => hide_show(object, state),
+        Command::EnableDisable { state, .. } => enable_disable(object, state),
+        Command::ChangeChildLocation { child, dx, dy, .. } => {
+            change_location(object, named, child, dx, dy)
+        }
+        Command::ChangeSize { width, height, .. } => change_size(object, width, height),
+        Command::ChangeBackgroundColour { colour, .. } => change_colour(object, colour),
+        Command::ChangeNumericValue { value, .. } => change_value(object, named, value),
+        Command::ChangeEndPoint {
+            width,
+            height,
+            direction,
+            ..
+        } => change_end_point(object, width, height, direction),
+        Command::ChangeFontAttributes {
+            colour,
+            size,
+            font_type,
+            style,
+            ..
+        } => change_font(object, colour, size, font_type, style),
+        Command::ChangeLineAttributes {
+            colour,
+            width,
+            line_art,
+            ..
+        } => change_line_attributes(object, colour, width, line_art),
+        Command::ChangeFillAttributes {
+            fill_type,
+            colour,
+            pattern,
+            ..
+        } => change_fill_attributes(object, named, fill_type, colour, pattern),
+        Command::ChangeActiveMask { mask, .. } => change_active_mask(object, named, mask),
+        Command::ChangeSoftKeyMask {
+            mask_type,
+            keys,
+            ..
+        } => change_soft_key_mask(object, named, mask_type, keys),
+        Command::ChangeAttribute { number, value, .. } => {
+            change_attribute(object, named, number, value)
+        }
+        Command::ChangePriority { priority, .. } => change_priority(object, priority),
+        Command::ChangeListItem { index, item, .. } => change_item(object, named, index, item),
+        Command::ChangeStringValue {
+            length,
+            ref text,
+            ..
+        } => change_text(object, length, text.as_slice()),
+        Command::ChangeChildPosition { child, x, y, .. } => {
+            change_position(object, named, &Child { id: child, x, y })
+        }
+        Command::ExecuteMacro { id } => execute_macro(object, id),
+        Command::ControlAudio { .. } | Command::SetVolume { .. } | Command::DeletePool => Ok(()),
+    }
+}

@@ -1,0 +1,56 @@
+//! Change Attribute and Execute Macro.
+
+ghost use Rattle.std.specs.Prelude.{◌≡◌};
+ghost use Rattle.vt_kinds.specs.Records.{seen};
+ghost use Rattle.vt_effects.specs.Changes as changes;
+ghost use Rattle.vt_effects.specs.Changes.{Answers, left};
+
+use crate::attributes::write_field;
+use vt_commands::attribute;
+use vt_kinds::{Kind, Kinds, Object, ObjectId, ValueType};
+
+/// Sets the attribute of a number. `named` is the kind of the object that the two lowest bytes of the value name, if that is
+/// there.
+pub(crate) fn change_attribute(
+    object: &mut Object<Vec<u8>>,
+    named: Option<Kind>,
+    number: u8,
+    value: u32,
+) -> Result<(), u8>
+    ensures result { Answers result (changes.change_attribute named number value (seen object.old)) }
+    ensures object { seen object.new ≡ left (seen object.old) (changes.change_attribute named number value (seen object.old)) }
+{
+    let kind = object.kind();
+    if !Kinds::WithAttributes.contains(kind) {
+        return Err(1 << 0);
+    }
+    let Some(attribute) = attribute(kind, number) else {
+        return Err(1 << 1);
+    };
+    if !takes(attribute.value_type, kind, value, named) {
+        return Err(1 << 2);
+    }
+    write_field(object, attribute.field, value);
+    Ok(())
+}
+
+/// Tests a macro that is to run: it is one, and its ID is at most 255.
+pub(crate) fn execute_macro(object: &mut Object<Vec<u8>>, id: ObjectId) -> Result<(), u8>
+    ensures result { Answers result (changes.execute_macro id (seen object.old)) }
+    ensures object { seen object.new ≡ left (seen object.old) (changes.execute_macro id (seen object.old)) }
+{
+    let Object::Macro(_) = object else {
+        return Err(1 << 1);
+    };
+    if id.raw() > 255 {
+        return Err(1 << 2);
+    }
+    Ok(())
+}
+
+/// Whether a field of a type takes a value.
+fn takes(value_type: ValueType, kind: Kind, value: u32, named: Option<Kind>) -> bool
+    ensures { result ≡ changes.takes kind value_type value named }
+{
+    value_type.accepts(kind, value, named)
+}

@@ -1,0 +1,153 @@
+//! Change Child Location and Change Child Position.
+
+ghost use Rattle.std.specs.Prelude.{◌≡◌, ◌==◌, ◌&&◌, not, false, IfSome, IfNone, IsTrue, IsFalse};
+ghost use Rattle.vt_kinds.specs.Records.{seen};
+ghost use Rattle.vt_effects.specs.Changes as changes;
+ghost use Rattle.vt_effects.specs.Changes.{Answers, left, in_parent, child_at, placed, fits_record, is_position};
+
+use vt_kinds::{Child, Entries, Kind, Object, ObjectId};
+
+/// Moves every entry of a child by `dx` and `dy`, each less 127 pixels. `named` is the kind of the child, if that is there.
+pub(crate) fn change_location(
+    object: &mut Object<Vec<u8>>,
+    named: Option<Kind>,
+    child: ObjectId,
+    dx: u8,
+    dy: u8,
+) -> Result<(), u8>
+    ensures result { Answers result (in_parent (changes.change_location named child dx dy) (seen object.old)) }
+    ensures object { seen object.new ≡ left (seen object.old) (in_parent (changes.change_location named child dx dy) (seen object.old)) }
+{
+    match object {
+        Object::WorkingSet(parent) => shift(&mut parent.children, named, child, dx, dy),
+        Object::DataMask(parent) => shift(&mut parent.children, named, child, dx, dy),
+        Object::AlarmMask(parent) => shift(&mut parent.children, named, child, dx, dy),
+        Object::Container(parent) => shift(&mut parent.children, named, child, dx, dy),
+        Object::Key(parent) => shift(&mut parent.children, named, child, dx, dy),
+        Object::Button(parent) => shift(&mut parent.children, named, child, dx, dy),
+        _ => Err(1 << 0),
+    }
+}
+
+/// Puts every entry of a child where this one is. `named` is the kind of the child, if that is there.
+pub(crate) fn change_position(
+    object: &mut Object<Vec<u8>>,
+    named: Option<Kind>,
+    entry: &Child,
+) -> Result<(), u8>
+    ensures result { Answers result (in_parent (changes.change_position named entry.now.id entry.now.x entry.now.y) (seen object.old)) }
+    ensures object { seen object.new ≡ left (seen object.old) (in_parent (changes.change_position named entry.now.id entry.now.x entry.now.y) (seen object.old)) }
+{
+    match object {
+        Object::WorkingSet(parent) => place(&mut parent.children, named, entry),
+        Object::DataMask(parent) => place(&mut parent.children, named, entry),
+        Object::AlarmMask(parent) => place(&mut parent.children, named, entry),
+        Object::Container(parent) => place(&mut parent.children, named, entry),
+        Object::Key(parent) => place(&mut parent.children, named, entry),
+        Object::Button(parent) => place(&mut parent.children, named, entry),
+        _ => Err(1 << 0),
+    }
+}
+
+fn shift(
+    children: &mut Entries<Child>,
+    named: Option<Kind>,
+    child: ObjectId,
+    dx: u8,
+    dy: u8,
+) -> Result<(), u8>
+    ensures result { Answers result (changes.change_location named child dx dy children.old) }
+    ensures children { children.new ≡ left children.old (changes.change_location named child dx dy children.old) }
+{
+    if named.is_none() {
+        return Err(1 << 1);
+    }
+    if !stands_in(child, children) {
+        return Err(1 << 0);
+    }
+    if leaves(child, dx, dy, children) {
+        return Err(1 << 4);
+    }
+    for index in 0..children.len() {
+        let entry = children.as_slice()[usize::from(index)];
+        children.set(index, shifted_child(entry, child, dx, dy));
+    }
+    Ok(())
+}
+
+/// Puts every entry of a child where this one is.
+fn place(children: &mut Entries<Child>, named: Option<Kind>, entry: &Child) -> Result<(), u8>
+    ensures result { Answers result (changes.change_position named entry.now.id entry.now.x entry.now.y children.old) }
+    ensures children { children.new ≡ left children.old (changes.change_position named entry.now.id entry.now.x entry.now.y children.old) }
+{
+    if named.is_none() {
+        return Err(1 << 1);
+    }
+    let child = entry.id;
+    if !stands_in(child, children) {
+        return Err(1 << 0);
+    }
+    for index in 0..children.len() {
+        let old = children.as_slice()[usize::from(index)];
+        children.set(index, placed_child(old, entry));
+    }
+    Ok(())
+}
+
+/// Whether a child stands among the entries.
+fn stands_in(child: ObjectId, children: &Entries<Child>) -> bool
+    ensures { result ≡ changes.stands_in child children.now }
+{
+    children.as_slice().iter().any(|entry| entry.id == child)
+}
+
+/// Whether an entry of the child would leave the positions that a record can hold.
+fn leaves(child: ObjectId, dx: u8, dy: u8, children: &Entries<Child>) -> bool
+    ensures { result ≡ changes.leaves child dx dy children.now }
+{
+    children.as_slice().iter().any(|entry| entry.id == child && shifted(*entry, dx, dy).is_none())
+}
+
+/// An entry, moved where it is of the child.
+fn shifted_child(entry: Child, child: ObjectId, dx: u8, dy: u8) -> Child
+    requires { (entry.id == child && not (fits_record (changes.shifted dx dy entry))) ≡ false }
+    ensures { result ≡ child_at child (changes.shifted dx dy) entry }
+{
+    if entry.id != child {
+        return entry;
+    }
+    match shifted(entry, dx, dy) {
+        Some(moved) => moved,
+        None => entry,
+    }
+}
+
+/// An entry, where this one is if both are of the same child.
+fn placed_child(old: Child, entry: &Child) -> Child
+    ensures { result ≡ child_at entry.now.id (placed entry.now.x entry.now.y) old }
+{
+    if old.id == entry.id { *entry } else { old }
+}
+
+/// An entry moved, unless it leaves the positions that a record can hold.
+fn shifted(entry: Child, dx: u8, dy: u8) -> Option<Child>
+    ensures some { IfSome result (λ child. (child ≡ changes.shifted dx dy entry) × IsTrue (fits_record child)) }
+    ensures none { IfNone result (IsFalse (fits_record (changes.shifted dx dy entry))) }
+{
+    match (moved(entry.x, dx), moved(entry.y, dy)) {
+        (Some(x), Some(y)) => Some(Child { id: entry.id, x, y }),
+        _ => None,
+    }
+}
+
+/// A position moved by so many pixels, less 127, unless it leaves those that a record can hold.
+fn moved(x: i16, by: u8) -> Option<i16>
+    ensures moved { IfSome result (λ y. y ≡ changes.moved x by) }
+    ensures some { IfSome result (λ y. IsTrue (is_position y)) }
+    ensures none { IfNone result (IsFalse (is_position (changes.moved x by))) }
+{
+    match i16::try_from(i32::from(x) + i32::from(by) - 127) {
+        Ok(y) => Some(y),
+        Err(_) => None,
+    }
+}

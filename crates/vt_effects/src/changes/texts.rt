@@ -1,0 +1,38 @@
+//! Change String Value.
+
+ghost use Rattle.std.specs.Prelude.{◌≡◌};
+ghost use Rattle.vt_kinds.specs.Records.{seen};
+ghost use Rattle.vt_effects.specs.Changes as changes;
+ghost use Rattle.vt_effects.specs.Changes.{Answers, left};
+
+use vt_kinds::Object;
+
+/// Writes the first bytes of a text over the one that is there, and spaces over what is left of it.
+pub(crate) fn change_text(object: &mut Object<Vec<u8>>, length: u16, text: &[u8]) -> Result<(), u8>
+    ensures result { Answers result (changes.change_text length text.now (seen object.old)) }
+    ensures object { seen object.new ≡ left (seen object.old) (changes.change_text length text.now (seen object.old)) }
+{
+    let length = usize::from(length);
+    match object {
+        Object::InputString(input) => {
+            if length > input.text.as_slice().len() || length > text.len() {
+                return Err(1 << 2);
+            }
+            input.text.overwrite(&text[..length]);
+        }
+        Object::OutputString(output) => {
+            if length > output.text.as_slice().len() || length > text.len() {
+                return Err(1 << 2);
+            }
+            output.text.overwrite(&text[..length]);
+        }
+        Object::StringVariable(variable) => {
+            if length > variable.text.as_slice().len() || length > text.len() {
+                return Err(1 << 2);
+            }
+            variable.text.overwrite(&text[..length]);
+        }
+        _ => return Err(1 << 1),
+    }
+    Ok(())
+}

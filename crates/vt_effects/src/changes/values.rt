@@ -1,0 +1,78 @@
+//! Change Numeric Value and Change List Item.
+
+ghost use Rattle.std.specs.Prelude.{◌≡◌};
+ghost use Rattle.vt_kinds.specs.Records.{seen};
+ghost use Rattle.vt_effects.specs.Changes as changes;
+ghost use Rattle.vt_effects.specs.Changes.{Answers, left};
+
+use crate::numbers::{byte, id, word};
+use crate::references::may_stand;
+use vt_kinds::{Kind, Object, ObjectId, Place};
+
+/// Sets the value. Each kind looks at as many of the lowest bytes as its value has; `named` is the kind of the object that
+/// the two lowest name, if that is there.
+pub(crate) fn change_value(
+    object: &mut Object<Vec<u8>>,
+    named: Option<Kind>,
+    value: u32,
+) -> Result<(), u8>
+    ensures result { Answers result (changes.change_value named value (seen object.old)) }
+    ensures object { seen object.new ≡ left (seen object.old) (changes.change_value named value (seen object.old)) }
+{
+    match object {
+        Object::InputBoolean(input) => {
+            if byte(value) > 1 {
+                return Err(1 << 1);
+            }
+            input.value = byte(value);
+        }
+        Object::InputNumber(input) => {
+            if value < input.min || value > input.max {
+                return Err(1 << 1);
+            }
+            input.value = value;
+        }
+        Object::InputList(list) => {
+            if byte(value) >= list.items.len() && byte(value) != 255 {
+                return Err(1 << 1);
+            }
+            list.value = byte(value);
+        }
+        Object::OutputNumber(output) => output.value = value,
+        Object::Meter(meter) => meter.value = word(value),
+        Object::LinearBar(bar) => bar.value = word(value),
+        Object::ArchedBar(bar) => bar.value = word(value),
+        Object::NumberVariable(variable) => variable.value = value,
+        Object::ObjectPointer(pointer) => {
+            if !may_stand(Kind::ObjectPointer, Place::Value, id(value), named) {
+                return Err(1 << 1);
+            }
+            pointer.value = id(value);
+        }
+        _ => return Err(1 << 0),
+    }
+    Ok(())
+}
+
+/// Puts an item in a list. `named` is the kind of the item, if that is there.
+pub(crate) fn change_item(
+    object: &mut Object<Vec<u8>>,
+    named: Option<Kind>,
+    index: u8,
+    item: ObjectId,
+) -> Result<(), u8>
+    ensures result { Answers result (changes.change_item named index item (seen object.old)) }
+    ensures object { seen object.new ≡ left (seen object.old) (changes.change_item named index item (seen object.old)) }
+{
+    let Object::InputList(list) = object else {
+        return Err(1 << 0);
+    };
+    if index >= list.items.len() {
+        return Err(1 << 1);
+    }
+    if !may_stand(Kind::InputList, Place::Item(index), item, named) {
+        return Err(1 << 2);
+    }
+    list.items.set(index, item);
+    Ok(())
+}

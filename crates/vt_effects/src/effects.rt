@@ -1,0 +1,67 @@
+//! What commands make of the objects of a store.
+
+ghost use Rattle.std.specs.Prelude.{◌≡◌};
+ghost use Rattle.vt_stores.specs.Stores.{Contents};
+ghost use Rattle.vt_effects.specs.Changes.{Answers, left};
+ghost use Rattle.vt_effects.specs.Effects as effects;
+ghost use Rattle.vt_effects.specs.Effects.{changed_by, changed_in};
+
+use crate::changes::change;
+use vt_commands::Command;
+use vt_kinds::{Kind, ObjectId};
+use vt_stores::Store;
+
+/// Does a command on the objects of a store, but for what a pointer's new value and a list's new item have to meet besides.
+/// `named` is the kind of the object of the other ID that the command names, if that is there. A refusal is the error byte of
+/// the command's reply, and changes nothing.
+pub fn change_in<S: Store>(
+    store: &mut S,
+    command: &Command<'_>,
+    named: Option<Kind>,
+) -> Result<(), u8>
+    ensures result { Answers result (changed_by (S.contents store.old) command.now named) }
+    ensures objects { S.contents store.new ≡ left (S.contents store.old) (changed_by (S.contents store.old) command.now named) }
+{
+    match command.object() {
+        None => without_object(command),
+        Some(id) => change_object(store, id, command, named),
+    }
+}
+
+/// Tests a command that is for no object.
+fn without_object(command: &Command<'_>) -> Result<(), u8>
+    ensures { (store : Contents) → Answers result (effects.without_object store command.now) }
+{
+    match *command {
+        Command::SetVolume { volume } if volume > 100 => Err(1 << 4),
+        _ => Ok(()),
+    }
+}
+
+/// Changes the object of an ID as a command says that is for it.
+fn change_object<S: Store>(
+    store: &mut S,
+    id: ObjectId,
+    command: &Command<'_>,
+    named: Option<Kind>,
+) -> Result<(), u8>
+    ensures result { Answers result (changed_in (S.contents store.old) id command.now named) }
+    ensures objects { S.contents store.new ≡ left (S.contents store.old) (changed_in (S.contents store.old) id command.now named) }
+{
+    match store.get_mut(id) {
+        Some(object) => change(object, command, named),
+        None => Err(missing_error(command)),
+    }
+}
+
+/// The error byte of a command whose object is not there.
+fn missing_error(command: &Command<'_>) -> u8
+    ensures { result ≡ effects.missing_error command.now }
+{
+    match command {
+        Command::HideShow { .. }
+        | Command::EnableDisable { .. }
+        | Command::ChangeStringValue { .. } => 1 << 1,
+        _ => 1 << 0,
+    }
+}

@@ -1,0 +1,96 @@
+//! What the places that name a pointer allow.
+
+ghost use Rattle.std.specs.Prelude.{◌≡◌, true, None, slice_get};
+ghost use Rattle.std.specs.Option.{option_to_list};
+ghost use Rattle.std.specs.List.{list_all, flat_map};
+ghost use Rattle.std.specs.FinMap as finite;
+ghost use Rattle.vt_kinds.specs.Records.{seen};
+ghost use Rattle.vt_kinds.specs.References.{slots_of};
+ghost use Rattle.vt_effects.specs.Effects as effects;
+ghost use Rattle.vt_effects.specs.Replacements as replacements;
+ghost use Rattle.vt_effects.specs.Replacements.{IsOfThatKind};
+ghost use Rattle.vt_effects.specs.Soundness.{IsSound};
+
+use crate::execution::kind_in;
+use crate::references::is_one_of;
+use vt_kinds::{Kind, Object, ObjectId, Slot, slots};
+use vt_stores::Store;
+
+/// A value of a pointer, and the kind of its object, if that is there.
+#[derive(Clone, Copy, Debug, PartialEq, Eq)]
+pub(crate) struct Pointed {
+    /// The pointer.
+    pub(crate) pointer: ObjectId,
+    /// The value.
+    pub(crate) value: ObjectId,
+    /// The kind of the value's object.
+    pub(crate) kind: Option<Kind>,
+}
+
+/// Whether each place that names a pointer allows a value. They do where it is of the kind of the value that they allow now;
+/// else each of them is looked at.
+pub(crate) fn places_allow<S: Store>(store: &S, pointer: ObjectId, value: ObjectId) -> bool
+    requires { IsSound (S.contents store.now) }
+    ensures { result ≡ effects.places_allow (S.contents store.now) pointer value }
+{
+    let kind = kind_in(store, value);
+    let pointed = Pointed {
+        pointer,
+        value,
+        kind,
+    };
+    has_that_kind(store, &pointed) || all_allow(store, &pointed)
+}
+
+/// Whether the value that a pointer has is of that kind too.
+fn has_that_kind<S: Store>(store: &S, pointed: &Pointed) -> bool
+    ensures kind { result ≡ true → IsOfThatKind (S.contents store.now) pointed.now }
+    ensures named { result ≡ true → finite.get (S.contents store.now) 0xFFFF ≡ None }
+{
+    match store.get(pointed.pointer) {
+        Some(Object::ObjectPointer(pointer)) if !pointer.value.is_null() => {
+            kind_in(store, pointer.value) == pointed.kind
+        }
+        _ => false,
+    }
+}
+
+fn all_allow<S: Store>(store: &S, pointed: &Pointed) -> bool
+    ensures { result ≡ list_all (replacements.slot_allows pointed.now) (effects.all_slots (S.contents store.now)) }
+{
+    for place in 0..store.count() {
+        if !entry_allows(store, place, pointed) {
+            return false;
+        }
+    }
+    true
+}
+
+fn entry_allows<S: Store>(store: &S, place: usize, pointed: &Pointed) -> bool
+    ensures { result ≡ list_all (replacements.slot_allows pointed.now) (flat_map (λ e. slots_of e.1) (option_to_list (slice_get (finite.entries (S.contents store.now)) place))) }
+{
+    match store.entry_at(place) {
+        Some((_, object)) => slots_allow(object, pointed),
+        None => true,
+    }
+}
+
+fn slots_allow(object: &Object<Vec<u8>>, pointed: &Pointed) -> bool
+    ensures { result ≡ list_all (replacements.slot_allows pointed.now) (slots_of (seen object.now)) }
+{
+    for slot in slots(object) {
+        if !slot_allows(&slot, pointed) {
+            return false;
+        }
+    }
+    true
+}
+
+fn slot_allows(slot: &Slot, pointed: &Pointed) -> bool
+    ensures { result ≡ replacements.slot_allows pointed.now slot.now }
+{
+    if slot.id != pointed.pointer || pointed.value.is_null() {
+        return true;
+    }
+    is_one_of(slot.kinds, pointed.kind)
+}

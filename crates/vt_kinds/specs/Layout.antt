@@ -1,0 +1,186 @@
+-- The layout of a record as a table of fields, and how such a table spells its values
+-- (docs/PROFILE.md, "Records").
+use Rattle.std.specs.Prelude.{◌≡◌, ◌<◌, ◌≤◌, ℕ, ℤ, ◌^◌, List, [], ◌∷◌, ◌++◌, length, map, Option, Some, None, FitsSigned}
+use Rattle.std.specs.Int.{Width, w8, w16, w32, w64, w128, cast_unsigned}
+use Rattle.std.specs.List.{flat_map, AllByRecursion}
+use Rattle.byteorder.specs.Endian.{little_bytes}
+use Rattle.vt_kinds.specs.declared.fields.Field as names
+use Rattle.vt_kinds.specs.Scales.{IsScale}
+
+-- What a count counts: children or keys, macros, or what else a record lists: languages, items, points or bytes.
+pub data Counted : Type 0 where
+  Objects : Counted
+  Macros : Counted
+  Others : Counted
+
+-- How a number is written: in so many bytes, or signed, in two's complement. Numbers are little endian.
+pub data Size : Type 0 where
+  Unsigned : (size : ℕ) → Size
+  Signed : (width : Width) → Size
+
+-- A field of a record.
+pub data Field : Type 0 where
+  Number : (size : Size) → Field
+  -- how many there are of the rows or bytes of a later field
+  Count : (size : ℕ) → (of : Counted) → Field
+  -- so many rows as were counted, each of numbers of these sizes
+  Rows : (of : Counted) → (sizes : List Size) → Field
+  -- so many bytes as were counted
+  Bytes : (of : Counted) → Field
+  -- the four bytes of a scale
+  ScaleBytes : Field
+  -- a number of decimals, one byte
+  DecimalPlaces : Field
+
+-- a number, unsigned or signed
+pub data Numeral : Type 0 where
+  natural : ℕ → Numeral
+  integer : ℤ → Numeral
+
+-- what stands in a field
+pub data Value : Type 0 where
+  number : Numeral → Value
+  rows : List (List Numeral) → Value
+  bytes : List ℕ → Value
+
+-- a field of the record of an A, the attribute that it is, if it is one, and its value in an A
+pub record Named (A : Type 0) : Type 0 where
+  pub field : Field
+  pub name : Option names.Field
+  pub value : A → Value
+
+abbrev pub Table : Type 0 → Type 0
+Table A = List (Named A)
+
+abbrev pub fields : {A : Type 0} → Table A → List Field
+fields t = map (λ f. f.field) t
+
+abbrev pub names_in : {A : Type 0} → Table A → List (Option names.Field)
+names_in t = map (λ f. f.name) t
+
+abbrev pub values : {A : Type 0} → Table A → A → List Value
+values t x = map (λ f. f.value x) t
+
+-- ---- how a table is written
+
+abbrev pub unsigned : {A : Type 0} → ℕ → (A → ℕ) → Named A
+unsigned size f = record { field = Number (Unsigned size); name = None; value = λ x. number (natural (f x)) }
+
+abbrev pub byte : {A : Type 0} → (A → ℕ) → Named A
+byte f = unsigned 1 f
+
+abbrev pub word : {A : Type 0} → (A → ℕ) → Named A
+word f = unsigned 2 f
+
+abbrev pub long : {A : Type 0} → (A → ℕ) → Named A
+long f = unsigned 4 f
+
+abbrev pub signed_long : {A : Type 0} → (A → ℤ) → Named A
+signed_long f = record { field = Number (Signed w32); name = None; value = λ x. number (integer (f x)) }
+
+-- the field that is an attribute of its kind
+abbrev pub attribute : {A : Type 0} → names.Field → Named A → Named A
+attribute name f = record f { name = Some name }
+
+-- how many elements a list has
+abbrev pub count : {A X : Type 0} → ℕ → Counted → (A → List X) → Named A
+count size of f = record { field = Count size of; name = None; value = λ x. number (natural (length (f x))) }
+
+-- the elements of a list, each as a row of numbers
+abbrev pub rows_of : {A X : Type 0} → Counted → List Size → (X → List Numeral) → (A → List X) → Named A
+rows_of of sizes numbers f = record { field = Rows of sizes; name = None; value = λ x. rows (map numbers (f x)) }
+
+abbrev pub bytes_of : {A : Type 0} → Counted → (A → List ℕ) → Named A
+bytes_of of f = record { field = Bytes of; name = None; value = λ x. bytes (f x) }
+
+-- ---- the spelling of values
+
+-- the bytes of a width
+abbrev pub bytes_in : Width → ℕ
+bytes_in w8 = 1
+bytes_in w16 = 2
+bytes_in w32 = 4
+bytes_in w64 = 8
+bytes_in w128 = 16
+
+abbrev pub number_spelling : Size → Numeral → List ℕ
+number_spelling (Unsigned size) (natural n) = little_bytes size n
+number_spelling (Signed width) (integer z) = little_bytes (bytes_in width) (cast_unsigned width z)
+number_spelling _ _ = []
+
+abbrev pub row_spelling : List Size → List Numeral → List ℕ
+row_spelling [] ns = []
+row_spelling (size ∷ sizes) [] = []
+row_spelling (size ∷ sizes) (n ∷ ns) = number_spelling size n ++ row_spelling sizes ns
+
+abbrev pub rows_spelling : List Size → List (List Numeral) → List ℕ
+rows_spelling sizes rs = flat_map (row_spelling sizes) rs
+
+abbrev pub field_spelling : Field → Value → List ℕ
+field_spelling (Number size) (number n) = number_spelling size n
+field_spelling (Count size of) (number n) = number_spelling (Unsigned size) n
+field_spelling (Rows of sizes) (rows rs) = rows_spelling sizes rs
+field_spelling (Bytes of) (bytes bs) = bs
+field_spelling ScaleBytes (number n) = number_spelling (Unsigned 4) n
+field_spelling DecimalPlaces (number n) = number_spelling (Unsigned 1) n
+field_spelling _ _ = []
+
+abbrev pub spelling : List Field → List Value → List ℕ
+spelling [] vs = []
+spelling (f ∷ fs) [] = []
+spelling (f ∷ fs) (v ∷ vs) = field_spelling f v ++ spelling fs vs
+
+-- ---- which values have a spelling
+
+-- the counts that were met so far
+pub record Counts : Type 0 where
+  pub objects : ℕ
+  pub macros : ℕ
+  pub others : ℕ
+
+abbrev pub no_counts : Counts
+no_counts = record { objects = 0; macros = 0; others = 0 }
+
+abbrev pub counted : Counted → ℕ → Counts → Counts
+counted Objects n counts = record counts { objects = n }
+counted Macros n counts = record counts { macros = n }
+counted Others n counts = record counts { others = n }
+
+abbrev pub count_of : Counted → Counts → ℕ
+count_of Objects counts = counts.objects
+count_of Macros counts = counts.macros
+count_of Others counts = counts.others
+
+-- a number fits its size
+abbrev pub Fits : Size → Numeral → Type 0
+Fits (Unsigned size) (natural n) = n < 256 ^ size
+Fits (Signed width) (integer z) = FitsSigned width z
+Fits _ _ = ⊥
+
+-- the numbers of a row fit their sizes
+abbrev pub RowFits : List Size → List Numeral → Type 0
+RowFits [] [] = Unit {0}
+RowFits [] (n ∷ ns) = ⊥
+RowFits (size ∷ sizes) [] = ⊥
+RowFits (size ∷ sizes) (n ∷ ns) = Fits size n × RowFits sizes ns
+
+-- each value fits its field: numbers their sizes, and lists are as long as they were counted
+abbrev pub FieldsFit : List Field → Counts → List Value → Type 0
+FieldsFit [] counts [] = Unit {0}
+FieldsFit (Number size ∷ fs) counts (number n ∷ vs) = Fits size n × FieldsFit fs counts vs
+FieldsFit (Count size of ∷ fs) counts (number (natural n) ∷ vs) = (n < 256 ^ size) × FieldsFit fs (counted of n counts) vs
+FieldsFit (Rows of sizes ∷ fs) counts (rows rs ∷ vs) = (length rs ≡ count_of of counts) × AllByRecursion (RowFits sizes) rs × FieldsFit fs counts vs
+FieldsFit (Bytes of ∷ fs) counts (bytes bs ∷ vs) = (length bs ≡ count_of of counts) × AllByRecursion (λ b. b < 256) bs × FieldsFit fs counts vs
+FieldsFit (ScaleBytes ∷ fs) counts (number (natural n) ∷ vs) = (n < 256 ^ 4) × FieldsFit fs counts vs
+FieldsFit (DecimalPlaces ∷ fs) counts (number (natural n) ∷ vs) = (n < 256 ^ 1) × FieldsFit fs counts vs
+FieldsFit _ _ _ = ⊥
+
+-- a value is one that its field may have: scales are among those that there are, and decimals at most 7
+abbrev pub IsProper : Field → Value → Type 0
+IsProper ScaleBytes (number (natural n)) = IsScale n
+IsProper DecimalPlaces (number (natural n)) = n ≤ 7
+IsProper _ _ = Unit {0}
+
+abbrev pub Proper : List Field → List Value → Type 0
+Proper (f ∷ fs) (v ∷ vs) = IsProper f v × Proper fs vs
+Proper _ _ = Unit {0}

@@ -1,0 +1,24 @@
+-- The slots that an iterator has left.
+use Rattle.std.specs.Prelude.{ℕ, List, ◌∷◌, length, map, Option, Some, None}
+use Rattle.vt_kinds.specs.declared.kind.Kind.{Kind}
+use Rattle.vt_kinds.specs.declared.place.Place.TheVariants as places
+use Rattle.vt_kinds.specs.declared.slot.Slot.{Slot}
+use Rattle.vt_kinds.specs.declared.slot.Listed.{Listed}
+use Rattle.vt_kinds.specs.declared.slot.Listed.TheVariants.{Children, Keys, Items}
+use Rattle.vt_kinds.specs.References.{listed}
+
+-- the slots of a list of which the entries before an index were given
+abbrev pub listed_from : Kind → ℕ → Listed → List Slot
+listed_from kind index (Children children) = listed kind places.Child index (map (λ c. c.id) children.now)
+listed_from kind index (Keys keys) = listed kind places.Key index keys.now
+listed_from kind index (Items items) = listed kind places.Item index items.now
+
+abbrev pub entries_left : Listed → ℕ
+entries_left (Children children) = length children.now
+entries_left (Keys keys) = length keys.now
+entries_left (Items items) = length items.now
+
+-- a slot that was not given yet, and the others
+abbrev pub before : Option Slot → List Slot → List Slot
+before None slots = slots
+before (Some slot) slots = slot ∷ slots

@@ -1,0 +1,136 @@
+//! What Change Attribute may write.
+
+ghost use Rattle.std.specs.Prelude.{◌≡◌, ◌↔◌, IsTrue};
+ghost use Rattle.vt_kinds.specs.Attributes as table;
+ghost use Rattle.vt_kinds.specs.Attributes.{Accepts};
+ghost use Rattle.vt_kinds.specs.Scales.{IsScale};
+
+use crate::kind::Kind;
+use crate::place::Place;
+use crate::scale::Scale;
+
+/// A field of an object that Change Attribute writes.
+#[derive(Clone, Copy, Debug, PartialEq, Eq)]
+pub enum Field {
+    Colour,
+    Selectable,
+    SoftKeyMask,
+    Priority,
+    Acoustic,
+    Width,
+    Height,
+    Border,
+    KeyCode,
+    Options,
+    Font,
+    Variable,
+    InputAttributes,
+    Justification,
+    Min,
+    Max,
+    Offset,
+    Scale,
+    Decimals,
+    Format,
+    LineAttributes,
+    Direction,
+    Suppression,
+    Fill,
+    Type,
+    Start,
+    End,
+    NeedleColour,
+    BorderColour,
+    ArcColour,
+    Ticks,
+    TargetColour,
+    TargetVariable,
+    Target,
+    BarWidth,
+    Transparency,
+    Size,
+    Style,
+    LineArt,
+    Pattern,
+    ValidationType,
+    Value,
+}
+
+/// Which values a field takes (docs/PROFILE.md, "Values of attributes"). A field of fewer than four bytes
+/// takes the lowest bytes of a value.
+#[derive(Clone, Copy, Debug, PartialEq, Eq)]
+pub enum ValueType {
+    /// Every value of one byte.
+    Byte,
+    /// Every value of two bytes.
+    Word,
+    /// Every value of four bytes.
+    Long,
+    /// Every value of four bytes, signed.
+    SignedLong,
+    /// NULL or an object, as this place allows, two bytes. The value of an object pointer has to meet more.
+    Reference(Place),
+    /// 0 to 2, one byte.
+    Priority,
+    /// The bytes of a scale, four bytes.
+    Scale,
+    /// 0 to 7, one byte.
+    Decimals,
+}
+
+impl ValueType {
+    /// How many bytes the field has.
+    pub fn width(self) -> u8
+        ensures { result ≡ table.width self }
+    {
+        match self {
+            ValueType::Byte | ValueType::Priority | ValueType::Decimals => 1,
+            ValueType::Word | ValueType::Reference(_) => 2,
+            ValueType::Long | ValueType::SignedLong | ValueType::Scale => 4,
+        }
+    }
+
+    /// What the field gets of a value: its lowest bytes.
+    pub fn lowest(self, value: u32) -> u32
+        ensures { result ≡ table.lowest self value }
+    {
+        match self {
+            ValueType::Byte | ValueType::Priority | ValueType::Decimals => value % 256,
+            ValueType::Word | ValueType::Reference(_) => value % 65_536,
+            ValueType::Long | ValueType::SignedLong | ValueType::Scale => value,
+        }
+    }
+
+    /// Whether the field takes the lowest bytes of a value, in an object of this kind. Of a reference, `named` is
+    /// the kind of the object that they name, if that is there.
+    pub fn accepts(self, kind: Kind, value: u32, named: Option<Kind>) -> bool
+        ensures { IsTrue result ↔ Accepts kind self (table.lowest self value) named }
+    {
+        let lowest = self.lowest(value);
+        match self {
+            ValueType::Byte | ValueType::Word | ValueType::Long | ValueType::SignedLong => true,
+            ValueType::Reference(place) if lowest == 0xFFFF => place.allows_null(),
+            ValueType::Reference(place) => match named {
+                Some(named) => place.kinds(kind).contains(named),
+                None => false,
+            },
+            ValueType::Priority => lowest <= 2,
+            ValueType::Scale => is_scale(lowest),
+            ValueType::Decimals => lowest <= 7,
+        }
+    }
+}
+
+/// Whether the number is that of a scale's four bytes.
+fn is_scale(number: u32) -> bool
+    ensures { IsTrue result ↔ IsScale number }
+{
+    Scale::from_bytes(number.to_le_bytes()).is_some()
+}
+
+/// A field that Change Attribute writes, and the values that it takes.
+#[derive(Clone, Copy, Debug, PartialEq, Eq)]
+pub struct Attribute {
+    pub field: Field,
+    pub value_type: ValueType,
+}

@@ -1,0 +1,63 @@
+//! Texts of at most 65,535 bytes.
+
+ghost use Rattle.std.specs.Prelude.{◌≡◌, ◌≤◌, length, IfOk};
+ghost use Rattle.vt_kinds.specs.Texts.{filled_up};
+
+use std::alloc::{AllocError, Global};
+use std::convert::AsSlice;
+use std::marker::Model;
+
+/// A text of at most 65,535 bytes, as many as a count of two bytes can say. `B`
+/// holds them: a slice of a pool, or a vector in a store.
+#[derive(Drop)]
+pub struct LongText<B: AsSlice<u8>> {
+    bytes: B,
+}
+
+impl<B: AsSlice<u8>> Model for LongText<B> {
+    ghost use Rattle.std.specs.Prelude.{ℕ, List, ◌≤◌, length};
+
+    ghost Value = { List ℕ };
+
+    ghost view = { λ t. B.items t.bytes };
+
+    ghost invariant = { λ t. length (B.items t.bytes) ≤ 65535 };
+}
+
+impl<B: AsSlice<u8>> LongText<B> {
+    /// The text of these bytes, of which there are at most 65,535.
+    pub fn new(bytes: B) -> LongText<B>
+        requires { length (B.items bytes) ≤ 65535 }
+        ensures { result ≡ B.items bytes }
+    {
+        LongText { bytes }
+    }
+
+    /// The bytes of the text.
+    pub fn as_slice(&self) -> &[u8]
+        ensures value { result.now ≡ self.now }
+        ensures most { length result.now ≤ 65535 }
+    {
+        self.bytes.as_slice()
+    }
+
+    /// The same text in memory of its own.
+    pub fn copied(&self, alloc: Global) -> Result<LongText<Vec<u8>>, AllocError>
+        ensures { IfOk result (λ copy. copy ≡ self.now) }
+    {
+        let bytes = Vec::from_slice(alloc, self.as_slice())?;
+        Ok(LongText { bytes })
+    }
+}
+
+impl LongText<Vec<u8>> {
+    /// Writes a text over this one, and spaces over what is left of it.
+    pub fn overwrite(&mut self, text: &[u8])
+        requires { length text.now ≤ length self.old }
+        ensures { self.new ≡ filled_up (length self.old) text.now }
+    {
+        let (front, rest) = self.bytes.split_at_mut(text.len());
+        front.copy_from_slice(text);
+        rest.fill(b' ');
+    }
+}

@@ -1,0 +1,63 @@
+//! The places of an object that name another one.
+
+ghost use Rattle.std.specs.Prelude.{◌≡◌};
+ghost use Rattle.vt_kinds.specs.References.{allowed, may_be_null};
+
+use crate::kind::Kind;
+use crate::kinds::Kinds;
+
+/// A field of an object, or an entry of one of its lists, that names another object. Entries are counted
+/// from 0.
+#[derive(Clone, Copy, Debug, PartialEq, Eq)]
+pub enum Place {
+    ActiveMask,
+    SoftKeyMask,
+    Child(u8),
+    Key(u8),
+    Font,
+    InputAttributes,
+    Variable,
+    TargetVariable,
+    Item(u8),
+    LineAttributes,
+    Fill,
+    Pattern,
+    /// The value of a pointer.
+    Value,
+}
+
+impl Place {
+    /// The kinds that may stand in this place of an object of a kind.
+    pub fn kinds(self, kind: Kind) -> Kinds
+        ensures { result ≡ allowed kind self }
+    {
+        match self {
+            Place::ActiveMask => Kinds::Masks,
+            Place::SoftKeyMask => Kinds::SoftKeyMasks,
+            Place::Child(_) => match kind {
+                Kind::WorkingSet => Kinds::DrawnInWorkingSet,
+                _ => Kinds::Drawn,
+            },
+            Place::Key(_) => Kinds::Keys,
+            Place::Font => Kinds::Fonts,
+            Place::InputAttributes => Kinds::InputAttributes,
+            Place::Variable => match kind {
+                Kind::InputString | Kind::OutputString => Kinds::StringVariables,
+                _ => Kinds::NumberVariables,
+            },
+            Place::TargetVariable => Kinds::NumberVariables,
+            Place::Item(_) => Kinds::Drawn,
+            Place::LineAttributes => Kinds::LineAttributes,
+            Place::Fill => Kinds::FillAttributes,
+            Place::Pattern => Kinds::Pictures,
+            Place::Value => Kinds::AllButPointers,
+        }
+    }
+
+    /// Whether NULL may stand in this place.
+    pub fn allows_null(self) -> bool
+        ensures { result ≡ may_be_null self }
+    {
+        !matches!(self, Place::Child(_))
+    }
+}

@@ -1,0 +1,6 @@
+use Rattle.vt_laws.proofs.Counting.{step-few}
+use Rattle.vt_laws.proofs.Sending.{step-sends}
+use Rattle.vt_laws.proofs.sent_are_addressed.Goals as goal
+
+pub returns : goal.returns
+returns c = record { each = step-sends c.parts_are_identifiers.ensures; few = step-few }

@@ -1,0 +1,34 @@
+-- The claims of a run, and the holders that they make (docs/PROFILE.md, "The holder of an address", "Loss of the address").
+use Rattle.std.specs.Prelude.{◌≡◌, ℕ, ◌==◌, ◌&&◌, Bool, false, nat_lt, if◌then◌else◌, List, [], ◌∷◌, ◌++◌}
+use Rattle.vt_can.specs.frames.Frame.{source_of}
+use Rattle.vt_names.specs.Claims.{Claim, IsHolder}
+use Rattle.vt_node.specs.Bus.{notice_of}
+use Rattle.vt_server.specs.Steps.{Event, FrameAt, ActionAt, after_all}
+use Rattle.vt_server.specs.Terminals.{State, holder}
+use Rattle.vt_node.specs.declared.bus.Notice.{Notice}
+use Rattle.vt_node.specs.declared.bus.Notice.TheVariants as notices
+
+abbrev pub claim_of : ℕ → Notice → List Claim
+claim_of source (notices.Claim name) = record { address = source; name = name } ∷ []
+claim_of source _ = []
+
+-- a lower NAME claims the own address
+abbrev pub takes_address : ℕ → ℕ → ℕ → Notice → Bool
+takes_address own name source (notices.Claim other) = (source == own) && nat_lt other name
+takes_address own name source _ = false
+
+-- The claims that a terminal hears, the latest first, after those before: all up to the one by which it loses its
+-- own address. Echoes are none.
+abbrev pub claims_heard : ℕ → ℕ → List Claim → List Event → List Claim
+claims_heard own name before [] = before
+claims_heard own name before (FrameAt time frame verdict ∷ events) =
+    if takes_address own name (source_of frame) (notice_of own name frame) then before
+    else claims_heard own name (claim_of (source_of frame) (notice_of own name frame) ++ before) events
+claims_heard own name before (ActionAt action shown ∷ events) = claims_heard own name before events
+
+-- The holder of each address after a run is the least NAME among those whose last claim in it was of the address.
+abbrev pub HoldersOfRuns : Type 0
+HoldersOfRuns =
+    (own name : ℕ) (s : State) (events : List Event) (address : ℕ)
+    → s.claims ≡ record { own = own; name = name; addresses = [] } → s.lost ≡ false
+    → IsHolder (claims_heard own name [] events) address (holder (after_all s events) address)

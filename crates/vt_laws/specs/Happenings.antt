@@ -1,0 +1,199 @@
+-- One address among all: what happens there, and what it makes of that (docs/PROFILE.md, "One address").
+use Rattle.std.specs.Prelude.{◌≡◌, ◌≢◌, ◌<◌, ℕ, ◌==◌, ◌&&◌, Bool, true, false, if◌then◌else◌, List, [], ◌∷◌, ◌++◌, Option, Some, None, nat_eq, is_some}
+use Rattle.std.specs.List.{AllZip}
+use Rattle.std.specs.Option.{option_eq}
+use Rattle.vt_can.specs.declared.frames.frame.Frame.{Frame}
+use Rattle.vt_can.specs.frames.Frame.{source_of}
+use Rattle.vt_can.specs.lines.Actions.{ActionValue}
+use Rattle.vt_can.specs.transport.Sessions.{is_overdue}
+use Rattle.vt_names.specs.Claims.{Claimed, IsRising, holder_of}
+use Rattle.vt_names.specs.Registry.{AreApart, Set, set_at}
+use Rattle.vt_stores.specs.Stores.{Contents}
+use Rattle.vt_node.specs.Bus.{notice_of, frame_notice}
+use Rattle.vt_server.specs.Choosing.{shown_now, ACTIVATE, DEACTIVATE}
+use Rattle.vt_server.specs.Findings.{AreFound}
+use Rattle.vt_server.specs.Lapses.{at_time, lapsed}
+use Rattle.vt_node.specs.Watches.{is_silent}
+use Rattle.vt_server.specs.Orderly.{IsOrderly, IsOther}
+use Rattle.vt_server.specs.Parts.{Part, Outcome, Act, Hears, Rebinds, Preloads, TpExpires, EtpExpires, SendingExpires, FallsSilent, Operates, Raises, outcome, untimed_part}
+use Rattle.vt_laws.specs.Responses.{Response, without_effect, response_of, frames_to}
+use Rattle.vt_server.specs.Steps.{Event, FrameAt, ActionAt, step, after_all, sent_by_all, acted, selecting, at_shown, hear_claim, answer_to, is_lost_by, preloading}
+use Rattle.vt_server.specs.Terminals.{State, Sent, ToOne, ToAll, Refused, holder, part, after_acts}
+use Rattle.vt_server.specs.Transfers.{Verdict}
+
+-- A session with the address is silent for too long: one in which it sends, by either protocol, or the one in which it is
+-- sent a message. Its set is. The terminal loses its own address. The address has another holder. A frame comes from it,
+-- with the verdict on the transfer that the frame ends. The operator acts on its set, whose object is shown or not. An
+-- event of its set is raised. A pool is preloaded.
+pub data Happening : Type 0 where
+  TpExpired : Happening
+  EtpExpired : Happening
+  SendingExpired : Happening
+  FellSilent : Happening
+  Lost : Happening
+  HolderIs : Option ℕ → Happening
+  FrameHeard : Frame → Verdict → Happening
+  Operated : ActionValue → Bool → Happening
+  EventRaised : ℕ → Happening
+  Preloaded : Contents → Happening
+
+-- ---- what the address makes of it, by its own part alone
+
+abbrev pub with_holder : Part → Option ℕ → Part
+with_holder p name = record p { holder = name }
+
+-- An act at the address; no time is looked at.
+abbrev pub by_act : ℕ → Part → Act → Response
+by_act address p act = response_of p (outcome 0 address p act)
+
+-- while the terminal has its own address; the loss takes the holder out of the part
+abbrev pub response_while : ℕ → Part → Happening → Response
+response_while address p TpExpired = by_act address p TpExpires
+response_while address p EtpExpired = by_act address p EtpExpires
+response_while address p SendingExpired = by_act address p SendingExpires
+response_while address p FellSilent = by_act address p FallsSilent
+response_while address p Lost = without_effect (record p { lost = true; holder = None })
+response_while address p (HolderIs name) = by_act address (with_holder p name) Rebinds
+response_while address p (FrameHeard frame verdict) = by_act address p (Hears (frame_notice p.terminal frame) frame verdict)
+response_while address p (Operated action shown) = by_act address p (Operates action shown)
+response_while address p (EventRaised event) = by_act address p (Raises event)
+response_while address p (Preloaded contents) = by_act address p (Preloads contents)
+
+-- After the loss nothing has effect.
+abbrev pub response : ℕ → Part → Happening → Response
+response address p happening = if p.lost then without_effect p else response_while address p happening
+
+abbrev pub part_after_all : ℕ → Part → List Happening → Part
+part_after_all address p [] = p
+part_after_all address p (h ∷ happenings) = part_after_all address (response address p h).part happenings
+
+abbrev pub frames_of_all : ℕ → Part → List Happening → List Frame
+frames_of_all address p [] = []
+frames_of_all address p (h ∷ happenings) = (response address p h).frames ++ frames_of_all address (response address p h).part happenings
+
+-- The part of an address in a state, without times. It has a holder while the terminal has its own address.
+abbrev pub own_part : ℕ → State → Part
+own_part address s = untimed_part (with_holder (part address s) (if s.lost then None else holder s address))
+
+-- ---- the happenings of an address, which is not the terminal's own
+
+abbrev pub if_so : Bool → Happening → List Happening
+if_so true happening = happening ∷ []
+if_so false happening = []
+
+abbrev pub is_at : ℕ → Option ℕ → Bool
+is_at address found = option_eq nat_eq found (Some address)
+
+-- by the time of a frame: its sessions, and its set
+abbrev pub lapses : ℕ → State → List Happening
+lapses address s =
+    if_so (is_overdue s.now (s.places address).tp) TpExpired
+    ++ (if_so (is_overdue s.now (s.places address).etp) EtpExpired
+    ++ (if_so (is_overdue s.now (s.places address).sending) SendingExpired
+    ++ if_so (is_some (set_at address s.sets) && is_silent s.now (s.places address).heard) FellSilent))
+
+-- the terminal loses its address by a frame
+abbrev pub loses : State → Frame → Bool
+loses s frame = is_lost_by (answer_to s (source_of frame) (notice_of s.claims.own s.claims.name frame))
+
+-- what is heard of addresses after a frame by which the own one is not lost
+abbrev pub claims_after : State → Frame → Claimed
+claims_after s frame = hear_claim s (source_of frame) (notice_of s.claims.own s.claims.name frame)
+
+abbrev pub holder_change : ℕ → Claimed → Claimed → List Happening
+holder_change address old new =
+    if option_eq nat_eq (holder_of old.addresses address) (holder_of new.addresses address) then []
+    else HolderIs (holder_of new.addresses address) ∷ []
+
+-- the events of another set's being shown than before
+abbrev pub events_at : ℕ → Option ℕ → Option ℕ → List Happening
+events_at address was now =
+    if option_eq nat_eq was now then [] else if_so (is_at address was) (EventRaised DEACTIVATE) ++ if_so (is_at address now) (EventRaised ACTIVATE)
+
+-- a change of the holder comes before the frame
+abbrev pub heard_happenings : ℕ → State → Frame → Verdict → List Happening
+heard_happenings address s frame verdict =
+    holder_change address s.claims (claims_after s frame) ++ if_so (source_of frame == address) (FrameHeard frame verdict)
+
+-- the state after a frame, before the shown set is chosen
+abbrev pub after_frame : State → Frame → Verdict → State
+after_frame s frame verdict = acted s (source_of frame) (notice_of s.claims.own s.claims.name frame) frame verdict
+
+abbrev pub after_action_at : State → ActionValue → Bool → State
+after_action_at s action shown = after_acts (selecting s action) (at_shown s.shown (Operates action shown))
+
+abbrev pub frame_happenings : ℕ → State → Frame → Verdict → List Happening
+frame_happenings address s frame verdict =
+    if loses s frame then Lost ∷ []
+    else heard_happenings address s frame verdict ++ events_at address s.shown (shown_now (after_frame s frame verdict))
+
+abbrev pub happenings : ℕ → State → Event → List Happening
+happenings address s (FrameAt time frame verdict) =
+    if s.lost then [] else lapses address (at_time s time) ++ frame_happenings address (lapsed (at_time s time)) frame verdict
+happenings address s (ActionAt action shown) =
+    if s.lost then []
+    else if_so (is_at address s.shown) (Operated action shown) ++ events_at address s.shown (shown_now (after_action_at s action shown))
+
+abbrev pub happenings_all : ℕ → State → List Event → List Happening
+happenings_all address s [] = []
+happenings_all address s (e ∷ events) = happenings address s e ++ happenings_all address (step s e).after events
+
+-- ---- Each address takes its own happenings, and no other.
+
+pub record EachTakesItsOwn : Type 0 where
+  -- a step, and what it leaves at an address, with the frames to it
+  pub part_after : (address : ℕ) (s : State) (e : Event) → IsOrderly s → IsOther address s
+      → own_part address (step s e).after ≡ part_after_all address (own_part address s) (happenings address s e)
+  pub frames_after : (address : ℕ) (s : State) (e : Event) → IsOrderly s → IsOther address s
+      → frames_to address (step s e).sent ≡ frames_of_all address (own_part address s) (happenings address s e)
+  -- an input that makes nothing happen there leaves it as it was
+  pub quiet : (address : ℕ) (s : State) (e : Event) → IsOrderly s → IsOther address s → happenings address s e ≡ []
+      → own_part address (step s e).after ≡ own_part address s
+  -- a pool that is preloaded, at its address and elsewhere
+  pub preloaded : (address : ℕ) (s : State) (contents : Contents) → s.lost ≡ false
+      → own_part address (preloading s address contents) ≡ part_after_all address (own_part address s) (Preloaded contents ∷ [])
+  pub preloaded_elsewhere : (address other : ℕ) (s : State) (contents : Contents) → other ≢ address
+      → own_part other (preloading s address contents) ≡ own_part other s
+
+-- ---- The happenings of an address decide, whatever else is heard.
+
+-- The same frame, action or other happening. What is found of pools in the course of a frame or an action may be put otherwise,
+-- as where two verdicts on a transfer are right.
+abbrev pub AreAlike : Happening → Happening → Type 0
+AreAlike (FrameHeard frame verdict) (FrameHeard other found) = frame ≡ other
+AreAlike (Operated action shown) (Operated other seen) = action ≡ other
+AreAlike h k = h ≡ k
+
+-- what two runs leave at an address, and send it
+pub record IsSameAt (address : ℕ) (s t : State) (xs ys : List Event) : Type 0 where
+  pub part : own_part address (after_all s xs) ≡ own_part address (after_all t ys)
+  pub frames : frames_to address (sent_by_all s xs) ≡ frames_to address (sent_by_all t ys)
+
+-- Two runs with the same happenings of an address, from the same part of it, leave the same part and send it the same frames,
+-- whatever else they hear: with the same findings of pools, and with any that are right.
+pub record OwnHappeningsDecide : Type 0 where
+  pub same : (address : ℕ) (s t : State) (xs ys : List Event) → IsOrderly s → IsOrderly t → IsOther address s → IsOther address t
+      → own_part address s ≡ own_part address t → happenings_all address s xs ≡ happenings_all address t ys → IsSameAt address s t xs ys
+  pub alike : (address : ℕ) (s t : State) (xs ys : List Event) → IsOrderly s → IsOrderly t → IsOther address s → IsOther address t
+      → AreFound s xs → AreFound t ys
+      → own_part address s ≡ own_part address t → AllZip AreAlike (happenings_all address s xs) (happenings_all address t ys) → IsSameAt address s t xs ys
+
+-- ---- A set with a NAME has that of its address's holder, after every input. (None stands at the own address.)
+
+abbrev pub NameIsHeld : Option ℕ → Option ℕ → Type 0
+NameIsHeld None holder = Unit {0}
+NameIsHeld (Some name) holder = holder ≡ Some name
+
+abbrev pub SetIsHeld : Option Set → Option ℕ → Type 0
+SetIsHeld None holder = Unit {0}
+SetIsHeld (Some set) holder = NameIsHeld set.name holder
+
+abbrev pub SetsAreHeld : State → Type 0
+SetsAreHeld s = (address : ℕ) → address ≢ s.claims.own → SetIsHeld (set_at address s.sets) (holder s address)
+
+pub record SetsHoldTheirAddress : Type 0 where
+  pub first : (s : State) → s.sets ≡ [] → SetsAreHeld s
+  pub preloaded : (address : ℕ) (s : State) (contents : Contents) → SetsAreHeld s → SetsAreHeld (preloading s address contents)
+  pub kept : (s : State) (e : Event) → IsOrderly s → SetsAreHeld s → SetsAreHeld (step s e).after
+  pub orderly : (s : State) (e : Event) → IsOrderly s → IsOrderly (step s e).after
+  pub orderly_preloaded : (address : ℕ) (s : State) (contents : Contents) → IsOrderly s → IsOrderly (preloading s address contents)

@@ -1,0 +1,208 @@
+-- The promise over all that a terminal does: its sets are those of the written machine, and that machine never sticks
+-- (docs/PROOFS.md, "The headline").
+use Rattle.std.specs.Prelude.{◌≡◌, ◌≤◌, ℕ, Bool, length, if◌then◌else◌, List, [], ◌∷◌, ◌++◌, Option, Some, None, Result, Ok, Err, IfSome}
+use Rattle.std.specs.List.{AllByRecursion}
+use Rattle.std.specs.FinMap as finite
+use Rattle.vt_can.specs.declared.frames.frame.Frame.{Frame}
+use Rattle.vt_can.specs.frames.Frame.{source_of}
+use Rattle.vt_commands.specs.declared.command.Command.{Command}
+use Rattle.vt_commands.specs.declared.event.Event as objects
+use Rattle.vt_commands.specs.declared.raising.Raised.{Raised}
+use Rattle.vt_commands.specs.Commands.{command_at}
+use Rattle.vt_commands.specs.Events.{event_at, raise}
+use Rattle.vt_stores.specs.Stores.{Contents, Objects, map_of}
+use Rattle.vt_verify.specs.Rules.{IsVerified}
+use Rattle.vt_stores.specs.Shapes.{shape_of}
+use Rattle.vt_effects.specs.Effects.{effect}
+use Rattle.vt_machine.specs.Lives.{SetState, working_set_in}
+use Rattle.vt_macros.specs.Machines.{total_budget, events_of, run_of}
+use Rattle.vt_machine.specs.Operating as operating
+use Rattle.vt_macros.specs.Runs.{EndInTurn, Ends, IsReady}
+use Rattle.vt_shown.specs.Showing.{soft_key_mask_of}
+use Rattle.vt_layout.specs.Drawings.{IsChained, Sticks, at_path, key_entries, mask_entries, origin, passed}
+use Rattle.vt_node.specs.Bus.{notice_of}
+use Rattle.vt_server.specs.Choosing.{choosing, shown_now, events_of_change}
+use Rattle.vt_server.specs.Findings.{ends_transfer}
+use Rattle.vt_server.specs.Lapses.{at_time, lapsed}
+use Rattle.vt_server.specs.Operators.{action_on}
+use Rattle.vt_server.specs.Parts.{Part, Act, Hears, Preloads, Operates, Raises}
+use Rattle.vt_server.specs.Places.{empty}
+use Rattle.vt_server.specs.Sessions.{came}
+use Rattle.vt_server.specs.States.{TakesInputs}
+use Rattle.vt_server.specs.Steps.{Event, FrameAt, ActionAt, step, before, acts, acted, answer_to, is_lost_by, selecting, at_shown, preloading}
+use Rattle.vt_server.specs.Terminals.{State, pool_of, part, after_act, after_acts}
+use Rattle.vt_node.specs.ByAddress.{with_at}
+use Rattle.vt_server.specs.Transfers.{Verdict, Accepts}
+use Rattle.vt_node.specs.declared.bus.Notice.{Notice}
+use Rattle.vt_server.specs.declared.input.Input.{Input}
+use Rattle.vt_server.specs.declared.output.Output.{Output}
+
+-- ---- pools in force
+
+-- what was accepted last at each address: a pool that was preloaded or uploaded, or an update with the objects that it left
+abbrev pub Pools : Type 0
+Pools = ℕ → Option Contents
+
+-- The objects come from the pool that was accepted last: the same IDs, kinds, macro entries and macro bytes, one working set,
+-- and references and chains in order.
+pub record IsInForce (last : Option Contents) (state : SetState) : Type 0 where
+  pub accepted : Objects
+  pub is_last : last ≡ Some (map_of accepted)
+  pub verified : IsVerified accepted
+  pub ready : IsReady accepted state.objects
+
+abbrev pub AreInForce : Pools → State → Type 0
+AreInForce pools s = (address : ℕ) → IfSome (pool_of s address) (IsInForce (pools address))
+
+-- ---- which pools are accepted in the course of an input
+
+abbrev pub accepted_by : Verdict → Option Contents → Option Contents
+accepted_by (Accepts objects) last = Some objects
+accepted_by _ last = last
+
+abbrev pub accepted_with : Bool → Verdict → Option Contents → Option Contents
+accepted_with ends verdict last = if ends then accepted_by verdict last else last
+
+-- the end of a transfer whose pool is accepted, and a pool that is preloaded
+abbrev pub accepted_at : ℕ → ℕ → Part → Act → Option Contents → Option Contents
+accepted_at now address p (Hears notice frame verdict) last =
+    accepted_with (ends_transfer p.set (came now p.terminal address p.place notice frame).message) verdict last
+accepted_at now address p (Preloads contents) last = Some contents
+accepted_at now address p _ last = last
+
+abbrev pub accepted_by_acts : State → List (ℕ × Act) → Pools → Pools
+accepted_by_acts s [] pools = pools
+accepted_by_acts s (h ∷ acts) pools =
+    accepted_by_acts (after_act s h.0 h.1) acts (with_at h.0 (accepted_at s.now h.0 (part h.0 s) h.1 (pools h.0)) pools)
+
+abbrev pub accepted_in_hearing : State → ℕ → Notice → Frame → Verdict → Pools → Pools
+accepted_in_hearing s source notice frame verdict pools =
+    if is_lost_by (answer_to s source notice) then pools
+    else accepted_by_acts (before s source notice) (acts s source notice frame verdict) pools
+
+-- An action of the operator brings no pool, and nor does a frame after the loss of the address.
+abbrev pub accepted_after : State → Event → Pools → Pools
+accepted_after s (FrameAt time frame verdict) pools =
+    if s.lost then pools
+    else accepted_in_hearing (lapsed (at_time s time)) (source_of frame) (notice_of s.claims.own s.claims.name frame) frame verdict pools
+accepted_after s (ActionAt action shown) pools = pools
+
+abbrev pub accepted_after_all : State → List Event → Pools → Pools
+accepted_after_all s [] pools = pools
+accepted_after_all s (e ∷ events) pools = accepted_after_all (step s e).after events (accepted_after s e pools)
+
+-- ---- the runs of the machine in the course of an input
+
+-- the events that are raised, on the objects that the machine begins with
+pub record Run : Type 0 where
+  pub objects : Contents
+  pub raised : List Raised
+
+-- A command that is done raises its events on the objects that it leaves.
+abbrev pub runs_of_effect : Contents → Command → Result Contents ℕ → List Run
+runs_of_effect old command (Ok middle) = record { objects = middle; raised = events_of old command } ∷ []
+runs_of_effect old command (Err bits) = []
+
+abbrev pub runs_of_command : Option SetState → Option Command → List Run
+runs_of_command (Some state) (Some command) = runs_of_effect state.objects command (effect state.objects command)
+runs_of_command _ _ = []
+
+abbrev pub runs_of_message : Option SetState → Option (List ℕ) → List Run
+runs_of_message pool None = []
+runs_of_message pool (Some bytes) = runs_of_command pool (command_at bytes)
+
+-- An action that is not refused makes its own change first.
+abbrev pub runs_of_action : Option operating.Action → List Run
+runs_of_action (Some (operating.Acts message start raised)) = record { objects = start.objects; raised = raised } ∷ []
+runs_of_action _ = []
+
+abbrev pub runs_of_operator : Option SetState → (SetState → Option operating.Action) → List Run
+runs_of_operator None action = []
+runs_of_operator (Some state) action = runs_of_action (action state)
+
+-- an event of the Working Set
+abbrev pub named : ℕ → Option objects.Event → List Raised
+named id None = []
+named id (Some event) = raise id event ∷ []
+
+abbrev pub runs_of_event : Option SetState → ℕ → List Run
+runs_of_event None event = []
+runs_of_event (Some state) event = record { objects = state.objects; raised = named (working_set_in state.objects) (event_at event) } ∷ []
+
+abbrev pub runs_at : ℕ → ℕ → Part → Act → List Run
+runs_at now address p (Hears notice frame verdict) = runs_of_message p.place.content.pool (came now p.terminal address p.place notice frame).message
+runs_at now address p (Operates action shown) = runs_of_operator p.place.content.pool (λ state. action_on state shown action)
+runs_at now address p (Raises event) = runs_of_event p.place.content.pool event
+runs_at now address p _ = []
+
+abbrev pub runs_of_acts : State → List (ℕ × Act) → List Run
+runs_of_acts s [] = []
+runs_of_acts s (h ∷ acts) = runs_at s.now h.0 (part h.0 s) h.1 ++ runs_of_acts (after_act s h.0 h.1) acts
+
+-- the events of another set's being shown
+abbrev pub runs_of_settling : State → List Run
+runs_of_settling s = runs_of_acts (choosing s) (events_of_change s.shown (shown_now s))
+
+abbrev pub runs_of_hearing : State → ℕ → Notice → Frame → Verdict → List Run
+runs_of_hearing s source notice frame verdict =
+    if is_lost_by (answer_to s source notice) then []
+    else runs_of_acts (before s source notice) (acts s source notice frame verdict) ++ runs_of_settling (acted s source notice frame verdict)
+
+abbrev pub runs_of_operating : State → List (ℕ × Act) → List Run
+runs_of_operating s happens = runs_of_acts s happens ++ runs_of_settling (after_acts s happens)
+
+-- those of a command or an action, and those of the events that another set is shown
+abbrev pub runs : State → Event → List Run
+runs s (FrameAt time frame verdict) =
+    if s.lost then [] else runs_of_hearing (lapsed (at_time s time)) (source_of frame) (notice_of s.claims.own s.claims.name frame) frame verdict
+runs s (ActionAt action shown) =
+    if s.lost then [] else runs_of_operating (selecting s action) (at_shown s.shown (Operates action shown))
+
+-- ---- what is promised of them
+
+-- A run on the objects of an accepted pool ends, and does not stick: each command finds the objects that it names, of kinds that
+-- they may have, and the steps are at most the budgets that the pool's report prints for the events, of which there are few. The
+-- events run in turn, and each of them ends within its own budget.
+pub record EndsInTime (run : Run) : Type 0 where
+  pub accepted : Objects
+  pub verified : IsVerified accepted
+  pub ready : IsReady accepted run.objects
+  pub ends : Ends run.objects (total_budget (shape_of accepted) run.raised) (run_of run.objects run.raised)
+  pub in_turn : EndInTurn run.objects run.raised ends.new
+  pub few : length run.raised ≤ 3
+
+-- So the whole cost of an input is one for its command, the budgets of what that raises, and those of the two events by which
+-- another set is shown.
+pub record RunsEnd (s : State) (e : Event) : Type 0 where
+  pub each : AllByRecursion EndsInTime (runs s e)
+  pub few : length (runs s e) ≤ 3
+
+abbrev pub AllEnd : State → List Event → Type 0
+AllEnd s [] = Unit {0}
+AllEnd s (e ∷ events) = RunsEnd s e × AllEnd (step s e).after events
+
+-- No drawing of the objects sticks: each reference that is shown leads to an object of a kind that may stand there, or is NULL
+-- where it may be. On the way to each element stand few objects.
+pub record DrawsWhatIsThere (store : Contents) : Type 0 where
+  pub never_sticks : (mask : ℕ) → Sticks store mask → ⊥
+  pub in_mask : (mask : ℕ) (path : List ℕ) → IfSome (at_path store (mask_entries store mask) origin path)
+      (λ e. IsChained store mask (passed store (mask_entries store mask) path) e.id)
+  pub of_keys : (mask : ℕ) (path : List ℕ) → IfSome (at_path store (key_entries store mask) origin path)
+      (λ e. IsChained store (soft_key_mask_of (finite.get store mask)) (passed store (key_entries store mask) path) e.id)
+
+-- What inputs leave: the sets and outputs of the written machine, each of whose runs ends in time, and pools in force, each
+-- of which is the one that was accepted last, and whose drawings do not stick.
+pub record Keeps (pools : Pools) (old : State) (inputs : List Input) (new : State) (sent_before sent_after : List Output) : Type 0 where
+  pub takes : TakesInputs old inputs new sent_before sent_after
+  pub runs_end : AllEnd old takes.events
+  pub in_force : AreInForce (accepted_after_all old takes.events pools) new
+  pub drawn : (address : ℕ) → IfSome (pool_of new address) (λ state. DrawsWhatIsThere state.objects)
+
+-- A terminal has no pool at first; an accepted pool that is preloaded is in force, beside those that are; and whatever inputs it
+-- takes then keep the promise.
+pub record NeverSticks : Type 0 where
+  pub first : (s : State) → ((address : ℕ) → s.places address ≡ empty) → AreInForce (λ address. None) s
+  pub preloaded : (pools : Pools) (s : State) (address : ℕ) (pool : Objects) → IsVerified pool → AreInForce pools s
+      → AreInForce (with_at address (Some (map_of pool)) pools) (preloading s address (map_of pool))
+  pub inputs : (pools : Pools) (old : State) (inputs : List Input) (new : State) (sent_before sent_after : List Output) → AreInForce pools old
+      → TakesInputs old inputs new sent_before sent_after → Keeps pools old inputs new sent_before sent_after

@@ -1,0 +1,8 @@
+-- What the contracts of this crate cite.
+pub mod Certain
+pub mod ClaimsHeard
+pub mod Happenings
+pub mod Headline
+pub mod Responses
+pub mod Sending
+pub mod SetLists

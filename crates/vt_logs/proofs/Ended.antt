@@ -1,0 +1,158 @@
+-- Where a replay ends before its end: in the whole log.
+use Rattle.std.proofs.Common.{◌≡◌, ℕ, List, [], ◌++◌, inl, inr, Option, Some, None, refl, sym, ap, subst, ◌∙◌, append_assoc}
+use Rattle.std.specs.Prelude.{IfSome}
+use Rattle.std.proofs.lemmas.List.{append-nil}
+use Rattle.std.specs.Io.KnownBytes.{Appends, Consumes, IsAtEnd, Keeps}
+use Rattle.std.proofs.KnownBytes.{Consumes-trans, Consumes-whole}
+use Rattle.vt_logs.specs.declared.counts.Counts.{Counts}
+use Rattle.vt_logs.specs.Begun.{Begins, MayBegin, Stops, HasStopped}
+use Rattle.vt_logs.specs.Lines.{lines_of}
+use Rattle.vt_logs.specs.Progress.{Stand, Takes, TakesBytes}
+use Rattle.vt_logs.specs.Replays.{TakesSome}
+use Rattle.vt_logs.specs.Taken.{Scene, TakesReadings}
+use Rattle.vt_logs.specs.Texts.{no_counts, counts_text, with_lines}
+use Rattle.vt_logs.proofs.Begun.{begins_later, some_all, stops_none, later_bytes}
+use Rattle.vt_logs.proofs.LongLines.{begun}
+use Rattle.vt_logs.proofs.Midway.{IsUnderWay}
+use Rattle.vt_logs.proofs.Taking.{takes_more}
+use Rattle.vt_server.specs.Screens.{IsScreenOf}
+use Rattle.vt_server.specs.Terminals.{State}
+
+-- ---- before the first screen stands
+
+pub begun_none : (given : Option (List ℕ)) (s : State) (old new : Option (List ℕ)) → Keeps old new → IfSome given (λ input. HasStopped s input s old new)
+begun_none None s old new keeps = tt
+begun_none (Some input) s old new keeps = record {
+  taken = record { front = []; back = lines_of input; readings = []; whole = refl; read = tt; short = tt; after = refl };
+  written = inl keeps;
+}
+
+pub begun_first : (given : Option (List ℕ)) (s : State) (old new : Option (List ℕ)) → MayBegin (IsScreenOf s) old new → IfSome given (λ input. HasStopped s input s old new)
+begun_first given s old new (inl keeps) = begun_none given s old new keeps
+begun_first None s old new (inr screen) = tt
+begun_first (Some input) s old new (inr (screen, is, stands)) =
+    let first : Scene = record { state = s; screen = screen } in record {
+      taken = record { front = []; back = lines_of input; readings = []; whole = refl; read = tt; short = tt; after = refl };
+      written = inr (
+        screen,
+        record {
+          front = [];
+          back = lines_of input;
+          readings = [];
+          first = first;
+          last = first;
+          printed = [];
+          ending = [];
+          whole = refl;
+          read = tt;
+          starts = refl;
+          shown = is;
+          takes = (refl, refl);
+          ends = inl refl;
+          text_is = sym (append-nil (screen ++ []) ∙ append-nil screen);
+        },
+        stands,
+      );
+    }
+
+-- ---- after it
+
+-- where not all lines are taken
+stopped : (a : Stand) (t : State) (old held : Option (List ℕ)) (input : List ℕ) → a.counts ≡ no_counts → IsScreenOf a.scene.state a.scene.screen → Appends old a.held a.scene.screen
+    → Stops a (lines_of input) t held → HasStopped a.scene.state input t old held
+stopped a t old held input none drawn first stops =
+    let print = stops.text_is in record {
+      taken = stops.taken;
+      written = inr (
+        a.scene.screen ++ stops.text,
+        record {
+          front = print.front;
+          back = print.back;
+          readings = print.readings;
+          first = a.scene;
+          last = print.to;
+          printed = stops.text;
+          ending = [];
+          whole = print.whole;
+          read = print.read;
+          starts = refl;
+          shown = drawn;
+          takes = subst (λ (k : ℕ). TakesReadings a.scene k print.readings print.to stops.text) (ap (λ (k : Counts). k.lines) none) print.takes;
+          ends = inl refl;
+          text_is = sym (append-nil (a.scene.screen ++ stops.text));
+        },
+        begins_later old a.held held a.scene.screen stops.text first stops.begun,
+      );
+    }
+
+-- nothing more is read
+pub way_stop : (a b : Stand) (given left old held : Option (List ℕ)) (pending : List ℕ) (reads : ℕ) → a.counts ≡ no_counts → IsScreenOf a.scene.state a.scene.screen
+    → Appends old a.held a.scene.screen → IsUnderWay a given left b pending reads → Keeps b.held held
+    → IfSome given (λ input. HasStopped a.scene.state input b.scene.state old held)
+way_stop a b given left old held pending reads none drawn first way keeps =
+    begun given left way.input (λ input. HasStopped a.scene.state input b.scene.state old held) way.consumed (λ rest.
+    stopped a b.scene.state old held (way.input ++ rest) none drawn first
+    (later_bytes a b b.scene.state held [] way.input pending way.taken rest (stops_none b (lines_of (pending ++ rest)) held keeps)))
+
+-- a chunk is not taken to its end
+pub way_stops : (a b : Stand) (t : State) (given left after old held : Option (List ℕ)) (pending chunk : List ℕ) (reads : ℕ) → a.counts ≡ no_counts → IsScreenOf a.scene.state a.scene.screen
+    → Appends old a.held a.scene.screen → IsUnderWay a given left b pending reads → Consumes left after chunk
+    → ((rest : List ℕ) → Stops b (lines_of (pending ++ chunk ++ rest)) t held) → IfSome given (λ input. HasStopped a.scene.state input t old held)
+way_stops a b t given left after old held pending chunk reads none drawn first way consumed stops =
+    let P : List ℕ → Type 0 = λ input. HasStopped a.scene.state input t old held in
+    begun given after (way.input ++ chunk) P (Consumes-trans given left after way.input chunk way.consumed consumed) (λ rest.
+    let here : Stops b (lines_of (pending ++ (chunk ++ rest))) t held = subst (λ (text : List ℕ). Stops b (lines_of text) t held) (append_assoc pending chunk rest) (stops rest) in
+    subst P (sym (append_assoc way.input chunk rest))
+    (stopped a t old held (way.input ++ (chunk ++ rest)) none drawn first (later_bytes a b t held [] way.input pending way.taken (chunk ++ rest) here)))
+
+-- the reader is at its end, and what is pending is not taken to its end
+pub way_last : (a b : Stand) (t : State) (given left after old held : Option (List ℕ)) (pending chunk : List ℕ) (reads : ℕ) → a.counts ≡ no_counts → IsScreenOf a.scene.state a.scene.screen
+    → Appends old a.held a.scene.screen → IsUnderWay a given left b pending reads → Consumes left after chunk → chunk ≡ [] → IsAtEnd after
+    → Stops b (lines_of pending) t held → IfSome given (λ input. HasStopped a.scene.state input t old held)
+way_last a b t given left after old held pending chunk reads none drawn first way consumed empty end stops =
+    let P : List ℕ → Type 0 = λ input. HasStopped a.scene.state input t old held in
+    let here : Stops b (lines_of (pending ++ [])) t held = subst (λ (text : List ℕ). Stops b (lines_of text) t held) (sym (append-nil pending)) stops in
+    let all : P (way.input ++ []) = stopped a t old held (way.input ++ []) none drawn first (later_bytes a b t held [] way.input pending way.taken [] here) in
+    Consumes-whole given after (way.input ++ chunk) P (Consumes-trans given left after way.input chunk way.consumed consumed) end
+    (subst (λ (c : List ℕ). P (way.input ++ c)) (sym empty) all)
+
+-- all lines are taken, and the counts are begun
+counting : (a b c : Stand) (old held : Option (List ℕ)) (pending input : List ℕ) → a.counts ≡ no_counts → IsScreenOf a.scene.state a.scene.screen → Appends old a.held a.scene.screen
+    → TakesBytes a [] input b pending → Takes b (lines_of pending) c → Begins c.held held (counts_text c.counts) → HasStopped a.scene.state input c.scene.state old held
+counting a b c old held pending input none drawn first taken last counted =
+    let all = takes_more a b c taken.lines (lines_of pending) taken.takes last in
+    let lines : lines_of input ≡ taken.lines ++ lines_of pending =
+    ap lines_of (sym (append-nil input)) ∙ taken.split [] ∙ ap (λ (text : List ℕ). taken.lines ++ lines_of text) (append-nil pending) in
+    record {
+      taken = subst (λ (ls : List (List ℕ)). TakesSome a.scene.state ls c.scene.state) (sym lines) (some_all a c (taken.lines ++ lines_of pending) all);
+      written = inr (
+        a.scene.screen ++ (all.printed ++ counts_text c.counts),
+        record {
+          front = taken.lines ++ lines_of pending;
+          back = [];
+          readings = all.readings;
+          first = a.scene;
+          last = c.scene;
+          printed = all.printed;
+          ending = counts_text c.counts;
+          whole = lines ∙ sym (append-nil (taken.lines ++ lines_of pending));
+          read = all.read;
+          starts = refl;
+          shown = drawn;
+          takes = subst (λ (k : ℕ). TakesReadings a.scene k all.readings c.scene all.printed) (ap (λ (k : Counts). k.lines) none) all.takes;
+          ends = inr (refl, ap counts_text (all.counts ∙ ap (λ (k : Counts). with_lines k all.readings) none));
+          text_is = sym (append_assoc a.scene.screen all.printed (counts_text c.counts));
+        },
+        begins_later old a.held held a.scene.screen (all.printed ++ counts_text c.counts) first
+            (begins_later a.held c.held held all.printed (counts_text c.counts) all.text counted),
+      );
+    }
+
+pub way_counts : (a b c : Stand) (given left after old held : Option (List ℕ)) (pending chunk : List ℕ) (reads : ℕ) → a.counts ≡ no_counts → IsScreenOf a.scene.state a.scene.screen
+    → Appends old a.held a.scene.screen → IsUnderWay a given left b pending reads → Consumes left after chunk → chunk ≡ [] → IsAtEnd after
+    → Takes b (lines_of pending) c → Begins c.held held (counts_text c.counts) → IfSome given (λ input. HasStopped a.scene.state input c.scene.state old held)
+way_counts a b c given left after old held pending chunk reads none drawn first way consumed empty end last counted =
+    let P : List ℕ → Type 0 = λ input. HasStopped a.scene.state input c.scene.state old held in
+    let joined : way.input ≡ way.input ++ chunk = sym (append-nil way.input) ∙ ap (λ (text : List ℕ). way.input ++ text) (sym empty) in
+    Consumes-whole given after (way.input ++ chunk) P (Consumes-trans given left after way.input chunk way.consumed consumed) end
+    (subst P joined (counting a b c old held pending way.input none drawn first way.taken last counted))

@@ -1,0 +1,9 @@
+mod Appending
+mod Begun
+mod Chains
+mod Ended
+mod Loading
+mod LongLines
+mod Midway
+mod Stepping
+mod Taking

@@ -1,0 +1,154 @@
+-- From a pool's file to the terminal that a replay begins with, and from its log to what is written.
+use Rattle.std.proofs.Common.{◌≡◌, ◌∙◌, ℕ, nat_cmp, false, List, [], inr, Option, Some, None, IfSome, refl, sym, ap, subst}
+use Rattle.std.specs.Io.KnownBytes.{Appends, Keeps}
+use Rattle.std.proofs.KnownBytes.{Appends-kept}
+use Rattle.vt_pool.specs.Pools.{Entry, AreRecords, IsInForce, contents, joined}
+use Rattle.std.specs.FinMap as finite
+use Rattle.std.specs.FinMap.{nat_cmp-IsAntisymmetric}
+use Rattle.std.proofs.lemmas.Cmp.{nat_cmp_total}
+use Rattle.std.proofs.lemmas.List.{append-nil}
+use Rattle.vt_stores.specs.Stores.{Contents, by_rising_id, map_of}
+use Rattle.vt_verify.specs.Rules.{IsAcceptable, IsRefused, IsWantOfMemory}
+use Rattle.vt_chains.specs.Limits.{terminal}
+use Rattle.vt_verify.specs.declared.refusal.Refusal.{Refusal}
+use Rattle.vt_verify.specs.Reports.{report_text}
+use Rattle.vt_logs.specs.declared.counts.Counts.{Counts}
+use Rattle.vt_logs.specs.declared.options.Options.{Options}
+use Rattle.vt_logs.specs.declared.options.Preload.{Preload}
+use Rattle.vt_logs.specs.declared.fault.ReplayFault.{ReplayFault}
+use Rattle.vt_logs.specs.declared.fault.ReplayFault.TheVariants.{TooLong, Write}
+use Rattle.vt_logs.specs.Begun.{IsFrontOfReplay, HasStopped, HasStoppedAtLong}
+use Rattle.vt_logs.specs.Lines.{lines_of}
+use Rattle.vt_logs.specs.Replays.{IsReplay, HasLongLine}
+use Rattle.vt_logs.specs.Runs.{Files, IsLoaded, IsPoolOf, IsAcceptedPoolOf, IsRefusedPool, IsReportOf, IsStart, StandsReplayed, WritesReplay, new_state}
+use Rattle.vt_logs.specs.Texts.{counts_text}
+use Rattle.vt_server.specs.Places.{empty}
+use Rattle.vt_server.specs.Terminals.{State}
+
+-- a map is that of its entries
+pub entries_again : (m : Contents) → contents (finite.entries m) ≡ m
+entries_again m =
+    finite.same_map nat_cmp_total nat_cmp-IsAntisymmetric (contents (finite.entries m)) m
+    (λ q. finite.get-from_entries nat_cmp_total (finite.entries m) q ∙ sym (finite.get-entries m q))
+
+-- a list of the entries of a map is sorted, and is that map
+pub map_is : (pool : List Entry) → pool ≡ finite.entries (contents pool) → map_of pool ≡ contents pool
+map_is pool is =
+    ap map_of is
+    ∙ finite.same_map nat_cmp_total nat_cmp-IsAntisymmetric (map_of (finite.entries (contents pool))) (contents pool)
+    (λ q. finite.get-from_sorted nat_cmp (finite.entries (contents pool)) q (finite.entries_sorted (contents pool)) ∙ sym (finite.get-entries (contents pool) q))
+
+-- what is accepted of a pool has its objects
+pub same_objects : (pool accepted : List Entry) → accepted ≡ by_rising_id pool → contents accepted ≡ contents pool
+unfolding by_rising_id
+same_objects pool accepted is = ap contents is ∙ entries_again (contents pool)
+
+-- and these objects stand in it by rising ID
+pub accepted_rising : (pool accepted : List Entry) → accepted ≡ by_rising_id pool → accepted ≡ finite.entries (contents accepted)
+unfolding by_rising_id
+accepted_rising pool accepted is = is ∙ ap finite.entries (sym (same_objects pool accepted is))
+
+pub pool_of : (read : List ℕ) (pool : List Entry) → (records : List Entry) × AreRecords records × (read ≡ joined records) × IsInForce records pool
+    → IsPoolOf read (contents pool)
+pool_of read pool p = record { records = p.0; whole = p.1; spelled = p.2; in_force = p.3.last }
+
+pub accepted_pool : (read : List ℕ) (pool accepted : List Entry) → (records : List Entry) × AreRecords records × (read ≡ joined records) × IsInForce records pool
+    → accepted ≡ by_rising_id pool → IsAcceptable terminal accepted → IsAcceptedPoolOf read (contents accepted)
+unfolding by_rising_id
+accepted_pool read pool accepted p is all =
+    let same = same_objects pool accepted is in (
+      subst (IsPoolOf read) (sym same) (pool_of read pool p),
+      subst (IsAcceptable terminal) (is ∙ ap finite.entries (sym same)) all,
+    )
+
+pub refused_pool : (read : List ℕ) (pool : List Entry) (why : Refusal) → (records : List Entry) × AreRecords records × (read ≡ joined records) × IsInForce records pool
+    → IsRefused terminal (by_rising_id pool) why → (IsWantOfMemory why → ⊥) → IsRefusedPool read why
+unfolding by_rising_id
+refused_pool read pool why p refused named = record { objects = contents pool; pool = pool_of read pool p; refused = refused; named = named }
+
+-- the text of a report is that of the file's pool
+pub report_of_file : (file : Option (List ℕ)) (pool : List Entry) (text : List ℕ) → IfSome file (λ bytes. IsAcceptedPoolOf bytes (contents pool))
+    → pool ≡ finite.entries (contents pool) → text ≡ report_text pool → IfSome file (λ bytes. IsReportOf bytes text)
+report_of_file None pool text is rising same = tt
+report_of_file (Some bytes) pool text is rising same =
+    record { objects = contents pool; accepted = is; text_is = same ∙ ap report_text rising }
+
+pub new_is : (s : State) (own name : ℕ) → s.claims ≡ record { own = own; name = name; addresses = [] } → s.sets ≡ []
+    → ((address : ℕ) → s.places address ≡ empty) → s.selected ≡ None → s.shown ≡ None → s.lost ≡ false → s.now ≡ 0 → s ≡ new_state own name
+new_is s own name claims sets places selected shown lost now =
+    λ i. record { claims = claims i; sets = sets i; places = λ address. places address i; selected = selected i; shown = shown i; lost = lost i; now = now i }
+
+pub start_alone : (files : Files) (options : Options) (s : State) → options.preload ≡ None
+    → s ≡ new_state options.own options.name → IsStart files options s
+start_alone files options s none same = rw none same
+
+pub start_with_set : (files : Files) (options : Options) (before s : State) (p : Preload) → options.preload ≡ Some p
+    → IsLoaded files p before s → before ≡ new_state options.own options.name → IsStart files options s
+start_with_set files options before s p some loaded same =
+    rw some (subst (λ (b : State). IsLoaded files p b s) same loaded)
+
+pub replay_written : (file remaining old mid new : Option (List ℕ)) (start end : State) (counts : Counts)
+    → IfSome file (λ bytes. remaining ≡ Some bytes)
+    → IfSome remaining (λ input. (text : List ℕ) × Appends old mid text × IsReplay start input text counts end)
+    → Keeps mid new → IfSome file (λ input. WritesReplay start input old new)
+replay_written None remaining old mid new start end counts same replay keeps = tt
+replay_written (Some bytes) remaining old mid new start end counts same replay keeps =
+    let r = rw same at replay in
+    record { text = r.0; counts = counts; end = end; replay = r.2; written = Appends-kept old mid new r.0 r.1 keeps }
+
+-- ---- what stands written where a log is not replayed
+
+-- the whole text of a replay is a front of it
+whole_front : (start end : State) (input text : List ℕ) (counts : Counts) → IsReplay start input text counts end → IsFrontOfReplay start input text
+whole_front start end input text counts r = record {
+  front = lines_of input;
+  back = [];
+  readings = r.readings;
+  first = r.first;
+  last = r.last;
+  printed = r.printed;
+  ending = counts_text counts;
+  whole = sym (append-nil (lines_of input));
+  read = r.read;
+  starts = r.starts;
+  shown = r.shown;
+  takes = r.takes;
+  ends = inr (refl, ap counts_text r.counts_are);
+  text_is = r.text_is;
+}
+
+-- all of it is written, but it could not be written out
+pub whole_written : (file remaining old mid new : Option (List ℕ)) (start end : State) (counts : Counts)
+    → IfSome file (λ bytes. remaining ≡ Some bytes)
+    → IfSome remaining (λ input. (text : List ℕ) × Appends old mid text × IsReplay start input text counts end)
+    → Keeps mid new → IfSome file (λ input. StandsReplayed start input Write old new)
+whole_written None remaining old mid new start end counts same replay keeps = tt
+whole_written (Some bytes) remaining old mid new start end counts same replay keeps =
+    let r = rw same at replay in (
+      inr (
+        r.0,
+        whole_front start end bytes r.0 counts r.2,
+        record { front = r.0; rest = []; parts = sym (append-nil r.0); written = Appends-kept old mid new r.0 r.1 keeps },
+      ),
+      λ e. absurd cc,
+    )
+
+-- the replay ended before its end
+pub front_written : (file remaining old new : Option (List ℕ)) (start end : State) (why : ReplayFault) → IfSome file (λ bytes. remaining ≡ Some bytes)
+    → IfSome remaining (λ input. HasStopped start input end old new)
+    → (why ≡ TooLong → IfSome remaining (λ input. HasStoppedAtLong start input end old new))
+    → IfSome file (λ input. StandsReplayed start input why old new)
+front_written None remaining old new start end why same stopped at_long = tt
+front_written (Some bytes) remaining old new start end why same stopped at_long =
+    let s = rw same at stopped in (s.written, λ e. (end, rw same at (at_long e)))
+
+-- the line that was too long is one of the file's
+pub long_written : (file remaining old new : Option (List ℕ)) (start end : State) (why : ReplayFault) → IfSome file (λ bytes. remaining ≡ Some bytes)
+    → (why ≡ TooLong → IfSome remaining (λ input. HasStoppedAtLong start input end old new)) → IfSome file (λ input. why ≡ TooLong → HasLongLine input)
+long_written None remaining old new start end why same stopped = tt
+long_written (Some bytes) remaining old new start end why same stopped = λ e. let s = rw same at (stopped e) in s.long
+
+-- the writer's fault is no line that is too long
+pub never_long : (file : Option (List ℕ)) → IfSome file (λ input. Write ≡ TooLong → HasLongLine input)
+never_long None = tt
+never_long (Some bytes) = λ e. absurd cc

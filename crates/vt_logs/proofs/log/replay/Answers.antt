@@ -1,0 +1,159 @@
+use Rattle.std.proofs.Common.{◌≡◌, ◌≤◌, ◌<◌, ℕ, length, length-take, take, refl, sym, ap, subst, ◌∙◌, arith}
+use Rattle.std.proofs.lemmas.Result.{err_from_is_err_and}
+use Rattle.std.specs.Io.KnownBytes.{Consumes}
+use Rattle.std.proofs.KnownBytes.{Keeps-refl}
+use Rattle.vt_server.specs.States.{state_of}
+use Rattle.vt_logs.specs.Texts.{no_counts}
+use Rattle.vt_logs.specs.Progress.{scene, stand, Stand}
+use Rattle.vt_logs.proofs.Midway.{way_drawn, way_flushed, way_start, way_more, way_end, read_front}
+use Rattle.vt_logs.proofs.LongLines.{way_long, end_long}
+use Rattle.vt_logs.proofs.Begun.{on_any_err}
+use Rattle.vt_logs.proofs.Ended.{begun_none, begun_first, way_stop, way_stops, way_last, way_counts}
+use Rattle.vt_logs.proofs.log.replay.Goals as goal
+
+pub loop-init : goal.loop-init
+loop-init g c = record {
+  way = way_start (scene c.args.terminal.now c.begin.new.self.screen.items) (g.W.Write.contents c.begin.new.writer) (g.R.Read.remaining c.args.reader.now)
+      c.begin.new.self.counts c.begin.new.self.pending.items (c.begin.ensures.counts ∙ c.new-progress.ensures.counts) (rw c.begin.ensures.pending c.new-progress.ensures.pending);
+  chunk = c.in_ok-chunk.ensures;
+}
+
+pub end_log-requires-clause-drawn : goal.end_log-requires-clause-drawn
+end_log-requires-clause-drawn g c =
+    let start : Stand = stand c.args.terminal.now c.begin.new.self.screen.items no_counts (g.W.Write.contents c.begin.new.writer) in
+    let now : Stand = stand c.loop.terminal c.loop.progress.screen.items c.loop.progress.counts (g.W.Write.contents c.loop.writer) in
+    way_drawn start now (g.R.Read.remaining c.args.reader.now) (g.R.Read.remaining c.loop.reader) c.loop.progress.pending.items c.loop.counter c.loop.invariant.way c.in_ok-begin.ensures.drawn
+
+pub take_chunk-requires-clause-drawn : goal.take_chunk-requires-clause-drawn
+take_chunk-requires-clause-drawn g c =
+    let start : Stand = stand c.args.terminal.now c.begin.new.self.screen.items no_counts (g.W.Write.contents c.begin.new.writer) in
+    let now : Stand = stand c.loop.terminal c.loop.progress.screen.items c.loop.progress.counts (g.W.Write.contents c.loop.writer) in
+    way_drawn start now (g.R.Read.remaining c.args.reader.now) (g.R.Read.remaining c.loop.reader) c.loop.progress.pending.items c.loop.counter c.loop.invariant.way c.in_ok-begin.ensures.drawn
+
+pub returns-then-count-eq0-clause-text : goal.returns-then-count-eq0-clause-text
+returns-then-count-eq0-clause-text g c =
+    let start : Stand = stand c.args.terminal.now c.begin.new.self.screen.items no_counts (g.W.Write.contents c.begin.new.writer) in
+    let now : Stand = stand c.loop.terminal c.loop.progress.screen.items c.loop.progress.counts (g.W.Write.contents c.flush.new.writer) in
+    let way = way_flushed start (scene c.loop.terminal c.loop.progress.screen.items) c.loop.progress.counts (g.W.Write.contents c.loop.writer) (g.W.Write.contents c.flush.new.writer)
+    (g.R.Read.remaining c.args.reader.now) (g.R.Read.remaining c.loop.reader) c.loop.progress.pending.items c.loop.counter c.loop.invariant.way c.flush.ensures.kept in
+    let done : Stand = stand c.end_log.new.terminal c.end_log.new.self.screen.items c.end_log.new.self.counts (g.W.Write.contents c.end_log.new.writer) in
+    let items = c.loop.chunk in
+    let room : 0 < length c.read.new.buf = omega (arith, c.read.auto.buf, c.deref_mut.ensures.len, items.ok.0, c.loop.invariant.chunk) in
+    way_end start now done (g.R.Read.remaining c.args.reader.now) (g.R.Read.remaining c.loop.reader) (g.R.Read.remaining c.read.new.self) (g.W.Write.contents c.args.writer.now) (g.W.Write.contents c.put_counts.new.writer)
+    c.loop.progress.pending.items (take c.in-Ok.count c.read.new.buf) c.loop.counter refl c.in_ok-begin.ensures.drawn c.in_ok-begin.ensures.text way c.in-Ok.ensures.bytes.0 (ap (λ (n : ℕ). take n c.read.new.buf) c.if-count-eq0.true)
+    (c.in-Ok.ensures.bytes.1 c.if-count-eq0.true room) c.in_ok-end_log.ensures.takes c.in_ok-put_counts.ensures.text
+
+pub loop-preserved : goal.loop-preserved
+loop-preserved g c =
+    let start : Stand = stand c.args.terminal.now c.begin.new.self.screen.items no_counts (g.W.Write.contents c.begin.new.writer) in
+    let now : Stand = stand c.loop.terminal c.loop.progress.screen.items c.loop.progress.counts (g.W.Write.contents c.flush.new.writer) in
+    let way = way_flushed start (scene c.loop.terminal c.loop.progress.screen.items) c.loop.progress.counts (g.W.Write.contents c.loop.writer) (g.W.Write.contents c.flush.new.writer)
+    (g.R.Read.remaining c.args.reader.now) (g.R.Read.remaining c.loop.reader) c.loop.progress.pending.items c.loop.counter c.loop.invariant.way c.flush.ensures.kept in
+    let after : Stand = stand c.take_chunk.new.terminal c.take_chunk.new.self.screen.items c.take_chunk.new.self.counts (g.W.Write.contents c.take_chunk.new.writer) in
+    let items = c.loop.chunk in
+    let full : length c.read.new.buf ≡ items.len = omega (arith, c.read.auto.buf, c.deref_mut.ensures.len) in
+    let short : length (take c.in-Ok.count c.deref.result.now) ≤ 65536 = simp length-take (omega (arith, c.deref.ensures.len, items.ok.0, c.loop.invariant.chunk)) in
+    let front = read_front c.in-Ok.count items.len c.read.new.buf items.items c.deref.result.now c.deref.ensures.value full in
+    let consumed = subst (Consumes (g.R.Read.remaining c.loop.reader) (g.R.Read.remaining c.read.new.self)) front c.in-Ok.ensures.bytes.0 in
+    record {
+      way = way_more start now after (g.R.Read.remaining c.args.reader.now) (g.R.Read.remaining c.loop.reader) (g.R.Read.remaining c.read.new.self) c.loop.progress.pending.items c.take_chunk.new.self.pending.items
+          (take c.in-Ok.count c.deref.result.now) c.loop.counter way consumed short c.in_ok-take_chunk.ensures.taken c.in_ok-take_chunk.ensures.whole;
+      chunk = sym (ap length c.deref.ensures.value) ∙ c.deref.ensures.len ∙ items.ok.0 ∙ c.loop.invariant.chunk;
+    }
+
+pub returns-in_err-end_log-clause-too_long : goal.returns-in_err-end_log-clause-too_long
+returns-in_err-end_log-clause-too_long g c =
+    let start : Stand = stand c.args.terminal.now c.begin.new.self.screen.items no_counts (g.W.Write.contents c.begin.new.writer) in
+    let now : Stand = stand c.loop.terminal c.loop.progress.screen.items c.loop.progress.counts (g.W.Write.contents c.flush.new.writer) in
+    let way = way_flushed start (scene c.loop.terminal c.loop.progress.screen.items) c.loop.progress.counts (g.W.Write.contents c.loop.writer) (g.W.Write.contents c.flush.new.writer)
+    (g.R.Read.remaining c.args.reader.now) (g.R.Read.remaining c.loop.reader) c.loop.progress.pending.items c.loop.counter c.loop.invariant.way c.flush.ensures.kept in
+    let p = err_from_is_err_and c.from_residual-in_err-end_log.result c.from_residual-in_err-end_log.ensures.1 in
+    λ e. let stay = c.in_err-end_log.ensures.stay (let same = p.1 in let is = p.2 in cc) in
+    end_long start now (state_of c.end_log.new.terminal) (g.R.Read.remaining c.args.reader.now) (g.R.Read.remaining c.loop.reader) (g.W.Write.contents c.args.writer.now) (g.W.Write.contents c.end_log.new.writer)
+    c.loop.progress.pending.items c.loop.counter refl c.in_ok-begin.ensures.drawn c.in_ok-begin.ensures.text way (c.in_err-end_log.ensures.too_long (let same = p.1 in let is = p.2 in cc)) stay.0 stay.1
+
+pub returns-in_err-take_chunk-clause-too_long : goal.returns-in_err-take_chunk-clause-too_long
+returns-in_err-take_chunk-clause-too_long g c =
+    let start : Stand = stand c.args.terminal.now c.begin.new.self.screen.items no_counts (g.W.Write.contents c.begin.new.writer) in
+    let now : Stand = stand c.loop.terminal c.loop.progress.screen.items c.loop.progress.counts (g.W.Write.contents c.flush.new.writer) in
+    let way = way_flushed start (scene c.loop.terminal c.loop.progress.screen.items) c.loop.progress.counts (g.W.Write.contents c.loop.writer) (g.W.Write.contents c.flush.new.writer)
+    (g.R.Read.remaining c.args.reader.now) (g.R.Read.remaining c.loop.reader) c.loop.progress.pending.items c.loop.counter c.loop.invariant.way c.flush.ensures.kept in
+    let items = c.loop.chunk in
+    let full : length c.read.new.buf ≡ items.len = omega (arith, c.read.auto.buf, c.deref_mut.ensures.len) in
+    let front = read_front c.in-Ok.count items.len c.read.new.buf items.items c.deref.result.now c.deref.ensures.value full in
+    let consumed = subst (Consumes (g.R.Read.remaining c.loop.reader) (g.R.Read.remaining c.read.new.self)) front c.in-Ok.ensures.bytes.0 in
+    let p = err_from_is_err_and c.from_residual-in_err-take_chunk.result c.from_residual-in_err-take_chunk.ensures.1 in
+    λ e. way_long start now (state_of c.take_chunk.new.terminal) (g.R.Read.remaining c.args.reader.now) (g.R.Read.remaining c.loop.reader) (g.R.Read.remaining c.read.new.self) (g.W.Write.contents c.args.writer.now)
+    (g.W.Write.contents c.take_chunk.new.writer) c.loop.progress.pending.items (take c.in-Ok.count c.deref.result.now) c.loop.counter refl c.in_ok-begin.ensures.drawn c.in_ok-begin.ensures.text
+    way consumed (c.in_err-take_chunk.ensures.too_long (let same = p.1 in let is = p.2 in cc))
+
+pub returns-in_err-chunk-clause-stopped : goal.returns-in_err-chunk-clause-stopped
+returns-in_err-chunk-clause-stopped g c =
+    let held = g.W.Write.contents c.args.writer.now in
+    on_any_err c.from_residual.result (begun_none (g.R.Read.remaining c.args.reader.now) (state_of c.args.terminal.now) held held (Keeps-refl held))
+
+pub returns-in_err-begin-clause-stopped : goal.returns-in_err-begin-clause-stopped
+returns-in_err-begin-clause-stopped g c =
+    on_any_err c.from_residual-in_err-begin.result
+    (begun_first (g.R.Read.remaining c.args.reader.now) (state_of c.args.terminal.now) (g.W.Write.contents c.args.writer.now) (g.W.Write.contents c.begin.new.writer) c.in_err-begin.ensures.front)
+
+pub returns-in_err-flush-clause-stopped : goal.returns-in_err-flush-clause-stopped
+returns-in_err-flush-clause-stopped g c =
+    let start : Stand = stand c.args.terminal.now c.begin.new.self.screen.items no_counts (g.W.Write.contents c.begin.new.writer) in
+    let now : Stand = stand c.loop.terminal c.loop.progress.screen.items c.loop.progress.counts (g.W.Write.contents c.loop.writer) in
+    on_any_err c.from_residual-in_err-flush.result
+    (way_stop start now (g.R.Read.remaining c.args.reader.now) (g.R.Read.remaining c.loop.reader) (g.W.Write.contents c.args.writer.now) (g.W.Write.contents c.flush.new.writer) c.loop.progress.pending.items c.loop.counter
+    refl c.in_ok-begin.ensures.drawn c.in_ok-begin.ensures.text c.loop.invariant.way c.flush.ensures.kept)
+
+pub returns-in_err-end_log-clause-stopped : goal.returns-in_err-end_log-clause-stopped
+returns-in_err-end_log-clause-stopped g c =
+    let start : Stand = stand c.args.terminal.now c.begin.new.self.screen.items no_counts (g.W.Write.contents c.begin.new.writer) in
+    let now : Stand = stand c.loop.terminal c.loop.progress.screen.items c.loop.progress.counts (g.W.Write.contents c.flush.new.writer) in
+    let way = way_flushed start (scene c.loop.terminal c.loop.progress.screen.items) c.loop.progress.counts (g.W.Write.contents c.loop.writer) (g.W.Write.contents c.flush.new.writer)
+    (g.R.Read.remaining c.args.reader.now) (g.R.Read.remaining c.loop.reader) c.loop.progress.pending.items c.loop.counter c.loop.invariant.way c.flush.ensures.kept in
+    let items = c.loop.chunk in
+    let room : 0 < length c.read.new.buf = omega (arith, c.read.auto.buf, c.deref_mut.ensures.len, items.ok.0, c.loop.invariant.chunk) in
+    on_any_err c.from_residual-in_err-end_log.result
+    (way_last start now (state_of c.end_log.new.terminal) (g.R.Read.remaining c.args.reader.now) (g.R.Read.remaining c.loop.reader) (g.R.Read.remaining c.read.new.self) (g.W.Write.contents c.args.writer.now) (g.W.Write.contents c.end_log.new.writer) c.loop.progress.pending.items (take c.in-Ok.count c.read.new.buf)
+    c.loop.counter refl c.in_ok-begin.ensures.drawn c.in_ok-begin.ensures.text way c.in-Ok.ensures.bytes.0 (ap (λ (n : ℕ). take n c.read.new.buf) c.if-count-eq0.true) (c.in-Ok.ensures.bytes.1 c.if-count-eq0.true room) c.in_err-end_log.ensures.stopped)
+
+pub returns-in_err-put_counts-clause-stopped : goal.returns-in_err-put_counts-clause-stopped
+returns-in_err-put_counts-clause-stopped g c =
+    let start : Stand = stand c.args.terminal.now c.begin.new.self.screen.items no_counts (g.W.Write.contents c.begin.new.writer) in
+    let now : Stand = stand c.loop.terminal c.loop.progress.screen.items c.loop.progress.counts (g.W.Write.contents c.flush.new.writer) in
+    let way = way_flushed start (scene c.loop.terminal c.loop.progress.screen.items) c.loop.progress.counts (g.W.Write.contents c.loop.writer) (g.W.Write.contents c.flush.new.writer)
+    (g.R.Read.remaining c.args.reader.now) (g.R.Read.remaining c.loop.reader) c.loop.progress.pending.items c.loop.counter c.loop.invariant.way c.flush.ensures.kept in
+    let done : Stand = stand c.end_log.new.terminal c.end_log.new.self.screen.items c.end_log.new.self.counts (g.W.Write.contents c.end_log.new.writer) in
+    let items = c.loop.chunk in
+    let room : 0 < length c.read.new.buf = omega (arith, c.read.auto.buf, c.deref_mut.ensures.len, items.ok.0, c.loop.invariant.chunk) in
+    on_any_err c.from_residual-in_err-put_counts.result
+    (way_counts start now done (g.R.Read.remaining c.args.reader.now) (g.R.Read.remaining c.loop.reader) (g.R.Read.remaining c.read.new.self) (g.W.Write.contents c.args.writer.now) (g.W.Write.contents c.put_counts.new.writer) c.loop.progress.pending.items (take c.in-Ok.count c.read.new.buf)
+    c.loop.counter refl c.in_ok-begin.ensures.drawn c.in_ok-begin.ensures.text way c.in-Ok.ensures.bytes.0 (ap (λ (n : ℕ). take n c.read.new.buf) c.if-count-eq0.true) (c.in-Ok.ensures.bytes.1 c.if-count-eq0.true room) c.in_ok-end_log.ensures.takes c.in_err-put_counts.ensures.front)
+
+pub returns-in_err-take_chunk-clause-stopped : goal.returns-in_err-take_chunk-clause-stopped
+returns-in_err-take_chunk-clause-stopped g c =
+    let start : Stand = stand c.args.terminal.now c.begin.new.self.screen.items no_counts (g.W.Write.contents c.begin.new.writer) in
+    let now : Stand = stand c.loop.terminal c.loop.progress.screen.items c.loop.progress.counts (g.W.Write.contents c.flush.new.writer) in
+    let way = way_flushed start (scene c.loop.terminal c.loop.progress.screen.items) c.loop.progress.counts (g.W.Write.contents c.loop.writer) (g.W.Write.contents c.flush.new.writer)
+    (g.R.Read.remaining c.args.reader.now) (g.R.Read.remaining c.loop.reader) c.loop.progress.pending.items c.loop.counter c.loop.invariant.way c.flush.ensures.kept in
+    let items = c.loop.chunk in
+    let full : length c.read.new.buf ≡ items.len = omega (arith, c.read.auto.buf, c.deref_mut.ensures.len) in
+    let front = read_front c.in-Ok.count items.len c.read.new.buf items.items c.deref.result.now c.deref.ensures.value full in
+    let consumed = subst (Consumes (g.R.Read.remaining c.loop.reader) (g.R.Read.remaining c.read.new.self)) front c.in-Ok.ensures.bytes.0 in
+    on_any_err c.from_residual-in_err-take_chunk.result
+    (way_stops start now (state_of c.take_chunk.new.terminal) (g.R.Read.remaining c.args.reader.now) (g.R.Read.remaining c.loop.reader) (g.R.Read.remaining c.read.new.self) (g.W.Write.contents c.args.writer.now) (g.W.Write.contents c.take_chunk.new.writer) c.loop.progress.pending.items (take c.in-Ok.count c.deref.result.now)
+    c.loop.counter refl c.in_ok-begin.ensures.drawn c.in_ok-begin.ensures.text way consumed c.in_err-take_chunk.ensures.stopped)
+
+pub returns-in_default-clause-stopped : goal.returns-in_default-clause-stopped
+returns-in_default-clause-stopped g c =
+    let start : Stand = stand c.args.terminal.now c.begin.new.self.screen.items no_counts (g.W.Write.contents c.begin.new.writer) in
+    let now : Stand = stand c.loop.terminal c.loop.progress.screen.items c.loop.progress.counts (g.W.Write.contents c.flush.new.writer) in
+    let way = way_flushed start (scene c.loop.terminal c.loop.progress.screen.items) c.loop.progress.counts (g.W.Write.contents c.loop.writer) (g.W.Write.contents c.flush.new.writer)
+    (g.R.Read.remaining c.args.reader.now) (g.R.Read.remaining c.loop.reader) c.loop.progress.pending.items c.loop.counter c.loop.invariant.way c.flush.ensures.kept in
+    way_stop start now (g.R.Read.remaining c.args.reader.now) (g.R.Read.remaining c.loop.reader) (g.W.Write.contents c.args.writer.now) now.held c.loop.progress.pending.items c.loop.counter refl c.in_ok-begin.ensures.drawn c.in_ok-begin.ensures.text way (Keeps-refl now.held)
+
+pub returns-clause-stopped : goal.returns-clause-stopped
+returns-clause-stopped g c =
+    let start : Stand = stand c.args.terminal.now c.begin.new.self.screen.items no_counts (g.W.Write.contents c.begin.new.writer) in
+    let now : Stand = stand c.loop.terminal c.loop.progress.screen.items c.loop.progress.counts (g.W.Write.contents c.loop.writer) in
+    way_stop start now (g.R.Read.remaining c.args.reader.now) (g.R.Read.remaining c.loop.reader) (g.W.Write.contents c.args.writer.now) now.held c.loop.progress.pending.items c.loop.counter refl c.in_ok-begin.ensures.drawn c.in_ok-begin.ensures.text c.loop.invariant.way (Keeps-refl now.held)

@@ -1,0 +1,9 @@
+-- What the contracts of this crate cite.
+pub mod Begun
+pub mod Lines
+pub mod Progress
+pub mod Replays
+pub mod Runs
+pub mod Taken
+pub mod Texts
+pub mod Words

@@ -1,0 +1,76 @@
+-- How far a replay has come.
+use Rattle.std.specs.Prelude.{◌≡◌, ◌⊎◌, ◌≤◌, ◌==◌, ◌+◌, ℕ, not, List, ◌++◌, length, Option}
+use Rattle.std.specs.List.{AllZip, AllByRecursion, AllPass}
+use Rattle.std.specs.Io.KnownBytes.{Appends}
+use Rattle.vt_can.specs.lines.Line.{Reads}
+use Rattle.vt_logs.specs.declared.counts.Counts.{Counts}
+use Rattle.vt_logs.specs.declared.fault.ReplayFault.{ReplayFault}
+use Rattle.vt_logs.specs.declared.fault.ReplayFault.TheVariants.{Memory, TooLong, Write}
+use Rattle.vt_logs.specs.Lines.{lines_of}
+use Rattle.vt_logs.specs.Taken.{Scene, TakesReading, TakesReadings}
+use Rattle.vt_logs.specs.Texts.{Reading, with_line, with_lines}
+use Rattle.vt_server.specs.declared.terminal.Terminal.{Terminal}
+use Rattle.vt_server.specs.States.{state_of}
+
+-- no count is above this number
+pub record AtMost (most : ℕ) (c : Counts) : Type 0 where
+  pub lines : c.lines ≤ most
+  pub frames : c.frames ≤ most
+  pub operator : c.operator ≤ most
+  pub skipped : c.skipped ≤ most
+  pub comments : c.comments ≤ most
+  pub faults : c.faults ≤ most
+
+-- where a replay stands: the terminal with the screen that was printed last, the counts, and what the writer holds
+pub record Stand : Type 0 where
+  pub scene : Scene
+  pub counts : Counts
+  pub held : Option (List ℕ)
+
+abbrev pub scene : Terminal → List ℕ → Scene
+scene terminal screen = record { state = state_of terminal; screen = screen }
+
+abbrev pub stand : Terminal → List ℕ → Counts → Option (List ℕ) → Stand
+stand terminal screen counts held = record { scene = scene terminal screen; counts = counts; held = held }
+
+-- A text of this kind is written.
+pub record Writes (Is : List ℕ → Type 0) (old new : Option (List ℕ)) : Type 0 where
+  pub text : List ℕ
+  pub text_is : Is text
+  pub written : Appends old new text
+
+-- a line is taken, as it was read
+pub record TakesOne (from : Stand) (reading : Reading) (to : Stand) : Type 0 where
+  pub printed : List ℕ
+  pub takes : TakesReading from.scene (from.counts.lines + 1) reading to.scene printed
+  pub counts : to.counts ≡ with_line from.counts reading
+  pub text : Appends from.held to.held printed
+
+-- the lines are taken one after the other
+pub record Takes (from : Stand) (lines : List (List ℕ)) (to : Stand) : Type 0 where
+  pub readings : List Reading
+  pub read : AllZip Reads lines readings
+  pub short : AllByRecursion (λ line. length line ≤ 4096) lines
+  pub printed : List ℕ
+  pub takes : TakesReadings from.scene from.counts.lines readings to.scene printed
+  pub counts : to.counts ≡ with_lines from.counts readings
+  pub text : Appends from.held to.held printed
+
+-- why what a line says is not taken to its end
+abbrev pub IsStepFault : ReplayFault → Type 0
+IsStepFault fault = (fault ≡ Memory) ⊎ (fault ≡ Write)
+
+-- why a line is not taken to its end
+abbrev pub IsLineFault : ReplayFault → Type 0
+IsLineFault fault = (fault ≡ TooLong) ⊎ IsStepFault fault
+
+abbrev pub HasNoNewline : List ℕ → Type 0
+HasNoNewline text = AllPass (λ byte. not (byte == 10)) text
+
+-- Some bytes are taken after those that were pending: their whole lines, no more than there are bytes, and
+-- the rest is pending.
+pub record TakesBytes (from : Stand) (before bytes : List ℕ) (to : Stand) (pending : List ℕ) : Type 0 where
+  pub lines : List (List ℕ)
+  pub takes : Takes from lines to
+  pub few : length lines ≤ length bytes
+  pub split : (rest : List ℕ) → lines_of (before ++ bytes ++ rest) ≡ lines ++ lines_of (pending ++ rest)

@@ -1,0 +1,47 @@
+-- A whole replay.
+use Rattle.std.specs.Prelude.{◌≡◌, ◌≤◌, ◌<◌, ℕ, List, ◌∷◌, ◌++◌, length}
+use Rattle.std.specs.List.{AllZip, AllByRecursion}
+use Rattle.vt_can.specs.lines.Line.{Reads}
+use Rattle.vt_logs.specs.declared.counts.Counts.{Counts}
+use Rattle.vt_logs.specs.Lines.{lines_of}
+use Rattle.vt_logs.specs.Taken.{Scene, TakesReadings, Reaches}
+use Rattle.vt_logs.specs.Texts.{Reading, with_lines, no_counts, counts_text}
+use Rattle.vt_server.specs.Screens.{IsScreenOf}
+use Rattle.vt_server.specs.Terminals.{State}
+
+-- The text and the counts of a replay of these bytes by a terminal, and the terminal after it: first its screen, then what each
+-- line prints, and the counts. A line is at most 4,096 bytes long.
+pub record IsReplay (start : State) (input : List ℕ) (text : List ℕ) (counts : Counts) (now : State) : Type 0 where
+  pub readings : List Reading
+  pub read : AllZip Reads (lines_of input) readings
+  pub short : AllByRecursion (λ line. length line ≤ 4096) (lines_of input)
+  pub first : Scene
+  pub last : Scene
+  pub printed : List ℕ
+  pub starts : first.state ≡ start
+  pub shown : IsScreenOf start first.screen
+  pub takes : TakesReadings first 0 readings last printed
+  pub text_is : text ≡ first.screen ++ printed ++ counts_text counts
+  pub counts_are : counts ≡ with_lines no_counts readings
+  pub now_is : now ≡ last.state
+
+-- The terminal has taken the first of these lines: none, some or all. None of them is longer than 4,096 bytes.
+pub record TakesSome (from : State) (lines : List (List ℕ)) (to : State) : Type 0 where
+  pub front : List (List ℕ)
+  pub back : List (List ℕ)
+  pub readings : List Reading
+  pub whole : lines ≡ front ++ back
+  pub read : AllZip Reads front readings
+  pub short : AllByRecursion (λ line. length line ≤ 4096) front
+  pub after : Reaches from readings to
+
+-- One of these lines is longer than 4,096 bytes.
+pub record HasLong (lines : List (List ℕ)) : Type 0 where
+  pub before : List (List ℕ)
+  pub line : List ℕ
+  pub after : List (List ℕ)
+  pub parts : lines ≡ before ++ line ∷ after
+  pub long : 4096 < length line
+
+abbrev pub HasLongLine : List ℕ → Type 0
+HasLongLine input = HasLong (lines_of input)

@@ -1,0 +1,313 @@
+-- A run of the program: its statuses, and what it writes (docs/PROFILE.md, "The program").
+use Rattle.std.specs.Prelude.{◌≡◌, ◌⊎◌, ◌++◌, ℕ, List, [], reverse, true, false, Option, Some, None, IfSome, IsSomeAnd, codes}
+use Rattle.std.specs.Borrow.{Bor}
+use Rattle.std.specs.Io.KnownBytes.{Appends, Keeps}
+use Rattle.clap.specs.Words.{Text, kind_of}
+use Rattle.clap.specs.declared.error.kind.ErrorKind.{ErrorKind}
+use Rattle.clap.specs.declared.error.kind.ErrorKind.TheVariants.{DisplayHelp, DisplayVersion}
+use Rattle.vt_stores.specs.Stores.{Contents}
+use Rattle.vt_records.specs.declared.fault.PoolFault.{PoolFault}
+use Rattle.vt_pool.specs.Pools.{Entry, AreRecords, IsFault, contents, joined}
+use Rattle.vt_pool.specs.Pools as pools
+use Rattle.std.specs.FinMap as finite
+use Rattle.vt_verify.specs.declared.refusal.Refusal.{Refusal as PoolRefusal}
+use Rattle.vt_verify.specs.Rules.{IsAcceptable, IsRefused}
+use Rattle.vt_chains.specs.Limits.{terminal}
+use Rattle.vt_verify.specs.Rules as rules
+use Rattle.vt_verify.specs.Reports as report
+use Rattle.vt_logs.specs.declared.counts.Counts.{Counts}
+use Rattle.vt_logs.specs.declared.fault.ReplayFault.{ReplayFault}
+use Rattle.vt_logs.specs.declared.fault.ReplayFault.TheVariants as replay_fault
+use Rattle.vt_logs.specs.declared.options.Options.{Options}
+use Rattle.vt_logs.specs.declared.options.Preload.{Preload}
+use Rattle.vt_logs.specs.declared.options.Refusal.{Refusal}
+use Rattle.vt_logs.specs.declared.options.Refusal.TheVariants.{Words, Address, Name, OwnerIsOwn, Alone, Memory}
+use Rattle.vt_logs.specs.declared.program.Fault.{Fault}
+use Rattle.vt_logs.specs.declared.program.Fault.TheVariants as fault
+use Rattle.vt_logs.specs.declared.program.Status.{Status}
+use Rattle.vt_logs.specs.declared.program.Status.TheVariants as status
+use Rattle.vt_logs.specs.Begun.{MayBegin, IsFrontOfReplay, HasStoppedAtLong}
+use Rattle.vt_logs.specs.Replays.{IsReplay, HasLongLine}
+use Rattle.vt_logs.specs.Texts.{newline}
+use Rattle.vt_logs.specs.Words.{IsRefusalOf, WordsGive}
+use Rattle.vt_server.specs.Places.{empty}
+use Rattle.vt_server.specs.Steps.{preloading}
+use Rattle.vt_server.specs.Terminals.{State}
+
+-- the bytes of the file under each path, where they are known
+abbrev pub Files : Type 0
+Files = Text → Option (List ℕ)
+
+-- ---- what stands before the first line
+
+-- the objects of a pool's bytes: of each ID the last record's
+pub record IsPoolOf (bytes : List ℕ) (objects : Contents) : Type 0 where
+  pub records : List Entry
+  pub whole : AreRecords records
+  pub spelled : bytes ≡ joined records
+  pub in_force : objects ≡ contents (reverse records)
+
+-- the same of a pool that meets all rules
+abbrev pub IsAcceptedPoolOf : List ℕ → Contents → Type 0
+IsAcceptedPoolOf bytes objects = IsPoolOf bytes objects × IsAcceptable terminal (finite.entries objects)
+
+-- The bytes are no pool, by a fault of theirs. Want of memory is none.
+pub record IsNoPool (bytes : List ℕ) (why : PoolFault) : Type 0 where
+  pub faulty : IsFault bytes why
+  pub named : pools.IsWantOfMemory why → ⊥
+
+-- The bytes are a pool that is refused by a rule. Want of memory is none.
+pub record IsRefusedPool (bytes : List ℕ) (why : PoolRefusal) : Type 0 where
+  pub objects : Contents
+  pub pool : IsPoolOf bytes objects
+  pub refused : IsRefused terminal (finite.entries objects) why
+  pub named : rules.IsWantOfMemory why → ⊥
+
+-- a terminal that has heard nothing, with its address and NAME
+abbrev pub new_state : ℕ → ℕ → State
+new_state own name = record {
+  claims = record { own = own; name = name; addresses = [] };
+  sets = [];
+  places = λ address. empty;
+  selected = None;
+  shown = None;
+  lost = false;
+  now = 0;
+}
+
+-- A set with the pool of the file is preloaded at the owner.
+pub record IsLoaded (files : Files) (p : Preload) (before after : State) : Type 0 where
+  pub objects : Contents
+  pub pool : IfSome (files p.pool.now) (λ bytes. IsAcceptedPoolOf bytes objects)
+  pub state : after ≡ preloading before p.owner objects
+
+abbrev pub IsPreloaded : Files → Option Preload → State → State → Type 0
+IsPreloaded files None before after = after ≡ before
+IsPreloaded files (Some p) before after = IsLoaded files p before after
+
+-- the terminal that the options give
+abbrev pub IsStart : Files → Options → State → Type 0
+IsStart files options s = IsPreloaded files options.preload (new_state options.own options.name) s
+
+-- ---- what is written
+
+-- The text of the replay of these bytes is written.
+pub record WritesReplay (start : State) (input : List ℕ) (old new : Option (List ℕ)) : Type 0 where
+  pub text : List ℕ
+  pub counts : Counts
+  pub end : State
+  pub replay : IsReplay start input text counts end
+  pub written : Appends old new text
+
+-- The log of the options is replayed, by the terminal that they give.
+pub record HasReplayed (files : Files) (options : Options) (old new : Option (List ℕ)) : Type 0 where
+  pub start : State
+  pub given : IsStart files options start
+  pub writes : IfSome (files options.file.now) (λ input. WritesReplay start input old new)
+
+-- The bytes are a pool that meets all rules, and this is its report.
+pub record IsReportOf (bytes : List ℕ) (text : List ℕ) : Type 0 where
+  pub objects : Contents
+  pub accepted : IsAcceptedPoolOf bytes objects
+  pub text_is : text ≡ report.report_text (finite.entries objects)
+
+-- The report of the pool of these bytes is written.
+pub record WritesReport (bytes : List ℕ) (old new : Option (List ℕ)) : Type 0 where
+  pub text : List ℕ
+  pub report : IsReportOf bytes text
+  pub written : Appends old new text
+
+-- ---- why a pool has no report, or a log is not replayed
+
+-- the file of this path could not be read
+abbrev pub IsFileFault : Bor Text → Fault → Type 0
+IsFileFault path (fault.File other cause) = other ≡ path
+IsFileFault path (fault.Pool why) = ⊥
+IsFileFault path (fault.Refused why) = ⊥
+IsFileFault path fault.Memory = ⊥
+IsFileFault path (fault.Replay why) = ⊥
+
+-- why the bytes of a pool give no accepted pool
+abbrev pub IsFaultOfPool : List ℕ → Fault → Type 0
+IsFaultOfPool bytes (fault.File path cause) = ⊥
+IsFaultOfPool bytes (fault.Pool why) = IsNoPool bytes why
+IsFaultOfPool bytes (fault.Refused why) = IsRefusedPool bytes why
+IsFaultOfPool bytes fault.Memory = Unit {0}
+IsFaultOfPool bytes (fault.Replay why) = ⊥
+
+-- why the file of this path gives no accepted pool
+abbrev pub IsPoolFileFault : Files → Bor Text → Fault → Type 0
+IsPoolFileFault files path (fault.File other cause) = other ≡ path
+IsPoolFileFault files path (fault.Pool why) = IfSome (files path.now) (λ bytes. IsNoPool bytes why)
+IsPoolFileFault files path (fault.Refused why) = IfSome (files path.now) (λ bytes. IsRefusedPool bytes why)
+IsPoolFileFault files path fault.Memory = Unit {0}
+IsPoolFileFault files path (fault.Replay why) = ⊥
+
+-- of the replay itself; where Read and Write are answered, std does not say
+abbrev pub IsLogFault : Files → Text → Fault → Type 0
+IsLogFault files log (fault.File path cause) = path.now ≡ log
+IsLogFault files log (fault.Pool why) = ⊥
+IsLogFault files log (fault.Refused why) = ⊥
+IsLogFault files log fault.Memory = ⊥
+IsLogFault files log (fault.Replay why) = IfSome (files log) (λ input. why ≡ replay_fault.TooLong → HasLongLine input)
+
+abbrev pub IsReplayFault : Files → Options → Fault → Type 0
+IsReplayFault files options why =
+    IsSomeAnd options.preload (λ p. IsPoolFileFault files p.pool why) ⊎ IsLogFault files options.file.now why
+
+-- what stands written where the replay of a log has a fault: a front of its text; and where a line is too long, the first screen
+-- and what the lines before it print
+abbrev pub StandsReplayed : State → List ℕ → ReplayFault → Option (List ℕ) → Option (List ℕ) → Type 0
+StandsReplayed start input why old new =
+    MayBegin (IsFrontOfReplay start input) old new × (why ≡ replay_fault.TooLong → (now : State) × HasStoppedAtLong start input now old new)
+
+-- what stands written where the log has a fault: nothing where it could not be opened, else of the text of its replay
+abbrev pub StandsWritten : State → Option (List ℕ) → Fault → Option (List ℕ) → Option (List ℕ) → Type 0
+StandsWritten start log (fault.File path cause) old new = Keeps old new
+StandsWritten start log (fault.Pool why) old new = ⊥
+StandsWritten start log (fault.Refused why) old new = ⊥
+StandsWritten start log fault.Memory old new = ⊥
+StandsWritten start log (fault.Replay why) old new = IfSome log (λ input. StandsReplayed start input why old new)
+
+-- The terminal is the one that the options give, and the log has a fault.
+pub record HasLogFault (files : Files) (options : Options) (why : Fault) (old new : Option (List ℕ)) : Type 0 where
+  pub start : State
+  pub given : IsStart files options start
+  pub faulty : IsLogFault files options.file.now why
+  pub written : StandsWritten start (files options.file.now) why old new
+
+-- Why a log is not replayed, and what is written before that is told. The pool comes first: where its file gives none that is
+-- accepted, nothing is written.
+abbrev pub FailsReplay : Files → Options → Fault → Option (List ℕ) → Option (List ℕ) → Type 0
+FailsReplay files options why old new =
+    (IsSomeAnd options.preload (λ p. IsPoolFileFault files p.pool why) × Keeps old new) ⊎ HasLogFault files options why old new
+
+-- why what the options ask for is not done
+abbrev pub IsFaultOf : Files → Options → Fault → Type 0
+IsFaultOf files options why =
+    ((options.report ≡ true) × IsPoolFileFault files options.file why)
+    ⊎ ((options.report ≡ false) × IsReplayFault files options why)
+
+-- the line of the fault is printed to the output: that of a pool, or of a pool that is refused
+abbrev pub IsPrinted : Fault → Type 0
+IsPrinted (fault.File path cause) = ⊥
+IsPrinted (fault.Pool why) = Unit {0}
+IsPrinted (fault.Refused why) = Unit {0}
+IsPrinted fault.Memory = ⊥
+IsPrinted (fault.Replay why) = ⊥
+
+-- what is printed to the output of a fault; the text of a pool's fault no contract says
+abbrev pub Prints : Fault → Option (List ℕ) → Option (List ℕ) → Type 0
+Prints (fault.File path cause) old new = Keeps old new
+Prints (fault.Pool why) old new = Unit {0}
+Prints (fault.Refused why) old new = Appends old new (report.refusal_text why ++ newline)
+Prints fault.Memory old new = Keeps old new
+Prints (fault.Replay why) old new = Keeps old new
+
+-- ---- statuses
+
+-- help, or the version
+abbrev pub IsHelp : ErrorKind → Type 0
+IsHelp kind = (kind ≡ DisplayHelp) ⊎ (kind ≡ DisplayVersion)
+
+-- the status after a refusal
+abbrev pub EndsBy : Refusal → Status → Type 0
+EndsBy (Words error) status.Done = IsHelp (kind_of error)
+EndsBy (Words error) status.Usage = IsHelp (kind_of error) → ⊥
+EndsBy (Words error) status.Fault = ⊥
+EndsBy (Address option) end = end ≡ status.Usage
+EndsBy Name end = end ≡ status.Usage
+EndsBy OwnerIsOwn end = end ≡ status.Usage
+EndsBy Alone end = end ≡ status.Usage
+EndsBy Memory end = end ≡ status.Fault
+
+-- The words are refused, and a refusal of them ends with this status.
+pub record Refuses (words : List Text) (end : Status) : Type 0 where
+  pub refusal : Refusal
+  pub of_words : IsRefusalOf words refusal
+  pub ends : EndsBy refusal end
+
+-- The words give options, and their log is replayed.
+pub record Replays (words : List Text) (files : Files) (old new : Option (List ℕ)) : Type 0 where
+  pub options : Options
+  pub given : WordsGive words options
+  pub no_report : options.report ≡ false
+  pub replayed : HasReplayed files options old new
+
+-- The words ask for a report, and that of the pool in their file is written.
+pub record Reports (words : List Text) (files : Files) (old new : Option (List ℕ)) : Type 0 where
+  pub options : Options
+  pub given : WordsGive words options
+  pub asked : options.report ≡ true
+  pub written : IfSome (files options.file.now) (λ bytes. WritesReport bytes old new)
+
+-- What the options ask for is not done, and this is written before the fault is told: of a report nothing.
+abbrev pub Fails : Files → Options → Fault → Option (List ℕ) → Option (List ℕ) → Type 0
+Fails files options why old new =
+    ((options.report ≡ true) × IsPoolFileFault files options.file why × Keeps old new)
+    ⊎ ((options.report ≡ false) × FailsReplay files options why old new)
+
+-- The words give options, what they ask for has a fault, and after what is written by then the fault is printed.
+pub record HasFault (words : List Text) (files : Files) (old new : Option (List ℕ)) : Type 0 where
+  pub options : Options
+  pub given : WordsGive words options
+  pub why : Fault
+  pub before : Option (List ℕ)
+  pub faulty : Fails files options why old before
+  pub prints : Prints why before new
+
+-- The words give options, and a pool of theirs has a fault or is refused.
+pub record HasBadPool (words : List Text) (files : Files) : Type 0 where
+  pub options : Options
+  pub given : WordsGive words options
+  pub why : Fault
+  pub faulty : IsFaultOf files options why
+  pub printed : IsPrinted why
+
+-- The words ask for a report, and the pool in their file meets all rules.
+pub record HasReport (words : List Text) (files : Files) : Type 0 where
+  pub options : Options
+  pub given : WordsGive words options
+  pub asked : options.report ≡ true
+  pub text : List ℕ
+  pub report : IfSome (files options.file.now) (λ bytes. IsReportOf bytes text)
+
+-- Help is to be printed, or a report, or the fault or the refusal of a pool.
+abbrev pub HasToPrint : List Text → Files → Type 0
+HasToPrint words files = Refuses words status.Done ⊎ HasReport words files ⊎ HasBadPool words files
+
+-- Which status a run ends with. Memory may run out at any words, and then it is Fault.
+abbrev pub Ends : List Text → Files → Option (List ℕ) → Option (List ℕ) → Status → Type 0
+Ends words files old new status.Done = Refuses words status.Done ⊎ Replays words files old new ⊎ Reports words files old new
+Ends words files old new status.Usage = Refuses words status.Usage × Keeps old new
+Ends words files old new status.Fault = (Refuses words status.Fault × Keeps old new) ⊎ HasFault words files old new
+
+-- ---- the report alone, of the pool in the file of a path
+
+-- its fault
+pub record HasNoReport (files : Files) (path : Bor Text) (old new : Option (List ℕ)) : Type 0 where
+  pub why : Fault
+  pub faulty : IsPoolFileFault files path why
+  pub prints : Prints why old new
+
+-- which status it ends with
+abbrev pub EndsReport : Files → Bor Text → Option (List ℕ) → Option (List ℕ) → Status → Type 0
+EndsReport files path old new status.Done = IfSome (files path.now) (λ bytes. WritesReport bytes old new)
+EndsReport files path old new status.Usage = ⊥
+EndsReport files path old new status.Fault = HasNoReport files path old new
+
+-- The report is to be printed, or the fault or the refusal of the pool.
+abbrev pub HasPoolToPrint : Files → Bor Text → Type 0
+HasPoolToPrint files path =
+    ((text : List ℕ) × IfSome (files path.now) (λ bytes. IsReportOf bytes text))
+    ⊎ ((why : Fault) × IsPoolFileFault files path why × IsPrinted why)
+
+-- ---- the texts of faults
+
+-- what is printed of a fault; what the system, the fault of a pool and that of a replay print no contract says
+abbrev pub fault_line : Fault → Option Text
+fault_line (fault.File path cause) = None
+fault_line (fault.Pool why) = None
+fault_line (fault.Refused why) = Some (report.refusal_text why)
+fault_line fault.Memory = Some (codes "out of memory")
+fault_line (fault.Replay why) = None

@@ -1,0 +1,200 @@
+-- The words of the command line and the statuses (docs/PROFILE.md, "Words", "Faults and statuses").
+use Rattle.std.specs.Prelude.{◌≡◌, ◌≢◌, ◌≤◌, ◌⊎◌, ◌∷◌, ◌++◌, [], ℕ, Bool, List, length, Option, Some, None, Ok, IfSome, IsSome, IsSomeAnd, codes, is_some, true, false}
+use Rattle.byteorder.specs.Endian.{big_number}
+use Rattle.clap.specs.Words.{App, Kinds, IsAmong, Rule, Text, fault_of, first_of, kind_of, matches_of, new_app, new_rule, one_of}
+use Rattle.clap.specs.declared.builder.action.ArgAction.TheVariants.{Set, SetTrue}
+use Rattle.clap.specs.declared.error.Error.{Error}
+use Rattle.clap.specs.declared.error.kind.ErrorKind.TheVariants.{OutOfMemory}
+use Rattle.hex.specs.Hex.{decode_of}
+use Rattle.vt_logs.specs.declared.options.Options.{Options}
+use Rattle.vt_logs.specs.declared.options.Preload.{Preload}
+use Rattle.vt_logs.specs.declared.options.Refusal.{Refusal}
+use Rattle.vt_logs.specs.declared.options.Refusal.TheVariants.{Words, Address, Name, OwnerIsOwn, Alone, Memory}
+use Rattle.vt_logs.specs.declared.program.Status.{Status}
+use Rattle.vt_logs.specs.declared.program.Status.TheVariants.{Done, Fault, Usage}
+
+-- ---- what the program takes
+
+-- the file, which has to be there
+abbrev pub file_word : Rule
+file_word = record (new_rule (codes "FILE")) { required = true; action = Some Set }
+
+-- an option with one value
+abbrev pub valued_option : Text → Rule
+valued_option name = record (new_rule name) { long = Some name; action = Some Set; value_names = 1 }
+
+-- the flag that asks for a report
+abbrev pub report_flag : Rule
+report_flag = record (new_rule (codes "report")) { long = Some (codes "report"); action = Some SetTrue }
+
+abbrev pub app : App
+app = record (new_app (codes "vt_replay")) {
+  top = record (new_app (codes "vt_replay")).top {
+    has_version = true;
+    rules = file_word ∷ valued_option (codes "own") ∷ valued_option (codes "name") ∷ valued_option (codes "pool") ∷ valued_option (codes "owner")
+        ∷ report_flag ∷ [];
+  };
+}
+
+-- ---- what words give
+
+-- the text that stands for each, where there is one; that of a flag is "true" or "false"
+pub record Given : Type 0 where
+  pub file : Option Text
+  pub own : Option Text
+  pub name : Option Text
+  pub pool : Option Text
+  pub owner : Option Text
+  pub report : Option Text
+
+-- from the values and the flags by their names
+abbrev pub given_in : (Text → Option Text) → (Text → Option Text) → Given
+given_in value flag = record {
+  file = value (codes "FILE");
+  own = value (codes "own");
+  name = value (codes "name");
+  pool = value (codes "pool");
+  owner = value (codes "owner");
+  report = flag (codes "report");
+}
+
+-- what clap finds in the words
+unfoldable pub given_by : List Text → Given
+given_by words = given_in (λ name. first_of name (matches_of app words)) (λ name. one_of name (matches_of app words))
+
+-- what clap finds wrong with the words: no kind of fault, or one
+unfoldable pub faults_in : List Text → Kinds
+faults_in words = fault_of app words
+
+-- ---- addresses
+
+-- two hex digits write the number n, up to FD
+abbrev pub IsAddress : Text → ℕ → Type 0
+IsAddress text n = (decode_of text ≡ Ok (n ∷ [])) × (n ≤ 253)
+
+-- no text gives no address, and a text gives the one that it is
+abbrev pub GivesAddress : Option Text → Option ℕ → Type 0
+GivesAddress None address = address ≡ None
+GivesAddress (Some text) address = IsSomeAnd address (IsAddress text)
+
+-- there is a text, and it is no address
+abbrev pub GivesNoAddress : Option Text → Type 0
+GivesNoAddress value = IsSomeAnd value (λ text. (n : ℕ) → IsAddress text n → ⊥)
+
+-- the terminal's own address: 26 where none is given
+abbrev pub IsOwn : Option Text → ℕ → Type 0
+IsOwn None n = n ≡ 0x26
+IsOwn (Some text) n = IsAddress text n
+
+-- ---- NAMEs
+
+-- 16 hex digits write the NAME n, the highest byte first
+pub record IsName (text : Text) (n : ℕ) : Type 0 where
+  pub bytes : List ℕ
+  pub digits : decode_of text ≡ Ok bytes
+  pub long : length bytes ≡ 8
+  pub number : n ≡ big_number 8 bytes
+
+-- there is a text, and it is no NAME
+abbrev pub GivesNoName : Option Text → Type 0
+GivesNoName value = IsSomeAnd value (λ text. (n : ℕ) → IsName text n → ⊥)
+
+-- the terminal's NAME: 20001D0000000001 where none is given
+abbrev pub IsOwnName : Option Text → ℕ → Type 0
+IsOwnName None n = n ≡ 0x20001D0000000001
+IsOwnName (Some text) n = IsName text n
+
+-- ---- which words give which options
+
+-- a pool and its owner, or neither
+abbrev pub GivesPreload : Option Text → Option Text → Option Preload → Type 0
+GivesPreload None None preload = preload ≡ None
+GivesPreload (Some pool) (Some owner) preload = IsSomeAnd preload (λ p. (p.pool.now ≡ pool) × IsAddress owner p.owner)
+GivesPreload None (Some owner) preload = ⊥
+GivesPreload (Some pool) None preload = ⊥
+
+-- whether a flag is set
+pub record IsFlag (text : Option Text) (set : Bool) : Type 0 where
+  pub absent : text ≡ None → set ≡ false
+  pub there : text ≡ Some (codes "true") → set ≡ true
+  pub left_out : text ≡ Some (codes "false") → set ≡ false
+
+pub record Gives (given : Given) (options : Options) : Type 0 where
+  pub file : given.file ≡ Some options.file.now
+  pub own : IsOwn given.own options.own
+  pub name : IsOwnName given.name options.name
+  pub preload : GivesPreload given.pool given.owner options.preload
+  pub report : IsFlag given.report options.report
+
+-- the addresses are a node's, and the owner is not the terminal
+pub record AreApart (options : Options) : Type 0 where
+  pub own : options.own ≤ 253
+  pub owner : IfSome options.preload (λ p. p.owner ≤ 253)
+  pub apart : IfSome options.preload (λ p. p.owner ≢ options.own)
+
+-- The words are a command line that asks for these options.
+pub record WordsGive (words : List Text) (options : Options) : Type 0 where
+  pub no_fault : faults_in words ≡ []
+  pub gives : Gives (given_by words) options
+  pub apart : AreApart options
+
+-- ---- which words are refused
+
+-- the option of this name has a value that is no address
+abbrev pub IsMisgiven : Given → Text → Type 0
+IsMisgiven given name = ((name ≡ codes "own") × GivesNoAddress given.own) ⊎ ((name ≡ codes "owner") × GivesNoAddress given.owner)
+
+-- a pool is given, and its owner is the terminal itself
+pub record HasOwnOwner (given : Given) : Type 0 where
+  pub pool : IsSome given.pool
+  pub address : ℕ
+  pub own : IsOwn given.own address
+  pub owner : GivesAddress given.owner (Some address)
+
+-- what is wrong with words in which clap finds no fault
+abbrev pub IsMistake : Given → Refusal → Type 0
+IsMistake given (Address option) = IsMisgiven given option.now
+IsMistake given Name = GivesNoName given.name
+IsMistake given OwnerIsOwn = HasOwnOwner given
+IsMistake given Alone = is_some given.pool ≢ is_some given.owner
+IsMistake given (Words error) = ⊥
+IsMistake given Memory = ⊥
+
+-- a mistake in words in which clap finds no fault
+abbrev pub IsMistakeIn : List Text → Refusal → Type 0
+IsMistakeIn words refusal = (faults_in words ≡ []) × IsMistake (given_by words) refusal
+
+-- Why these words give no options. Memory may run out at any words.
+abbrev pub IsRefusalOf : List Text → Refusal → Type 0
+IsRefusalOf words (Words error) = IsAmong (kind_of error) (faults_in words)
+IsRefusalOf words (Address option) = IsMistakeIn words (Address option)
+IsRefusalOf words Name = IsMistakeIn words Name
+IsRefusalOf words OwnerIsOwn = IsMistakeIn words OwnerIsOwn
+IsRefusalOf words Alone = IsMistakeIn words Alone
+IsRefusalOf words Memory = Unit {0}
+
+-- what an error of clap's is to the program
+abbrev pub IsRefusalFor : Error → Refusal → Type 0
+IsRefusalFor error Memory = kind_of error ≡ OutOfMemory
+IsRefusalFor error (Words other) = (other ≡ error) × (kind_of error ≢ OutOfMemory)
+IsRefusalFor error (Address option) = ⊥
+IsRefusalFor error Name = ⊥
+IsRefusalFor error OwnerIsOwn = ⊥
+IsRefusalFor error Alone = ⊥
+
+-- what is printed of a refusal; what clap prints no contract says
+abbrev pub refusal_text : Refusal → Option Text
+refusal_text (Words error) = None
+refusal_text (Address option) = Some (codes "error: the value of --" ++ option.now ++ codes " is not two hex digits up to FD\n")
+refusal_text Name = Some (codes "error: the value of --name is not 16 hex digits\n")
+refusal_text OwnerIsOwn = Some (codes "error: the owner is the terminal itself\n")
+refusal_text Alone = Some (codes "error: --pool and --owner are given together or not at all\n")
+refusal_text Memory = Some (codes "vt_replay: out of memory\n")
+
+-- ---- statuses
+
+-- the exit status
+abbrev pub status_code : Status → ℕ
+status_code Done = 0
+status_code Fault = 1
+status_code Usage = 2

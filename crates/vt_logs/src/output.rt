@@ -1,0 +1,154 @@
+//! What a replay writes.
+
+ghost use Rattle.std.specs.Prelude.{◌≡◌, ◌++◌, OnOk, OnErr, IfErr};
+ghost use Rattle.std.specs.Fmt.{decimal};
+ghost use Rattle.std.specs.List.{flat_map};
+ghost use Rattle.std.specs.Io.KnownBytes.{Appends, Keeps};
+ghost use Rattle.vt_logs.specs.Begun.{Begins};
+ghost use Rattle.vt_logs.specs.Texts.{output_text, refusal_name, fault_text, fault_name, counts_text};
+
+use crate::counts::Counts;
+use crate::fault::ReplayFault;
+use itoa::Buffer;
+use std::io::{ErrorKind, Write};
+use vt_can::{LineFault, write_frame};
+use vt_server::{OperatorFault, Output};
+
+/// After how many writes a text that is not written whole is given up.
+const WRITES: u32 = 1_000_000_000;
+
+/// Writes what the terminal sends, in its order.
+pub fn put_outputs<W: Write>(outputs: &[Output], writer: &mut W) -> Result<(), ReplayFault>
+    ensures text { OnOk result (Appends (W.contents writer.old) (W.contents writer.new) (flat_map output_text outputs.now)) }
+    ensures front { OnErr result (Begins (W.contents writer.old) (W.contents writer.new) (flat_map output_text outputs.now)) }
+    ensures fault { IfErr result (λ fault. fault ≡ ReplayFault.Write) }
+{
+    for output in outputs {
+        put_output(output, writer)?;
+    }
+    Ok(())
+}
+
+/// Writes a frame, or a refusal to the operator, on a line of its own.
+fn put_output<W: Write>(output: &Output, writer: &mut W) -> Result<(), ReplayFault>
+    ensures text { OnOk result (Appends (W.contents writer.old) (W.contents writer.new) (output_text output.now)) }
+    ensures front { OnErr result (Begins (W.contents writer.old) (W.contents writer.new) (output_text output.now)) }
+    ensures fault { IfErr result (λ fault. fault ≡ ReplayFault.Write) }
+{
+    match output {
+        Output::Frame(frame) => {
+            put(&write_frame(frame), writer)?;
+            put(b"\n", writer)
+        }
+        Output::Refused(fault) => {
+            put(b"operator ", writer)?;
+            put(refusal_name(*fault).as_bytes(), writer)?;
+            put(b"\n", writer)
+        }
+    }
+}
+
+/// The number and the name of a refusal to the operator.
+fn refusal_name(fault: OperatorFault) -> &'static str
+    ensures { result.now ≡ refusal_name fault }
+{
+    match fault {
+        OperatorFault::NotShown => "1 NotShown",
+        OperatorFault::Disabled => "2 Disabled",
+        OperatorFault::Range => "3 Range",
+        OperatorFault::TooLong => "4 TooLong",
+        OperatorFault::WrongKind => "5 WrongKind",
+        OperatorFault::NotPressed => "6 NotPressed",
+        OperatorFault::Held => "7 Held",
+        OperatorFault::Busy => "8 Busy",
+        OperatorFault::NoSet => "9 NoSet",
+    }
+}
+
+/// Writes that line `number` is faulty.
+pub fn put_fault<W: Write>(number: u64, fault: LineFault, writer: &mut W) -> Result<(), ReplayFault>
+    ensures text { OnOk result (Appends (W.contents writer.old) (W.contents writer.new) (fault_text number fault)) }
+    ensures front { OnErr result (Begins (W.contents writer.old) (W.contents writer.new) (fault_text number fault)) }
+    ensures fault { IfErr result (λ fault. fault ≡ ReplayFault.Write) }
+{
+    put(b"line ", writer)?;
+    put_number(number, writer)?;
+    put(b" ", writer)?;
+    put(fault_name(fault).as_bytes(), writer)?;
+    put(b"\n", writer)
+}
+
+/// Writes the counts.
+pub fn put_counts<W: Write>(counts: &Counts, writer: &mut W) -> Result<(), ReplayFault>
+    ensures text { OnOk result (Appends (W.contents writer.old) (W.contents writer.new) (counts_text counts.now)) }
+    ensures front { OnErr result (Begins (W.contents writer.old) (W.contents writer.new) (counts_text counts.now)) }
+    ensures fault { IfErr result (λ fault. fault ≡ ReplayFault.Write) }
+{
+    put_count("lines ", counts.lines, writer)?;
+    put_count(" frames ", counts.frames, writer)?;
+    put_count(" operator ", counts.operator, writer)?;
+    put_count(" skipped ", counts.skipped, writer)?;
+    put_count(" comments ", counts.comments, writer)?;
+    put_count(" faults ", counts.faults, writer)?;
+    put(b"\n", writer)
+}
+
+fn put_count<W: Write>(label: &str, count: u64, writer: &mut W) -> Result<(), ReplayFault>
+    ensures text { OnOk result (Appends (W.contents writer.old) (W.contents writer.new) (label.now ++ decimal count)) }
+    ensures front { OnErr result (Begins (W.contents writer.old) (W.contents writer.new) (label.now ++ decimal count)) }
+    ensures fault { IfErr result (λ fault. fault ≡ ReplayFault.Write) }
+{
+    put(label.as_bytes(), writer)?;
+    put_number(count, writer)
+}
+
+fn put_number<W: Write>(number: u64, writer: &mut W) -> Result<(), ReplayFault>
+    ensures text { OnOk result (Appends (W.contents writer.old) (W.contents writer.new) (decimal number)) }
+    ensures front { OnErr result (Begins (W.contents writer.old) (W.contents writer.new) (decimal number)) }
+    ensures fault { IfErr result (λ fault. fault ≡ ReplayFault.Write) }
+{
+    put(Buffer::new().format(number).as_bytes(), writer)
+}
+
+/// Writes bytes as they are. It writes piece by piece, so that also after a fault it is known what stands written: the
+/// first of them.
+pub fn put<W: Write>(bytes: &[u8], writer: &mut W) -> Result<(), ReplayFault>
+    ensures text { OnOk result (Appends (W.contents writer.old) (W.contents writer.new) bytes.now) }
+    ensures front { OnErr result (Begins (W.contents writer.old) (W.contents writer.new) bytes.now) }
+    ensures fault { IfErr result (λ fault. fault ≡ ReplayFault.Write) }
+{
+    let mut rest = bytes;
+    for _ in 0..WRITES {
+        if rest.is_empty() {
+            return Ok(());
+        }
+        match writer.write(rest) {
+            Ok(0) => return Err(ReplayFault::Write),
+            Ok(count) => rest = &rest[count..],
+            Err(fault) if fault.kind() == ErrorKind::Interrupted => {}
+            Err(_) => return Err(ReplayFault::Write),
+        }
+    }
+    Err(ReplayFault::Write)
+}
+
+/// Writes out what the writer holds back.
+pub fn flush<W: Write>(writer: &mut W) -> Result<(), ReplayFault>
+    ensures kept { Keeps (W.contents writer.old) (W.contents writer.new) }
+    ensures fault { IfErr result (λ fault. fault ≡ ReplayFault.Write) }
+{
+    writer.flush().map_err(|_| ReplayFault::Write)
+}
+
+/// The name of a fault.
+fn fault_name(fault: LineFault) -> &'static str
+    ensures { result.now ≡ fault_name fault }
+{
+    match fault {
+        LineFault::Time => "Time",
+        LineFault::Shape => "Shape",
+        LineFault::Hex => "Hex",
+        LineFault::Length => "Length",
+        LineFault::Operator => "Operator",
+    }
+}

@@ -1,0 +1,288 @@
+//! The program, over words, files and writers.
+
+ghost use Rattle.std.specs.Prelude.{◌≡◌, ◌≢◌, ◌≤◌, ℕ, List, Option, Some, None, IfOk, IfErr, IfSome, OnOk, OnErr, map};
+ghost use Rattle.std.specs.FinMap as finite;
+ghost use Rattle.vt_names.specs.Registry.{set_at};
+ghost use Rattle.std.specs.Io.KnownBytes.{Keeps};
+ghost use Rattle.vt_logs.specs.declared.program.Fault.TheVariants.{Memory};
+ghost use Rattle.vt_logs.specs.Words.{AreApart, status_code};
+ghost use Rattle.vt_logs.specs.Runs.{Ends, EndsBy, EndsReport, FailsReplay, HasPoolToPrint, HasReplayed, HasToPrint, IsAcceptedPoolOf, IsFaultOfPool, IsFileFault, IsLoaded, IsPoolFileFault, IsPrinted, IsReplayFault, IsReportOf, Prints, fault_line};
+ghost use Rattle.vt_pool.specs.Pools.{contents};
+ghost use Rattle.vt_server.specs.States.{state_of};
+
+use crate::fault::ReplayFault;
+use crate::log::replay;
+use crate::options::{Options, Preload, Refusal};
+use std::alloc::{AllocError, Global};
+use std::convert::AsStr;
+use std::fmt;
+use std::io::{self, Read, Write};
+use vt_pool::{PoolFault, read_pool};
+use vt_server::Terminal;
+use vt_verify::{Accepted, verify};
+
+/// What opens files by their paths.
+pub trait Open {
+    type Reader: Read + Drop;
+
+    // The bytes of the file under a path, where they are known.
+    ghost file: { Self → List ℕ → Option (List ℕ) } = { λ _ _. None };
+
+    fn open(&mut self, path: &str) -> io::Result<Self::Reader>
+        ensures bytes { IfOk result (λ reader. IfSome (file self.old path.now) (λ bytes. Self.Reader.remaining reader ≡ Some bytes)) }
+        ensures stay { file self.new ≡ file self.old };
+}
+
+/// How the program ends.
+#[derive(Clone, Copy, Debug, PartialEq, Eq)]
+pub enum Status {
+    /// The log was replayed, or a report or help was printed.
+    Done,
+    /// A file, the pool or the replay has a fault.
+    Fault,
+    /// The words are not understood.
+    Usage,
+}
+
+impl Status {
+    /// The exit status.
+    pub fn code(self) -> u8
+        ensures { result ≡ status_code self }
+    {
+        match self {
+            Status::Done => 0,
+            Status::Fault => 1,
+            Status::Usage => 2,
+        }
+    }
+}
+
+/// Why a log was not replayed to its end, or a pool has no report.
+#[derive(Drop)]
+enum Fault<'a> {
+    File { path: &'a str, cause: io::Error },
+    Pool(PoolFault),
+    Refused(vt_verify::Refusal),
+    Memory,
+    Replay(ReplayFault),
+}
+
+impl fmt::Display for Fault<'_> {
+    ghost output = { fault_line };
+
+    fn fmt<W: fmt::Write>(&self, f: &mut fmt::Formatter<W>) -> fmt::Result {
+        match self {
+            Fault::File { path, cause } => write!(f, "{path}: {cause}"),
+            Fault::Pool(fault) => write!(f, "{fault}"),
+            Fault::Refused(refusal) => write!(f, "{refusal}"),
+            Fault::Memory => write!(f, "out of memory"),
+            Fault::Replay(fault) => write!(f, "{fault}"),
+        }
+    }
+}
+
+impl From<AllocError> for Fault<'_> {
+    ghost from_gives = { λ _ fault. fault ≡ Memory };
+
+    fn from(_error: AllocError) -> Self {
+        Fault::Memory
+    }
+}
+
+/// Runs the program on its words, of which the first is its name. The fault or the refusal of a pool is printed to `out`;
+/// every other fault is named on `errors`, and the status is the same where that cannot be written.
+pub fn run<S: AsStr, F: Open, W: Write, E: Write>(
+    alloc: Global,
+    words: &[S],
+    files: &mut F,
+    out: &mut W,
+    errors: &mut E,
+) -> io::Result<Status>
+    ensures ends { IfOk result (Ends (map S.text words.now) (F.file files.old) (W.contents out.old) (W.contents out.new)) }
+    // It fails only where it has to print help, a report, or the fault or refusal of a pool.
+    ensures fails { OnErr result (HasToPrint (map S.text words.now) (F.file files.old)) }
+{
+    let options = match Options::parse(alloc, words) {
+        Ok(options) => options,
+        Err(refusal) => return refuse(&refusal, out, errors),
+    };
+    if options.report {
+        return print_report(alloc, options.file, files, out, errors);
+    }
+    match replay_log(alloc, &options, files, out) {
+        Ok(()) => Ok(Status::Done),
+        Err(fault) => print_fault(&fault, out, errors),
+    }
+}
+
+fn refuse<W: Write, E: Write>(refusal: &Refusal, out: &mut W, errors: &mut E) -> io::Result<Status>
+    ensures status { IfOk result (EndsBy refusal.now) }
+    ensures out { IfOk result (λ status. status ≢ Status.Done → Keeps (W.contents out.old) (W.contents out.new)) }
+    // It fails only where help is printed.
+    ensures fails { OnErr result (EndsBy refusal.now Status.Done) }
+{
+    let status = match refusal {
+        Refusal::Words(error) if !error.use_stderr() => {
+            write!(out, "{refusal}")?;
+            out.flush()?;
+            return Ok(Status::Done);
+        }
+        Refusal::Memory => Status::Fault,
+        _ => Status::Usage,
+    };
+    let _ = write!(errors, "{refusal}");
+    Ok(status)
+}
+
+/// Prints the fault or the refusal of a pool, and names any other fault on `errors`.
+fn print_fault<W: Write, E: Write>(
+    fault: &Fault<'_>,
+    out: &mut W,
+    errors: &mut E,
+) -> io::Result<Status>
+    ensures status { IfOk result (λ status. status ≡ Status.Fault) }
+    ensures prints { OnOk result (Prints fault.now (W.contents out.old) (W.contents out.new)) }
+    ensures fails { OnErr result (IsPrinted fault.now) }
+{
+    match fault {
+        Fault::Pool(_) | Fault::Refused(_) => {
+            writeln!(out, "{fault}")?;
+            out.flush()?;
+        }
+        _ => {
+            let _ = writeln!(errors, "vt_replay: {fault}");
+        }
+    }
+    Ok(Status::Fault)
+}
+
+/// Prints the report of the pool in a file.
+fn print_report<F: Open, W: Write, E: Write>(
+    alloc: Global,
+    path: &str,
+    files: &mut F,
+    out: &mut W,
+    errors: &mut E,
+) -> io::Result<Status>
+    ensures ends { IfOk result (EndsReport (F.file files.old) path.entry (W.contents out.old) (W.contents out.new)) }
+    ensures fails { OnErr result (HasPoolToPrint (F.file files.old) path.entry) }
+{
+    match report(alloc, path, files) {
+        Ok(text) => {
+            out.write_all(&text)?;
+            out.flush()?;
+            Ok(Status::Done)
+        }
+        Err(fault) => print_fault(&fault, out, errors),
+    }
+}
+
+/// The report of the pool in a file.
+fn report<'a, F: Open>(alloc: Global, path: &'a str, files: &mut F) -> Result<Vec<u8>, Fault<'a>>
+    ensures text { IfOk result (λ text. IfSome (F.file files.old path.now) (λ bytes. IsReportOf bytes text.items)) }
+    ensures fault { IfErr result (IsPoolFileFault (F.file files.old) path.entry) }
+{
+    let pool = read_accepted(alloc, path, files)?;
+    let mut text = Vec::new(alloc);
+    pool.report(&mut text)?;
+    Ok(text)
+}
+
+fn replay_log<'a, F: Open, W: Write>(
+    alloc: Global,
+    options: &Options<'a>,
+    files: &mut F,
+    out: &mut W,
+) -> Result<(), Fault<'a>>
+    requires { AreApart options.now }
+    ensures replayed { OnOk result (HasReplayed (F.file files.old) options.now (W.contents out.old) (W.contents out.new)) }
+    ensures fault { IfErr result (IsReplayFault (F.file files.old) options.now) }
+    // What is written by then: the pool's file is read first, then the log is opened, and then the first screen is drawn.
+    ensures before { IfErr result (λ why. FailsReplay (F.file files.old) options.now why (W.contents out.old) (W.contents out.new)) }
+{
+    let mut terminal = Terminal::new(alloc, options.own, options.name);
+    if let Some(preload) = &options.preload {
+        load(alloc, preload, files, &mut terminal)?;
+    }
+    let path = options.file;
+    let mut log = match files.open(path) {
+        Ok(log) => log,
+        Err(cause) => return Err(Fault::File { path, cause }),
+    };
+    match replay(alloc, &mut log, out, &mut terminal) {
+        Ok(_counts) => {}
+        Err(fault) => return Err(Fault::Replay(fault)),
+    }
+    match out.flush() {
+        Ok(()) => Ok(()),
+        Err(_) => Err(Fault::Replay(ReplayFault::Write)),
+    }
+}
+
+/// Reads the pool of a working set, verifies it, and adds the set to the terminal.
+fn load<'a, F: Open>(
+    alloc: Global,
+    preload: &Preload<'a>,
+    files: &mut F,
+    terminal: &mut Terminal,
+) -> Result<(), Fault<'a>>
+    requires none { set_at preload.now.owner (state_of terminal.old).sets ≡ None }
+    requires claimed { preload.now.owner ≤ 253 }
+    requires other { preload.now.owner ≢ (state_of terminal.old).claims.own }
+    ensures set { OnOk result (IsLoaded (F.file files.old) preload.now (state_of terminal.old) (state_of terminal.new)) }
+    ensures fault { IfErr result (IsPoolFileFault (F.file files.old) preload.now.pool) }
+    ensures stay { F.file files.new ≡ F.file files.old }
+{
+    let pool = read_accepted(alloc, preload.pool, files)?;
+    terminal.preload(preload.owner, &pool)?;
+    Ok(())
+}
+
+/// Reads the pool in a file and verifies it.
+fn read_accepted<'a, F: Open>(
+    alloc: Global,
+    path: &'a str,
+    files: &mut F,
+) -> Result<Accepted, Fault<'a>>
+    ensures pool { IfOk result (λ pool. IfSome (F.file files.old path.now) (λ bytes. IsAcceptedPoolOf bytes (contents pool))) }
+    ensures rising { IfOk result (λ pool. pool ≡ finite.entries (contents pool)) }
+    ensures fault { IfErr result (IsPoolFileFault (F.file files.old) path.entry) }
+    ensures stay { F.file files.new ≡ F.file files.old }
+{
+    let bytes = read_file(alloc, path, files)?;
+    accepted(alloc, &bytes)
+}
+
+/// The pool of these bytes, where it is accepted.
+fn accepted<'a>(alloc: Global, bytes: &[u8]) -> Result<Accepted, Fault<'a>>
+    ensures pool { IfOk result (λ pool. IsAcceptedPoolOf bytes.now (contents pool)) }
+    ensures rising { IfOk result (λ pool. pool ≡ finite.entries (contents pool)) }
+    ensures fault { IfErr result (IsFaultOfPool bytes.now) }
+{
+    let pool = match read_pool(alloc, bytes) {
+        Ok(pool) => pool,
+        Err(PoolFault::OutOfMemory { .. }) => return Err(Fault::Memory),
+        Err(fault) => return Err(Fault::Pool(fault)),
+    };
+    match verify(alloc, &pool) {
+        Ok(accepted) => Ok(accepted),
+        Err(vt_verify::Refusal::OutOfMemory) => Err(Fault::Memory),
+        Err(refusal) => Err(Fault::Refused(refusal)),
+    }
+}
+
+fn read_file<'a, F: Open>(alloc: Global, path: &'a str, files: &mut F) -> Result<Vec<u8>, Fault<'a>>
+    ensures bytes { IfOk result (λ read. IfSome (F.file files.old path.now) (λ bytes. read.items ≡ bytes)) }
+    ensures fault { IfErr result (IsFileFault path.entry) }
+    ensures stay { F.file files.new ≡ F.file files.old }
+{
+    let mut bytes = Vec::new(alloc);
+    let read = match files.open(path) {
+        Ok(mut file) => file.read_to_end(&mut bytes),
+        Err(cause) => Err(cause),
+    };
+    match read {
+        Ok(_) => Ok(bytes),
+        Err(cause) => Err(Fault::File { path, cause }),
+    }
+}

@@ -1,6 +1,0 @@
-use Rattle.std.proofs.Common.{arith}
-use Rattle.vt_machine.proofs.Taking.{takes_is}
-use Rattle.vt_machine.proofs.changes.attributes.takes.Goals as goal
-
-pub returns : goal.returns
-returns c = takes_is c.args.kind c.args.value_type c.args.value c.args.named c.accepts.result (omega (arith, c.ranges.value.fits)) c.accepts.ensures.0 c.accepts.ensures.1

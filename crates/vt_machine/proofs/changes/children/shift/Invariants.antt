@@ -1,7 +1,0 @@
-use Rattle.std.proofs.Common.{◌≡◌}
-use Rattle.vt_machine.specs.Changes.{shifted, child_at}
-use Rattle.vt_machine.proofs.Moving.{up_to}
-use Rattle.vt_machine.proofs.changes.children.shift.Given as goal
-
-abbrev pub invariant-loop-index : goal.invariant-loop-index
-invariant-loop-index l = l.children ≡ up_to (child_at l.fn.child (shifted l.fn.dx l.fn.dy)) l.index l.fn.children

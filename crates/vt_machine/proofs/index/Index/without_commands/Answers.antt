@@ -1,8 +1,0 @@
-use Rattle.vt_machine.specs.declared.index.Index.{Index}
-use Rattle.vt_machine.proofs.Indexing.{none_within}
-use Rattle.vt_machine.proofs.index.Index.without_commands.Goals as goal
-
-pub returns-clause-within : goal.returns-clause-within
-returns-clause-within c =
-    let index : Index = record { listings = c.new.result; bytes = c.new-2.result; pieces = c.new-3.result; macros = c.in_ok-macros.macros } in
-    none_within index (c.in_ok-macros.ensures.items_if_clones_equal (λ y e. e)) c.new-3.ensures.items

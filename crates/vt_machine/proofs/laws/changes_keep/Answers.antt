@@ -1,5 +1,0 @@
-use Rattle.vt_machine.proofs.Keeping.{changes_keep}
-use Rattle.vt_machine.proofs.laws.changes_keep.Goals as goal
-
-pub returns : goal.returns
-returns c = changes_keep

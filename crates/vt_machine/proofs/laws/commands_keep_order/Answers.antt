@@ -1,5 +1,0 @@
-use Rattle.vt_machine.proofs.KeepingOrder.{commands_keep_order}
-use Rattle.vt_machine.proofs.laws.commands_keep_order.Goals as goal
-
-pub returns : goal.returns
-returns c = commands_keep_order

@@ -1,5 +1,0 @@
-use Rattle.vt_machine.proofs.InTurn.{events_end_in_turn}
-use Rattle.vt_machine.proofs.laws.events_end_in_turn.Goals as goal
-
-pub returns : goal.returns
-returns c = events_end_in_turn

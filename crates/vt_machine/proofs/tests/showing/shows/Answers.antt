@@ -1,9 +1,0 @@
-use Rattle.std.proofs.Common.{◌≡◌, length, rules, ◌∙◌}
-use Rattle.vt_objects.specs.Stores.{map_of}
-use Rattle.vt_verify.proofs.Places.{count_is}
-use Rattle.vt_machine.proofs.tests.showing.shows.Goals as goal
-
-pub is_shown-requires-clause-marks : goal.is_shown-requires-clause-marks
-is_shown-requires-clause-marks c =
-    let len : length c.deref_mut.result.now ≡ c.count.result = search rules in
-    len ∙ c.count.ensures.count ∙ count_is (map_of c.args.store.now)

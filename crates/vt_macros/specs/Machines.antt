@@ -1,0 +1,96 @@
+-- The event machine: what commands raise, and how the macros of events run (docs/PROFILE.md, "Runs", "Steps").
+use Rattle.std.specs.Prelude.{ℕ, zero, suc, ◌==◌, if◌then◌else◌, sum_by, List, [], ◌∷◌, ◌++◌, Option, Some, None, is_ok}
+use Rattle.std.specs.List.{list_all, flat_map}
+use Rattle.std.specs.FinMap as finite
+use Rattle.vt_kinds.specs.declared.object.Object.TheVariants as objects
+use Rattle.vt_commands.specs.declared.command.Command.{Command}
+use Rattle.vt_commands.specs.declared.command.Command.TheVariants.{ChangeActiveMask}
+use Rattle.vt_commands.specs.declared.event.Event.TheVariants as events
+use Rattle.vt_commands.specs.declared.raising.Raised.{Raised}
+use Rattle.vt_commands.specs.Events.{raise, row_events}
+use Rattle.vt_kinds.specs.Records.{Seen}
+use Rattle.vt_stores.specs.Stores.{Contents}
+use Rattle.vt_verify.specs.declared.listing.Listing.{Listing}
+use Rattle.vt_stores.specs.Shapes.{Shape}
+use Rattle.vt_verify.specs.Macros.{commands}
+use Rattle.vt_verify.specs.References.{is_there, fits}
+use Rattle.vt_verify.specs.Targets.{target_references}
+use Rattle.vt_verify.specs.Triggers.{listed, listing_of}
+use Rattle.vt_verify.specs.Budgets.{budget}
+use Rattle.vt_effects.specs.Effects.{effect, after}
+use Rattle.vt_effects.specs.Soundness.{shape_in}
+
+-- ---- what a command raises
+
+-- the active mask of a working set, NULL of what is none
+abbrev pub mask_of : Option Seen → ℕ
+mask_of (Some (objects.WorkingSet o)) = o.active_mask
+mask_of _ = 0xFFFF
+
+-- the mask that was active is hidden, unless there was none
+abbrev pub hide : ℕ → List Raised
+hide mask = if mask == 0xFFFF then [] else raise mask events.Hide ∷ []
+
+-- the mask that is active already is neither hidden nor shown
+abbrev pub mask_events : ℕ → ℕ → ℕ → List Raised
+mask_events old set mask =
+    if old == mask then raise set events.ActiveMask ∷ [] else hide old ++ row_events (ChangeActiveMask set mask)
+
+abbrev pub events_of : Contents → Command → List Raised
+events_of store (ChangeActiveMask set mask) = mask_events (mask_of (finite.get store set)) set mask
+events_of store command = row_events command
+
+-- a refused command raises nothing
+unfoldable pub raised : Contents → Command → List Raised
+raised store command = if is_ok (effect store command) then events_of store command else []
+
+-- ---- the machine
+
+-- the commands of the macros that run at an event, in the order of its list
+unfoldable pub joined : Shape → Listing → List Command
+joined shape event = flat_map (commands shape) (listed shape event)
+
+abbrev pub joined_all : Shape → List Raised → List Command
+joined_all shape raised = flat_map (λ r. joined shape (listing_of r)) raised
+
+-- why the machine cannot go on
+pub data Stuck : Type 0 where
+  Missing : Stuck
+  Kind : Stuck
+  Spent : Stuck
+
+-- each object that a command names is there, of a kind that it may be
+unfoldable pub fault : Shape → Command → Option Stuck
+fault shape command =
+    if list_all (is_there shape) (target_references shape 0 command)
+    then (if list_all (fits shape) (target_references shape 0 command) then None else Some Kind)
+    else Some Missing
+
+-- how a run ends: with a store and steps left, or stuck
+pub data End : Type 0 where
+  Ended : (store : Contents) (left : ℕ) → End
+  Sticks : (why : Stuck) (store : Contents) → End
+
+abbrev pub or_sticks : Option Stuck → Contents → End → End
+or_sticks (Some why) store next = Sticks why store
+or_sticks None store next = next
+
+-- what a command triggers, which goes in front of the commands that are pending
+unfoldable pub follow_ups : Contents → Command → List Command
+follow_ups store command = joined_all (shape_in (after store command)) (raised store command)
+
+-- A step takes the first pending command. With no steps left it sticks.
+unfoldable pub run : ℕ → Contents → List Command → End
+run left store [] = Ended store left
+run zero store (command ∷ pending) = or_sticks (fault (shape_in store) command) store (Sticks Spent store)
+run (suc left) store (command ∷ pending) =
+    or_sticks (fault (shape_in store) command) store (run left (after store command) (follow_ups store command ++ pending))
+
+-- ---- runs
+
+abbrev pub total_budget : Shape → List Raised → ℕ
+total_budget shape raised = sum_by (λ r. budget shape (listing_of r).id (listing_of r).event) raised
+
+-- The run of events begins with the commands that they trigger, and with their budgets.
+abbrev pub run_of : Contents → List Raised → End
+run_of store raised = run (total_budget (shape_in store) raised) store (joined_all (shape_in store) raised)

@@ -1,0 +1,53 @@
+-- Runs end (docs/PROFILE.md, "Steps", "Costs and budgets").
+use Rattle.std.specs.Prelude.{◌≡◌, ◌≤◌, ℕ, List, [], ◌∷◌, None}
+use Rattle.std.specs.FinMap as finite
+use Rattle.vt_commands.specs.declared.raising.Raised.{Raised}
+use Rattle.vt_stores.specs.Stores.{Contents, Objects, AreStored, map_of}
+use Rattle.vt_stores.specs.Shapes.{shape_of}
+use Rattle.vt_verify.specs.Budgets.{CostsAreTotals}
+use Rattle.vt_verify.specs.Rules.{IsAcceptable, working_sets}
+use Rattle.vt_chains.specs.Limits.{terminal}
+use Rattle.vt_macros.specs.Machines.{End, Ended, total_budget, run_of}
+use Rattle.vt_effects.specs.Soundness.{shape_in}
+use Rattle.vt_effects.specs.Soundness.{IsSound}
+
+-- A run that began with so many steps ends, and does not stick. The store has one working set still, its references and chains
+-- are in order, and no kind, no macro entry and no macro byte is another one.
+pub record Ends (store : Contents) (steps : ℕ) (end : End) : Type 0 where
+  pub new : Contents
+  pub left : ℕ
+  pub ended : end ≡ Ended new left
+  pub within : left ≤ steps
+  pub working_set : working_sets (shape_in new) ≡ 1
+  pub sound : IsSound new
+  pub shape : shape_in new ≡ shape_in store
+
+-- Whatever events are raised on a store of an acceptable pool, each command of their macros finds the objects that it names,
+-- of kinds that they may have, and the run ends within the budgets of the events.
+abbrev pub RunsEnd : Type 0
+RunsEnd = (pool : Objects) (store : Contents) (raised : List Raised) → IsAcceptable terminal pool → CostsAreTotals (shape_of pool)
+    → shape_in store ≡ shape_of pool → IsSound store → Ends store (total_budget (shape_in store) raised) (run_of store raised)
+
+-- Events in turn: each begins on the store that those before it leave, with its own budget of steps, and ends.
+abbrev pub EndInTurn : Contents → List Raised → Contents → Type 0
+EndInTurn store [] new = new ≡ store
+EndInTurn store (r ∷ raised) new =
+    (own : Ends store (total_budget (shape_in store) (r ∷ [])) (run_of store (r ∷ []))) × EndInTurn own.new raised new
+
+-- What a run of events leaves is what they leave in turn, each within its own budget.
+abbrev pub EventsEndInTurn : Type 0
+EventsEndInTurn = (pool : Objects) (store new : Contents) (left : ℕ) (raised : List Raised) → IsAcceptable terminal pool → CostsAreTotals (shape_of pool)
+    → shape_in store ≡ shape_of pool → IsSound store → run_of store raised ≡ Ended new left → EndInTurn store raised new
+
+-- The store of an acceptable pool has one working set, and its references and chains are in order.
+pub record IsReady (pool : Objects) (store : Contents) : Type 0 where
+  pub working_set : working_sets (shape_in store) ≡ 1
+  pub sound : IsSound store
+  pub shape : shape_in store ≡ shape_of pool
+
+abbrev pub PoolsAreReady : Type 0
+PoolsAreReady = (pool : Objects) → AreStored pool → IsAcceptable terminal pool → IsReady pool (map_of pool)
+
+-- Nothing stands under NULL there.
+abbrev pub NullIsNoObject : Type 0
+NullIsNoObject = (pool : Objects) (store : Contents) → AreStored pool → IsReady pool store → finite.get store 0xFFFF ≡ None

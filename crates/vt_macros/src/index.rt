@@ -1,0 +1,147 @@
+//! Which macros run at an event, and which commands a macro has, looked up without a walk.
+
+ghost use Rattle.std.specs.Prelude.{◌≡◌, ◌++◌, ◌∷◌, ◌==◌, ◌+◌, ℕ, [], length, map, Some, is_some, IsTrue, IfOk, OnOk, if◌then◌else◌};
+ghost use Rattle.vt_commands.specs.Commands.{command_at};
+ghost use Rattle.vt_commands.specs.Pieces.{cut};
+ghost use Rattle.vt_stores.specs.Shapes.{Shape, shape_of};
+ghost use Rattle.vt_verify.specs.Macros.{cut_or_none, commands};
+ghost use Rattle.vt_verify.specs.Triggers.{listing, listed};
+ghost use Rattle.vt_macros.specs.Indexes.{part, command_in, pieces_in, IsIndexOf, IsWithin};
+
+use std::alloc::{AllocError, Global};
+use vt_objects::laws::cut_is_one;
+use vt_objects::{Command, ObjectId, split_command};
+use vt_verify::{Accepted, Listings};
+
+/// Places one after the other, from the first one to that behind the last.
+#[derive(Clone, Copy, Debug, PartialEq, Eq)]
+pub struct Span {
+    start: usize,
+    end: usize,
+}
+
+/// Which macros run at the events of a pool, and which commands they have, in memory of its own. It stays right for
+/// every later store, as no command changes either.
+#[derive(Drop)]
+pub struct Index {
+    listings: Listings,
+    /// The bytes of the macros, by rank.
+    bytes: Vec<u8>,
+    /// Where each of their commands stands in the bytes.
+    pieces: Vec<Span>,
+    /// Where those of each macro stand among the pieces.
+    macros: Vec<Span>,
+}
+
+impl Index {
+    /// The index of the macros of a pool.
+    pub fn new(alloc: Global, accepted: &Accepted) -> Result<Index, AllocError>
+        ensures { IfOk result (IsIndexOf (shape_of accepted.now)) }
+    {
+        let index = Index::of_commands(alloc, accepted)?;
+        let listings = accepted.listings(alloc)?;
+        Ok(index.with_listings(listings))
+    }
+
+    /// The index of the commands of a pool's macros. None runs at an event.
+    pub fn of_commands(alloc: Global, accepted: &Accepted) -> Result<Index, AllocError>
+        ensures { IfOk result (λ index. (id : ℕ) → map (command_in index) (pieces_in index id) ≡ map Some (commands (shape_of accepted.now) id)) }
+    {
+        let mut index = Index::without_commands(alloc)?;
+        for id in accepted.by_rank() {
+            index.put_macro(*id, accepted.macro_bytes(*id))?;
+        }
+        Ok(index)
+    }
+
+    /// The index with what runs at the events of objects.
+    pub fn with_listings(self, listings: Listings) -> Index
+        ensures { result ≡ record { listings = listings; bytes = self.bytes; pieces = self.pieces; macros = self.macros } }
+    {
+        Index { listings, ..self }
+    }
+
+    /// The macros that run at an event of an object, in the order of its list: none at an ID that is not there, nor
+    /// at a number that is no event's.
+    pub fn macros_at(&self, id: ObjectId, event: u8) -> &[u8]
+        ensures { (shape : Shape) → IsIndexOf shape self.now → result.now ≡ listed shape (listing id event) }
+    {
+        self.listings.at(id, event)
+    }
+
+    /// Where the commands of a macro stand, in their order.
+    pub fn pieces(&self, id: u8) -> &[Span]
+        ensures pieces { result.now ≡ pieces_in self.now id }
+        ensures commands { (shape : Shape) → IsIndexOf shape self.now → map (command_in self.now) result.now ≡ map Some (commands shape id) }
+    {
+        match self.macros.get(usize::from(id)) {
+            Some(span) => part(&self.pieces, *span),
+            None => &[],
+        }
+    }
+
+    /// The command that stands at a place. There is one at each of `pieces`.
+    pub fn command(&self, piece: &Span) -> Option<Command<'_>>
+        ensures { result ≡ command_in self.now piece.now }
+    {
+        Command::read(part(&self.bytes, *piece))
+    }
+
+    fn without_commands(alloc: Global) -> Result<Index, AllocError>
+        ensures pieces { IfOk result (λ index. index.pieces.items ≡ []) }
+        ensures within { IfOk result IsWithin }
+    {
+        let none = Span { start: 0, end: 0 };
+        let macros = Vec::from_elem(alloc, none, 256)?;
+        Ok(Index {
+            listings: Listings::new(alloc),
+            bytes: Vec::new(alloc),
+            pieces: Vec::new(alloc),
+            macros,
+        })
+    }
+
+    /// Appends the commands of a macro.
+    fn put_macro(&mut self, id: u8, bytes: &[u8]) -> Result<(), AllocError>
+        requires whole { IsTrue (is_some (cut bytes.now)) }
+        requires within { IsWithin self.old }
+        ensures listings { OnOk result (self.new.listings ≡ self.old.listings) }
+        ensures within { OnOk result (IsWithin self.new) }
+        // Its pieces read as they stood, and those of the others stay.
+        ensures commands { OnOk result ((other : ℕ) → map (command_in self.new) (pieces_in self.new other) ≡ (if other == id then map command_at (cut_or_none bytes.now) else map (command_in self.old) (pieces_in self.old other))) }
+    {
+        // What is left is cut as the whole is.
+        cut_is_one();
+        let start = self.pieces.len();
+        let mut rest = bytes;
+        while let Some((piece, next)) = split_command(rest) {
+            self.put_piece(piece)?;
+            rest = next;
+        }
+        let end = self.pieces.len();
+        self.macros[usize::from(id)] = Span { start, end };
+        Ok(())
+    }
+
+    /// Appends a command.
+    fn put_piece(&mut self, piece: &[u8]) -> Result<(), AllocError>
+        ensures listings { self.new.listings ≡ self.old.listings }
+        ensures macros { self.new.macros.items ≡ self.old.macros.items }
+        ensures bytes { OnOk result (self.new.bytes.items ≡ self.old.bytes.items ++ piece.now) }
+        ensures pieces { OnOk result (self.new.pieces.items ≡ self.old.pieces.items ++ record { start = length self.old.bytes.items; end = length self.old.bytes.items + length piece.now } ∷ []) }
+    {
+        let start = self.bytes.len();
+        self.bytes.extend_from_slice(piece)?;
+        let end = self.bytes.len();
+        self.pieces.push(Span { start, end })?;
+        Ok(())
+    }
+}
+
+/// What stands from the start of a span to its end.
+fn part<T>(all: &[T], span: Span) -> &[T]
+    ensures { result.now ≡ part all.now span }
+{
+    let front = all.get(..span.end).unwrap_or(all);
+    front.get(span.start..).unwrap_or(&[])
+}

@@ -1,0 +1,17 @@
+//! The macros of a working set (ISO 11783-6): which of them run at an event, and what their commands make of its objects.
+//!
+//! - `Index` has the macros of a pool by the object and event that trigger them, and their commands.
+//! - `events_of` gives the events that a command raises; `raise` and `raise_all` run the macros of events, to their end.
+//! - `laws` has what the definitions come to: the written machine never sticks, and each run ends within the budgets of its events.
+//!
+//! docs/PROFILE.md, "Runs", "Steps", "Costs and budgets".
+#![tactic(auto)]
+
+mod index;
+pub mod laws;
+mod raising;
+mod runs;
+
+pub use index::Index;
+pub use raising::{active_mask, events_of};
+pub use runs::{raise, raise_all};

@@ -1,0 +1,96 @@
+//! Runs: the macros of events, and those of the events that their commands raise (docs/PROFILE.md, "Runs").
+
+ghost use Rattle.std.specs.Prelude.{◌≡◌, ◌<◌, ◌^◌, None, ◌∷◌, [], sum_by};
+ghost use Rattle.std.specs.List.{AllByRecursion};
+ghost use Rattle.vt_verify.specs.Budgets.{budget, cost};
+ghost use Rattle.vt_verify.specs.Macros.{commands};
+ghost use Rattle.vt_verify.specs.Triggers.{listing};
+ghost use Rattle.vt_macros.specs.Machines.{fault, joined, joined_all, total_budget};
+ghost use Rattle.vt_effects.specs.Soundness.{shape_in};
+ghost use Rattle.vt_macros.specs.Nested.{CanRun, HaveRun, commands_at, cost_of};
+
+use crate::index::{Index, Span};
+use crate::raising::events_of;
+use vt_chains::Levels;
+use vt_effects::execute;
+use vt_objects::{Command, ObjectId, Raised, Store};
+
+/// Runs the macros of events, one event after the other, and answers how many steps that took: one for each command.
+#[cycle(run)]
+pub fn raise_all<S: Store>(
+    index: &Index,
+    store: &mut S,
+    levels: &mut Levels,
+    raised: &[Raised],
+) -> u32
+    requires can { CanRun index.now (S.contents store.old) levels.old }
+    requires small { total_budget (shape_in (S.contents store.old)) raised.now < 2 ^ 32 }
+    ensures { HaveRun index.now (S.contents store.old) (joined_all (shape_in (S.contents store.old)) raised.now) (total_budget (shape_in (S.contents store.old)) raised.now) result (S.contents store.new) levels.new }
+{
+    let mut steps = 0u32;
+    for event in raised {
+        steps += raise(index, store, levels, event.id, event.event.number());
+    }
+    steps
+}
+
+/// Runs the macros of an event, in the order of its list.
+#[cycle(run)]
+pub fn raise<S: Store>(
+    index: &Index,
+    store: &mut S,
+    levels: &mut Levels,
+    id: ObjectId,
+    event: u8,
+) -> u32
+    requires { CanRun index.now (S.contents store.old) levels.old }
+    ensures { HaveRun index.now (S.contents store.old) (joined (shape_in (S.contents store.old)) (listing id event)) (budget (shape_in (S.contents store.old)) id event) result (S.contents store.new) levels.new }
+{
+    let mut steps = 0u32;
+    for macro_id in index.macros_at(id, event) {
+        steps += run_macro(index, store, levels, *macro_id);
+    }
+    steps
+}
+
+/// Runs the commands of a macro.
+#[cycle(run)]
+fn run_macro<S: Store>(index: &Index, store: &mut S, levels: &mut Levels, id: u8) -> u32
+    requires { CanRun index.now (S.contents store.old) levels.old }
+    ensures { HaveRun index.now (S.contents store.old) (commands (shape_in (S.contents store.old)) id) (cost (shape_in (S.contents store.old)) id) result (S.contents store.new) levels.new }
+{
+    let mut steps = 0u32;
+    for piece in index.pieces(id) {
+        steps += run_piece(index, store, levels, piece);
+    }
+    steps
+}
+
+/// Does the command that stands at a place.
+#[cycle(run)]
+fn run_piece<S: Store>(index: &Index, store: &mut S, levels: &mut Levels, piece: &Span) -> u32
+    requires can { CanRun index.now (S.contents store.old) levels.old }
+    requires fault { AllByRecursion (λ command. fault (shape_in (S.contents store.old)) command ≡ None) (commands_at index.now piece.now) }
+    requires small { sum_by (cost_of (S.contents store.old)) (commands_at index.now piece.now) < 2 ^ 32 }
+    ensures { HaveRun index.now (S.contents store.old) (commands_at index.now piece.now) (sum_by (cost_of (S.contents store.old)) (commands_at index.now piece.now)) result (S.contents store.new) levels.new }
+{
+    match index.command(piece) {
+        Some(command) => take(index, store, levels, &command),
+        None => 0,
+    }
+}
+
+/// Does a command, and runs the macros of the events that it raises. A refused command raises none.
+#[cycle(run)]
+fn take<S: Store>(index: &Index, store: &mut S, levels: &mut Levels, command: &Command<'_>) -> u32
+    requires can { CanRun index.now (S.contents store.old) levels.old }
+    requires fault { fault (shape_in (S.contents store.old)) command.now ≡ None }
+    requires small { cost_of (S.contents store.old) command.now < 2 ^ 32 }
+    ensures { HaveRun index.now (S.contents store.old) (command.now ∷ []) (cost_of (S.contents store.old) command.now) result (S.contents store.new) levels.new }
+{
+    let raised = events_of(store, command);
+    match execute(store, levels, command) {
+        Ok(()) => raise_all(index, store, levels, &raised) + 1,
+        Err(_error) => 1,
+    }
+}

@@ -1,0 +1,4 @@
+pub mod ByAddress
+pub mod Ordered
+pub mod Sets
+mod Watching

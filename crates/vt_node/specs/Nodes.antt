@@ -1,0 +1,76 @@
+-- The terminal as a node of the bus: what it has heard of addresses, and its sessions (docs/PROFILE.md, "The holder of an
+-- address", "Transport").
+use Rattle.std.specs.Prelude.{◌≡◌, ◌≢◌, ℕ, List, refl}
+use Rattle.std.specs.Coded.{Coded, code_by, coded×, coded_ℕ}
+use Rattle.std.specs.FinMap as finite
+use Rattle.vt_can.specs.declared.frames.frame.Frame.{Frame}
+use Rattle.vt_can.specs.declared.transport.heard.Heard.{Heard}
+use Rattle.vt_can.specs.frames.Frame.{source_of}
+use Rattle.vt_can.specs.transport.Messages.{Message}
+use Rattle.vt_can.specs.transport.Protocols.{Protocol}
+use Rattle.vt_can.specs.transport.Sessions.{ByAddress, Expires, timed_code}
+use Rattle.vt_names.specs.Claims.{Claimed, claimed_code}
+use Rattle.vt_transport.specs.Protocol as tp
+use Rattle.vt_transport.specs.Senders as sender
+use Rattle.vt_transport.specs.Senders.{message_code}
+use Rattle.vt_transport.specs.SessionState as tp_session
+use Rattle.vt_transport.specs.Wire.{tp_frame}
+use Rattle.vt_extended.specs.Protocol as etp
+use Rattle.vt_extended.specs.SessionState as etp_session
+use Rattle.vt_node.specs.Receiving.{Taken, taken, frames_in, message_in}
+
+-- the claims heard, the sessions of both receivers by source and of the sender by destination, and the bytes for which the
+-- receivers have room set aside
+pub record NodeState : Type 0 where
+  pub claims : Claimed
+  pub tp : ByAddress tp_session.SessionState
+  pub etp : ByAddress etp_session.SessionState
+  pub sending : ByAddress Message
+  pub tp_room : ℕ
+  pub etp_room : ℕ
+
+abbrev pub node_code : Coded NodeState
+node_code =
+    code_by (Claimed × (ByAddress tp_session.SessionState × (ByAddress etp_session.SessionState × (ByAddress Message × (ℕ × ℕ)))))
+    (coded× claimed_code
+    (coded× (finite.code coded_ℕ (timed_code tp_session.session_state_code))
+    (coded× (finite.code coded_ℕ (timed_code etp_session.session_state_code))
+    (coded× (finite.code coded_ℕ (timed_code message_code)) (coded× coded_ℕ coded_ℕ)))))
+    (λ n. (n.claims, (n.tp, (n.etp, (n.sending, (n.tp_room, n.etp_room))))))
+    (λ p. record { claims = p.0; tp = p.1.0; etp = p.1.1.0; sending = p.1.1.1.0; tp_room = p.1.1.1.1.0; etp_room = p.1.1.1.1.1 })
+    (λ _. refl)
+
+-- what the receivers make of a frame at a time
+abbrev pub tp_taken : NodeState → ℕ → Frame → Taken tp_session.SessionState
+tp_taken node now frame = taken tp.protocol now node.claims.own (source_of frame) (finite.get node.tp (source_of frame)) frame
+
+abbrev pub etp_taken : NodeState → ℕ → Frame → Taken etp_session.SessionState
+etp_taken node now frame = taken etp.protocol now node.claims.own (source_of frame) (finite.get node.etp (source_of frame)) frame
+
+-- what the sender makes of it
+abbrev pub sender_answer : NodeState → ℕ → Frame → sender.Answer
+sender_answer node now frame =
+    sender.answered node.claims.own (source_of frame) now (finite.get node.sending (source_of frame)) (tp_frame node.claims.own frame)
+
+-- A receiver answers what it makes of a frame, and the sessions of other sources stay.
+pub record HasTaken {S : Type 0} (taken : Taken S) (source : ℕ) (old new : ByAddress S) (heard : Heard) : Type 0 where
+  pub frames : frames_in heard ≡ taken.frames
+  pub message : message_in heard ≡ taken.message
+  pub session : finite.get new source ≡ taken.session
+  pub others : (other : ℕ) → other ≢ source → finite.get new other ≡ finite.get old other
+
+-- So too the sender.
+pub record HasAnswered (given : sender.Answer) (to : ℕ) (old new : ByAddress Message) (frames : List Frame) : Type 0 where
+  pub frames_are : frames ≡ given.frames
+  pub session : finite.get new to ≡ given.session
+  pub others : (other : ℕ) → other ≢ to → finite.get new other ≡ finite.get old other
+
+-- The session of the least address that is overdue is gone, and its abort is the frame.
+pub record HasExpired {S : Type 0} (abort : ℕ → S → Frame) (old new : ByAddress S) (now : ℕ) (frame : Frame) : Type 0 where
+  pub address : ℕ
+  pub session : S
+  pub expired : Expires old new now address session
+  pub abort_is : frame ≡ abort address session
+
+abbrev pub abort_by : {S F R : Type 0} → Protocol S F R → ℕ → ℕ → S → Frame
+abort_by protocol own address session = protocol.reply_frame own address (protocol.timeout session)

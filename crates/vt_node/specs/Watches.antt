@@ -1,0 +1,32 @@
+-- When each address was last heard (docs/PROFILE.md, "Silence").
+use Rattle.std.specs.Prelude.{ℕ, ◌-◌, Bool, false, nat_lt, if◌then◌else◌, List, [], ◌∷◌, Option, Some, None, get_or, refl}
+use Rattle.std.specs.Coded.{Coded, code_by, coded×, coded_list, coded_bool, coded_ℕ}
+use Rattle.vt_names.specs.Registry.{Set}
+
+-- the time of the last frame of each address, and whether the next frame line gives it one
+pub record Times : Type 0 where
+  pub last : List ℕ
+  pub awaited : List Bool
+
+abbrev pub times_code : Coded Times
+times_code =
+    code_by (List ℕ × List Bool) (coded× (coded_list coded_ℕ) (coded_list coded_bool))
+    (λ t. (t.last, t.awaited)) (λ p. record { last = p.0; awaited = p.1 }) (λ _. refl)
+
+abbrev pub heard_in : List ℕ → List Bool → ℕ → Option ℕ
+heard_in last awaited address = if get_or awaited address false then None else Some (get_or last address 0)
+
+abbrev pub heard_of : Times → ℕ → Option ℕ
+heard_of times address = heard_in times.last times.awaited address
+
+-- ---- silence
+
+-- more than 3,000,000 microseconds without a frame
+abbrev pub is_silent : ℕ → Option ℕ → Bool
+is_silent now None = false
+is_silent now (Some last) = nat_lt 3000000 (now - last)
+
+-- the first set of these whose address is silent, by when the addresses were last heard
+abbrev pub first_silent_of : ℕ → (ℕ → Option ℕ) → List Set → Option ℕ
+first_silent_of now heard [] = None
+first_silent_of now heard (set ∷ sets) = if is_silent now (heard set.address) then Some set.address else first_silent_of now heard sets

@@ -1,0 +1,94 @@
+//! What a frame says to the terminal (ISO 11783-5, ISO 11783-6).
+
+ghost use Rattle.std.specs.Prelude.{◌≡◌, ◌≤◌, length};
+ghost use Rattle.byteorder.specs.Endian.{little_number};
+ghost use Rattle.vt_node.specs.declared.bus.Notice.TheVariants as declared;
+ghost use Rattle.vt_node.specs.Bus.{frame_notice, notice_of, unless_echo};
+
+use byteorder::{ByteOrder, LittleEndian};
+use vt_can::Frame;
+use vt_can::assigned::{
+    ADDRESS_CLAIMED, ECU_TO_VT, ETP_CM, ETP_DT, GLOBAL_ADDRESS, REQUEST, TP_CM, TP_DT,
+    WORKING_SET_MASTER, WORKING_SET_MEMBER,
+};
+use vt_names::Name;
+
+/// What a frame says to the terminal.
+#[derive(Clone, Copy, Debug, PartialEq, Eq)]
+pub enum Notice {
+    /// A NAME claims the source address.
+    Claim(Name),
+    /// The terminal is asked for its claim.
+    ClaimRequest,
+    /// The source is the master of a working set, with so many members.
+    Master { count: u8 },
+    /// A NAME is a member of the working set of the source.
+    Member(Name),
+    /// The bytes are a message to the terminal.
+    Message,
+    /// A frame of the transport protocol.
+    Tp,
+    /// A frame of the extended transport protocol.
+    Etp,
+    /// Nothing that the terminal looks at.
+    Nothing,
+}
+
+/// What a frame says to the terminal of an address and NAME. docs/PROFILE.md, "Echoes".
+pub fn notice_of(own: u8, name: Name, frame: &Frame) -> Notice
+    ensures { result ≡ notice_of own name frame.now }
+{
+    let notice = frame_notice(own, frame);
+    if frame.id.source() != own {
+        return notice;
+    }
+    unless_echo(name, notice)
+}
+
+// Of what comes from the own address, only a claim by another NAME says anything.
+fn unless_echo(name: Name, notice: Notice) -> Notice
+    ensures { result ≡ unless_echo name notice }
+{
+    match notice {
+        Notice::Claim(other) => unless_own(name, other),
+        _ => Notice::Nothing,
+    }
+}
+
+fn unless_own(name: Name, other: Name) -> Notice
+    ensures { result ≡ unless_echo name (declared.Claim other) }
+{
+    if other == name {
+        return Notice::Nothing;
+    }
+    Notice::Claim(other)
+}
+
+fn frame_notice(own: u8, frame: &Frame) -> Notice
+    ensures { result ≡ frame_notice own frame.now }
+{
+    let bytes = frame.bytes.as_slice();
+    let destination = frame.id.destination();
+    let to_all = destination == Some(GLOBAL_ADDRESS);
+    let to_terminal = destination == Some(own);
+    match frame.id.pgn() {
+        ADDRESS_CLAIMED if to_all && bytes.len() >= 8 => Notice::Claim(name_in(bytes)),
+        REQUEST if (to_terminal || to_all) && bytes.starts_with(&[0x00, 0xEE, 0x00]) => {
+            Notice::ClaimRequest
+        }
+        WORKING_SET_MASTER if !bytes.is_empty() => Notice::Master { count: bytes[0] },
+        WORKING_SET_MEMBER if bytes.len() >= 8 => Notice::Member(name_in(bytes)),
+        ECU_TO_VT if to_terminal => Notice::Message,
+        TP_CM | TP_DT => Notice::Tp,
+        ETP_CM | ETP_DT => Notice::Etp,
+        _ => Notice::Nothing,
+    }
+}
+
+// The NAME in the first eight bytes.
+fn name_in(bytes: &[u8]) -> Name
+    requires { 8 ≤ length bytes.now }
+    ensures { result ≡ little_number 8 bytes.now }
+{
+    Name::from_raw(LittleEndian::read_u64(bytes))
+}

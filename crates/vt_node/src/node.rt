@@ -1,0 +1,219 @@
+//! The terminal as a node of the bus.
+
+ghost use Rattle.std.specs.Prelude.{◌≡◌, ◌≢◌, ◌↔◌, [], true, None, Some, is_some, length, IfOk, IfSome, IfNone, IsSome, OnOk, OnErr, Err};
+ghost use Rattle.std.specs.FinMap as finite;
+ghost use Rattle.vt_can.specs.Assigned as assigned;
+ghost use Rattle.vt_can.specs.frames.Frame.{source_of};
+ghost use Rattle.vt_can.specs.transport.Messages.{size_and_first_byte};
+ghost use Rattle.vt_can.specs.transport.Receivers.{IsReadyFor};
+ghost use Rattle.vt_can.specs.transport.Sessions.{AreOfAddresses, NoneExpires, alive};
+ghost use Rattle.vt_can.specs.transport.Steps.{stepped};
+ghost use Rattle.vt_names.specs.Claims.{IsRising, heard, address_of, holder_of, answer};
+ghost use Rattle.vt_transport.specs.Protocol as tp;
+ghost use Rattle.vt_transport.specs.Wire.{tp_frame, rts_frame};
+ghost use Rattle.vt_transport.specs.Senders.{timeout_frame, has_size};
+ghost use Rattle.vt_extended.specs.Protocol as etp;
+ghost use Rattle.vt_extended.specs.Wire.{etp_frame};
+ghost use Rattle.vt_node.specs.Nodes.{HasTaken, HasAnswered, HasExpired, abort_by, sender_answer, tp_taken, etp_taken};
+
+use crate::OutOfMemory;
+use arrayvec::ArrayVec;
+use std::alloc::Global;
+use std::marker::Model;
+use vt_can::assigned::VT_TO_ECU;
+use vt_can::{Frame, Heard};
+use vt_names::{Claims, Heard as Meaning, Name};
+use vt_transport::SendFault;
+
+/// What a node has heard of addresses, and the messages that it receives and sends in packets, at one address of its own.
+#[derive(Drop)]
+pub struct Node {
+    claims: Claims,
+    tp: vt_transport::Receiver,
+    etp: vt_extended::Receiver,
+    sender: vt_transport::Sender,
+}
+
+impl Model for Node {
+    ghost use Rattle.std.specs.Prelude.{◌≡◌};
+    ghost use Rattle.vt_node.specs.Nodes.{NodeState, node_code};
+
+    ghost Value = { NodeState };
+
+    ghost coded = { node_code };
+
+    ghost view = { λ n. record { claims = n.claims; tp = n.tp.sessions; etp = n.etp.sessions; sending = n.sender.sessions; tp_room = n.tp.room; etp_room = n.etp.room } };
+
+    ghost invariant = { λ n. (n.tp.own_address ≡ n.claims.own) × (n.etp.own_address ≡ n.claims.own) × (n.sender.own_address ≡ n.claims.own) };
+}
+
+impl Node {
+    /// A node that has heard nothing. It takes no memory.
+    pub fn new(alloc: Global, own: u8, name: Name) -> Node
+        ensures claims { result.claims ≡ record { own = own; name = name; addresses = [] } }
+        ensures tp { result.tp ≡ finite.empty }
+        ensures etp { result.etp ≡ finite.empty }
+        ensures sending { result.sending ≡ finite.empty }
+    {
+        Node {
+            claims: Claims::new(alloc, own, name),
+            tp: vt_transport::Receiver::new(alloc, own),
+            etp: vt_extended::Receiver::new(alloc, own),
+            sender: vt_transport::Sender::new(alloc, own),
+        }
+    }
+    /// The node's own address.
+    pub fn own(&self) -> u8
+        ensures { result ≡ self.now.claims.own }
+    {
+        self.claims.own()
+    }
+
+    /// The node's own NAME.
+    pub fn name(&self) -> Name
+        ensures { result ≡ self.now.claims.name }
+    {
+        self.claims.name()
+    }
+
+    /// The address of a NAME.
+    pub fn address_of(&self, name: Name) -> Option<u8>
+        ensures address { result ≡ address_of self.now.claims.addresses name }
+        ensures rising { IsRising self.now.claims.addresses }
+    {
+        self.claims.address_of(name)
+    }
+
+    /// The holder of an address.
+    pub fn holder(&self, address: u8) -> Option<Name>
+        ensures { result ≡ holder_of self.now.claims.addresses address }
+    {
+        self.claims.holder(address)
+    }
+
+    /// What the claim of an address by a NAME means for this node.
+    pub fn answer(&self, address: u8, name: Name) -> Meaning
+        ensures { result ≡ answer self.now.claims address name }
+    {
+        self.claims.answer(address, name)
+    }
+
+    /// Records that a NAME claims an address.
+    pub fn hear_claim(&mut self, address: u8, name: Name) -> Result<(), OutOfMemory>
+        ensures ok { OnOk result (self.new ≡ record self.old { claims = heard self.old.claims address name }) }
+        ensures err { OnErr result (self.new ≡ self.old) }
+    {
+        let _meaning = self.claims.hear(address, name)?;
+        Ok(())
+    }
+
+    /// Makes the room that a frame of the transport protocol wants, and tells the size and the first byte of the message
+    /// that it will complete, if it will. The sessions stay.
+    pub fn prepare_tp(
+        &mut self,
+        now: u64,
+        frame: &Frame,
+    ) -> Result<Option<(usize, u8)>, OutOfMemory>
+        ensures same { self.new ≡ record self.old { tp_room = self.new.tp_room } }
+        ensures ready { OnOk result (IsReadyFor tp.protocol (tp_frame self.old.claims.own frame.now) self.new.tp_room) }
+        ensures told { IfOk result (λ told. told ≡ size_and_first_byte
+            (stepped tp.protocol now (alive now (finite.get self.old.tp (source_of frame.now))) (tp_frame self.old.claims.own frame.now)).message) }
+    {
+        self.tp.prepare(now, frame)
+    }
+
+    /// So too for a frame of the extended transport protocol.
+    pub fn prepare_etp(
+        &mut self,
+        now: u64,
+        frame: &Frame,
+    ) -> Result<Option<(usize, u8)>, OutOfMemory>
+        ensures same { self.new ≡ record self.old { etp_room = self.new.etp_room } }
+        ensures ready { OnOk result (IsReadyFor etp.protocol (etp_frame self.old.claims.own frame.now) self.new.etp_room) }
+        ensures told { IfOk result (λ told. told ≡ size_and_first_byte
+            (stepped etp.protocol now (alive now (finite.get self.old.etp (source_of frame.now))) (etp_frame self.old.claims.own frame.now)).message) }
+    {
+        self.etp.prepare(now, frame)
+    }
+
+    /// Hears a frame of the transport protocol, for which there is room.
+    pub fn hear_tp(&mut self, now: u64, frame: &Frame) -> Heard
+        requires { IsReadyFor tp.protocol (tp_frame self.old.claims.own frame.now) self.old.tp_room }
+        ensures taken { HasTaken (tp_taken self.old now frame.now) (source_of frame.now) self.old.tp self.new.tp result }
+        ensures rest { self.new ≡ record self.old { tp = self.new.tp; tp_room = self.new.tp_room } }
+    {
+        match self.tp.hear(now, frame) {
+            Ok(heard) => heard,
+            Err(_) => unreachable!(),
+        }
+    }
+
+    /// Hears a frame of the extended transport protocol, for which there is room.
+    pub fn hear_etp(&mut self, now: u64, frame: &Frame) -> Heard
+        requires { IsReadyFor etp.protocol (etp_frame self.old.claims.own frame.now) self.old.etp_room }
+        ensures taken { HasTaken (etp_taken self.old now frame.now) (source_of frame.now) self.old.etp self.new.etp result }
+        ensures rest { self.new ≡ record self.old { etp = self.new.etp; etp_room = self.new.etp_room } }
+    {
+        match self.etp.hear(now, frame) {
+            Ok(heard) => heard,
+            Err(_) => unreachable!(),
+        }
+    }
+
+    /// Whether a message is being sent to an address.
+    pub fn is_sending(&self, address: u8) -> bool
+        ensures { result ≡ is_some (finite.get self.now.sending address) }
+    {
+        self.sender.is_sending(address)
+    }
+
+    /// Hears a frame of the transport protocol as the one that sends.
+    pub fn hear_as_sender(&mut self, now: u64, frame: &Frame) -> ArrayVec<Frame, 255>
+        ensures answered { HasAnswered (sender_answer self.old now frame.now) (source_of frame.now) self.old.sending self.new.sending result.items }
+        ensures rest { self.new ≡ record self.old { sending = self.new.sending } }
+    {
+        self.sender.hear(now, frame)
+    }
+
+    /// Ends the receiving session that is overdue at the least address, and answers its abort.
+    pub fn expire_tp(&mut self, now: u64) -> Option<Frame>
+        ensures some { IfSome result (HasExpired (abort_by tp.protocol self.old.claims.own) self.old.tp self.new.tp now) }
+        ensures none { IfNone result (NoneExpires self.old.tp self.new.tp now) }
+        ensures addresses { AreOfAddresses self.old.tp }
+        ensures rest { self.new ≡ record self.old { tp = self.new.tp } }
+    {
+        self.tp.expire(now)
+    }
+
+    pub fn expire_etp(&mut self, now: u64) -> Option<Frame>
+        ensures some { IfSome result (HasExpired (abort_by etp.protocol self.old.claims.own) self.old.etp self.new.etp now) }
+        ensures none { IfNone result (NoneExpires self.old.etp self.new.etp now) }
+        ensures addresses { AreOfAddresses self.old.etp }
+        ensures rest { self.new ≡ record self.old { etp = self.new.etp } }
+    {
+        self.etp.expire(now)
+    }
+
+    /// Ends the sending session that is overdue at the least address, and answers its abort.
+    pub fn expire_sending(&mut self, now: u64) -> Option<Frame>
+        ensures some { IfSome result (HasExpired (timeout_frame self.old.claims.own) self.old.sending self.new.sending now) }
+        ensures none { IfNone result (NoneExpires self.old.sending self.new.sending now) }
+        ensures addresses { AreOfAddresses self.old.sending }
+        ensures rest { self.new ≡ record self.old { sending = self.new.sending } }
+    {
+        self.sender.expire(now)
+    }
+
+    /// Starts to send a message of 9 to 1785 bytes, and answers its request to send.
+    pub fn start(&mut self, now: u64, to: u8, message: &[u8]) -> Result<Frame, SendFault>
+        requires { has_size message.now ≡ true }
+        ensures ok { IfOk result (λ frame. (finite.get self.old.sending to ≡ None)
+            × (self.new ≡ record self.old { sending = finite.insert self.old.sending to (record { last = now; session = record { pgn = assigned.VT_TO_ECU; bytes = message.now } }) })
+            × (frame ≡ rts_frame self.old.claims.own to (length message.now) assigned.VT_TO_ECU)) }
+        ensures busy { (result ≡ Err SendFault.Busy) ↔ IsSome (finite.get self.old.sending to) }
+        ensures size { result ≢ Err SendFault.Size }
+        ensures err { OnErr result (self.new ≡ self.old) }
+    {
+        self.sender.start(now, to, VT_TO_ECU, message)
+    }
+}

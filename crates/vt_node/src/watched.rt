@@ -1,0 +1,225 @@
+//! The working sets, and when the addresses were last heard (docs/PROFILE.md, "Working sets", "Silence").
+
+ghost use Rattle.std.specs.Prelude.{◌≡◌, ◌≢◌, ◌<◌, ◌≤◌, ℕ, None, Some, Err, [], length, slice_get, unwrap_or, OnOk, OnErr, if◌then◌else◌};
+ghost use Rattle.std.specs.Option.{option_copied};
+ghost use Rattle.vt_names.specs.Registry.{set_at, with_set, without, registering, joining, binding, preloaded, AreApart, IsUnnamed};
+ghost use Rattle.vt_names.specs.declared.registry.RegistryFault.TheVariants as declared;
+ghost use Rattle.vt_node.specs.Watches.{first_silent_of, is_silent};
+ghost use Rattle.vt_node.specs.Registries.{AreHeardSince, sooner};
+ghost use Rattle.vt_node.specs.ByAddress.{with_at};
+ghost use Rattle.vt_node.specs.Watches.{heard_of};
+
+use crate::OutOfMemory;
+use crate::watch::{SILENCE, Watch};
+use std::alloc::Global;
+use std::marker::Model;
+use vt_names::{Name, Registry, RegistryFault, Set};
+
+/// The working sets, and the time of the last frame of each of the 256 addresses.
+#[derive(Drop)]
+pub struct WatchedRegistry {
+    registry: Registry,
+    watch: Watch,
+    // No set was last heard earlier, so most frame lines look at no set.
+    earliest: u64,
+}
+
+impl Model for WatchedRegistry {
+    ghost use Rattle.vt_node.specs.Registries.{Watched, watched_code, AreHeardSince};
+    ghost use Rattle.vt_node.specs.Watches.{heard_of};
+
+    ghost Value = { Watched };
+
+    ghost coded = { watched_code };
+
+    ghost view = { λ w. record { sets = w.registry.sets; room = w.registry.room; watch = w.watch } };
+
+    ghost invariant = { λ w. AreHeardSince w.earliest (heard_of w.watch) w.registry.sets };
+}
+
+/// What a look at the sets finds.
+#[derive(Clone, Copy)]
+struct Found {
+    /// The first that is silent.
+    silent: Option<u8>,
+    /// The earliest time at which one was last heard.
+    earliest: u64,
+}
+
+impl WatchedRegistry {
+    /// No sets. It takes no memory.
+    pub fn new(alloc: Global) -> WatchedRegistry
+        ensures sets { result.sets ≡ [] }
+        ensures heard { (address : ℕ) → heard_of result.watch address ≡ Some 0 }
+    {
+        WatchedRegistry {
+            registry: Registry::new(alloc),
+            watch: Watch::new(),
+            earliest: u64::MAX,
+        }
+    }
+
+    /// How many sets there are.
+    pub fn len(&self) -> usize
+        ensures count { result ≡ length self.now.sets }
+        // No two have the same address.
+        ensures apart { AreApart self.now.sets }
+    {
+        self.registry.len()
+    }
+
+    /// The set at a place in the order of registration, counted from 0.
+    pub fn at(&self, index: usize) -> Option<&Set>
+        ensures { option_copied result ≡ slice_get self.now.sets index }
+    {
+        self.registry.at(index)
+    }
+
+    /// The set of an address.
+    pub fn get(&self, address: u8) -> Option<&Set>
+        ensures { option_copied result ≡ set_at address self.now.sets }
+    {
+        self.registry.get(address)
+    }
+
+    /// Makes room, so that the next `master` or `member` of an address is not refused for memory.
+    pub fn reserve(&mut self, address: u8) -> Result<(), OutOfMemory>
+        ensures ok { OnOk result (0 < self.new.room) }
+        ensures sets { self.new.sets ≡ self.old.sets }
+        ensures watch { self.new.watch ≡ self.old.watch }
+        ensures room { self.old.room ≤ self.new.room }
+    {
+        self.registry.reserve(address)
+    }
+
+    /// Hears a master message, with the holder of its address.
+    pub fn master(
+        &mut self,
+        address: u8,
+        holder: Option<Name>,
+        count: u8,
+    ) -> Result<(), RegistryFault>
+        ensures room { 0 < self.old.room → result ≢ Err declared.OutOfMemory }
+        ensures sets { result ≢ Err declared.OutOfMemory → self.new.sets ≡ registering address holder count self.old.sets }
+        ensures watch { self.new.watch ≡ self.old.watch }
+    {
+        self.earliest = sooner(self.earliest, self.watch.last_heard(address));
+        self.registry.master(address, holder, count)
+    }
+
+    /// Hears a member message.
+    pub fn member(&mut self, address: u8, name: Name) -> Result<(), RegistryFault>
+        ensures sets { self.new.sets ≡ joining (set_at address self.old.sets) name self.old.sets }
+        ensures watch { self.new.watch ≡ self.old.watch }
+    {
+        self.registry.member(address, name)
+    }
+
+    /// Adds a set without a NAME, whose silence begins with the next frame line. There is none of that address. After a refusal
+    /// nothing is changed.
+    pub fn preload(&mut self, address: u8) -> Result<(), OutOfMemory>
+        requires none { set_at address self.old.sets ≡ None }
+        ensures sets { OnOk result (self.new.sets ≡ with_set (preloaded address) self.old.sets) }
+        ensures heard { OnOk result (heard_of self.new.watch ≡ with_at address None (heard_of self.old.watch)) }
+        ensures err_sets { OnErr result (self.new.sets ≡ self.old.sets) }
+        ensures err_heard { OnErr result (self.new.watch ≡ self.old.watch) }
+    {
+        self.registry.preload(address)?;
+        self.watch.preload(address);
+        Ok(())
+    }
+
+    /// Gives the set of an address a NAME. There is one, and it has none.
+    pub fn bind(&mut self, address: u8, name: Name)
+        requires unnamed { IsUnnamed (set_at address self.old.sets) }
+        ensures sets { self.new.sets ≡ binding (set_at address self.old.sets) name self.old.sets }
+        ensures watch { self.new.watch ≡ self.old.watch }
+    {
+        self.registry.bind(address, name);
+    }
+
+    /// Takes the set of an address out. The others keep their order.
+    pub fn close(&mut self, address: u8)
+        ensures sets { self.new.sets ≡ without address self.old.sets }
+        ensures room { self.old.room ≤ self.new.room }
+        ensures watch { self.new.watch ≡ self.old.watch }
+    {
+        self.registry.close(address);
+    }
+
+    /// A frame line comes.
+    pub fn begin(&mut self, now: u64)
+        ensures heard { (address : ℕ) → heard_of self.new.watch address ≡ Some (unwrap_or (heard_of self.old.watch address) now) }
+        ensures sets { self.new.sets ≡ self.old.sets }
+        ensures room { self.new.room ≡ self.old.room }
+    {
+        self.earliest = self.earliest.min(now);
+        self.watch.begin(now);
+    }
+
+    /// A frame comes from an address.
+    pub fn hear(&mut self, address: u8, now: u64)
+        ensures heard { heard_of self.new.watch ≡ with_at address (Some now) (heard_of self.old.watch) }
+        ensures sets { self.new.sets ≡ self.old.sets }
+        ensures room { self.new.room ≡ self.old.room }
+    {
+        self.earliest = self.earliest.min(now);
+        self.watch.hear(address, now);
+    }
+
+    /// The first set that is silent for too long, in the order of registration. Nothing is changed.
+    pub fn first_silent(&mut self, now: u64) -> Option<u8>
+        ensures found { result ≡ first_silent_of now (heard_of self.old.watch) self.old.sets }
+        ensures same { self.new ≡ self.old }
+    {
+        if now.saturating_sub(self.earliest) <= SILENCE {
+            return None;
+        }
+        let found = look(&self.registry, &self.watch, now);
+        self.earliest = found.earliest;
+        found.silent
+    }
+}
+
+/// Looks at all sets.
+fn look(registry: &Registry, watch: &Watch, now: u64) -> Found
+    ensures silent { result.silent ≡ first_silent_of now (heard_of watch.now) registry.now.sets }
+    ensures earliest { AreHeardSince result.earliest (heard_of watch.now) registry.now.sets }
+{
+    let mut found = Found {
+        silent: None,
+        earliest: u64::MAX,
+    };
+    let mut place = registry.len();
+    while place > 0 {
+        place -= 1;
+        if let Some(set) = registry.at(place) {
+            found = look_at(watch, set.address(), now, found);
+        }
+    }
+    found
+}
+
+/// Looks at a set before those of which this was found.
+fn look_at(watch: &Watch, address: u8, now: u64, found: Found) -> Found
+    ensures silent { result.silent ≡ (if is_silent now (heard_of watch.now address) then Some address else found.silent) }
+    ensures earliest { result.earliest ≡ sooner found.earliest (heard_of watch.now address) }
+{
+    let earliest = sooner(found.earliest, watch.last_heard(address));
+    let silent = if watch.is_silent(address, now) {
+        Some(address)
+    } else {
+        found.silent
+    };
+    Found { silent, earliest }
+}
+
+/// The earlier of two times, of which there may be one.
+fn sooner(earliest: u64, heard: Option<u64>) -> u64
+    ensures { result ≡ sooner earliest heard }
+{
+    match heard {
+        Some(last) => earliest.min(last),
+        None => earliest,
+    }
+}

@@ -1,5 +1,0 @@
-use Rattle.vt_pool.proofs.Taken.{are_whole}
-use Rattle.vt_pool.proofs.laws.records_are_whole.Goals as goal
-
-pub returns : goal.returns
-returns c = are_whole

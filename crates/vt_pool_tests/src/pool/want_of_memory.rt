@@ -1,0 +1,146 @@
+//! Each call that can be refused memory: where it was, nothing has changed, and it may be made again.
+
+ghost use Rattle.std.specs.Prelude.{◌<◌, ◌≤◌, length, IfOk};
+
+use super::arriving::message;
+use super::each_kind::{RECORDS, joined};
+use std::alloc::{AllocError, AllocGlobal, Global};
+use std::process::Abort;
+use std::test::Fail;
+use vt_objects::{Object, ObjectId};
+use vt_pool::{Pool, PoolFault, Reading, read_pool, write_object};
+
+/// Whether a record of the pool of all kinds begins at a place, or the pool ends there.
+fn is_begin(at: usize) -> bool {
+    let mut begin = 0usize;
+    for record in RECORDS {
+        if begin == at {
+            return true;
+        }
+        begin = begin.saturating_add(record.len());
+    }
+    begin == at
+}
+
+fn read_again<'a>(alloc: Global, bytes: &'a [u8]) -> Result<Pool<'a>, PoolFault> {
+    match read_pool(alloc, bytes) {
+        Ok(pool) => Ok(pool),
+        Err(PoolFault::OutOfMemory { at }) if is_begin(at) => read_pool(alloc, bytes),
+        Err(fault) => Err(fault),
+    }
+}
+
+fn pool_again<'a>(reading: &'a Reading) -> Result<Pool<'a>, PoolFault> {
+    match reading.pool() {
+        Ok(pool) => Ok(pool),
+        Err(PoolFault::OutOfMemory { at }) if is_begin(at) => reading.pool(),
+        Err(fault) => Err(fault),
+    }
+}
+
+fn copied_again(alloc: Global, object: &Object<&[u8]>) -> Result<Object<Vec<u8>>, AllocError> {
+    match object.copied(alloc) {
+        Ok(copy) => Ok(copy),
+        Err(_) => object.copied(alloc),
+    }
+}
+
+/// Appends a record.
+fn write_again(
+    rt: &(impl Abort + AllocGlobal),
+    id: ObjectId,
+    object: &Object<Vec<u8>>,
+    out: &mut Vec<u8>,
+) -> Result<(), AllocError>
+    requires { id < 0xFFFF }
+{
+    let before = out.len();
+    if write_object(rt.alloc(), id, object, out).is_ok() {
+        return Ok(());
+    }
+    assert_eq!(rt; out.len(), before);
+    write_object(rt.alloc(), id, object, out)
+}
+
+/// The copies of a pool's objects are written as the bytes that were read.
+fn expect_written(
+    rt: &(impl Abort + AllocGlobal),
+    pool: &Pool<'_>,
+    bytes: &[u8],
+) -> Result<(), AllocError> {
+    let mut out = Vec::new(rt.alloc());
+    for (id, object) in pool.objects() {
+        if id.raw() < 0xFFFF {
+            let copy = copied_again(rt.alloc(), object)?;
+            write_again(rt, *id, &copy, &mut out)?;
+        }
+    }
+    assert_eq!(rt; out.as_slice(), bytes);
+    Ok(())
+}
+
+fn message_again(alloc: Global, bytes: &[u8]) -> Result<Vec<u8>, AllocError>
+    ensures { IfOk result (λ message. 1 ≤ length message.items) }
+{
+    match message(alloc, bytes) {
+        Ok(message) => Ok(message),
+        Err(_) => message(alloc, bytes),
+    }
+}
+
+/// Adds a piece.
+fn feed_again(
+    rt: &(impl Abort + AllocGlobal),
+    reading: &mut Reading,
+    bytes: &[u8],
+) -> Result<(), AllocError> {
+    match reading.feed(message_again(rt.alloc(), bytes)?, 1) {
+        Ok(()) => Ok(()),
+        Err((piece, _)) => {
+            assert!(rt; piece.get(1..) == Some(bytes));
+            assert!(rt; reading.feed(piece, 1).is_ok());
+            Ok(())
+        }
+    }
+}
+
+fn reserve_again(reading: &mut Reading, count: usize) -> Result<(), AllocError> {
+    match reading.reserve(count) {
+        Ok(()) => Ok(()),
+        Err(_) => reading.reserve(count),
+    }
+}
+
+fn pool_of_all_kinds(alloc: Global) -> Result<Vec<u8>, AllocError> {
+    match joined(alloc, &RECORDS) {
+        Ok(bytes) => Ok(bytes),
+        Err(_) => joined(alloc, &RECORDS),
+    }
+}
+
+fn part(bytes: &[u8], from: usize, to: usize) -> &[u8] {
+    bytes.get(from..to).unwrap_or(&[])
+}
+
+// The bytes arrive in three pieces, the last of which there is room for, so that it is not refused.
+fn expect_arrived(rt: &(impl Abort + AllocGlobal), bytes: &[u8]) -> Result<(), Fail> {
+    let mut reading = Reading::new(rt.alloc());
+    feed_again(rt, &mut reading, part(bytes, 0, 5))?;
+    feed_again(rt, &mut reading, part(bytes, 5, 30))?;
+    let rest = part(bytes, 30, bytes.len());
+    reserve_again(&mut reading, rest.len())?;
+    let last = message_again(rt.alloc(), rest)?;
+    assert!(rt; reading.feed(last, 1).is_ok());
+    let pool = pool_again(&reading)?;
+    expect_written(rt, &pool, bytes)?;
+    Ok(())
+}
+
+#[test]
+fn want_of_memory(rt: HostRuntime) -> Result<(), Fail> {
+    let bytes = pool_of_all_kinds(rt.alloc())?;
+    let pool = read_again(rt.alloc(), &bytes)?;
+    expect_written(&rt, &pool, &bytes)?;
+    expect_arrived(&rt, &bytes)?;
+    Ok(())
+}

@@ -1,0 +1,5 @@
+use Rattle.vt_records.proofs.Taken.{are_whole}
+use Rattle.vt_records.proofs.laws.records_are_whole.Goals as goal
+
+pub returns : goal.returns
+returns c = are_whole

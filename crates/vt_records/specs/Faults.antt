@@ -1,0 +1,69 @@
+-- Why no record begins with some bytes (docs/PROFILE.md, "Pools and faults").
+use Rattle.std.specs.Prelude.{◌≡◌, ◌≢◌, ◌<◌, ◌≤◌, ℕ, ◌+◌, ◌⊎◌, List, ◌∷◌, ◌++◌, length, drop, None, Some, slice_index}
+use Rattle.byteorder.specs.Endian.{little_number}
+use Rattle.vt_kinds.specs.declared.kind.Kind.{Kind}
+use Rattle.vt_kinds.specs.Layout.{Field, Value, field_spelling, spelling, FieldsFit, IsProper, no_counts}
+use Rattle.vt_kinds.specs.Records.{Seen, fields_of, record_of, HasRecord}
+use Rattle.vt_kinds.specs.Kinds.{kind_at}
+
+-- the ID and the type with which a record begins
+abbrev pub id_at : List ℕ → ℕ
+id_at rest = little_number 2 rest
+
+abbrev pub type_at : List ℕ → ℕ
+type_at rest = slice_index rest 2
+
+-- the types of auxiliary functions and inputs
+abbrev pub IsLeftOut : ℕ → Type 0
+IsLeftOut n = (29 ≤ n) × (n ≤ 33)
+
+-- no record begins there, whatever follows
+abbrev pub NoRecordBegins : List ℕ → Type 0
+NoRecordBegins rest = (id : ℕ) (o : Seen) (tail : List ℕ) → HasRecord id o → rest ≡ record_of id o ++ tail → ⊥
+
+pub record HasNullId (rest : List ℕ) : Type 0 where
+  pub head : 3 ≤ length rest
+  pub null : id_at rest ≡ 0xFFFF
+
+pub record HasOtherType (rest : List ℕ) : Type 0 where
+  pub head : 3 ≤ length rest
+  pub named : id_at rest ≢ 0xFFFF
+  pub no_kind : kind_at (type_at rest) ≡ None
+
+-- values that fit the fields of a kind stand behind an ID and the kind's type
+pub record HasValues (rest : List ℕ) (kind : Kind) (values : List Value) : Type 0 where
+  pub known : kind_at (type_at rest) ≡ Some kind
+  pub fields_fit : FieldsFit (fields_of kind) no_counts values
+  pub tail : List ℕ
+  pub parts : drop 3 rest ≡ spelling (fields_of kind) values ++ tail
+
+-- the bytes end before the fields of a known type do
+pub record IsCut (rest : List ℕ) : Type 0 where
+  pub head : 3 ≤ length rest
+  pub named : id_at rest ≢ 0xFFFF
+  pub known : kind_at (type_at rest) ≢ None
+  pub cut : (kind : Kind) (values : List Value) → HasValues rest kind values → ⊥
+
+-- the bytes end before the ID and the type do, or before the rest of the record does
+abbrev pub IsTruncated : List ℕ → Type 0
+IsTruncated rest = (length rest < 3) ⊎ IsCut rest
+
+-- the first value that is not proper stands in a field of this sort, so many bytes from the first
+abbrev pub IsFirstImproper : Field → ℕ → List Field → List Value → Type 0
+IsFirstImproper sort at (f ∷ fs) (v ∷ vs) =
+    ((f ≡ sort) × (at ≡ 0) × (IsProper f v → ⊥))
+    ⊎ (IsProper f v × ((later : ℕ) × (at ≡ length (field_spelling f v) + later) × IsFirstImproper sort later fs vs))
+IsFirstImproper sort at _ _ = ⊥
+
+-- The fields are all there, and the first that is not proper is of this sort, so many bytes from the record's
+-- first. No record begins there.
+pub record IsImproper (sort : Field) (rest : List ℕ) (at : ℕ) : Type 0 where
+  pub head : 3 ≤ length rest
+  pub named : id_at rest ≢ 0xFFFF
+  pub kind : Kind
+  pub values : List Value
+  pub read : HasValues rest kind values
+  pub later : ℕ
+  pub place : at ≡ 3 + later
+  pub first : IsFirstImproper sort later (fields_of kind) values
+  pub no_record : NoRecordBegins rest

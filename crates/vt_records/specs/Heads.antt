@@ -1,0 +1,79 @@
+-- How the record at the front of some bytes is read, with the first of its faults.
+use Rattle.std.specs.Prelude.{◌≡◌, ℕ, ◌+◌, List, ◌∷◌, length, nat_le, nat_lt, ◌==◌, ◌&&◌, if◌then◌else◌, Option, Some, None, Result, Ok, Err}
+use Rattle.vt_kinds.specs.declared.kind.Kind.{Kind}
+use Rattle.vt_kinds.specs.declared.scale.Scale.{Scale}
+use Rattle.vt_kinds.specs.Scales.{scale_at}
+use Rattle.vt_kinds.specs.Layout.{Unsigned, Signed, natural, bytes_in, Field, Number, Count, ScaleBytes, DecimalPlaces, Value, number, field_spelling, no_counts}
+use Rattle.vt_kinds.specs.Kinds.{kind_at}
+use Rattle.vt_kinds.specs.Records.{fields_of}
+use Rattle.vt_records.specs.declared.stop.Stop.{Stop}
+use Rattle.vt_records.specs.declared.stop.Stop.TheVariants as stops
+use Rattle.vt_records.specs.Reading.{number_at, values_at}
+
+-- a record as its parts, and the bytes after it
+pub record Held : Type 0 where
+  pub id : ℕ
+  pub kind : Kind
+  pub values : List Value
+  pub rest : List ℕ
+
+-- What a function returned, seen by view, is what reading gives, unless memory ran out.
+abbrev pub Reads : {X Y : Type 0} → (X → Y) → Result X Stop → Result Y Stop → Type 0
+Reads view (Ok x) read = read ≡ Ok (view x)
+Reads view (Err stops.OutOfMemory) read = Unit {0}
+Reads view (Err stop) read = read ≡ Err stop
+
+abbrev pub or_stop : {A : Type 0} → Stop → Option A → Result A Stop
+or_stop stop None = Err stop
+or_stop stop (Some x) = Ok x
+
+infixl 10 ◌>>=◌
+abbrev pub ◌>>=◌ : {A B : Type 0} → Result A Stop → (A → Result B Stop) → Result B Stop
+(Ok x) >>= f = f x
+(Err e) >>= f = Err e
+
+-- why a type that is no kind's is refused: 29 to 33 are those of auxiliary functions and inputs
+abbrev pub other_type : ℕ → Stop
+other_type n = if nat_le 29 n && nat_le n 33 then stops.LeftOutType else stops.UnknownType
+
+-- how many bytes a value takes in its field
+abbrev pub size_in : Field → Value → ℕ
+size_in (Number (Unsigned size)) v = size
+size_in (Number (Signed width)) v = bytes_in width
+size_in (Count size of) v = size
+size_in ScaleBytes v = 4
+size_in DecimalPlaces v = 1
+size_in f v = length (field_spelling f v)
+
+abbrev pub if_none : Option Scale → Stop → Option Stop → Option Stop
+if_none None stop next = Some stop
+if_none (Some s) stop next = next
+
+-- the first field from a place on whose value is no scale's or too many decimals
+abbrev pub misfit : ℕ → List Field → List Value → Option Stop
+misfit at (ScaleBytes ∷ fs) (number (natural n) ∷ vs) = if_none (scale_at n) (stops.Scale at) (misfit (at + 4) fs vs)
+misfit at (DecimalPlaces ∷ fs) (number (natural n) ∷ vs) = if nat_lt 7 n then Some (stops.Decimals at) else misfit (at + 1) fs vs
+misfit at (f ∷ fs) (v ∷ vs) = misfit (at + size_in f v) fs vs
+misfit at fs vs = None
+
+abbrev pub or_misfit : List Value × List ℕ → Option Stop → Result (List Value × List ℕ) Stop
+or_misfit read None = Ok read
+or_misfit read (Some stop) = Err stop
+
+-- where the values are all there, the first misfit among them
+abbrev pub fitting : List Field → Option (List Value × List ℕ) → Result (List Value × List ℕ) Stop
+fitting fs None = Err stops.Truncated
+fitting fs (Some read) = or_misfit read (misfit 3 fs read.0)
+
+-- the values of the fields behind the ID and the type, which are three bytes
+abbrev pub fields_at : List Field → List ℕ → Result (List Value × List ℕ) Stop
+fields_at fs all = fitting fs (values_at fs no_counts all)
+
+unfoldable pub record_at : List ℕ → Result Held Stop
+record_at all = do
+  id ← or_stop stops.Truncated (number_at 2 all)
+  type ← or_stop stops.Truncated (number_at 1 id.1)
+  if id.0 == 0xFFFF then Err stops.NullId else do
+    kind ← or_stop (other_type type.0) (kind_at type.0)
+    vs ← fields_at (fields_of kind) type.1
+    Ok (record { id = id.0; kind = kind; values = vs.0; rest = vs.1 })

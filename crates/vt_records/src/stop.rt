@@ -1,0 +1,60 @@
+//! Why a record cannot be read.
+
+ghost use Rattle.std.specs.Prelude.{◌≡◌, ◌<◌, ◌^◌};
+ghost use Rattle.vt_records.specs.declared.stop.Stop.TheVariants.{OutOfMemory};
+ghost use Rattle.vt_records.specs.Stops.{fault_at};
+
+use crate::fault::PoolFault;
+use std::alloc::{AllocError, AllocFailed};
+
+/// A fault of the record that is being read.
+#[derive(Clone, Copy, Debug, PartialEq, Eq)]
+pub enum Stop {
+    Truncated,
+    UnknownType,
+    LeftOutType,
+    /// A scale so many bytes from the record's first is none of the four.
+    Scale { at: u8 },
+    /// Decimals so many bytes from the record's first are more than 7.
+    Decimals { at: u8 },
+    OutOfMemory,
+    NullId,
+}
+
+impl Stop {
+    /// The fault of the pool whose record at this place it is.
+    pub fn at(self, at: usize) -> PoolFault
+        requires { at < 2 ^ 63 }
+        ensures { result ≡ fault_at self at }
+    {
+        match self {
+            Stop::Truncated => PoolFault::Truncated { at },
+            Stop::UnknownType => PoolFault::UnknownType { at },
+            Stop::LeftOutType => PoolFault::LeftOutType { at },
+            Stop::Scale { at: offset } => PoolFault::Scale {
+                at: at + usize::from(offset),
+            },
+            Stop::Decimals { at: offset } => PoolFault::Decimals {
+                at: at + usize::from(offset),
+            },
+            Stop::OutOfMemory => PoolFault::OutOfMemory { at },
+            Stop::NullId => PoolFault::NullId { at },
+        }
+    }
+}
+
+impl From<AllocError> for Stop {
+    ghost from_gives = { λ _ stop. stop ≡ OutOfMemory };
+
+    fn from(_error: AllocError) -> Stop {
+        Stop::OutOfMemory
+    }
+}
+
+impl<T: Drop> From<AllocFailed<T>> for Stop {
+    ghost from_gives = { λ _ stop. stop ≡ OutOfMemory };
+
+    fn from(_error: AllocFailed<T>) -> Stop {
+        Stop::OutOfMemory
+    }
+}

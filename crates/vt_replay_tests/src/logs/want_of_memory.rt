@@ -1,0 +1,71 @@
+//! Replays and runs that are refused memory: what is written by then is a front of the text, and begun afresh they end.
+
+use super::faults::{LOG, TEXT, started};
+use super::{HIDE, Shelf, WITH_POOL};
+use std::alloc::{AllocError, Global};
+use std::process::Abort;
+use std::test::Fail;
+use vt_logs::{ReplayFault, Status, replay, run};
+use vt_testing::POOL;
+
+/// Room for all that is written, so that no writer is refused memory.
+fn room(alloc: Global) -> Result<Vec<u8>, AllocError> {
+    match Vec::with_capacity(alloc, 1024) {
+        Ok(room) => Ok(room),
+        Err(_) => Vec::with_capacity(alloc, 1024),
+    }
+}
+
+/// Replays the log by a new terminal.
+fn replay_log(alloc: Global, out: &mut Vec<u8>) -> Result<(), ReplayFault> {
+    let mut terminal = started(alloc)?;
+    let mut reader: &[u8] = LOG;
+    replay(alloc, &mut reader, out, &mut terminal)?;
+    Ok(())
+}
+
+fn expect_replay(rt: &(impl Abort + AllocGlobal)) -> Result<(), Fail> {
+    let mut out = room(rt.alloc())?;
+    if let Err(fault) = replay_log(rt.alloc(), &mut out) {
+        assert_eq!(rt; fault, ReplayFault::Memory);
+        assert!(rt; TEXT.starts_with(&out));
+        out.clear();
+        replay_log(rt.alloc(), &mut out)?;
+    }
+    assert_eq!(rt; out.as_slice(), TEXT);
+    Ok(())
+}
+
+fn expect_run(rt: &(impl Abort + AllocGlobal), words: &[&str], text: &str) -> Result<(), Fail> {
+    let mut out = room(rt.alloc())?;
+    let mut errors = room(rt.alloc())?;
+    let mut shelf = Shelf {
+        log: HIDE,
+        pool: POOL,
+    };
+    let ended = run(rt.alloc(), words, &mut shelf, &mut out, &mut errors)?;
+    if ended != Status::Done {
+        assert_eq!(rt; ended, Status::Fault, "{words:?}");
+        assert!(rt; text.as_bytes().starts_with(&out), "{words:?}");
+        assert!(rt; !errors.is_empty(), "{words:?}");
+        out.clear();
+        let afresh = run(rt.alloc(), words, &mut shelf, &mut out, &mut errors)?;
+        assert_eq!(rt; afresh, Status::Done, "{words:?}");
+    }
+    assert_eq!(rt; out.as_slice(), text.as_bytes(), "{words:?}");
+    Ok(())
+}
+
+const REPLAYED: &str = "screen 80 mask 1000\ncontainer 100 10 5 50x20\n\
+    14E68026#A064000000FFFFFF\n\
+    screen 80 mask 1000\n\
+    lines 1 frames 1 operator 0 skipped 0 comments 0 faults 0\n";
+
+const REPORT: [&str; 3] = ["vt_replay", "pool", "--report"];
+
+#[test]
+fn want_of_memory(rt: HostRuntime) -> Result<(), Fail> {
+    expect_replay(&rt)?;
+    expect_run(&rt, &WITH_POOL, REPLAYED)?;
+    expect_run(&rt, &REPORT, "accepted 3 objects\n")
+}

@@ -1,9 +1,0 @@
-use Rattle.vt_server.specs.Watches.{heard_of}
-use Rattle.vt_server.proofs.Watching.{since-begun}
-use Rattle.vt_server.proofs.watched.WatchedRegistry.begin.Goals as goal
-
-pub invariant_of-self : goal.invariant_of-self
-invariant_of-self c =
-    let inside = c.self.inside in
-    since-begun inside.earliest _ (heard_of inside.watch) (heard_of c.begin.new.self) c.args.now inside.registry.sets
-    c.min-self-inside.ensures c.begin.ensures c.self.invariant

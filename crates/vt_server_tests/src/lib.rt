@@ -1,0 +1,5 @@
+//! Tests of vt_server, over what it exports.
+#![tactic(auto)]
+
+#[cfg(test)]
+mod server;

@@ -1,0 +1,86 @@
+//! What commands leave of objects, byte by byte.
+
+mod attributes;
+mod children;
+mod indexes;
+mod lives;
+mod operators;
+mod records;
+mod references;
+mod showing;
+mod sizes;
+mod states;
+mod stores;
+mod texts;
+mod values;
+mod want_of_memory;
+
+use std::alloc::Global;
+use std::test::Fail;
+use vt_effects::change;
+use vt_objects::{Command, Kind, Object, ObjectId};
+use vt_pool::{read_pool, write_object};
+
+/// A command: the record of an object, the command's bytes, the kind of the object of its other ID, the error byte, which is 0
+/// where it is done, and which bytes of the record are others after it.
+type Row<'a> = (&'a [u8], &'a [u8], Option<Kind>, u8, &'a [(usize, u8)]);
+
+/// Whether each command answers and leaves what its row says.
+fn hold(alloc: Global, rows: &[Row<'_>]) -> Result<bool, Fail> {
+    for (record, command, named, error, others) in rows {
+        let mut wanted = Vec::from_slice(alloc, record)?;
+        for (place, byte) in *others {
+            if *place < wanted.len() {
+                wanted[*place] = *byte;
+            }
+        }
+        if !holds(alloc, record, command, *named, *error, &wanted)? {
+            return Ok(false);
+        }
+    }
+    Ok(true)
+}
+
+/// Whether a command answers an error byte, and leaves an object with this record.
+fn holds(
+    alloc: Global,
+    record: &[u8],
+    command: &[u8],
+    named: Option<Kind>,
+    error: u8,
+    wanted: &[u8],
+) -> Result<bool, Fail> {
+    let Some(command) = Command::read(command) else {
+        return Ok(false);
+    };
+    let (id, mut object) = object_of(alloc, record)?;
+    let answer = match change(&mut object, &command, named) {
+        Ok(()) => 0,
+        Err(error) => error,
+    };
+    Ok(answer == error && has_record(alloc, id, &object, wanted)?)
+}
+
+/// The object of a record.
+fn object_of(alloc: Global, record: &[u8]) -> Result<(ObjectId, Object<Vec<u8>>), Fail> {
+    let pool = read_pool(alloc, record)?;
+    let Some((id, object)) = pool.objects().first() else {
+        return Err(Fail::new("no object"));
+    };
+    let object = object.copied(alloc)?;
+    Ok((*id, object))
+}
+
+fn has_record(
+    alloc: Global,
+    id: ObjectId,
+    object: &Object<Vec<u8>>,
+    wanted: &[u8],
+) -> Result<bool, Fail> {
+    if id.is_null() {
+        return Ok(false);
+    }
+    let mut record = Vec::new(alloc);
+    write_object(alloc, id, object, &mut record)?;
+    Ok(record.as_slice() == wanted)
+}

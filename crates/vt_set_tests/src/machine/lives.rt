@@ -1,0 +1,309 @@
+//! Commands and events on the object pool of a working set.
+
+use std::alloc::{AllocError, Global};
+use std::test::Fail;
+use vt_machine::{Live, Outcome};
+use vt_objects::{Command, ListStore, Object, ObjectId, SortedStore, Store};
+use vt_testing::accepted_pool;
+use vt_verify::Accepted;
+
+/// A Working Set 0 that shows the Data Mask 1000.
+const SET: &[u8] = &[
+    0, 0, 0, 0, 1, 0xE8, 3, 0, 0, 0, 0xE8, 3, 1, 0, 0xFF, 0xFF, 1, 0, 100, 0, 10, 0, 5, 0,
+];
+
+/// The Container 100, which runs macro 3 where it is shown and macro 4 where it is hidden. The macros 1 and 2 change the font 261,
+/// which runs macro 3.
+const SHARED: &[u8] = &[
+    100, 0, 3, 50, 0, 20, 0, 0, 0, 2, 3, 1, 4, 2, // Container
+    5, 1, 23, 0, 0, 0, 0, 1, 11, 3, // Font
+    1, 0, 28, 8, 0, 0xAA, 5, 1, 0, 0, 0, 0, 0xFF, // Macro
+    2, 0, 28, 8, 0, 0xAA, 5, 1, 0, 0, 0, 0, 0xFF, // Macro
+    3, 0, 28, 8, 0, 0xA4, 50, 0xFF, 0xFF, 0xFF, 0xFF, 0xFF, 0xFF, // Macro
+];
+
+/// The Container 100 that includes the Object Pointer 200.
+const POINTER: &[u8] = &[
+    100, 0, 3, 50, 0, 20, 0, 0, 1, 0, 200, 0, 0, 0, 0, 0, // Container
+    200, 0, 27, 0xFF, 0xFF, // Object Pointer
+];
+
+/// The Container 100, which runs macro 1 where it is shown and macro 2 twice where it is hidden. Macro 1 shows the Data Mask 1001
+/// twice; the mask runs macro 2 where it is shown. Macro 2 has two commands, and the first is refused.
+const MASKS: &[u8] = &[
+    0xE9, 3, 1, 0, 0xFF, 0xFF, 0, 1, 3, 2, // Data Mask
+    100, 0, 3, 50, 0, 20, 0, 0, 0, 3, 3, 1, 4, 2, 4, 2, // Container
+    1, 0, 28, 16, 0, // Macro
+    0xAD, 0, 0, 0xE9, 3, 0xFF, 0xFF, 0xFF, //
+    0xAD, 0, 0, 0xE9, 3, 0xFF, 0xFF, 0xFF, //
+    2, 0, 28, 16, 0, // Macro
+    0xA4, 101, 0xFF, 0xFF, 0xFF, 0xFF, 0xFF, 0xFF, //
+    0xA4, 50, 0xFF, 0xFF, 0xFF, 0xFF, 0xFF, 0xFF, //
+];
+
+fn accepted(alloc: Global, set: &[u8], more: &[u8]) -> Result<Accepted, AllocError> {
+    let mut bytes = Vec::from_slice(alloc, set)?;
+    bytes.extend_from_slice(more)?;
+    accepted_pool(alloc, &bytes)
+}
+
+fn live<S: Store>(alloc: Global, set: &[u8], more: &[u8]) -> Result<Live<S>, Fail> {
+    let accepted = accepted(alloc, set, more)?;
+    let live = Live::new(alloc, &accepted)?;
+    Ok(live)
+}
+
+/// What is done to a working set: a command, or an event of an object.
+#[derive(Clone, Copy)]
+enum Act {
+    Command(&'static [u8]),
+    Event(u16, u8),
+}
+
+/// An act, and what it comes to: so many steps, or an error byte.
+type Row = (Act, u32, u8);
+
+/// Commands on the pool with the container that runs macros.
+const SHARED_ROWS: &[Row] = &[
+    (
+        Act::Command(&[0xA0, 100, 0, 1, 0xFF, 0xFF, 0xFF, 0xFF]),
+        3,
+        0,
+    ),
+    (
+        Act::Command(&[0xBE, 1, 0, 0xFF, 0xFF, 0xFF, 0xFF, 0xFF]),
+        3,
+        0,
+    ),
+    (
+        Act::Command(&[0xBE, 100, 0, 0xFF, 0xFF, 0xFF, 0xFF, 0xFF]),
+        0,
+        2,
+    ),
+    (
+        Act::Command(&[0xBE, 7, 0, 0xFF, 0xFF, 0xFF, 0xFF, 0xFF]),
+        0,
+        1,
+    ),
+    (
+        Act::Command(&[0xA0, 100, 0, 2, 0xFF, 0xFF, 0xFF, 0xFF]),
+        0,
+        4,
+    ),
+    (Act::Event(100, 3), 2, 0),
+    (Act::Event(100, 4), 2, 0),
+    (Act::Event(261, 11), 1, 0),
+    (Act::Event(261, 12), 0, 0),
+    (Act::Event(262, 11), 0, 0),
+    (Act::Event(2, 0), 2, 0),
+    (Act::Event(261, 200), 0, 0),
+];
+
+/// Commands on the pool with two masks.
+const MASKS_ROWS: &[Row] = &[
+    (
+        Act::Command(&[0xA0, 100, 0, 0, 0xFF, 0xFF, 0xFF, 0xFF]),
+        5,
+        0,
+    ),
+    (
+        Act::Command(&[0xA0, 100, 0, 1, 0xFF, 0xFF, 0xFF, 0xFF]),
+        5,
+        0,
+    ),
+    (Act::Command(&[0xAD, 0, 0, 0xE9, 3, 0xFF, 0xFF, 0xFF]), 1, 0),
+    (Act::Command(&[0xAD, 0, 0, 0xE8, 3, 0xFF, 0xFF, 0xFF]), 1, 0),
+    (Act::Command(&[0xAD, 0, 0, 0xE9, 3, 0xFF, 0xFF, 0xFF]), 3, 0),
+    (Act::Command(&[0xAD, 0, 0, 100, 0, 0xFF, 0xFF, 0xFF]), 0, 2),
+];
+
+/// Commands that would make a circle of inclusions, and one that would not.
+const CIRCLE_ROWS: &[Row] = &[
+    (Act::Command(&[0xA8, 200, 0, 0xFF, 100, 0, 0, 0]), 0, 2),
+    (Act::Command(&[0xAF, 200, 0, 1, 100, 0, 0, 0]), 0, 4),
+    (Act::Command(&[0xA8, 200, 0, 0xFF, 200, 0, 0, 0]), 0, 2),
+    (Act::Command(&[0xA8, 200, 0, 0xFF, 0xE8, 3, 0, 0]), 0, 2),
+    (Act::Command(&[0xA8, 200, 0, 0xFF, 0xFF, 0xFF, 0, 0]), 1, 0),
+];
+
+/// The working set runs macro 1 where its mask is changed, and the mask where it is shown and hidden.
+pub(super) const ONE_MASK: &[u8] = &[
+    0, 0, 0, 0, 1, 0xE8, 3, 0, 1, 0, 7, 1, // Working Set
+    0xE8, 3, 1, 0, 0xFF, 0xFF, 1, 2, 100, 0, 10, 0, 5, 0, 3, 1, 4, 1, // Data Mask
+    100, 0, 3, 50, 0, 20, 0, 0, 0, 0, // Container
+    1, 0, 28, 8, 0, 0xA4, 50, 0xFF, 0xFF, 0xFF, 0xFF, 0xFF, 0xFF, // Macro
+];
+
+/// The Working Set 1200, which runs macro 1 where it is activated and twice where it is deactivated, behind the Data Mask 1000.
+pub(super) const LATE_SET: &[u8] = &[
+    0xE8, 3, 1, 0, 0xFF, 0xFF, 0, 0, // Data Mask
+    0xB0, 4, 0, 0, 1, 0xE8, 3, 0, 3, 0, 1, 1, 2, 1, 2, 1, // Working Set
+    1, 0, 28, 8, 0, 0xA4, 50, 0xFF, 0xFF, 0xFF, 0xFF, 0xFF, 0xFF, // Macro
+];
+
+/// The mask of the working set that is one alone.
+const ONE_MASK_ROWS: &[Row] = &[
+    (Act::Event(0, 7), 1, 0),
+    (Act::Command(&[0xAD, 0, 0, 0xE8, 3, 0xFF, 0xFF, 0xFF]), 2, 0),
+];
+
+const LATE_SET_ROWS: &[Row] = &[(Act::Event(1200, 1), 1, 0), (Act::Event(1200, 2), 2, 0)];
+
+/// The first objects of a pool, the others, and what is done.
+const LIVES: [(&[u8], &[u8], &[Row]); 5] = [
+    (SET, SHARED, SHARED_ROWS),
+    (SET, MASKS, MASKS_ROWS),
+    (SET, POINTER, CIRCLE_ROWS),
+    (&[], ONE_MASK, ONE_MASK_ROWS),
+    (&[], LATE_SET, LATE_SET_ROWS),
+];
+
+/// Whether each act comes to what its row says.
+fn come_to<S: Store>(live: &mut Live<S>, rows: &[Row]) -> bool {
+    for (act, steps, bits) in rows {
+        if answer(live, *act) != Some((*steps, *bits)) {
+            return false;
+        }
+    }
+    true
+}
+
+/// What an act comes to; of a command there is no third way.
+fn answer<S: Store>(live: &mut Live<S>, act: Act) -> Option<(u32, u8)> {
+    match act {
+        Act::Event(id, event) => Some((live.raise(ObjectId::from_raw(id), event), 0)),
+        Act::Command(bytes) => match live.apply(&Command::read(bytes)?) {
+            Outcome::Done { steps } => Some((steps, 0)),
+            Outcome::Refused { bits } => Some((0, bits)),
+        },
+    }
+}
+
+/// Whether a new working set does what the rows of its pool say.
+fn lives<S: Store>(alloc: Global, set: &[u8], more: &[u8], rows: &[Row]) -> Result<bool, Fail> {
+    let mut live = live::<S>(alloc, set, more)?;
+    Ok(come_to(&mut live, rows))
+}
+
+#[test]
+fn commands_and_events(rt: HostRuntime) -> Result<(), Fail> {
+    for (set, more, rows) in LIVES {
+        assert!(rt; lives::<SortedStore>(rt.alloc(), set, more, rows)?);
+        assert!(rt; lives::<ListStore>(rt.alloc(), set, more, rows)?);
+    }
+    Ok(())
+}
+
+/// Whether a working set has this ID, this active mask, and no soft key mask.
+fn shows(live: &Live<SortedStore>, set: u16, mask: u16) -> bool {
+    live.working_set() == ObjectId::from_raw(set)
+        && live.active_mask() == ObjectId::from_raw(mask)
+        && live.soft_key_mask().is_null()
+}
+
+#[test]
+fn the_active_mask_is_changed(rt: HostRuntime) -> Result<(), Fail> {
+    let mut live = live::<SortedStore>(rt.alloc(), SET, MASKS)?;
+    assert!(rt; shows(&live, 0, 1000));
+    assert!(rt; come_to(&mut live, MASKS_ROWS) && shows(&live, 0, 1001));
+    Ok(())
+}
+
+#[test]
+fn the_working_set_is_found_behind_its_mask(rt: HostRuntime) -> Result<(), Fail> {
+    let live = live::<SortedStore>(rt.alloc(), &[], LATE_SET)?;
+    assert!(rt; shows(&live, 1200, 1000));
+    Ok(())
+}
+
+/// Whether the pointer 200 has this value.
+fn points_at(live: &Live<SortedStore>, value: u16) -> bool {
+    match live.get(ObjectId::from_raw(200)) {
+        Some(Object::ObjectPointer(pointer)) => pointer.value == ObjectId::from_raw(value),
+        _ => false,
+    }
+}
+
+#[test]
+fn circles_of_inclusions_are_refused(rt: HostRuntime) -> Result<(), Fail> {
+    let mut live = live::<SortedStore>(rt.alloc(), SET, POINTER)?;
+    assert!(rt; come_to(&mut live, CIRCLE_ROWS));
+    assert!(rt; points_at(&live, 0xFFFF));
+    Ok(())
+}
+
+/// Fonts from 301 and as many macros: each font runs the macro of its place, which changes the next font twice; the last has no
+/// commands.
+fn doubling(alloc: Global, count: u8) -> Result<Vec<u8>, Fail> {
+    let mut bytes = Vec::from_slice(alloc, &[100, 0, 3, 50, 0, 20, 0, 0, 0, 0])?;
+    for place in 1..count {
+        put_font(&mut bytes, place)?;
+        put_macro(&mut bytes, place)?;
+    }
+    put_font(&mut bytes, count)?;
+    bytes.extend_from_slice(&[count, 0, 28, 0, 0])?;
+    Ok(bytes)
+}
+
+fn put_font(bytes: &mut Vec<u8>, place: u8) -> Result<(), Fail> {
+    bytes.extend_from_slice(&[place.wrapping_add(44), 1, 23, 0, 0, 0, 0, 1, 11, place])?;
+    Ok(())
+}
+
+fn put_macro(bytes: &mut Vec<u8>, place: u8) -> Result<(), Fail> {
+    let next = place.wrapping_add(45);
+    bytes.extend_from_slice(&[place, 0, 28, 16, 0])?;
+    bytes.extend_from_slice(&[0xAA, next, 1, 0, 0, 0, 0, 0xFF])?;
+    bytes.extend_from_slice(&[0xAA, next, 1, 0, 0, 0, 0, 0xFF])?;
+    Ok(())
+}
+
+/// How many steps event 11 of the first font takes.
+fn steps_of<S: Store>(alloc: Global, count: u8) -> Result<u32, Fail> {
+    let bytes = doubling(alloc, count)?;
+    let mut live = live::<S>(alloc, SET, &bytes)?;
+    Ok(live.raise(ObjectId::from_raw(301), 11))
+}
+
+#[test]
+fn runs_as_long_as_their_budgets(rt: HostRuntime) -> Result<(), Fail> {
+    assert!(rt; steps_of::<SortedStore>(rt.alloc(), 16)? == 65_534);
+    assert!(rt; steps_of::<SortedStore>(rt.alloc(), 19)? == 524_286);
+    assert!(rt; steps_of::<ListStore>(rt.alloc(), 12)? == 4_094);
+    Ok(())
+}
+
+#[test]
+fn updates_take_the_place_of_objects(rt: HostRuntime) -> Result<(), Fail> {
+    let alloc = rt.alloc();
+    let live = live::<SortedStore>(alloc, SET, POINTER)?;
+    let renewed = live.renew(&accepted(alloc, SET, SHARED)?)?;
+    assert!(rt; renewed.get(ObjectId::from_raw(200)).is_none());
+    assert!(rt; renewed.get(ObjectId::from_raw(261)).is_some());
+    assert!(rt; renewed.store().count() == 7);
+    Ok(())
+}
+
+/// A working set that takes its accepted pool over, and does what its rows say.
+fn taken_over(alloc: Global) -> Result<Live<SortedStore>, Fail> {
+    let accepted = accepted(alloc, SET, POINTER)?;
+    let mut live = Live::from_accepted(alloc, accepted)?;
+    if !come_to(&mut live, CIRCLE_ROWS) {
+        return Err(Fail::new("not taken over"));
+    }
+    Ok(live)
+}
+
+fn renewed_from(alloc: Global, live: &Live<SortedStore>) -> Result<Live<SortedStore>, Fail> {
+    let accepted = accepted(alloc, SET, SHARED)?;
+    let renewed = live.renew_from(accepted)?;
+    Ok(renewed)
+}
+
+#[test]
+fn accepted_pools_are_taken_over(rt: HostRuntime) -> Result<(), Fail> {
+    let live = taken_over(rt.alloc())?;
+    let mut renewed = renewed_from(rt.alloc(), &live)?;
+    assert!(rt; come_to(&mut renewed, SHARED_ROWS));
+    Ok(())
+}

@@ -1,0 +1,2 @@
+pub mod Marking
+mod Named

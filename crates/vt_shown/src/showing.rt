@@ -1,0 +1,335 @@
+//! Which objects a mask shows.
+
+ghost use Rattle.std.specs.Prelude.{◌≡◌, ◌≤◌, ◌<◌, ◌+◌, ◌∷◌, ℕ, [], false, true, length, slice_get, slice_index, slice_index_or, EachIndex, IfSome, IsTrue, Some};
+ghost use Rattle.std.specs.Option.{option_map};
+ghost use Rattle.std.specs.FinMap as finite;
+ghost use Rattle.vt_kinds.specs.Records.{Seen, seen};
+ghost use Rattle.vt_stores.specs.Stores.{IsPlace};
+ghost use Rattle.vt_chains.specs.Depths.{ids_of, inclusions_of, Stands};
+ghost use Rattle.vt_chains.specs.Certificates.{IsCertificate};
+ghost use Rattle.vt_shown.specs.Marks.{Marks, AreDone, AreMarked};
+ghost use Rattle.vt_shown.specs.Showing as showing;
+ghost use Rattle.vt_shown.specs.Showing.{IsShown};
+
+use crate::soft_keys::soft_key_mask;
+use vt_kinds::{Child, Entries, InputList, Object, ObjectId};
+use vt_stores::Store;
+
+/// Whether a mask shows an object: in its drawing, however long, or on its soft keys. Neither a pointer nor a hidden
+/// container is shown, nor what is not there. The marks are room to work in, one for each object, of any value.
+/// docs/PROFILE.md, "The drawing".
+pub fn is_shown<S: Store>(
+    store: &S,
+    levels: &[u8],
+    marks: &mut [bool],
+    mask: ObjectId,
+    id: ObjectId,
+) -> bool
+    requires levels { IsCertificate (ids_of (S.contents store.now)) (inclusions_of (S.contents store.now)) levels.now }
+    requires marks { length marks.old ≡ length (ids_of (S.contents store.now)) }
+    ensures shown { result ≡ true → IsShown (S.contents store.now) mask id }
+    ensures not_shown { result ≡ false → IsShown (S.contents store.now) mask id → ⊥ }
+{
+    let Some(place) = store.place(id) else {
+        return false;
+    };
+    if !is_element(store, id) {
+        return false;
+    }
+    let mut named = [false; 65_536];
+    mark_mask(store, levels, marks, &mut named, mask);
+    mark_within(store, levels, marks, &mut named, mask);
+    marks[place]
+}
+
+/// Marks what a mask draws and its soft keys, and nothing else.
+fn mark_mask<S: Store>(
+    store: &S,
+    levels: &[u8],
+    marks: &mut [bool],
+    named: &mut [bool],
+    mask: ObjectId,
+)
+    requires levels { IsCertificate (ids_of (S.contents store.now)) (inclusions_of (S.contents store.now)) levels.now }
+    requires marks { length marks.old ≡ length (ids_of (S.contents store.now)) }
+    requires all { length named.old ≡ 65536 }
+    requires none { (name : ℕ) → slice_index_or named.old name false ≡ false }
+    ensures marks { AreMarked (S.contents store.now) levels.now mask 33 marks.new }
+    ensures all { length named.new ≡ 65536 }
+    ensures named { AreDone (S.contents store.now) named.new marks.new }
+{
+    marks.fill(false);
+    mark_drawing(store, marks, named, mask);
+    mark_soft_keys(store, marks, mask);
+}
+
+/// Marks all that stands within what is marked.
+fn mark_within<S: Store>(
+    store: &S,
+    levels: &[u8],
+    marks: &mut [bool],
+    named: &mut [bool],
+    mask: ObjectId,
+)
+    requires levels { IsCertificate (ids_of (S.contents store.now)) (inclusions_of (S.contents store.now)) levels.now }
+    requires marks { AreMarked (S.contents store.now) levels.now mask 33 marks.old }
+    requires all { length named.old ≡ 65536 }
+    requires named { AreDone (S.contents store.now) named.old marks.old }
+    ensures { AreMarked (S.contents store.now) levels.now mask 0 marks.new }
+{
+    for level in (0..level_count(levels)).rev() {
+        mark_level(store, levels, marks, named, mask, level);
+    }
+}
+
+/// How many levels there are, from 0 to the greatest.
+fn level_count(levels: &[u8]) -> u8
+    requires { (place : ℕ) → slice_index levels.now place ≤ 32 }
+    ensures { EachIndex levels.now (λ place. slice_index levels.now place < result) }
+{
+    let mut count = 0;
+    for level in levels {
+        if *level >= count {
+            count = *level + 1;
+        }
+    }
+    count
+}
+
+/// Marks what the marked objects of a level draw, where that of the levels above is marked.
+fn mark_level<S: Store>(
+    store: &S,
+    levels: &[u8],
+    marks: &mut [bool],
+    named: &mut [bool],
+    mask: ObjectId,
+    level: u8,
+)
+    requires levels { IsCertificate (ids_of (S.contents store.now)) (inclusions_of (S.contents store.now)) levels.now }
+    requires marks { AreMarked (S.contents store.now) levels.now mask (level + 1) marks.old }
+    requires all { length named.old ≡ 65536 }
+    requires named { AreDone (S.contents store.now) named.old marks.old }
+    ensures marks { AreMarked (S.contents store.now) levels.now mask level marks.new }
+    ensures all { length named.new ≡ 65536 }
+    ensures named { AreDone (S.contents store.now) named.new marks.new }
+{
+    for place in 0..store.count() {
+        if marks[place] && levels[place] == level {
+            mark_drawing_at(store, marks, named, place);
+        }
+    }
+}
+
+/// Marks the elements that the object at a place draws.
+fn mark_drawing_at<S: Store>(store: &S, marks: &mut [bool], named: &mut [bool], place: usize)
+    requires marks { length marks.old ≡ length (ids_of (S.contents store.now)) }
+    requires all { length named.old ≡ 65536 }
+    requires named { AreDone (S.contents store.now) named.old marks.old }
+    ensures marks { (id : ℕ) → Stands (ids_of (S.contents store.now)) place id → Marks (S.contents store.now) (showing.drawn_in (S.contents store.now) (finite.get (S.contents store.now) id)) marks.old marks.new }
+    ensures all { length named.new ≡ 65536 }
+    ensures named { AreDone (S.contents store.now) named.new marks.new }
+{
+    match store.entry_at(place) {
+        Some((_, object)) => mark_drawn(store, marks, named, object),
+        None => {}
+    }
+}
+
+/// Marks the elements that the object of an ID draws.
+fn mark_drawing<S: Store>(store: &S, marks: &mut [bool], named: &mut [bool], id: ObjectId)
+    requires marks { length marks.old ≡ length (ids_of (S.contents store.now)) }
+    requires all { length named.old ≡ 65536 }
+    requires named { AreDone (S.contents store.now) named.old marks.old }
+    ensures marks { Marks (S.contents store.now) (showing.drawn_in (S.contents store.now) (finite.get (S.contents store.now) id)) marks.old marks.new }
+    ensures all { length named.new ≡ 65536 }
+    ensures named { AreDone (S.contents store.now) named.new marks.new }
+{
+    match store.get(id) {
+        Some(object) => mark_drawn(store, marks, named, object),
+        None => {}
+    }
+}
+
+/// Marks the elements that an object draws.
+fn mark_drawn<S: Store>(store: &S, marks: &mut [bool], named: &mut [bool], object: &Object<Vec<u8>>)
+    requires marks { length marks.old ≡ length (ids_of (S.contents store.now)) }
+    requires all { length named.old ≡ 65536 }
+    requires named { AreDone (S.contents store.now) named.old marks.old }
+    ensures marks { Marks (S.contents store.now) (showing.drawn_in (S.contents store.now) (Some (seen object.now))) marks.old marks.new }
+    ensures all { length named.new ≡ 65536 }
+    ensures named { AreDone (S.contents store.now) named.new marks.new }
+{
+    match object {
+        Object::WorkingSet(o) => mark_children(store, marks, named, &o.children),
+        Object::DataMask(o) => mark_children(store, marks, named, &o.children),
+        Object::AlarmMask(o) => mark_children(store, marks, named, &o.children),
+        Object::Container(o) if o.hidden == 0 => mark_children(store, marks, named, &o.children),
+        Object::Key(o) => mark_children(store, marks, named, &o.children),
+        Object::Button(o) => mark_children(store, marks, named, &o.children),
+        Object::InputList(o) => mark_item(store, marks, o),
+        _ => {}
+    }
+}
+
+/// Marks the elements that children stand for. What was named before is done, and costs no look-up: lists name the same objects
+/// again and again.
+fn mark_children<S: Store>(
+    store: &S,
+    marks: &mut [bool],
+    named: &mut [bool],
+    children: &Entries<Child>,
+)
+    requires marks { length marks.old ≡ length (ids_of (S.contents store.now)) }
+    requires all { length named.old ≡ 65536 }
+    requires named { AreDone (S.contents store.now) named.old marks.old }
+    ensures marks { Marks (S.contents store.now) (showing.ids_in children.now) marks.old marks.new }
+    ensures all { length named.new ≡ 65536 }
+    ensures named { AreDone (S.contents store.now) named.new marks.new }
+{
+    for child in children.as_slice() {
+        let name = usize::from(child.id.raw());
+        if !named[name] {
+            named[name] = true;
+            mark_named(store, marks, child.id);
+        }
+    }
+}
+
+/// Marks the element that the item of a list's index stands for.
+fn mark_item<S: Store>(store: &S, marks: &mut [bool], list: &InputList)
+    requires { length marks.old ≡ length (ids_of (S.contents store.now)) }
+    ensures { Marks (S.contents store.now) (showing.item_of list.now.items (showing.number_shown (S.contents store.now) list.now.variable list.now.value)) marks.old marks.new }
+{
+    let Some(index) = number_shown(store, list.variable, u32::from(list.value)) else {
+        return;
+    };
+    match list.items.as_slice().get(index as usize) {
+        Some(item) => mark_named(store, marks, *item),
+        None => {}
+    }
+}
+
+/// Marks the keys of the soft key mask of a mask.
+fn mark_soft_keys<S: Store>(store: &S, marks: &mut [bool], mask: ObjectId)
+    requires { length marks.old ≡ length (ids_of (S.contents store.now)) }
+    ensures { Marks (S.contents store.now) (showing.soft_keys (S.contents store.now) mask) marks.old marks.new }
+{
+    match store.get(soft_key_mask(store, mask)) {
+        Some(Object::SoftKeyMask(o)) => mark_keys(store, marks, &o.keys),
+        _ => {}
+    }
+}
+
+/// Marks the elements that keys stand for.
+fn mark_keys<S: Store>(store: &S, marks: &mut [bool], keys: &Entries<ObjectId>)
+    requires { length marks.old ≡ length (ids_of (S.contents store.now)) }
+    ensures { Marks (S.contents store.now) keys.now marks.old marks.new }
+{
+    for key in keys.as_slice() {
+        mark_named(store, marks, *key);
+    }
+}
+
+/// Marks what a name stands for, if that is an element.
+fn mark_named<S: Store>(store: &S, marks: &mut [bool], name: ObjectId)
+    requires { length marks.old ≡ length (ids_of (S.contents store.now)) }
+    ensures { Marks (S.contents store.now) (name ∷ []) marks.old marks.new }
+{
+    match element_place(store, name) {
+        Some(place) => marks[place] = true,
+        None => mark_behind(store, marks, name),
+    }
+}
+
+/// The place of an element that is named itself, which nearly all are.
+fn element_place<S: Store>(store: &S, name: ObjectId) -> Option<usize>
+    ensures { IfSome result (λ place. IsPlace (finite.entries (S.contents store.now)) name place
+        × IsTrue (showing.is_element (finite.get (S.contents store.now) name))
+        × (showing.stands_for (S.contents store.now) name ≡ Some name)) }
+{
+    let place = store.place(name)?;
+    if is_element_at(store, place) {
+        return Some(place);
+    }
+    None
+}
+
+/// Whether an element stands at a place.
+fn is_element_at<S: Store>(store: &S, place: usize) -> bool
+    ensures { (entry : ℕ × Seen) → slice_get (finite.entries (S.contents store.now)) place ≡ Some entry → result ≡ showing.is_element (Some entry.1) }
+{
+    match store.entry_at(place) {
+        Some((_, object)) => is_drawn(object),
+        None => false,
+    }
+}
+
+/// Marks what a name stands for, a pointer for its value, if that is an element.
+fn mark_behind<S: Store>(store: &S, marks: &mut [bool], name: ObjectId)
+    requires { length marks.old ≡ length (ids_of (S.contents store.now)) }
+    ensures { Marks (S.contents store.now) (name ∷ []) marks.old marks.new }
+{
+    let Some(id) = stands_for(store, name) else {
+        return;
+    };
+    if !is_element(store, id) {
+        return;
+    }
+    if let Some(place) = store.place(id) {
+        marks[place] = true;
+    }
+}
+
+/// What an ID in a list stands for: a pointer for its value.
+fn stands_for<S: Store>(store: &S, id: ObjectId) -> Option<ObjectId>
+    ensures { result ≡ showing.stands_for (S.contents store.now) id }
+{
+    match store.get(id) {
+        None => None,
+        Some(Object::ObjectPointer(pointer)) => if_there(store, pointer.value),
+        Some(_) => Some(id),
+    }
+}
+
+fn if_there<S: Store>(store: &S, id: ObjectId) -> Option<ObjectId>
+    ensures { result ≡ option_map (λ o. id) (finite.get (S.contents store.now) id) }
+{
+    match store.get(id) {
+        None => None,
+        Some(_) => Some(id),
+    }
+}
+
+/// Whether an object is there that is neither a pointer nor a hidden container.
+fn is_element<S: Store>(store: &S, id: ObjectId) -> bool
+    ensures { result ≡ showing.is_element (finite.get (S.contents store.now) id) }
+{
+    match store.get(id) {
+        None => false,
+        Some(object) => is_drawn(object),
+    }
+}
+
+/// Whether an object is neither a pointer nor a hidden container.
+fn is_drawn(object: &Object<Vec<u8>>) -> bool
+    ensures { result ≡ showing.is_element (Some (seen object.now)) }
+{
+    match object {
+        Object::ObjectPointer(_) => false,
+        Object::Container(o) => o.hidden == 0,
+        _ => true,
+    }
+}
+
+/// The number that an object shows: that of its variable, if it has one.
+fn number_shown<S: Store>(store: &S, variable: ObjectId, own: u32) -> Option<u32>
+    ensures { result ≡ showing.number_shown (S.contents store.now) variable own }
+{
+    if variable.is_null() {
+        return Some(own);
+    }
+    match store.get(variable) {
+        Some(Object::NumberVariable(o)) => Some(o.value),
+        _ => None,
+    }
+}

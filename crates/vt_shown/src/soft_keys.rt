@@ -1,0 +1,19 @@
+//! The soft keys of a mask.
+
+ghost use Rattle.std.specs.Prelude.{◌≡◌};
+ghost use Rattle.std.specs.FinMap as finite;
+ghost use Rattle.vt_shown.specs.Showing as showing;
+
+use vt_kinds::{Object, ObjectId};
+use vt_stores::Store;
+
+/// The soft key mask of a mask, NULL of what is none.
+pub fn soft_key_mask<S: Store>(store: &S, mask: ObjectId) -> ObjectId
+    ensures { result ≡ showing.soft_key_mask_of (finite.get (S.contents store.now) mask) }
+{
+    match store.get(mask) {
+        Some(Object::DataMask(mask)) => mask.soft_key_mask,
+        Some(Object::AlarmMask(mask)) => mask.soft_key_mask,
+        _ => ObjectId::from_raw(0xFFFF),
+    }
+}

@@ -1,0 +1,5 @@
+mod FromFront
+pub mod Rising
+pub mod Searching
+pub mod Shapes
+pub mod Stored

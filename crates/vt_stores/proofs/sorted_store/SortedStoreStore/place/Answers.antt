@@ -1,0 +1,12 @@
+use Rattle.vt_stores.proofs.Stored.{place_in, place_some, place_none}
+use Rattle.vt_stores.proofs.sorted_store.SortedStoreStore.place.Goals as goal
+
+pub returns-clause-some : goal.returns-clause-some
+returns-clause-some c =
+    let es = c.self.inside.entries.items in
+    place_some es c.args.self.now c.args.id c.place_of.result c.self.view_is c.self.invariant
+    (place_in es c.deref.result.now c.args.id c.place_of.result c.deref.ensures.value c.place_of.ensures.some)
+
+pub returns-clause-none : goal.returns-clause-none
+returns-clause-none c =
+    place_none c.self.inside.entries.items c.deref.result.now c.args.self.now c.args.id c.place_of.result c.deref.ensures.value c.self.view_is c.self.invariant c.place_of.ensures.none

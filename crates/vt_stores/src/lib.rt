@@ -1,0 +1,18 @@
+//! Stores of objects: finite maps from IDs to objects.
+//!
+//! `Store` is such a map; `SortedStore` and `ListStore` are two, both by rising ID.
+//!
+//! docs/PROFILE.md, "What every store keeps", has the rules.
+#![tactic(auto)]
+
+mod list_store;
+mod sorted_store;
+mod sorting;
+mod store;
+
+pub use list_store::ListStore;
+pub use sorted_store::SortedStore;
+pub use store::Store;
+
+/// A growth that was refused.
+pub use std::alloc::AllocError as OutOfMemory;

@@ -1,0 +1,168 @@
+//! A store by rising ID, which keeps where each ID stands.
+
+ghost use Rattle.std.specs.Prelude.{◌≡◌, None, IfOk, IfSome, IfNone, map, slice_get};
+ghost use Rattle.std.specs.Option.{option_map};
+ghost use Rattle.std.specs.FinMap as finite;
+ghost use Rattle.std.specs.Borrow.{sem, LendsSo};
+ghost use Rattle.vt_kinds.specs.Records.{seen};
+ghost use Rattle.vt_stores.specs.Rows.{object_row};
+ghost use Rattle.vt_stores.specs.Stores.{AreNamed, AreStored, IsPlace, shown, by_rising_id, object_at, map_of};
+
+use crate::sorting::{copies, sort};
+use crate::store::Store;
+use std::alloc::{AllocError, Global};
+use std::marker::Model;
+use vt_kinds::{Object, ObjectId};
+
+/// The objects by rising ID. Where each ID stands is kept in 2 bytes for each number from the first ID to the last; an ID that is
+/// not there is searched by halves.
+#[derive(Drop)]
+pub struct SortedStore {
+    entries: Vec<(ObjectId, Object<Vec<u8>>)>,
+    // Where to look for each ID, counted from the first one.
+    places: Vec<u16>,
+}
+
+impl Model for SortedStore {
+    ghost use Rattle.std.specs.Prelude.{map};
+    ghost use Rattle.vt_stores.specs.Stores.{Objects, AreStored, shown};
+
+    ghost Value = { Objects };
+
+    ghost view = { λ store. map shown store.entries.items };
+
+    ghost invariant = { λ store. AreStored (map shown store.entries.items) };
+}
+
+impl SortedStore {
+    /// A store of these objects, in any order. No ID stands twice, and none is NULL. They are not copied.
+    pub fn from_vec(entries: Vec<(ObjectId, Object<Vec<u8>>)>) -> Result<SortedStore, AllocError>
+        requires { AreNamed (map shown entries.items) }
+        ensures made { IfOk result (λ store. store ≡ by_rising_id (map shown entries.items)) }
+        ensures stored { IfOk result AreStored }
+    {
+        let mut entries = entries;
+        sort(&mut entries)?;
+        let places = places_of(*entries.allocator(), &entries)?;
+        Ok(SortedStore { entries, places })
+    }
+
+    /// The objects with their IDs, by rising ID.
+    pub fn entries(&self) -> &[(ObjectId, Object<Vec<u8>>)]
+        ensures all { map shown result.now ≡ self.now }
+        ensures stored { AreStored self.now }
+    {
+        &self.entries
+    }
+}
+
+impl Store for SortedStore {
+    ghost contents = { λ store. map_of store };
+
+    fn from_objects(
+        alloc: Global,
+        objects: &[(ObjectId, Object<Vec<u8>>)],
+    ) -> Result<SortedStore, AllocError> {
+        let mut entries = copies(alloc, objects)?;
+        sort(&mut entries)?;
+        let places = places_of(alloc, &entries)?;
+        Ok(SortedStore { entries, places })
+    }
+
+    fn get(&self, id: ObjectId) -> Option<&Object<Vec<u8>>>
+        ensures value { option_map (λ o. seen o.now) result ≡ finite.get (map_of self.now) id }
+        ensures named { finite.get (map_of self.now) 0xFFFF ≡ None }
+        ensures found { option_map (λ o. seen o.now) result ≡ object_at self.now id }
+    {
+        match place_of(&self.entries, &self.places, id) {
+            None => None,
+            Some(place) => Some(&self.entries[place].1),
+        }
+    }
+
+    fn get_mut(&mut self, id: ObjectId) -> Option<&mut Object<Vec<u8>>> {
+        match place_of(&self.entries, &self.places, id) {
+            None => None,
+            Some(place) => Some(&mut self.entries[place].1),
+        }
+    }
+
+    fn count(&self) -> usize {
+        self.entries.len()
+    }
+
+    fn entry_at(&self, place: usize) -> Option<(ObjectId, &Object<Vec<u8>>)> {
+        match self.entries.get(place) {
+            None => None,
+            Some((id, object)) => Some((*id, object)),
+        }
+    }
+
+    fn place(&self, id: ObjectId) -> Option<usize>
+        ensures some { IfSome result (IsPlace (finite.entries (map_of self.now)) id) }
+        ensures none { IfNone result (finite.get (map_of self.now) id ≡ None) }
+        ensures stands { IfSome result (IsPlace self.now id) }
+        ensures absent { IfNone result (object_at self.now id ≡ None) }
+    {
+        place_of(&self.entries, &self.places, id)
+    }
+}
+
+/// Where each ID stands, counted from the first one. No contract rests on it: a place that is looked up is tested.
+fn places_of(
+    alloc: Global,
+    entries: &[(ObjectId, Object<Vec<u8>>)],
+) -> Result<Vec<u16>, AllocError> {
+    let (Some((first, _)), Some((last, _))) = (entries.first(), entries.last()) else {
+        return Ok(Vec::new(alloc));
+    };
+    let last = usize::from(last.raw().saturating_sub(first.raw()));
+    let mut places = Vec::from_elem(alloc, 0, last + 1)?;
+    for (place, (id, _)) in entries.iter().enumerate() {
+        let above = usize::from(id.raw().saturating_sub(first.raw()));
+        if let (Some(kept), Ok(place)) = (places.get_mut(above), u16::try_from(place)) {
+            *kept = place;
+        }
+    }
+    Ok(places)
+}
+
+/// The place of an ID among entries by rising ID, if it is there.
+fn place_of(entries: &[(ObjectId, Object<Vec<u8>>)], places: &[u16], id: ObjectId) -> Option<usize>
+    requires { AreStored (map shown entries.now) }
+    ensures some { IfSome result (IsPlace (map shown entries.now) id) }
+    ensures none { IfNone result (object_at (map shown entries.now) id ≡ None) }
+{
+    match kept_place(entries, places, id) {
+        Some(place) => Some(place),
+        None => entries
+            .binary_search_by_key(&id.raw(), |entry| entry.0.raw())
+            .ok(),
+    }
+}
+
+/// The place that is kept for an ID, if the ID stands there.
+fn kept_place(
+    entries: &[(ObjectId, Object<Vec<u8>>)],
+    places: &[u16],
+    id: ObjectId,
+) -> Option<usize>
+    requires { AreStored (map shown entries.now) }
+    ensures { IfSome result (IsPlace (map shown entries.now) id) }
+{
+    let (first, _) = entries.first()?;
+    let above = id.raw().checked_sub(first.raw())?;
+    let place = places.get(usize::from(above))?;
+    stands_at(entries, id, usize::from(*place))
+}
+
+/// The place, if the ID stands there.
+fn stands_at(entries: &[(ObjectId, Object<Vec<u8>>)], id: ObjectId, place: usize) -> Option<usize>
+    requires { AreStored (map shown entries.now) }
+    ensures { IfSome result (IsPlace (map shown entries.now) id) }
+{
+    if entries.get(place)?.0 == id {
+        return Some(place);
+    }
+    None
+}

@@ -1,0 +1,31 @@
+//! Objects by rising ID.
+
+ghost use Rattle.std.specs.Prelude.{◌≡◌, IfOk, OnOk, map};
+ghost use Rattle.vt_stores.specs.Stores.{AreNamed, AreStored, shown, by_rising_id};
+
+use std::alloc::{AllocError, Global};
+use vt_kinds::{Object, ObjectId};
+
+/// Copies of objects with their IDs.
+pub fn copies(
+    alloc: Global,
+    objects: &[(ObjectId, Object<Vec<u8>>)],
+) -> Result<Vec<(ObjectId, Object<Vec<u8>>)>, AllocError>
+    ensures { IfOk result (λ copies. map shown copies.items ≡ map shown objects.now) }
+{
+    let mut copies = Vec::new(alloc);
+    for (id, object) in objects {
+        copies.push((*id, object.copied(alloc)?))?;
+    }
+    Ok(copies)
+}
+
+/// Brings objects into the order of their IDs.
+pub fn sort(entries: &mut Vec<(ObjectId, Object<Vec<u8>>)>) -> Result<(), AllocError>
+    requires { AreNamed (map shown entries.old.items) }
+    ensures stored { OnOk result (AreStored (map shown entries.new.items)) }
+    ensures sorted { OnOk result (map shown entries.new.items ≡ by_rising_id (map shown entries.old.items)) }
+{
+    entries.sort_by_key(|entry| entry.0.raw())?;
+    Ok(())
+}

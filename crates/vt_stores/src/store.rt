@@ -1,0 +1,54 @@
+//! Where the objects of a working set lie.
+
+ghost use Rattle.std.specs.Prelude.{◌≡◌, ◌<◌, None, IfOk, IfSome, IfNone, map, slice_get};
+ghost use Rattle.std.specs.Option.{option_map};
+ghost use Rattle.std.specs.List.{All};
+ghost use Rattle.std.specs.FinMap as finite;
+ghost use Rattle.std.specs.Borrow.{sem, LendsSo};
+ghost use Rattle.vt_kinds.specs.Records.{seen};
+ghost use Rattle.vt_stores.specs.Stores.{Contents, AreNamed, IsPlace, ids, shown, contents_of, with_object};
+ghost use Rattle.vt_stores.specs.Rows.{object_row};
+
+use std::alloc::{AllocError, Global};
+use vt_kinds::{Object, ObjectId};
+
+/// A finite map from IDs to objects. Its IDs stay as they were made, and none is NULL.
+pub trait Store: Drop {
+    ghost contents: { Self → Contents };
+
+    /// A store of copies of these objects, in any order. No ID stands twice, and none is NULL.
+    fn from_objects(
+        alloc: Global,
+        objects: &[(ObjectId, Object<Vec<u8>>)],
+    ) -> Result<Self, AllocError>
+    where
+        Self: Sized,
+        requires { AreNamed (map shown objects.now) }
+        ensures { IfOk result (λ store. contents store ≡ contents_of objects.now) };
+
+    /// The object of an ID, if it is there. NULL is no object's ID.
+    fn get(&self, id: ObjectId) -> Option<&Object<Vec<u8>>>
+        ensures value { option_map (λ o. seen o.now) result ≡ finite.get (contents self.now) id }
+        ensures named { finite.get (contents self.now) 0xFFFF ≡ None };
+
+    /// The object of an ID to be changed, if it is there. The write changes that object and no other.
+    fn get_mut(&mut self, id: ObjectId) -> Option<&mut Object<Vec<u8>>>
+        ensures* writes_back { sem 𝓛 (LendsSo Self.row object_row self.entry result
+            (λ n w. contents n ≡ with_object (contents self.old) id (seen w))
+            (λ n. contents n ≡ contents self.old)) }
+        ensures value { option_map (λ o. seen o.now) result ≡ finite.get (contents self.old) id };
+
+    /// How many objects there are. NULL is no object's ID.
+    fn count(&self) -> usize
+        ensures count { result ≡ finite.len (contents self.now) }
+        ensures named { All (λ id. id < 0xFFFF) (ids (finite.entries (contents self.now))) };
+
+    /// The object that stands at a place, by rising ID from 0, and its ID. None from `count` on.
+    fn entry_at(&self, place: usize) -> Option<(ObjectId, &Object<Vec<u8>>)>
+        ensures { option_map (λ e. (e.0, seen e.1.now)) result ≡ slice_get (finite.entries (contents self.now)) place };
+
+    /// The place of an ID, if it is there.
+    fn place(&self, id: ObjectId) -> Option<usize>
+        ensures some { IfSome result (IsPlace (finite.entries (contents self.now)) id) }
+        ensures none { IfNone result (finite.get (contents self.now) id ≡ None) };
+}

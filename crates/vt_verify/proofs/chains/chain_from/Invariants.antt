@@ -1,7 +1,0 @@
-use Rattle.vt_verify.specs.Depths.{ids_of, inclusions_of}
-use Rattle.vt_verify.proofs.Settling.{IsGrowing}
-use Rattle.vt_verify.proofs.chains.chain_from.Given as goal
-
-abbrev pub invariant-loop-step : goal.invariant-loop-step
-invariant-loop-step g l =
-    IsGrowing (ids_of (g.S.Store.contents l.store)) (inclusions_of (g.S.Store.contents l.store)) l.depths l.fn.place l.place l.step l.count l.chain.items
