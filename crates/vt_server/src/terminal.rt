@@ -24,7 +24,6 @@ use vt_verify::Accepted;
 
 /// A terminal at an address of its own: its working sets, their pools, what it has heard of the addresses of others, and the
 /// working set that it shows.
-#[derive(Drop)]
 pub struct Terminal {
     pub(crate) alloc: Global,
     pub(crate) node: Node,
@@ -39,6 +38,24 @@ pub struct Terminal {
     pub(crate) redraws: bool,
     // The latest time so far, in microseconds.
     pub(crate) time: u64,
+}
+
+// Written out and not derived, so that how all that a terminal has is let go is proved here, once, and not in each crate that lets
+// a terminal go.
+impl Drop for Terminal {
+    fn drop(self) {
+        let Terminal {
+            alloc: _alloc,
+            node: _node,
+            registry: _registry,
+            contents: _contents,
+            selected: _selected,
+            shown: _shown,
+            lost: _lost,
+            redraws: _redraws,
+            time: _time,
+        } = self;
+    }
 }
 
 /// The memory for an input of a run was refused. The inputs before it were taken, and no other.

@@ -20,11 +20,21 @@ pub struct Timed<T> {
 /// At most one session for each of the 256 addresses, seen as a finite map from addresses.
 ///
 /// It takes no memory, and finds a session without a search.
-#[derive(Drop)]
 pub struct Sessions<T> {
     places: [Option<Timed<T>>; 256],
     // No session's last frame was earlier, so most calls of `expire` look at no place.
     earliest: u64,
+}
+
+// Written out and not derived, so that how 256 places are let go is proved here, once, and not in each crate that lets go of a
+// value with sessions in it.
+impl<T: Drop> Drop for Sessions<T> {
+    fn drop(self) {
+        let Sessions {
+            places: _places,
+            earliest: _earliest,
+        } = self;
+    }
 }
 
 impl<T> Model for Sessions<T> {
