@@ -1,7 +1,7 @@
 # The program's words. Paths are those of the folder in which make runs.
 ARGS ?= examples/seeder.log
 
-.PHONY: run test build bench bench-hostile refuse-memory
+.PHONY: run test wrong-bodies build bench bench-hostile refuse-memory
 
 # Runs the program by the toolchain's quick build, which proves nothing.
 run:
@@ -9,7 +9,12 @@ run:
 
 # Proves every crate and its tests from nothing, tries the must-fail edits, and runs the tests and the program.
 test:
+	@rt version
 	rt ci
+
+# Tries the wrong bodies that the gate does not try. CRATES may name some crates.
+wrong-bodies:
+	@bash scripts/wrong_bodies.sh $(CRATES)
 
 # Proves the program and leaves it at crates/vt_replay/out/vt_replay.
 build:
