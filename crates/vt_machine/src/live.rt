@@ -50,7 +50,6 @@ pub enum Outcome {
 /// their ends: each event takes at most the steps that the pool's report prints, and a call the sum of those of the events that
 /// it raises, `apply` one more for its command. Only the calls that make one take memory
 /// (ISO 11783-6; docs/PROFILE.md, "Runs", "Steps").
-#[derive(Drop)]
 pub struct Live<S: Store> {
     pub(crate) store: S,
     levels: Levels,
@@ -60,6 +59,21 @@ pub struct Live<S: Store> {
     marks: Vec<bool>,
     pub(crate) key: Option<HeldKey>,
     pub(crate) input: Option<ObjectId>,
+}
+
+// Written out, so that its proof is not done again in each crate above.
+impl<S: Store> Drop for Live<S> {
+    fn drop(self) {
+        let Live {
+            store: _store,
+            levels: _levels,
+            index: _index,
+            working_set: _working_set,
+            marks: _marks,
+            key: _key,
+            input: _input,
+        } = self;
+    }
 }
 
 impl<S: Store> Model for Live<S> {
@@ -130,12 +144,14 @@ impl<S: Store> Live<S> {
 
     /// This working set with the key held and the input selected in another one, where the object of their ID is of the kind that it
     /// was of there.
-    fn keeping(self, old: &Live<S>) -> Live<S>
+    fn keeping(mut self, old: &Live<S>) -> Live<S>
         ensures { result ≡ renewed old.now self.objects }
     {
         let key = kept_key(&old.store, &self.store, old.key);
         let input = kept_input(&old.store, &self.store, old.input);
-        Live { key, input, ..self }
+        self.key = key;
+        self.input = input;
+        self
     }
 
     fn allocator(&self) -> Global {

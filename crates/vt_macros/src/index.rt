@@ -22,7 +22,6 @@ pub struct Span {
 
 /// Which macros run at the events of a pool, and which commands they have, in memory of its own. It stays right for
 /// every later store, as no command changes either.
-#[derive(Drop)]
 pub struct Index {
     listings: Listings,
     /// The bytes of the macros, by rank.
@@ -31,6 +30,18 @@ pub struct Index {
     pieces: Vec<Span>,
     /// Where those of each macro stand among the pieces.
     macros: Vec<Span>,
+}
+
+// Written out, so that its proof is not done again in each crate above.
+impl Drop for Index {
+    fn drop(self) {
+        let Index {
+            listings: _listings,
+            bytes: _bytes,
+            pieces: _pieces,
+            macros: _macros,
+        } = self;
+    }
 }
 
 impl Index {
@@ -55,10 +66,11 @@ impl Index {
     }
 
     /// The index with what runs at the events of objects.
-    pub fn with_listings(self, listings: Listings) -> Index
+    pub fn with_listings(mut self, listings: Listings) -> Index
         ensures { result ≡ record { listings = listings; bytes = self.bytes; pieces = self.pieces; macros = self.macros } }
     {
-        Index { listings, ..self }
+        self.listings = listings;
+        self
     }
 
     /// The macros that run at an event of an object, in the order of its list: none at an ID that is not there, nor

@@ -29,12 +29,23 @@ pub enum Heard {
 ///
 /// A claim is taken in time that grows with the logarithm of the NAMEs heard. docs/PROFILE.md, "The holder
 /// of an address".
-#[derive(Drop)]
 pub struct Claims {
     own: u8,
     name: Name,
     addresses: BTreeMap<u64, u8>,
     holders: Holders,
+}
+
+// Written out, so that its proof is not done again in each crate above.
+impl Drop for Claims {
+    fn drop(self) {
+        let Claims {
+            own: _own,
+            name: _name,
+            addresses: _addresses,
+            holders: _holders,
+        } = self;
+    }
 }
 
 impl Model for Claims {

@@ -26,12 +26,23 @@ use vt_names::{Claims, Heard as Meaning, Name};
 use vt_transport::SendFault;
 
 /// What a node has heard of addresses, and the messages that it receives and sends in packets, at one address of its own.
-#[derive(Drop)]
 pub struct Node {
     claims: Claims,
     tp: vt_transport::Receiver,
     etp: vt_extended::Receiver,
     sender: vt_transport::Sender,
+}
+
+// Written out, so that its proof is not done again in each crate above.
+impl Drop for Node {
+    fn drop(self) {
+        let Node {
+            claims: _claims,
+            tp: _tp,
+            etp: _etp,
+            sender: _sender,
+        } = self;
+    }
 }
 
 impl Model for Node {

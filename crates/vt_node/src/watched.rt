@@ -16,12 +16,22 @@ use std::marker::Model;
 use vt_names::{Name, Registry, RegistryFault, Set};
 
 /// The working sets, and the time of the last frame of each of the 256 addresses.
-#[derive(Drop)]
 pub struct WatchedRegistry {
     registry: Registry,
     watch: Watch,
     // No set was last heard earlier, so most frame lines look at no set.
     earliest: u64,
+}
+
+// Written out, so that its proof is not done again in each crate above.
+impl Drop for WatchedRegistry {
+    fn drop(self) {
+        let WatchedRegistry {
+            registry: _registry,
+            watch: _watch,
+            earliest: _earliest,
+        } = self;
+    }
 }
 
 impl Model for WatchedRegistry {

@@ -13,7 +13,6 @@ use vt_records::PoolFault;
 
 /// A pool that is read as its pieces arrive: its bytes so far, and how many more it has room for. However
 /// the pool was cut, it is read as a whole one. ISO 11783-6; docs/PROFILE.md, "Object Pool Transfer (11)".
-#[derive(Drop)]
 pub struct Reading {
     bytes: Vec<u8>,
     // Where the pool begins in them.
@@ -22,6 +21,19 @@ pub struct Reading {
     whole: usize,
     fault: Option<PoolFault>,
     alloc: Global,
+}
+
+// Written out, so that its proof is not done again in each crate above.
+impl Drop for Reading {
+    fn drop(self) {
+        let Reading {
+            bytes: _bytes,
+            start: _start,
+            whole: _whole,
+            fault: _fault,
+            alloc: _alloc,
+        } = self;
+    }
 }
 
 impl Model for Reading {

@@ -17,10 +17,19 @@ use vt_records::{PoolFault, Stop, read_record};
 
 /// The objects of a pool, each ID once, in the order in which their IDs first stood. Their texts are
 /// slices of the pool's bytes.
-#[derive(Drop)]
 pub struct Pool<'a> {
     objects: Vec<(ObjectId, Object<&'a [u8]>)>,
     places: IndexSet<ObjectId>,
+}
+
+// Written out, so that its proof is not done again in each crate above.
+impl<'a> Drop for Pool<'a> {
+    fn drop(self) {
+        let Pool {
+            objects: _objects,
+            places: _places,
+        } = self;
+    }
 }
 
 impl<'a> Model for Pool<'a> {

@@ -16,11 +16,20 @@ use vt_kinds::{Object, ObjectId};
 
 /// The objects by rising ID. Where each ID stands is kept in 2 bytes for each number from the first ID to the last; an ID that is
 /// not there is searched by halves.
-#[derive(Drop)]
 pub struct SortedStore {
     entries: Vec<(ObjectId, Object<Vec<u8>>)>,
     // Where to look for each ID, counted from the first one.
     places: Vec<u16>,
+}
+
+// Written out, so that its proof is not done again in each crate above.
+impl Drop for SortedStore {
+    fn drop(self) {
+        let SortedStore {
+            entries: _entries,
+            places: _places,
+        } = self;
+    }
 }
 
 impl Model for SortedStore {

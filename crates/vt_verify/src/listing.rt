@@ -39,12 +39,21 @@ impl Listing {
 pub(crate) const LAST_EVENT: u8 = 26;
 
 /// Which macros run at the events of objects.
-#[derive(Drop)]
 pub struct Listings {
     /// The events at which any run.
     pub(crate) events: IndexSet<Listing>,
     /// The macros of each event, at its place.
     pub(crate) groups: Vec<Vec<u8>>,
+}
+
+// Written out, so that its proof is not done again in each crate above.
+impl Drop for Listings {
+    fn drop(self) {
+        let Listings {
+            events: _events,
+            groups: _groups,
+        } = self;
+    }
 }
 
 impl Model for Listings {

@@ -3,8 +3,8 @@ use Rattle.vt_machine.specs.Lives.{holds_key}
 use Rattle.vt_machine.proofs.Living.{key_kept}
 use Rattle.vt_machine.proofs.live.Live.keeping.Goals as goal
 
-pub invariant_of-result : goal.invariant_of-result
-invariant_of-result g c =
+pub invariant_of-self : goal.invariant_of-self
+invariant_of-self g c =
     let old = g.S.Store.contents c.old.inside.store in
     let new = g.S.Store.contents c.self.inside.store in (
       c.self.invariant.0,
