@@ -4,3 +4,4 @@ pub mod Ordering
 pub mod Reaching
 pub mod Chaining
 pub mod Filling
+mod Finding

@@ -1,0 +1,5 @@
+use Rattle.vt_layout.proofs.Finding.{finds_all}
+use Rattle.vt_layout.proofs.laws.drawings_find_all.Goals as goal
+
+pub returns : goal.returns
+returns c = finds_all

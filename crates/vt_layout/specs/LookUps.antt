@@ -1,0 +1,83 @@
+-- What a drawing looks up: its mask and soft key mask, the names in its lists, and the variables of its elements
+-- (docs/PROFILE.md, "The drawing").
+use Rattle.std.specs.Prelude.{◌≡◌, ℕ, Bool, true, false, List, Option, Some, None, ◌⊎◌, IsTrue}
+use Rattle.std.specs.List.{AllByRecursion}
+use Rattle.std.specs.FinMap as finite
+use Rattle.vt_kinds.specs.declared.kind.Kind.{Kind}
+use Rattle.vt_kinds.specs.declared.kind.Kind.TheVariants as kinds
+use Rattle.vt_kinds.specs.declared.kinds.Kinds.{Kinds}
+use Rattle.vt_kinds.specs.declared.kinds.Kinds.TheVariants as sets
+use Rattle.vt_kinds.specs.declared.object.Object.TheVariants as objects
+use Rattle.vt_kinds.specs.Records.{Seen}
+use Rattle.vt_kinds.specs.References.{is_member, is_pointer}
+use Rattle.vt_stores.specs.Stores.{Contents}
+use Rattle.vt_effects.specs.Changes.{is_one_of}
+use Rattle.vt_effects.specs.Effects.{kind_in, pointer_value}
+use Rattle.vt_effects.specs.Soundness.{IsSound}
+use Rattle.vt_machine.specs.Lives.{IsActive}
+use Rattle.vt_shown.specs.Showing.{stands_for, number_shown, soft_key_mask_of, IsShown}
+use Rattle.vt_layout.specs.Drawings.{entries_in, key_entries}
+use Rattle.vt_layout.specs.Lines.{text_shown}
+
+-- ---- names
+
+-- the kinds that may stand in the list of an object: no Working Set in that of a Working Set
+abbrev pub kinds_listed : Option Kind → Kinds
+kinds_listed (Some kinds.WorkingSet) = sets.DrawnInWorkingSet
+kinds_listed _ = sets.Drawn
+
+-- An item of an input list may be NULL, and no child may.
+abbrev pub null_listed : Option Kind → Bool
+null_listed (Some kinds.InputList) = true
+null_listed _ = false
+
+-- A name stands for an object of these kinds, which is no pointer; or it is NULL, where NULL may stand, or a pointer with NULL.
+pub data IsFound (store : Contents) (allowed : Kinds) (null : Bool) (name : ℕ) : Type 0 where
+  Null : name ≡ 0xFFFF → null ≡ true → IsFound store allowed null name
+  NullPointer : pointer_value (finite.get store name) ≡ Some 0xFFFF → IsFound store allowed null name
+  StandsFor : (id : ℕ) (kind : Kind) → stands_for store name ≡ Some id → kind_in store id ≡ Some kind
+      → is_member allowed kind ≡ true → is_pointer kind ≡ false → IsFound store allowed null name
+
+-- each name that is drawn within an object
+abbrev pub AreFoundIn : Contents → ℕ → Type 0
+AreFoundIn store id =
+    AllByRecursion (λ entry. IsFound store (kinds_listed (kind_in store id)) (null_listed (kind_in store id)) entry.id)
+    (entries_in store (finite.get store id))
+
+-- ---- values
+
+-- the number or the text that a line shows is there
+abbrev pub HasNumber : Contents → ℕ → ℕ → Type 0
+HasNumber store variable own = (n : ℕ) × (number_shown store variable own ≡ Some n)
+
+abbrev pub HasText : Contents → ℕ → List ℕ → Type 0
+HasText store variable own = (text : List ℕ) × (text_shown store variable own ≡ Some text)
+
+-- The element is there, with each value of its line. The lines of all other kinds have none.
+abbrev pub HasValues : Contents → Option Seen → Type 0
+HasValues store None = ⊥
+HasValues store (Some (objects.InputBoolean o)) = HasNumber store o.variable o.value
+HasValues store (Some (objects.InputString o)) = HasText store o.variable o.text
+HasValues store (Some (objects.InputNumber o)) = HasNumber store o.variable o.value
+HasValues store (Some (objects.InputList o)) = HasNumber store o.variable o.value
+HasValues store (Some (objects.OutputString o)) = HasText store o.variable o.text
+HasValues store (Some (objects.OutputNumber o)) = HasNumber store o.variable o.value
+HasValues store (Some (objects.Meter o)) = HasNumber store o.variable o.value
+HasValues store (Some (objects.LinearBar o)) = HasNumber store o.variable o.value × HasNumber store o.target_variable o.target
+HasValues store (Some (objects.ArchedBar o)) = HasNumber store o.variable o.value × HasNumber store o.target_variable o.target
+HasValues store (Some o) = Unit {0}
+
+-- ---- the look-ups of a drawing
+
+-- All that the drawing of a mask looks up is there, and is of a kind that may be drawn there.
+pub record FindsAll (store : Contents) (mask : ℕ) : Type 0 where
+  pub active : IsActive store mask → (mask ≡ 0xFFFF) ⊎ IsTrue (is_one_of sets.Masks (kind_in store mask))
+  pub in_mask : AreFoundIn store mask
+  pub soft_key_mask : (soft_key_mask_of (finite.get store mask) ≡ 0xFFFF) ⊎ (kind_in store (soft_key_mask_of (finite.get store mask)) ≡ Some kinds.SoftKeyMask)
+  pub keys : AllByRecursion (λ entry. IsFound store sets.Keys true entry.id) (key_entries store mask)
+  pub in_elements : (id : ℕ) → IsShown store mask id → AreFoundIn store id
+  pub values : (id : ℕ) → IsShown store mask id → HasValues store (finite.get store id)
+
+-- So it is in a store that is in order.
+abbrev pub DrawingsFindAll : Type 0
+DrawingsFindAll = (store : Contents) (mask : ℕ) → IsSound store → FindsAll store mask
