@@ -7,7 +7,9 @@ ghost use Rattle.vt_macros.specs.Runs.{NullIsNoObject};
 pub use vt_effects::laws::{
     changes_keep, commands_keep_order, commands_keep_shapes, references_may_stand,
 };
-pub use vt_macros::laws::{events_end_in_turn, pools_are_ready, runs_end};
+pub use vt_macros::laws::{
+    events_end_before_pending, events_end_in_turn, pools_are_ready, runs_end,
+};
 
 /// Nothing stands under NULL in the store of an acceptable pool, whatever commands and macros have done to it.
 pub fn null_is_no_object()

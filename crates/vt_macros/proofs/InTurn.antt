@@ -13,7 +13,7 @@ use Rattle.vt_chains.specs.Limits.{terminal}
 use Rattle.vt_effects.specs.Effects.{after}
 use Rattle.vt_macros.specs.Machines.{joined, joined_all, Stuck, Spent, fault, End, Ended, Sticks, or_sticks, follow_ups, run, total_budget, run_of}
 use Rattle.vt_effects.specs.Soundness.{shape_in}
-use Rattle.vt_macros.specs.Runs.{EndInTurn}
+use Rattle.vt_macros.specs.Runs.{EndInTurn, EndsBefore}
 use Rattle.vt_effects.specs.Soundness.{IsSound}
 use Rattle.vt_macros.proofs.Running.{run_none, run_step, runs_end}
 
@@ -91,3 +91,15 @@ events_end_in_turn pool m new left (r ∷ rs) acceptable totals is sound ended =
       own,
       events_end_in_turn pool own.new new others.left rs acceptable totals shape own.sound (others.ended ∙ ap (λ (s : Contents). Ended s others.left) same),
     )
+
+-- ---- commands that are pending
+
+pub events_end_before_pending : (pool : Objects) (m : Contents) (r : Raised) (pending : List Command) (more : ℕ) → IsAcceptable terminal pool
+    → CostsAreTotals (shape_of pool) → shape_in m ≡ shape_of pool → IsSound m → EndsBefore m r pending more
+events_end_before_pending pool m r pending more acceptable totals is sound =
+    let own = runs_end pool m (r ∷ []) acceptable totals is sound in
+    let steps = total_budget (shape_in m) (r ∷ []) in record {
+      own = own;
+      goes_on = ap (λ (front : List Command). run (steps + more) m (front ++ pending)) (sym (append-nil (joined (shape_in m) (listing_of r))))
+          ∙ run_on steps own.left m own.new (joined_all (shape_in m) (r ∷ [])) pending more own.ended;
+    }

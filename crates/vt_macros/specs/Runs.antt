@@ -1,13 +1,15 @@
 -- Runs end (docs/PROFILE.md, "Steps", "Costs and budgets").
-use Rattle.std.specs.Prelude.{◌≡◌, ◌≤◌, ℕ, List, [], ◌∷◌, None}
+use Rattle.std.specs.Prelude.{◌≡◌, ◌≤◌, ◌+◌, ◌++◌, ℕ, List, [], ◌∷◌, None}
 use Rattle.std.specs.FinMap as finite
+use Rattle.vt_commands.specs.declared.command.Command.{Command}
 use Rattle.vt_commands.specs.declared.raising.Raised.{Raised}
 use Rattle.vt_stores.specs.Stores.{Contents, Objects, AreStored, map_of}
 use Rattle.vt_stores.specs.Shapes.{shape_of}
 use Rattle.vt_verify.specs.Budgets.{CostsAreTotals}
+use Rattle.vt_verify.specs.Triggers.{listing_of}
 use Rattle.vt_verify.specs.Rules.{IsAcceptable, working_sets}
 use Rattle.vt_chains.specs.Limits.{terminal}
-use Rattle.vt_macros.specs.Machines.{End, Ended, total_budget, run_of}
+use Rattle.vt_macros.specs.Machines.{End, Ended, joined, run, total_budget, run_of}
 use Rattle.vt_effects.specs.Soundness.{shape_in}
 use Rattle.vt_effects.specs.Soundness.{IsSound}
 
@@ -38,6 +40,18 @@ EndInTurn store (r ∷ raised) new =
 abbrev pub EventsEndInTurn : Type 0
 EventsEndInTurn = (pool : Objects) (store new : Contents) (left : ℕ) (raised : List Raised) → IsAcceptable terminal pool → CostsAreTotals (shape_of pool)
     → shape_in store ≡ shape_of pool → IsSound store → run_of store raised ≡ Ended new left → EndInTurn store raised new
+
+-- With commands pending behind it an event ends, within its own budget of steps, and then these commands run on what it leaves,
+-- with the steps that are left.
+pub record EndsBefore (store : Contents) (r : Raised) (pending : List Command) (more : ℕ) : Type 0 where
+  pub own : Ends store (total_budget (shape_in store) (r ∷ [])) (run_of store (r ∷ []))
+  pub goes_on : run (total_budget (shape_in store) (r ∷ []) + more) store (joined (shape_in store) (listing_of r) ++ pending) ≡ run (own.left + more) own.new pending
+
+-- So does an event that a command of a macro raises: the store is in order then too, by the laws `commands_keep_order` and
+-- `commands_keep_shapes` of vt_effects.
+abbrev pub EventsEndBeforePending : Type 0
+EventsEndBeforePending = (pool : Objects) (store : Contents) (r : Raised) (pending : List Command) (more : ℕ) → IsAcceptable terminal pool
+    → CostsAreTotals (shape_of pool) → shape_in store ≡ shape_of pool → IsSound store → EndsBefore store r pending more
 
 -- The store of an acceptable pool has one working set, and its references and chains are in order.
 pub record IsReady (pool : Objects) (store : Contents) : Type 0 where
