@@ -1,5 +1,5 @@
 -- Few events are raised at once.
-use Rattle.std.proofs.Common.{◌≤◌, ◌+◌, length, ℕ, Bool, true, false, cond, eqb, [], ◌∷◌, ◌++◌, Option, Some, None, arith}
+use Rattle.std.proofs.Common.{◌≤◌, length, ℕ, Bool, true, false, cond, eqb, [], ◌∷◌, ◌++◌, Option, Some, None, arith}
 use Rattle.std.specs.FinMap as finite
 use Rattle.vt_commands.specs.declared.command.Command.{Command}
 use Rattle.vt_commands.specs.declared.command.Command.TheVariants as commands

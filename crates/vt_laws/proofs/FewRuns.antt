@@ -3,6 +3,9 @@ use Rattle.std.proofs.Common.{◌≡◌, ◌≤◌, ◌+◌, ℕ, Bool, true, fa
 use Rattle.std.specs.Option.{option_eq}
 use Rattle.vt_can.specs.declared.frames.frame.Frame.{Frame}
 use Rattle.vt_can.specs.frames.Frame.{source_of}
+use Rattle.vt_can.specs.declared.transport.sessions.Timed.{Timed}
+use Rattle.vt_can.specs.transport.Messages.{Message}
+use Rattle.vt_names.specs.Registry.{Set}
 use Rattle.vt_commands.specs.declared.command.Command.{Command}
 use Rattle.vt_commands.specs.Commands.{command_at}
 use Rattle.vt_stores.specs.Stores.{Contents}
@@ -13,7 +16,7 @@ use Rattle.vt_node.specs.Bus.{notice_of}
 use Rattle.vt_server.specs.Choosing.{choosing, shown_now, events_of_change, raised_at, ACTIVATE, DEACTIVATE}
 use Rattle.vt_laws.specs.Headline.{Run, runs_of_effect, runs_of_command, runs_of_message, runs_of_action, runs_of_operator, runs_of_event, runs_at, runs_of_acts, runs_of_settling, runs_of_hearing, runs_of_operating, runs}
 use Rattle.vt_server.specs.Lapses.{at_time, lapsed}
-use Rattle.vt_server.specs.Operators.{action_on}
+use Rattle.vt_server.specs.Operators.{action_on, is_busy}
 use Rattle.vt_server.specs.Parts.{Part, Act, Hears, Rebinds, Preloads, TpExpires, EtpExpires, SendingExpires, FallsSilent, Operates, Raises}
 use Rattle.vt_server.specs.Sessions.{came}
 use Rattle.vt_server.specs.Steps.{Event, FrameAt, ActionAt, before, acts, acted, answer_to, is_lost_by, changes, heard_at_source, selecting, at_shown}
@@ -31,42 +34,48 @@ few-append xs ys m n first second = let all = length-append xs ys in omega (arit
 
 -- ---- one at each act
 
-effect-runs : (old : Contents) (command : Command) (r : Result Contents ℕ) → length (runs_of_effect old command r) ≤ 1
-effect-runs old command (Ok middle) = omega arith
-effect-runs old command (Err bits) = omega arith
+effect-runs : (a : ℕ) (old : Contents) (command : Command) (r : Result Contents ℕ) → length (runs_of_effect a old command r) ≤ 1
+effect-runs a old command (Ok middle) = omega arith
+effect-runs a old command (Err bits) = omega arith
 
-command-runs : (o : Option SetState) (c : Option Command) → length (runs_of_command o c) ≤ 1
-command-runs None c = omega arith
-command-runs (Some state) None = omega arith
-command-runs (Some state) (Some command) = effect-runs state.objects command (effect state.objects command)
+command-runs : (a : ℕ) (o : Option SetState) (c : Option Command) → length (runs_of_command a o c) ≤ 1
+command-runs a None c = omega arith
+command-runs a (Some state) None = omega arith
+command-runs a (Some state) (Some command) = effect-runs a state.objects command (effect state.objects command)
 
-message-runs : (o : Option SetState) (message : Option (List ℕ)) → length (runs_of_message o message) ≤ 1
-message-runs o None = omega arith
-message-runs o (Some bytes) = command-runs o (command_at bytes)
+message-runs : (a : ℕ) (set : Option Set) (o : Option SetState) (message : Option (List ℕ)) → length (runs_of_message a set o message) ≤ 1
+message-runs a None o message = omega arith
+message-runs a (Some set) o None = omega arith
+message-runs a (Some set) o (Some bytes) = command-runs a o (command_at bytes)
 
-action-runs : (o : Option operating.Action) → length (runs_of_action o) ≤ 1
-action-runs None = omega arith
-action-runs (Some (operating.Refused refusal)) = omega arith
-action-runs (Some (operating.Acts message start raised)) = omega arith
+action-runs : (a : ℕ) (sending : Option (Timed Message)) (old : Contents) (o : Option operating.Action) → length (runs_of_action a sending old o) ≤ 1
+action-runs a sending old None = omega arith
+action-runs a sending old (Some (operating.Refused refusal)) = omega arith
+action-runs a sending old (Some (operating.Acts message start raised)) = cases (is_busy message sending)
+  where
+    cases : (b : Bool) → length {A = Run} (cond b [] (record { address = a; before = old; objects = start.objects; raised = raised } ∷ [])) ≤ 1
+    cases true = omega arith
+    cases false = omega arith
 
-operator-runs : (o : Option SetState) (action : SetState → Option operating.Action) → length (runs_of_operator o action) ≤ 1
-operator-runs None action = omega arith
-operator-runs (Some state) action = action-runs (action state)
+operator-runs : (a : ℕ) (sending : Option (Timed Message)) (o : Option SetState) (action : SetState → Option operating.Action)
+    → length (runs_of_operator a sending o action) ≤ 1
+operator-runs a sending None action = omega arith
+operator-runs a sending (Some state) action = action-runs a sending state.objects (action state)
 
-event-runs : (o : Option SetState) (event : ℕ) → length (runs_of_event o event) ≤ 1
-event-runs None event = omega arith
-event-runs (Some state) event = omega arith
+event-runs : (a : ℕ) (o : Option SetState) (event : ℕ) → length (runs_of_event a o event) ≤ 1
+event-runs a None event = omega arith
+event-runs a (Some state) event = omega arith
 
 act-few : (now a : ℕ) (p : Part) (h : Act) → length (runs_at now a p h) ≤ 1
-act-few now a p (Hears n f verdict) = message-runs p.place.content.pool (came now p.terminal a p.place n f).message
+act-few now a p (Hears n f verdict) = message-runs a p.set p.place.content.pool (came now p.terminal a p.place n f).message
 act-few now a p Rebinds = omega arith
 act-few now a p (Preloads contents) = omega arith
 act-few now a p TpExpires = omega arith
 act-few now a p EtpExpires = omega arith
 act-few now a p SendingExpires = omega arith
 act-few now a p FallsSilent = omega arith
-act-few now a p (Operates action shown) = operator-runs p.place.content.pool (λ state. action_on state shown action)
-act-few now a p (Raises event) = event-runs p.place.content.pool event
+act-few now a p (Operates action shown) = operator-runs a p.place.sending p.place.content.pool (λ state. action_on state shown action)
+act-few now a p (Raises event) = event-runs a p.place.content.pool event
 
 acts-few : (s : State) (hs : List (ℕ × Act)) → length (runs_of_acts s hs) ≤ length hs
 acts-few s [] = omega arith

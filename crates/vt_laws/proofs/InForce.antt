@@ -1,7 +1,7 @@
 -- A step leaves in force the pools that were accepted last and its runs end, and so does every list of inputs.
-use Rattle.std.proofs.Common.{◌≡◌, ℕ, Bool, true, false, cond, nat_eq, eqb, List, [], ◌∷◌, ◌++◌, map, Option, Some, None, is_some, refl, sym, ap, subst, ◌∙◌, inl, inr, ◌⊎◌}
+use Rattle.std.proofs.Common.{◌≡◌, ℕ, Bool, true, false, cond, nat_eq, eqb, List, [], ◌∷◌, ◌++◌, map, Option, Some, None, is_some, refl, sym, subst, ◌∙◌, inl, inr, ◌⊎◌}
 use Rattle.std.specs.Prelude.{IfSome}
-use Rattle.std.specs.List.{AllByRecursion, filter}
+use Rattle.std.specs.List.{filter}
 use Rattle.std.specs.Option.{option_eq}
 use Rattle.vt_can.specs.declared.frames.frame.Frame.{Frame}
 use Rattle.vt_can.specs.frames.Frame.{source_of}
@@ -15,7 +15,7 @@ use Rattle.vt_layout.specs.Drawings.{at_path, key_entries, mask_entries, origin}
 use Rattle.vt_node.specs.Bus.{notice_of}
 use Rattle.vt_server.specs.Choosing.{choosing, shown_now, events_of_change, raised_at, ACTIVATE, DEACTIVATE}
 use Rattle.vt_server.specs.Findings.{IsJudged, IsFound, AreFound, ends_transfer}
-use Rattle.vt_laws.specs.Headline.{Pools, IsInForce, AreInForce, accepted_at, accepted_with, accepted_by_acts, accepted_in_hearing, accepted_after, accepted_after_all, Run, EndsInTime, AllEnd, DrawsWhatIsThere, Keeps, NeverSticks, runs_at, runs_of_acts, runs_of_settling, runs_of_hearing, runs_of_operating, runs}
+use Rattle.vt_laws.specs.Headline.{Pools, IsInForce, AreInForce, accepted_at, accepted_with, accepted_by_acts, accepted_in_hearing, accepted_after, accepted_after_all, Run, AllEnd, DrawsWhatIsThere, EventsKeep, Keeps, NeverSticks, runs_at, runs_of_acts, runs_of_settling, runs_of_hearing, runs_of_operating, runs}
 use Rattle.vt_server.specs.Lapses.{at_time, lapsed, silences, silent, tp_due, etp_due, sending_due, after_tp_timeouts, after_etp_timeouts, after_timeouts}
 use Rattle.vt_server.specs.Parts.{Part, Act, Hears, Rebinds, Preloads, TpExpires, EtpExpires, SendingExpires, FallsSilent, Operates, Raises, Outcome, outcome}
 use Rattle.vt_server.specs.Places.{empty, Place}
@@ -31,20 +31,19 @@ use Rattle.vt_server.specs.declared.output.Output.{Output}
 use Rattle.vt_server.proofs.ActsAt.{AllAt, at-append, at-below, at-changes, at-heard}
 use Rattle.vt_laws.proofs.FewRuns.{few-runs}
 use Rattle.vt_server.proofs.Puts.{act-is}
-use Rattle.vt_node.proofs.ByAddress.{at-own, at-other}
-use Rattle.vt_laws.proofs.Unstuck.{Laws, IsEach, MayHappen, act-keeps, act-runs}
+use Rattle.vt_laws.proofs.Ending.{InTime, AllInTime, in-time-at, stays-at, heard-runs, act-runs}
+use Rattle.vt_laws.proofs.Unstuck.{Laws, IsEach, MayHappen, act-keeps}
 use Rattle.vt_macros.proofs.Faultless.{all_append}
-use Rattle.vt_names.proofs.Holding.{by_eq}
 
 -- what may happen in every state
-abbrev IsPlain : ℕ → Act → Type 0
+abbrev pub IsPlain : ℕ → Act → Type 0
 IsPlain a (Hears (Claim name) f verdict) = Unit {0}
 IsPlain a (Hears n f verdict) = ⊥
 IsPlain a (Raises event) = (event ≡ 2) ⊎ (event ≡ 1)
 IsPlain a (Preloads contents) = ⊥
 IsPlain a _ = Unit {0}
 
-no-message : (o : Option Set) → ends_transfer o None ≡ true → ⊥
+pub no-message : (o : Option Set) → ends_transfer o None ≡ true → ⊥
 no-message None e = cc
 no-message (Some set) e = cc
 
@@ -70,7 +69,7 @@ no-end : (o : Option Set) (verdict : Verdict) (last : Option Contents) → accep
 no-end None verdict last = refl
 no-end (Some set) verdict last = refl
 
-plain-accepts : (now a : ℕ) (p : Part) (h : Act) (last : Option Contents) → IsPlain a h → accepted_at now a p h last ≡ last
+pub plain-accepts : (now a : ℕ) (p : Part) (h : Act) (last : Option Contents) → IsPlain a h → accepted_at now a p h last ≡ last
 plain-accepts now a p (Hears (Claim name) f verdict) last plain = no-end p.set verdict last
 plain-accepts now a p (Hears ClaimRequest f verdict) last plain = absurd plain
 plain-accepts now a p (Hears (Master count) f verdict) last plain = absurd plain
@@ -90,13 +89,7 @@ plain-accepts now a p (Raises event) last plain = refl
 
 -- ---- what was accepted, address by address
 
-stays-at : (pools : Pools) (a : ℕ) (x : Option Contents) → x ≡ pools a → (q : ℕ) → with_at a x pools q ≡ pools q
-stays-at pools a x is q =
-    by_eq q a
-    (λ same. ap (with_at a x pools) same ∙ at-own a pools x ∙ is ∙ ap pools (sym same))
-    (λ other. at-other a q pools x other)
-
-plain-stay : (pools : Pools) (s : State) (hs : List (ℕ × Act)) → AllAt IsPlain hs → (q : ℕ) → accepted_by_acts s hs pools q ≡ pools q
+pub plain-stay : (pools : Pools) (s : State) (hs : List (ℕ × Act)) → AllAt IsPlain hs → (q : ℕ) → accepted_by_acts s hs pools q ≡ pools q
 plain-stay pools s [] plain q = refl
 plain-stay pools s (h ∷ hs) plain q =
     let x = accepted_at s.now h.0 (part h.0 s) h.1 (pools h.0) in
@@ -106,7 +99,7 @@ plain-stay pools s (h ∷ hs) plain q =
 at-each : (pools others : Pools) (s : State) → ((q : ℕ) → others q ≡ pools q) → AreInForce others s → AreInForce pools s
 at-each pools others s same is q = subst (λ (last : Option Contents). IsEach last (pool_of s q)) (same q) (is q)
 
-silences-plain : (sets : List Set) → AllAt IsPlain (map (λ set. (set.address, FallsSilent)) sets)
+pub silences-plain : (sets : List Set) → AllAt IsPlain (map (λ set. (set.address, FallsSilent)) sets)
 silences-plain [] = tt
 silences-plain (set ∷ sets) = (tt, silences-plain sets)
 
@@ -114,14 +107,14 @@ raised-plain : (o : Option ℕ) (event : ℕ) → (event ≡ 2) ⊎ (event ≡ 1
 raised-plain None event is = tt
 raised-plain (Some a) event is = (is, tt)
 
-change-plain : (was now : Option ℕ) → AllAt IsPlain (events_of_change was now)
+pub change-plain : (was now : Option ℕ) → AllAt IsPlain (events_of_change was now)
 change-plain was now = cases (option_eq nat_eq was now)
   where
     cases : (b : Bool) → AllAt IsPlain (cond b [] (raised_at was DEACTIVATE ++ raised_at now ACTIVATE))
     cases true = tt
     cases false = at-append IsPlain (raised_at was DEACTIVATE) (raised_at now ACTIVATE) (raised-plain was DEACTIVATE (inl refl)) (raised-plain now ACTIVATE (inr refl))
 
-operated-plain : (o : Option ℕ) (action : ActionValue) (shown : Bool) → AllAt IsPlain (at_shown o (Operates action shown))
+pub operated-plain : (o : Option ℕ) (action : ActionValue) (shown : Bool) → AllAt IsPlain (at_shown o (Operates action shown))
 operated-plain None action shown = tt
 operated-plain (Some a) action shown = (tt, tt)
 
@@ -156,11 +149,11 @@ module _ (laws : Laws) where
   acts-in-force pools s [] plain is = is
   acts-in-force pools s (h ∷ hs) plain is = acts-in-force pools (after_act s h.0 h.1) hs plain.1 (plain-in-force pools s h.0 h.1 plain.0 is)
 
-  acts-run : (pools : Pools) (s : State) (hs : List (ℕ × Act)) → AllAt IsPlain hs → AreInForce pools s → AllByRecursion EndsInTime (runs_of_acts s hs)
+  acts-run : (pools : Pools) (s : State) (hs : List (ℕ × Act)) → AllAt IsPlain hs → AreInForce pools s → AllInTime pools (runs_of_acts s hs)
   acts-run pools s [] plain is = tt
   acts-run pools s (h ∷ hs) plain is =
-      all_append EndsInTime (runs_at s.now h.0 (part h.0 s) h.1) (runs_of_acts (after_act s h.0 h.1) hs)
-      (act-runs laws (pools h.0) s.now h.0 (part h.0 s) h.1 (is h.0))
+      all_append (InTime pools) (runs_at s.now h.0 (part h.0 s) h.1) (runs_of_acts (after_act s h.0 h.1) hs)
+      (act-runs laws pools h.0 s.now (part h.0 s) h.1 (is h.0))
       (acts-run pools (after_act s h.0 h.1) hs plain.1 (plain-in-force pools s h.0 h.1 plain.0 is))
 
   -- ---- the parts of a step
@@ -180,18 +173,18 @@ module _ (laws : Laws) where
   unfolding settled
   settled-in-force pools s is = acts-in-force pools (choosing s) (events_of_change s.shown (shown_now s)) (change-plain s.shown (shown_now s)) is
 
-  settling-runs : (pools : Pools) (s : State) → AreInForce pools s → AllByRecursion EndsInTime (runs_of_settling s)
+  settling-runs : (pools : Pools) (s : State) → AreInForce pools s → AllInTime pools (runs_of_settling s)
   settling-runs pools s is = acts-run pools (choosing s) (events_of_change s.shown (shown_now s)) (change-plain s.shown (shown_now s)) is
 
   -- what a frame makes happen, where its source is judged rightly
   record Happens (pools : Pools) (s : State) (hs : List (ℕ × Act)) : Type 0 where
     pub in_force : AreInForce (accepted_by_acts s hs pools) (after_acts s hs)
-    pub run : AllByRecursion EndsInTime (runs_of_acts s hs)
+    pub run : AllInTime (accepted_by_acts s hs pools) (runs_of_acts s hs)
 
   plain-happen : (pools : Pools) (s : State) (hs : List (ℕ × Act)) → AllAt IsPlain hs → AreInForce pools s → Happens pools s hs
   plain-happen pools s hs plain is = record {
     in_force = at-each (accepted_by_acts s hs pools) pools (after_acts s hs) (λ q. sym (plain-stay pools s hs plain q)) (acts-in-force pools s hs plain is);
-    run = acts-run pools s hs plain is;
+    run = in-time-at pools (accepted_by_acts s hs pools) (plain-stay pools s hs plain) (runs_of_acts s hs) (acts-run pools s hs plain is);
   }
 
   one-happens : (pools : Pools) (s : State) (source : ℕ) (n : Notice) (f : Frame) (verdict : Verdict) → IsJudged s.now source (part source s) n f verdict → AreInForce pools s
@@ -202,7 +195,10 @@ module _ (laws : Laws) where
       cases true = record { in_force = is; run = tt }
       cases false = record {
         in_force = act-in-force pools s source (Hears n f verdict) judged is;
-        run = all_append EndsInTime (runs_at s.now source (part source s) (Hears n f verdict)) [] (act-runs laws (pools source) s.now source (part source s) (Hears n f verdict) (is source)) tt;
+        run =
+            let later : Pools = with_at source (accepted_at s.now source (part source s) (Hears n f verdict) (pools source)) pools in
+            all_append (InTime later) (runs_at s.now source (part source s) (Hears n f verdict)) []
+            (heard-runs laws pools source s.now (part source s) n f verdict (is source)) tt;
       }
 
   frame-happens : (pools : Pools) (s : State) (source : ℕ) (n : Notice) (f : Frame) (verdict : Verdict) → IsJudged s.now source (part source s) n f verdict → AreInForce pools s
@@ -223,7 +219,7 @@ module _ (laws : Laws) where
   -- ---- a step
 
   record Promised (runs : List Run) (pools : Pools) (after : State) : Type 0 where
-    pub ends : AllByRecursion EndsInTime runs
+    pub ends : AllInTime pools runs
     pub in_force : AreInForce pools after
 
   hearing-promised : (pools : Pools) (old s : State) (source : ℕ) (n : Notice) (f : Frame) (verdict : Verdict)
@@ -243,7 +239,7 @@ module _ (laws : Laws) where
       cases : (b : Bool) → Promised (cond b [] (runs_of_acts (before s source n) (acts s source n f verdict) ++ runs_of_settling t)) (cond b pools later) (cond b (losing s) (acting old s source n f verdict)).after
       cases true = record { ends = tt; in_force = is }
       cases false = record {
-        ends = all_append EndsInTime (runs_of_acts (before s source n) (acts s source n f verdict)) (runs_of_settling t) happens.run (settling-runs later t happens.in_force);
+        ends = all_append (InTime later) (runs_of_acts (before s source n) (acts s source n f verdict)) (runs_of_settling t) happens.run (settling-runs later t happens.in_force);
         in_force = settled-in-force later t happens.in_force;
       }
 
@@ -289,14 +285,14 @@ module _ (laws : Laws) where
       cases : (b : Bool) → Promised (cond b [] (runs_of_operating u hs)) pools (cond b (no_step s) (step_action s action shown)).after
       cases true = record { ends = tt; in_force = is }
       cases false = record {
-        ends = all_append EndsInTime (runs_of_acts u hs) (runs_of_settling (after_acts u hs)) (acts-run pools u hs (operated-plain s.shown action shown) selected) (settling-runs pools (after_acts u hs) operated);
+        ends = all_append (InTime pools) (runs_of_acts u hs) (runs_of_settling (after_acts u hs)) (acts-run pools u hs (operated-plain s.shown action shown) selected) (settling-runs pools (after_acts u hs) operated);
         in_force = settled-in-force pools (after_acts u hs) operated;
       }
 
   -- ---- lists of inputs
 
   record AllPromised (pools : Pools) (s : State) (es : List Event) : Type 0 where
-    pub ends : AllEnd s es
+    pub ends : AllEnd pools s es
     pub in_force : AreInForce (accepted_after_all s es pools) (after_all s es)
 
   all-promised : (pools : Pools) (s : State) (es : List Event) → AreFound s es → AreInForce pools s → AllPromised pools s es
@@ -310,6 +306,7 @@ module _ (laws : Laws) where
   drawn-in-force last state is =
       let nameless = laws.nameless is.accepted state.objects is.verified.stored is.ready in record {
         never_sticks = λ mask. laws.drawings state.objects mask is.ready.sound;
+        finds_all = λ mask. laws.finds state.objects mask is.ready.sound;
         in_mask = λ mask path. if-some (at_path state.objects (mask_entries state.objects mask) origin path)
             (λ e there. laws.paths.in_mask state.objects mask path e is.ready.sound nameless there);
         of_keys = λ mask path. if-some (at_path state.objects (key_entries state.objects mask) origin path)
@@ -323,22 +320,24 @@ module _ (laws : Laws) where
   none-yet : (s : State) → ((a : ℕ) → s.places a ≡ empty) → AreInForce (λ address. None) s
   none-yet s first q = subst (λ (p : Place). IsEach None p.content.pool) (sym (first q)) tt
 
+  events-keep : (pools : Pools) (old : State) (events : List Event) → AreInForce pools old → AreFound old events → EventsKeep pools old events
+  events-keep pools old events is found =
+      let promised = all-promised pools old events found is in
+      let later : Pools = accepted_after_all old events pools in
+      record {
+        runs_end = promised.ends;
+        in_force = promised.in_force;
+        drawn = λ address. each-drawn (later address) (pool_of (after_all old events) address) (promised.in_force address);
+      }
+
   keeps : (pools : Pools) (old : State) (inputs : List Input) (new : State) (sent_before sent_after : List Output) → AreInForce pools old
       → TakesInputs old inputs new sent_before sent_after → Keeps pools old inputs new sent_before sent_after
-  keeps pools old inputs new sent_before sent_after is takes =
-      let promised = all-promised pools old takes.events takes.found is in
-      let later : Pools = accepted_after_all old takes.events pools in
-      let in-force : AreInForce later new = subst (λ (t : State). AreInForce later t) (sym takes.state) promised.in_force in
-      record {
-        takes = takes;
-        runs_end = promised.ends;
-        in_force = in-force;
-        drawn = λ address. each-drawn (later address) (pool_of new address) (in-force address);
-      }
+  keeps pools old inputs new sent_before sent_after is takes = record { takes = takes; keeps = events-keep pools old takes.events is takes.found }
 
   pub never-sticks : NeverSticks
   never-sticks = record {
     first = none-yet;
     preloaded = λ pools s address pool verified is. act-in-force pools s address (Preloads (map_of pool)) (pool, verified, refl) is;
+    events = events-keep;
     inputs = keeps;
   }

@@ -4,7 +4,7 @@ use Rattle.std.proofs.lemmas.Option.{same_Some}
 use Rattle.std.specs.List.{filter, AllByRecursion}
 use Rattle.std.specs.Option.{option_eq}
 use Rattle.vt_can.specs.declared.frames.frame.Frame.{Frame}
-use Rattle.vt_names.specs.Claims.{Claimed, IsRising, OtherHoldersStay, address_of, holder_of}
+use Rattle.vt_names.specs.Claims.{Claimed, IsRising, OtherHoldersStay, address_of}
 use Rattle.vt_names.specs.Registry.{AreApart, Set, set_at, with_set, without}
 use Rattle.vt_laws.specs.Happenings.{NameIsHeld, SetIsHeld}
 use Rattle.vt_server.specs.Parts.{Act, Hears, Rebinds, unchanged, without_set, with_holder_name, after_change, after_claim_heard}

@@ -1,8 +1,7 @@
--- Pools stay in force where something happens at an address, and the runs on them end.
+-- Pools stay in force where something happens at an address, and a run on one that is in force ends in time.
 use Rattle.std.proofs.Common.{◌≡◌, ◌≤◌, ◌+◌, length, ℕ, Bool, true, false, cond, eqb, List, [], ◌∷◌, ◌++◌, Option, Some, None, Result, Ok, Err, refl, sym, ap, subst, ◌∙◌, inl, inr, ◌⊎◌, arith, append-nil}
 use Rattle.std.proofs.lemmas.Bool.{eqb-true}
 use Rattle.std.specs.Prelude.{IfSome}
-use Rattle.std.specs.List.{AllByRecursion}
 use Rattle.std.specs.Option.{option_map}
 use Rattle.std.specs.FinMap as finite
 use Rattle.vt_can.specs.declared.frames.frame.Frame.{Frame}
@@ -14,7 +13,7 @@ use Rattle.vt_commands.specs.declared.event.Event.{Event}
 use Rattle.vt_commands.specs.declared.event.Event.TheVariants as events
 use Rattle.vt_commands.specs.declared.raising.Raised.{Raised}
 use Rattle.vt_commands.specs.Commands.{command_at}
-use Rattle.vt_commands.specs.Events.{event_at, event_number, raise}
+use Rattle.vt_commands.specs.Events.{event_number, raise}
 use Rattle.vt_stores.specs.Stores.{Contents, Objects, map_of}
 use Rattle.vt_verify.specs.Budgets.{budget}
 use Rattle.vt_verify.specs.Rules.{IsVerified, working_sets}
@@ -33,10 +32,11 @@ use Rattle.vt_machine.specs.Operating as operating
 use Rattle.vt_macros.specs.Runs.{Ends, EventsEndInTurn, IsReady, NullIsNoObject, RunsEnd, PoolsAreReady}
 use Rattle.vt_effects.specs.Soundness.{CommandsKeepOrder, CommandsKeepShapes, IsSound}
 use Rattle.vt_layout.specs.Drawings.{DrawingsNeverStick, PathsAreChained}
+use Rattle.vt_layout.specs.LookUps.{DrawingsFindAll}
 use Rattle.vt_server.specs.Commands.{store_of, after_done, content_after, deletes, state_after}
 use Rattle.vt_server.specs.Findings.{IsJudged, ends_transfer}
 use Rattle.vt_server.specs.Handling.{handled, ends_pool, transferred, end_handled, asked, commanded, TRANSFER, END_OF_POOL}
-use Rattle.vt_laws.specs.Headline.{IsInForce, EndsInTime, accepted_at, accepted_by, accepted_with, runs_of_effect, runs_of_command, runs_of_message, runs_of_action, runs_of_operator, runs_of_event, runs_at, named}
+use Rattle.vt_laws.specs.Headline.{IsInForce, EndsInTime, accepted_at, accepted_by, accepted_with}
 use Rattle.vt_node.specs.Messages.{technical_reply}
 use Rattle.vt_server.specs.Operators.{action_on, is_busy}
 use Rattle.vt_server.specs.Parts.{Part, Act, Hears, Rebinds, Preloads, TpExpires, EtpExpires, SendingExpires, FallsSilent, Operates, Raises, Outcome, outcome, after_action, after_change, after_claim_heard, after_master, after_member, after_message, after_operator, raised_on, stays_under}
@@ -45,7 +45,7 @@ use Rattle.vt_server.specs.Sessions.{came}
 use Rattle.vt_server.specs.Transfers.{Verdict, Accepts, Faulty, Refuses, IsVerdict, ended, merged, with_objects_of}
 use Rattle.vt_node.specs.declared.bus.Notice.{Notice}
 use Rattle.vt_node.specs.declared.bus.Notice.TheVariants.{Claim, ClaimRequest, Master, Member, Message, Tp, Etp, Nothing}
-use Rattle.vt_laws.proofs.FewRaised.{few-events, few-selected, few-entered, few-named}
+use Rattle.vt_laws.proofs.FewRaised.{few-selected, few-entered}
 
 -- what the crates below promise
 pub record Laws : Type 0 where
@@ -58,6 +58,7 @@ pub record Laws : Type 0 where
   pub turns : EventsEndInTurn
   pub nameless : NullIsNoObject
   pub drawings : DrawingsNeverStick
+  pub finds : DrawingsFindAll
   pub paths : PathsAreChained
 
 abbrev pub IsEach : Option Contents → Option SetState → Type 0
@@ -78,17 +79,26 @@ MayHappen now a p (Raises event) = (event ≡ 2) ⊎ (event ≡ 1)
 MayHappen now a p (Preloads contents) = (pool : Objects) × IsVerified pool × (contents ≡ map_of pool)
 MayHappen now a p _ = Unit {0}
 
+-- the run of a macro's commands is that of the list of one event
+pub one-run : (store : Contents) (b : ℕ) (cs : List Command) → store_of (run b store cs) ≡ store_of (run (0 + b) store (cs ++ []))
+one-run store b cs = ap (λ (n : ℕ). store_of (run n store cs)) (plus-zero b) ∙ ap (λ (l : List Command). store_of (run (0 + b) store l)) (sym (append-nil cs))
+  where
+    plus-zero : (n : ℕ) → n ≡ 0 + n
+    plus-zero n = omega arith
+
 module _ (laws : Laws) (last : Option Contents) where
   -- ---- runs
 
-  run-ends : (pool : Objects) (store : Contents) (raised : List Raised) → IsVerified pool → IsReady pool store → length raised ≤ 3
-      → EndsInTime (record { objects = store; raised = raised })
-  run-ends pool store raised verified ready few =
+  -- a run of few events on the pool that was accepted last
+  pub run-ends : (a : ℕ) (before : Contents) (pool : Objects) (store : Contents) (raised : List Raised) → last ≡ Some (map_of pool) → IsVerified pool → IsReady pool store
+      → length raised ≤ 3 → EndsInTime last (record { address = a; before = before; objects = store; raised = raised })
+  run-ends a before pool store raised is-last verified ready few =
       let ends : Ends store (total_budget (shape_of pool) raised) (run_of store raised) =
       subst (λ (s : Shape). Ends store (total_budget s raised) (run_of store raised)) ready.shape
       (laws.runs pool store raised verified.acceptable verified.totals ready.shape ready.sound) in
       record {
         accepted = pool;
+        is_last = is-last;
         verified = verified;
         ready = ready;
         ends = ends;
@@ -120,7 +130,7 @@ module _ (laws : Laws) (last : Option Contents) where
 
   -- ---- commands
 
-  middle-ready : (pool : Objects) (old : Contents) (command : Command) (middle : Contents) → effect old command ≡ Ok middle → IsReady pool old → IsReady pool middle
+  pub middle-ready : (pool : Objects) (old : Contents) (command : Command) (middle : Contents) → effect old command ≡ Ok middle → IsReady pool old → IsReady pool middle
   middle-ready pool old command middle done ready =
       let is : after old command ≡ middle = ap (left old) done in
       moved-ready pool old middle (ap shape_in (sym is) ∙ laws.shapes old command) (subst IsSound is (laws.order old command ready.sound)) ready
@@ -131,15 +141,6 @@ module _ (laws : Laws) (last : Option Contents) where
       let ready = middle-ready is.accepted state.objects command middle done is.ready in
       with-ready state (store_of (run_of middle (events_of state.objects command))) is (ran-ready is.accepted middle (events_of state.objects command) is.verified ready)
   done-in-force state command is (Err bits) done = with-ready state state.objects is is.ready
-
-  done-runs : (state : SetState) (command : Command) → IsInForce last state → (r : Result Contents ℕ) → effect state.objects command ≡ r
-      → AllByRecursion EndsInTime (runs_of_effect state.objects command r)
-  done-runs state command is (Ok middle) done = (
-    run-ends is.accepted middle (events_of state.objects command) is.verified (middle-ready is.accepted state.objects command middle done is.ready)
-        (few-events state.objects command),
-    tt,
-  )
-  done-runs state command is (Err bits) done = tt
 
   each-done : (command : Command) (o : Option SetState) → IsEach last o → IsEach last (option_map (state_after command) o)
   each-done command None is = tt
@@ -228,18 +229,9 @@ module _ (laws : Laws) (last : Option Contents) where
   heard-keeps now a p Etp f verdict judged is =
       let c = came now p.terminal a (heard_at now p.place) Etp f in message-keeps a (record p { place = c.place }) verdict p.set c.message is judged
 
-  message-runs : (o : Option SetState) (message : Option (List ℕ)) → IsEach last o → AllByRecursion EndsInTime (runs_of_message o message)
-  message-runs o None is = tt
-  message-runs o (Some bytes) is = cases o is (command_at bytes)
-    where
-      cases : (o : Option SetState) → IsEach last o → (c : Option Command) → AllByRecursion EndsInTime (runs_of_command o c)
-      cases None is c = tt
-      cases (Some state) is None = tt
-      cases (Some state) is (Some command) = done-runs state command is (effect state.objects command) refl
-
   -- ---- the operator
 
-  abbrev ActsInForce : Option operating.Action → Type 0
+  abbrev pub ActsInForce : Option operating.Action → Type 0
   ActsInForce (Some (operating.Acts message start raised)) = IsInForce last start × (length raised ≤ 3)
   ActsInForce _ = Unit {0}
 
@@ -294,7 +286,7 @@ module _ (laws : Laws) (last : Option Contents) where
     few-entered id _,
   )
 
-  action-in-force : (state : SetState) (shown : Bool) (action : ActionValue) → IsInForce last state → ActsInForce (action_on state shown action)
+  pub action-in-force : (state : SetState) (shown : Bool) (action : ActionValue) → IsInForce last state → ActsInForce (action_on state shown action)
   action-in-force state shown (Press id) is = press-in-force shown state (active_in state.objects) id is
   action-in-force state shown (Release id) is = release-in-force state id is
   action-in-force state shown (Select id) is = select-in-force shown state id is
@@ -316,22 +308,7 @@ module _ (laws : Laws) (last : Option Contents) where
   operator-keeps now a p action shown None is each = is
   operator-keeps now a p action shown (Some state) is each = acted-keeps now a p (action_on state shown action) is (action-in-force state shown action each)
 
-  operator-runs : (shown : Bool) (action : ActionValue) (o : Option SetState) → IsEach last o → AllByRecursion EndsInTime (runs_of_operator o (λ state. action_on state shown action))
-  operator-runs shown action None each = tt
-  operator-runs shown action (Some state) each = cases (action_on state shown action) (action-in-force state shown action each)
-    where
-      cases : (o : Option operating.Action) → ActsInForce o → AllByRecursion EndsInTime (runs_of_action o)
-      cases None acts = tt
-      cases (Some (operating.Refused refusal)) acts = tt
-      cases (Some (operating.Acts message start raised)) acts = (run-ends acts.0.accepted start.objects raised acts.0.verified acts.0.ready acts.1, tt)
-
   -- ---- events of the Working Set
-
-  one-run : (store : Contents) (b : ℕ) (cs : List Command) → store_of (run b store cs) ≡ store_of (run (0 + b) store (cs ++ []))
-  one-run store b cs = ap (λ (n : ℕ). store_of (run n store cs)) (plus-zero b) ∙ ap (λ (l : List Command). store_of (run (0 + b) store l)) (sym (append-nil cs))
-    where
-      plus-zero : (n : ℕ) → n ≡ 0 + n
-      plus-zero n = omega arith
 
   raised-number : (state : SetState) (e : Event) → IsInForce last state → IsInForce last (raised_on state (event_number e))
   raised-number state e is =
@@ -350,11 +327,6 @@ module _ (laws : Laws) (last : Option Contents) where
   raised-keeps event which None is = tt
   raised-keeps event which (Some state) is = raised-in-force state event which is
 
-  event-runs : (event : ℕ) (o : Option SetState) → IsEach last o → AllByRecursion EndsInTime (runs_of_event o event)
-  event-runs event None is = tt
-  event-runs event (Some state) is =
-      (run-ends is.accepted state.objects (named (working_set_in state.objects) (event_at event)) is.verified is.ready (few-named (working_set_in state.objects) (event_at event)), tt)
-
   -- ---- what happens at an address
 
   changed-keeps : (p : Part) (o : Option Set) → IsEach last p.place.content.pool → IsEach last (after_change p o).place.content.pool
@@ -372,14 +344,3 @@ module _ (laws : Laws) (last : Option Contents) where
   act-keeps now a p FallsSilent may is = tt
   act-keeps now a p (Operates action shown) may is = operator-keeps now a p action shown p.place.content.pool is is
   act-keeps now a p (Raises event) may is = raised-keeps event may p.place.content.pool is
-
-  pub act-runs : (now a : ℕ) (p : Part) (h : Act) → IsEach last p.place.content.pool → AllByRecursion EndsInTime (runs_at now a p h)
-  act-runs now a p (Hears n f verdict) is = message-runs p.place.content.pool (came now p.terminal a p.place n f).message is
-  act-runs now a p Rebinds is = tt
-  act-runs now a p (Preloads contents) is = tt
-  act-runs now a p TpExpires is = tt
-  act-runs now a p EtpExpires is = tt
-  act-runs now a p SendingExpires is = tt
-  act-runs now a p FallsSilent is = tt
-  act-runs now a p (Operates action shown) is = operator-runs shown action p.place.content.pool is
-  act-runs now a p (Raises event) is = event-runs event p.place.content.pool is

@@ -1,13 +1,13 @@
 -- One address among all: what happens there, and what it makes of that (docs/PROFILE.md, "One address").
-use Rattle.std.specs.Prelude.{◌≡◌, ◌≢◌, ◌<◌, ℕ, ◌==◌, ◌&&◌, Bool, true, false, if◌then◌else◌, List, [], ◌∷◌, ◌++◌, Option, Some, None, nat_eq, is_some}
+use Rattle.std.specs.Prelude.{◌≡◌, ◌≢◌, ℕ, ◌==◌, ◌&&◌, Bool, true, false, if◌then◌else◌, List, [], ◌∷◌, ◌++◌, Option, Some, None, nat_eq, is_some}
 use Rattle.std.specs.List.{AllZip}
 use Rattle.std.specs.Option.{option_eq}
 use Rattle.vt_can.specs.declared.frames.frame.Frame.{Frame}
 use Rattle.vt_can.specs.frames.Frame.{source_of}
 use Rattle.vt_can.specs.lines.Actions.{ActionValue}
 use Rattle.vt_can.specs.transport.Sessions.{is_overdue}
-use Rattle.vt_names.specs.Claims.{Claimed, IsRising, holder_of}
-use Rattle.vt_names.specs.Registry.{AreApart, Set, set_at}
+use Rattle.vt_names.specs.Claims.{Claimed, holder_of}
+use Rattle.vt_names.specs.Registry.{Set, set_at}
 use Rattle.vt_stores.specs.Stores.{Contents}
 use Rattle.vt_node.specs.Bus.{notice_of, frame_notice}
 use Rattle.vt_server.specs.Choosing.{shown_now, ACTIVATE, DEACTIVATE}
@@ -15,10 +15,10 @@ use Rattle.vt_server.specs.Findings.{AreFound}
 use Rattle.vt_server.specs.Lapses.{at_time, lapsed}
 use Rattle.vt_node.specs.Watches.{is_silent}
 use Rattle.vt_server.specs.Orderly.{IsOrderly, IsOther}
-use Rattle.vt_server.specs.Parts.{Part, Outcome, Act, Hears, Rebinds, Preloads, TpExpires, EtpExpires, SendingExpires, FallsSilent, Operates, Raises, outcome, untimed_part}
+use Rattle.vt_server.specs.Parts.{Part, Act, Hears, Rebinds, Preloads, TpExpires, EtpExpires, SendingExpires, FallsSilent, Operates, Raises, outcome, untimed_part}
 use Rattle.vt_laws.specs.Responses.{Response, without_effect, response_of, frames_to}
 use Rattle.vt_server.specs.Steps.{Event, FrameAt, ActionAt, step, after_all, sent_by_all, acted, selecting, at_shown, hear_claim, answer_to, is_lost_by, preloading}
-use Rattle.vt_server.specs.Terminals.{State, Sent, ToOne, ToAll, Refused, holder, part, after_acts}
+use Rattle.vt_server.specs.Terminals.{State, holder, part, after_acts}
 use Rattle.vt_server.specs.Transfers.{Verdict}
 
 -- A session with the address is silent for too long: one in which it sends, by either protocol, or the one in which it is

@@ -4,7 +4,10 @@ use Rattle.std.specs.Prelude.{◌≡◌, ◌≤◌, ℕ, Bool, length, if◌then
 use Rattle.std.specs.List.{AllByRecursion}
 use Rattle.std.specs.FinMap as finite
 use Rattle.vt_can.specs.declared.frames.frame.Frame.{Frame}
+use Rattle.vt_can.specs.declared.transport.sessions.Timed.{Timed}
 use Rattle.vt_can.specs.frames.Frame.{source_of}
+use Rattle.vt_can.specs.transport.Messages.{Message}
+use Rattle.vt_names.specs.Registry.{Set}
 use Rattle.vt_commands.specs.declared.command.Command.{Command}
 use Rattle.vt_commands.specs.declared.event.Event as objects
 use Rattle.vt_commands.specs.declared.raising.Raised.{Raised}
@@ -20,16 +23,17 @@ use Rattle.vt_machine.specs.Operating as operating
 use Rattle.vt_macros.specs.Runs.{EndInTurn, Ends, IsReady}
 use Rattle.vt_shown.specs.Showing.{soft_key_mask_of}
 use Rattle.vt_layout.specs.Drawings.{IsChained, Sticks, at_path, key_entries, mask_entries, origin, passed}
+use Rattle.vt_layout.specs.LookUps.{FindsAll}
 use Rattle.vt_node.specs.Bus.{notice_of}
 use Rattle.vt_server.specs.Choosing.{choosing, shown_now, events_of_change}
-use Rattle.vt_server.specs.Findings.{ends_transfer}
+use Rattle.vt_server.specs.Findings.{AreFound, ends_transfer}
 use Rattle.vt_server.specs.Lapses.{at_time, lapsed}
-use Rattle.vt_server.specs.Operators.{action_on}
+use Rattle.vt_server.specs.Operators.{action_on, is_busy}
 use Rattle.vt_server.specs.Parts.{Part, Act, Hears, Preloads, Operates, Raises}
 use Rattle.vt_server.specs.Places.{empty}
 use Rattle.vt_server.specs.Sessions.{came}
 use Rattle.vt_server.specs.States.{TakesInputs}
-use Rattle.vt_server.specs.Steps.{Event, FrameAt, ActionAt, step, before, acts, acted, answer_to, is_lost_by, selecting, at_shown, preloading}
+use Rattle.vt_server.specs.Steps.{Event, FrameAt, ActionAt, step, after_all, before, acts, acted, answer_to, is_lost_by, selecting, at_shown, preloading}
 use Rattle.vt_server.specs.Terminals.{State, pool_of, part, after_act, after_acts}
 use Rattle.vt_node.specs.ByAddress.{with_at}
 use Rattle.vt_server.specs.Transfers.{Verdict, Accepts}
@@ -93,46 +97,57 @@ accepted_after_all s (e ∷ events) pools = accepted_after_all (step s e).after 
 
 -- ---- the runs of the machine in the course of an input
 
--- the events that are raised, on the objects that the machine begins with
+-- A run of the machine: the objects that the set of an address had, those that a command or an action made of them, or the same at
+-- an event of the Working Set, and the events that are raised on these.
 pub record Run : Type 0 where
+  pub address : ℕ
+  pub before : Contents
   pub objects : Contents
   pub raised : List Raised
 
 -- A command that is done raises its events on the objects that it leaves.
-abbrev pub runs_of_effect : Contents → Command → Result Contents ℕ → List Run
-runs_of_effect old command (Ok middle) = record { objects = middle; raised = events_of old command } ∷ []
-runs_of_effect old command (Err bits) = []
+abbrev pub runs_of_effect : ℕ → Contents → Command → Result Contents ℕ → List Run
+runs_of_effect address old command (Ok middle) = record { address = address; before = old; objects = middle; raised = events_of old command } ∷ []
+runs_of_effect address old command (Err bits) = []
 
-abbrev pub runs_of_command : Option SetState → Option Command → List Run
-runs_of_command (Some state) (Some command) = runs_of_effect state.objects command (effect state.objects command)
-runs_of_command _ _ = []
+abbrev pub runs_of_command : ℕ → Option SetState → Option Command → List Run
+runs_of_command address (Some state) (Some command) = runs_of_effect address state.objects command (effect state.objects command)
+runs_of_command address _ _ = []
 
-abbrev pub runs_of_message : Option SetState → Option (List ℕ) → List Run
-runs_of_message pool None = []
-runs_of_message pool (Some bytes) = runs_of_command pool (command_at bytes)
+-- Only the master of a set is heard.
+abbrev pub runs_of_message : ℕ → Option Set → Option SetState → Option (List ℕ) → List Run
+runs_of_message address (Some set) pool (Some bytes) = runs_of_command address pool (command_at bytes)
+runs_of_message address _ pool _ = []
 
--- An action that is not refused makes its own change first.
-abbrev pub runs_of_action : Option operating.Action → List Run
-runs_of_action (Some (operating.Acts message start raised)) = record { objects = start.objects; raised = raised } ∷ []
-runs_of_action _ = []
+-- An action makes its own change first. One that is refused makes none, as one whose message is long while another is sent.
+abbrev pub runs_of_action : ℕ → Option (Timed Message) → Contents → Option operating.Action → List Run
+runs_of_action address sending old (Some (operating.Acts message start raised)) =
+    if is_busy message sending then []
+    else record { address = address; before = old; objects = start.objects; raised = raised } ∷ []
+runs_of_action address sending old _ = []
 
-abbrev pub runs_of_operator : Option SetState → (SetState → Option operating.Action) → List Run
-runs_of_operator None action = []
-runs_of_operator (Some state) action = runs_of_action (action state)
+abbrev pub runs_of_operator : ℕ → Option (Timed Message) → Option SetState → (SetState → Option operating.Action) → List Run
+runs_of_operator address sending None action = []
+runs_of_operator address sending (Some state) action = runs_of_action address sending state.objects (action state)
 
 -- an event of the Working Set
 abbrev pub named : ℕ → Option objects.Event → List Raised
 named id None = []
 named id (Some event) = raise id event ∷ []
 
-abbrev pub runs_of_event : Option SetState → ℕ → List Run
-runs_of_event None event = []
-runs_of_event (Some state) event = record { objects = state.objects; raised = named (working_set_in state.objects) (event_at event) } ∷ []
+abbrev pub runs_of_event : ℕ → Option SetState → ℕ → List Run
+runs_of_event address None event = []
+runs_of_event address (Some state) event = record {
+  address = address;
+  before = state.objects;
+  objects = state.objects;
+  raised = named (working_set_in state.objects) (event_at event);
+} ∷ []
 
 abbrev pub runs_at : ℕ → ℕ → Part → Act → List Run
-runs_at now address p (Hears notice frame verdict) = runs_of_message p.place.content.pool (came now p.terminal address p.place notice frame).message
-runs_at now address p (Operates action shown) = runs_of_operator p.place.content.pool (λ state. action_on state shown action)
-runs_at now address p (Raises event) = runs_of_event p.place.content.pool event
+runs_at now address p (Hears notice frame verdict) = runs_of_message address p.set p.place.content.pool (came now p.terminal address p.place notice frame).message
+runs_at now address p (Operates action shown) = runs_of_operator address p.place.sending p.place.content.pool (λ state. action_on state shown action)
+runs_at now address p (Raises event) = runs_of_event address p.place.content.pool event
 runs_at now address p _ = []
 
 abbrev pub runs_of_acts : State → List (ℕ × Act) → List Run
@@ -160,11 +175,12 @@ runs s (ActionAt action shown) =
 
 -- ---- what is promised of them
 
--- A run on the objects of an accepted pool ends, and does not stick: each command finds the objects that it names, of kinds that
--- they may have, and the steps are at most the budgets that the pool's report prints for the events, of which there are few. The
--- events run in turn, and each of them ends within its own budget.
-pub record EndsInTime (run : Run) : Type 0 where
+-- A run on the objects of the pool that was accepted last at its address ends, and does not stick: each command finds the objects
+-- that it names, of kinds that they may have, and the steps are at most the budgets that the pool's report prints for the events,
+-- of which there are few. The events run in turn, and each of them ends within its own budget.
+pub record EndsInTime (last : Option Contents) (run : Run) : Type 0 where
   pub accepted : Objects
+  pub is_last : last ≡ Some (map_of accepted)
   pub verified : IsVerified accepted
   pub ready : IsReady accepted run.objects
   pub ends : Ends run.objects (total_budget (shape_of accepted) run.raised) (run_of run.objects run.raised)
@@ -172,37 +188,43 @@ pub record EndsInTime (run : Run) : Type 0 where
   pub few : length run.raised ≤ 3
 
 -- So the whole cost of an input is one for its command, the budgets of what that raises, and those of the two events by which
--- another set is shown.
-pub record RunsEnd (s : State) (e : Event) : Type 0 where
-  pub each : AllByRecursion EndsInTime (runs s e)
+-- another set is shown. A pool that is accepted in its course is the last one for the runs at its address.
+pub record RunsEnd (pools : Pools) (s : State) (e : Event) : Type 0 where
+  pub each : AllByRecursion (λ run. EndsInTime (pools run.address) run) (runs s e)
   pub few : length (runs s e) ≤ 3
 
-abbrev pub AllEnd : State → List Event → Type 0
-AllEnd s [] = Unit {0}
-AllEnd s (e ∷ events) = RunsEnd s e × AllEnd (step s e).after events
+abbrev pub AllEnd : Pools → State → List Event → Type 0
+AllEnd pools s [] = Unit {0}
+AllEnd pools s (e ∷ events) = RunsEnd (accepted_after s e pools) s e × AllEnd (accepted_after s e pools) (step s e).after events
 
 -- No drawing of the objects sticks: each reference that is shown leads to an object of a kind that may stand there, or is NULL
--- where it may be. On the way to each element stand few objects.
+-- where it may be, and all that a drawing looks up is there. On the way to each element stand few objects.
 pub record DrawsWhatIsThere (store : Contents) : Type 0 where
   pub never_sticks : (mask : ℕ) → Sticks store mask → ⊥
+  pub finds_all : (mask : ℕ) → FindsAll store mask
   pub in_mask : (mask : ℕ) (path : List ℕ) → IfSome (at_path store (mask_entries store mask) origin path)
       (λ e. IsChained store mask (passed store (mask_entries store mask) path) e.id)
   pub of_keys : (mask : ℕ) (path : List ℕ) → IfSome (at_path store (key_entries store mask) origin path)
       (λ e. IsChained store (soft_key_mask_of (finite.get store mask)) (passed store (key_entries store mask) path) e.id)
 
--- What inputs leave: the sets and outputs of the written machine, each of whose runs ends in time, and pools in force, each
--- of which is the one that was accepted last, and whose drawings do not stick.
+-- The runs of events end in time, and what these leave are pools in force, each of which is the one that was accepted last, and
+-- whose drawings do not stick.
+pub record EventsKeep (pools : Pools) (old : State) (events : List Event) : Type 0 where
+  pub runs_end : AllEnd pools old events
+  pub in_force : AreInForce (accepted_after_all old events pools) (after_all old events)
+  pub drawn : (address : ℕ) → IfSome (pool_of (after_all old events) address) (λ state. DrawsWhatIsThere state.objects)
+
+-- What inputs leave: the sets and outputs of the written machine, which keeps the promise.
 pub record Keeps (pools : Pools) (old : State) (inputs : List Input) (new : State) (sent_before sent_after : List Output) : Type 0 where
   pub takes : TakesInputs old inputs new sent_before sent_after
-  pub runs_end : AllEnd old takes.events
-  pub in_force : AreInForce (accepted_after_all old takes.events pools) new
-  pub drawn : (address : ℕ) → IfSome (pool_of new address) (λ state. DrawsWhatIsThere state.objects)
+  pub keeps : EventsKeep pools old takes.events
 
--- A terminal has no pool at first; an accepted pool that is preloaded is in force, beside those that are; and whatever inputs it
--- takes then keep the promise.
+-- A terminal has no pool at first; an accepted pool that is preloaded is in force, beside those that are; and whatever events it
+-- takes then keep the promise, and so do whatever inputs.
 pub record NeverSticks : Type 0 where
   pub first : (s : State) → ((address : ℕ) → s.places address ≡ empty) → AreInForce (λ address. None) s
   pub preloaded : (pools : Pools) (s : State) (address : ℕ) (pool : Objects) → IsVerified pool → AreInForce pools s
       → AreInForce (with_at address (Some (map_of pool)) pools) (preloading s address (map_of pool))
+  pub events : (pools : Pools) (old : State) (events : List Event) → AreInForce pools old → AreFound old events → EventsKeep pools old events
   pub inputs : (pools : Pools) (old : State) (inputs : List Input) (new : State) (sent_before sent_after : List Output) → AreInForce pools old
       → TakesInputs old inputs new sent_before sent_after → Keeps pools old inputs new sent_before sent_after

@@ -4,5 +4,6 @@ pub mod ClaimsHeard
 pub mod Happenings
 pub mod Headline
 pub mod Responses
+pub mod RunsOfSteps
 pub mod Sending
 pub mod SetLists

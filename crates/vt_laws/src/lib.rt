@@ -11,10 +11,11 @@ ghost use Rattle.vt_laws.specs.Sending.{SentAreAddressed};
 ghost use Rattle.vt_laws.specs.Happenings.{EachTakesItsOwn, OwnHappeningsDecide, SetsHoldTheirAddress};
 ghost use Rattle.vt_server.specs.Orderly.{IsOrderly};
 ghost use Rattle.vt_laws.specs.Headline.{NeverSticks};
+ghost use Rattle.vt_laws.specs.RunsOfSteps.{RunsAreOfSteps};
 ghost use Rattle.vt_laws.specs.SetLists.{SetsAfterSteps};
 
-/// The headline: whatever inputs a terminal takes after its pools were accepted, each set's objects, the outputs and the screens are
-/// those of the written machine, and that machine never sticks. Each command of a macro finds its object, of a kind that it may
+/// The headline: whatever inputs a terminal takes after its pools were accepted, each set's objects and the outputs are those of the
+/// written machine, and that machine never sticks. Each command of a macro finds its object, of a kind that it may
 /// change, each event ends within the steps that the pool's report prints for it, and each reference that is shown leads to an
 /// object of its place's kind.
 pub fn the_machine_never_sticks()
@@ -29,8 +30,16 @@ pub fn the_machine_never_sticks()
     vt_machine::laws::runs_end();
     vt_machine::laws::null_is_no_object();
     vt_layout::laws::drawings_never_stick();
+    vt_layout::laws::drawings_find_all();
     vt_layout::laws::paths_are_chained();
 }
+
+/// The law that the runs of which the headline speaks are those of the step. Each begins by a command that is done, an action of the
+/// operator, or an event of the Working Set. Where a set has a pool after an input, its objects are those that the runs at its
+/// address leave, one after the other, from those before, or from those of the pool that was accepted there in its course.
+pub fn runs_are_of_steps()
+    ensures { RunsAreOfSteps }
+{}
 
 /// The law that the step is a function of the input alone. Whatever verdict on a transfer is right, and whatever is rightly found
 /// to be shown, the step is one: a terminal that takes inputs from a state is in one state after them, and has sent the same.

@@ -12,5 +12,6 @@ returns c = never-sticks (record {
   turns = c.events_end_in_turn.ensures;
   nameless = c.null_is_no_object.ensures;
   drawings = c.drawings_never_stick.ensures;
+  finds = c.drawings_find_all.ensures;
   paths = c.paths_are_chained.ensures;
 })
