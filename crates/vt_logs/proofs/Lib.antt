@@ -1,8 +1,6 @@
 mod Appending
 mod Begun
-mod Chains
 mod Ended
-mod Loading
 mod LongLines
 mod Midway
 mod Stepping

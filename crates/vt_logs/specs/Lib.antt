@@ -3,7 +3,5 @@ pub mod Begun
 pub mod Lines
 pub mod Progress
 pub mod Replays
-pub mod Runs
 pub mod Taken
 pub mod Texts
-pub mod Words

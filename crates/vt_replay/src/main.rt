@@ -7,7 +7,7 @@
 use std::fs::{self, File};
 use std::io::{self, BufWriter, Error, ErrorKind, Write};
 use std::process::ExitCode;
-use vt_logs::{Open, Status, run};
+use vt_program::{Open, Status, run};
 
 /// The files of the system.
 #[derive(Drop)]

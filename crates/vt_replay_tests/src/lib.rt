@@ -1,4 +1,4 @@
-//! Tests of vt_logs, the logs, words and files of the program, over what it exports.
+//! Tests of vt_logs and vt_program, the logs, words and files of the program, over what they export.
 #![tactic(auto)]
 
 #[cfg(test)]

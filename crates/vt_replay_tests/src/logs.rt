@@ -12,7 +12,7 @@ use std::alloc::{AllocError, Global};
 use std::io::{self, Error, ErrorKind};
 use std::process::Abort;
 use std::test::Fail;
-use vt_logs::{Open, Status, run};
+use vt_program::{Open, Status, run};
 use vt_testing::POOL;
 
 const HIDE: &[u8] = b"(1.000000) can0 14E72680#A0640000FFFFFFFF\n";

@@ -4,7 +4,8 @@ use std::alloc::Global;
 use std::fmt::Display;
 use std::process::Abort;
 use std::test::Fail;
-use vt_logs::{Refusal, ReplayFault, Status, run};
+use vt_logs::ReplayFault;
+use vt_program::{Refusal, Status, run};
 use vt_testing::POOL;
 
 const ABOUT: &str = "Replays a CAN log to a virtual terminal and prints what it answers, or checks \

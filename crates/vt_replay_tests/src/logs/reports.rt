@@ -3,7 +3,7 @@
 use super::{HIDE, Run, expect_run, expect_runs};
 use std::process::Abort;
 use std::test::Fail;
-use vt_logs::Status;
+use vt_program::Status;
 use vt_testing::POOL;
 
 /// The first two records of the pool, and these without the last byte.

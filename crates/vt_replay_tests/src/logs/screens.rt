@@ -2,7 +2,7 @@
 
 use super::{Run, WITH_POOL, expect_runs};
 use std::test::Fail;
-use vt_logs::Status;
+use vt_program::Status;
 
 /// Working Set 0, Data Mask 1000 and Input Number 600 up to 10.
 const NUMBER_POOL: &[u8] = b"\x00\x00\x00\x00\x01\xE8\x03\x00\x00\x00\

@@ -1,8 +1,9 @@
 use super::Shelf;
 use std::alloc::Global;
 use std::io::{self, Error, ErrorKind, Read, Write};
-use vt_logs::{Counts, ReplayFault, replay, run};
+use vt_logs::{Counts, ReplayFault, replay};
 use vt_names::Name;
+use vt_program::run;
 use vt_server::Terminal;
 use vt_testing::POOL;
 

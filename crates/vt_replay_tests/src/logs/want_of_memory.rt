@@ -3,9 +3,11 @@
 use super::faults::{LOG, TEXT, started};
 use super::{HIDE, Shelf, WITH_POOL};
 use std::alloc::{AllocError, Global};
+use std::io;
 use std::process::Abort;
 use std::test::Fail;
-use vt_logs::{ReplayFault, Status, replay, run};
+use vt_logs::{ReplayFault, replay};
+use vt_program::{Status, run};
 use vt_testing::POOL;
 
 /// Room for all that is written, so that no writer is refused memory.
@@ -36,20 +38,30 @@ fn expect_replay(rt: &(impl Abort + AllocGlobal)) -> Result<(), Fail> {
     Ok(())
 }
 
-fn expect_run(rt: &(impl Abort + AllocGlobal), words: &[&str], text: &str) -> Result<(), Fail> {
-    let mut out = room(rt.alloc())?;
-    let mut errors = room(rt.alloc())?;
+/// Runs the program over the log and the pool.
+fn run_on(
+    alloc: Global,
+    words: &[&str],
+    out: &mut Vec<u8>,
+    errors: &mut Vec<u8>,
+) -> io::Result<Status> {
     let mut shelf = Shelf {
         log: HIDE,
         pool: POOL,
     };
-    let ended = run(rt.alloc(), words, &mut shelf, &mut out, &mut errors)?;
+    run(alloc, words, &mut shelf, out, errors)
+}
+
+fn expect_run(rt: &(impl Abort + AllocGlobal), words: &[&str], text: &str) -> Result<(), Fail> {
+    let mut out = room(rt.alloc())?;
+    let mut errors = room(rt.alloc())?;
+    let ended = run_on(rt.alloc(), words, &mut out, &mut errors)?;
     if ended != Status::Done {
         assert_eq!(rt; ended, Status::Fault, "{words:?}");
         assert!(rt; text.as_bytes().starts_with(&out), "{words:?}");
         assert!(rt; !errors.is_empty(), "{words:?}");
         out.clear();
-        let afresh = run(rt.alloc(), words, &mut shelf, &mut out, &mut errors)?;
+        let afresh = run_on(rt.alloc(), words, &mut out, &mut errors)?;
         assert_eq!(rt; afresh, Status::Done, "{words:?}");
     }
     assert_eq!(rt; out.as_slice(), text.as_bytes(), "{words:?}");

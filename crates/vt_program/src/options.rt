@@ -4,8 +4,8 @@ ghost use Rattle.std.specs.Prelude.{◌≡◌, ℕ, IfOk, IfErr, MatchOption, co
 ghost use Rattle.clap.specs.Words.{IsParsedFrom, IsPlainArg, app_of, first_value, found_of, one_text, rule_of};
 ghost use Rattle.clap.specs.Built.{TakesValue};
 ghost use Rattle.clap.specs.declared.parser.matches.ArgMatches.{ArgMatches};
-ghost use Rattle.vt_logs.specs.declared.options.Refusal.TheVariants.{Memory};
-ghost use Rattle.vt_logs.specs.Words.{AreApart, GivesAddress, GivesNoAddress, GivesNoName, Gives, IsAddress, IsMistake, IsName, IsOwnName, IsRefusalFor, IsRefusalOf, WordsGive, app, file_word, given_in, refusal_text, report_flag, valued_option};
+ghost use Rattle.vt_program.specs.declared.options.Refusal.TheVariants.{Memory};
+ghost use Rattle.vt_program.specs.Words.{AreApart, GivesAddress, GivesNoAddress, GivesNoName, Gives, IsAddress, IsMistake, IsName, IsOwnName, IsRefusalFor, IsRefusalOf, WordsGive, app, file_word, given_in, refusal_text, report_flag, valued_option};
 
 use byteorder::{BigEndian, ByteOrder};
 use clap::error::ErrorKind;

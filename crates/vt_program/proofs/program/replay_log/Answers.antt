@@ -1,11 +1,11 @@
 use Rattle.std.proofs.Common.{◌≡◌, ◌∙◌, Err, inr, refl, ap, rules}
 use Rattle.std.proofs.KnownBytes.{Keeps-refl}
-use Rattle.vt_logs.specs.Runs.{IsStart}
+use Rattle.vt_program.specs.Runs.{IsStart}
 use Rattle.vt_server.specs.States.{state_of}
-use Rattle.vt_logs.specs.Runs.{new_state}
-use Rattle.vt_logs.proofs.Loading.{new_is, front_written, long_written, never_long, replay_written, start_alone, start_with_set, whole_written}
-use Rattle.vt_logs.proofs.program.replay_log.Goals.{in-Some+in_ok-load, in_default}
-use Rattle.vt_logs.proofs.program.replay_log.Goals as goal
+use Rattle.vt_program.specs.Runs.{new_state}
+use Rattle.vt_program.proofs.Loading.{new_is, front_written, long_written, never_long, replay_written, start_alone, start_with_set, whole_written}
+use Rattle.vt_program.proofs.program.replay_log.Goals.{in-Some+in_ok-load, in_default}
+use Rattle.vt_program.proofs.program.replay_log.Goals as goal
 
 pub returns-in-Ok-flush-clause-replayed : goal.returns-in-Ok-flush-clause-replayed
 returns-in-Ok-flush-clause-replayed g c =

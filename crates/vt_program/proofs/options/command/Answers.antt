@@ -3,8 +3,8 @@ use Rattle.std.proofs.lemmas.Result.{IfOk-weaker}
 use Rattle.clap.specs.Words.{AddsArg, AddsInTurn, App, Rule, app_of, with_rule, new_app}
 use Rattle.clap.specs.Simple.{app_of_fields}
 use Rattle.clap.proofs.CallerLemmas.{required_in_chain}
-use Rattle.vt_logs.proofs.Chains.{fits_chain, six_fit, six_ids}
-use Rattle.vt_logs.proofs.options.command.Goals as goal
+use Rattle.vt_program.proofs.Chains.{fits_chain, six_fit, six_ids}
+use Rattle.vt_program.proofs.options.command.Goals as goal
 
 abbrev with_version : App → App
 with_version a = record a { top = record a.top { has_version = true } }

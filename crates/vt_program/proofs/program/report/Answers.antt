@@ -1,5 +1,5 @@
-use Rattle.vt_logs.proofs.Loading.{report_of_file}
-use Rattle.vt_logs.proofs.program.report.Goals as goal
+use Rattle.vt_program.proofs.Loading.{report_of_file}
+use Rattle.vt_program.proofs.program.report.Goals as goal
 
 pub returns-clause-text : goal.returns-clause-text
 returns-clause-text g c =

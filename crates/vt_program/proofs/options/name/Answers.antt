@@ -1,6 +1,6 @@
 use Rattle.std.proofs.Common.{◌∙◌, arith}
 use Rattle.hex.proofs.HexLemmas.{decode_of-ok, decode_sized-twice}
-use Rattle.vt_logs.proofs.options.name.Goals as goal
+use Rattle.vt_program.proofs.options.name.Goals as goal
 
 pub returns-in_err-bytes : goal.returns-in_err-bytes
 returns-in_err-bytes c = rw c.from_residual.ensures (λ n given.

@@ -6,12 +6,12 @@ use Rattle.clap.specs.declared.builder.action.ArgAction.TheVariants.{Set, SetTru
 use Rattle.clap.specs.declared.error.Error.{Error}
 use Rattle.clap.specs.declared.error.kind.ErrorKind.TheVariants.{OutOfMemory}
 use Rattle.hex.specs.Hex.{decode_of}
-use Rattle.vt_logs.specs.declared.options.Options.{Options}
-use Rattle.vt_logs.specs.declared.options.Preload.{Preload}
-use Rattle.vt_logs.specs.declared.options.Refusal.{Refusal}
-use Rattle.vt_logs.specs.declared.options.Refusal.TheVariants.{Words, Address, Name, OwnerIsOwn, Alone, Memory}
-use Rattle.vt_logs.specs.declared.program.Status.{Status}
-use Rattle.vt_logs.specs.declared.program.Status.TheVariants.{Done, Fault, Usage}
+use Rattle.vt_program.specs.declared.options.Options.{Options}
+use Rattle.vt_program.specs.declared.options.Preload.{Preload}
+use Rattle.vt_program.specs.declared.options.Refusal.{Refusal}
+use Rattle.vt_program.specs.declared.options.Refusal.TheVariants.{Words, Address, Name, OwnerIsOwn, Alone, Memory}
+use Rattle.vt_program.specs.declared.program.Status.{Status}
+use Rattle.vt_program.specs.declared.program.Status.TheVariants.{Done, Fault, Usage}
 
 -- ---- what the program takes
 

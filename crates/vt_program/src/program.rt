@@ -4,19 +4,18 @@ ghost use Rattle.std.specs.Prelude.{◌≡◌, ◌≢◌, ◌≤◌, ℕ, List, 
 ghost use Rattle.std.specs.FinMap as finite;
 ghost use Rattle.vt_names.specs.Registry.{set_at};
 ghost use Rattle.std.specs.Io.KnownBytes.{Keeps};
-ghost use Rattle.vt_logs.specs.declared.program.Fault.TheVariants.{Memory};
-ghost use Rattle.vt_logs.specs.Words.{AreApart, status_code};
-ghost use Rattle.vt_logs.specs.Runs.{Ends, EndsBy, EndsReport, FailsReplay, HasPoolToPrint, HasReplayed, HasToPrint, IsAcceptedPoolOf, IsFaultOfPool, IsFileFault, IsLoaded, IsPoolFileFault, IsPrinted, IsReplayFault, IsReportOf, Prints, fault_line};
+ghost use Rattle.vt_program.specs.declared.program.Fault.TheVariants.{Memory};
+ghost use Rattle.vt_program.specs.Words.{AreApart, status_code};
+ghost use Rattle.vt_program.specs.Runs.{Ends, EndsBy, EndsReport, FailsReplay, HasPoolToPrint, HasReplayed, HasToPrint, IsAcceptedPoolOf, IsFaultOfPool, IsFileFault, IsLoaded, IsPoolFileFault, IsPrinted, IsReplayFault, IsReportOf, Prints, fault_line};
 ghost use Rattle.vt_pool.specs.Pools.{contents};
 ghost use Rattle.vt_server.specs.States.{state_of};
 
-use crate::fault::ReplayFault;
-use crate::log::replay;
 use crate::options::{Options, Preload, Refusal};
 use std::alloc::{AllocError, Global};
 use std::convert::AsStr;
 use std::fmt;
 use std::io::{self, Read, Write};
+use vt_logs::{ReplayFault, replay};
 use vt_pool::{PoolFault, read_pool};
 use vt_server::Terminal;
 use vt_verify::{Accepted, verify};

@@ -8,21 +8,22 @@ use Rattle.std.specs.FinMap.{nat_cmp-IsAntisymmetric}
 use Rattle.std.proofs.lemmas.Cmp.{nat_cmp_total}
 use Rattle.std.proofs.lemmas.List.{append-nil}
 use Rattle.vt_stores.specs.Stores.{Contents, by_rising_id, map_of}
-use Rattle.vt_verify.specs.Rules.{IsAcceptable, IsRefused, IsWantOfMemory}
+use Rattle.vt_verify.specs.Rules.{IsVerified, IsRefused, IsWantOfMemory}
 use Rattle.vt_chains.specs.Limits.{terminal}
 use Rattle.vt_verify.specs.declared.refusal.Refusal.{Refusal}
 use Rattle.vt_verify.specs.Reports.{report_text}
 use Rattle.vt_logs.specs.declared.counts.Counts.{Counts}
-use Rattle.vt_logs.specs.declared.options.Options.{Options}
-use Rattle.vt_logs.specs.declared.options.Preload.{Preload}
+use Rattle.vt_program.specs.declared.options.Options.{Options}
+use Rattle.vt_program.specs.declared.options.Preload.{Preload}
 use Rattle.vt_logs.specs.declared.fault.ReplayFault.{ReplayFault}
 use Rattle.vt_logs.specs.declared.fault.ReplayFault.TheVariants.{TooLong, Write}
 use Rattle.vt_logs.specs.Begun.{IsFrontOfReplay, HasStopped, HasStoppedAtLong}
 use Rattle.vt_logs.specs.Lines.{lines_of}
 use Rattle.vt_logs.specs.Replays.{IsReplay, HasLongLine}
-use Rattle.vt_logs.specs.Runs.{Files, IsLoaded, IsPoolOf, IsAcceptedPoolOf, IsRefusedPool, IsReportOf, IsStart, StandsReplayed, WritesReplay, new_state}
+use Rattle.vt_program.specs.Runs.{Files, IsLoaded, IsPoolOf, IsAcceptedPoolOf, IsRefusedPool, IsReportOf, IsStart, StandsReplayed, WritesReplay, new_state}
 use Rattle.vt_logs.specs.Texts.{counts_text}
 use Rattle.vt_server.specs.Places.{empty}
+use Rattle.vt_server.specs.Steps.{preloading}
 use Rattle.vt_server.specs.Terminals.{State}
 
 -- a map is that of its entries
@@ -31,12 +32,15 @@ entries_again m =
     finite.same_map nat_cmp_total nat_cmp-IsAntisymmetric (contents (finite.entries m)) m
     (λ q. finite.get-from_entries nat_cmp_total (finite.entries m) q ∙ sym (finite.get-entries m q))
 
--- a list of the entries of a map is sorted, and is that map
-pub map_is : (pool : List Entry) → pool ≡ finite.entries (contents pool) → map_of pool ≡ contents pool
-map_is pool is =
-    ap map_of is
-    ∙ finite.same_map nat_cmp_total nat_cmp-IsAntisymmetric (map_of (finite.entries (contents pool))) (contents pool)
-    (λ q. finite.get-from_sorted nat_cmp (finite.entries (contents pool)) q (finite.entries_sorted (contents pool)) ∙ sym (finite.get-entries (contents pool) q))
+-- the entries of a map are sorted, and are that map
+pub map_again : (m : Contents) → map_of (finite.entries m) ≡ m
+map_again m =
+    finite.same_map nat_cmp_total nat_cmp-IsAntisymmetric (map_of (finite.entries m)) m
+    (λ q. finite.get-from_sorted nat_cmp (finite.entries m) q (finite.entries_sorted m) ∙ sym (finite.get-entries m q))
+
+-- and so is a list of them
+map_is : (pool : List Entry) → pool ≡ finite.entries (contents pool) → map_of pool ≡ contents pool
+map_is pool is = ap map_of is ∙ map_again (contents pool)
 
 -- what is accepted of a pool has its objects
 pub same_objects : (pool accepted : List Entry) → accepted ≡ by_rising_id pool → contents accepted ≡ contents pool
@@ -53,18 +57,32 @@ pub pool_of : (read : List ℕ) (pool : List Entry) → (records : List Entry) �
 pool_of read pool p = record { records = p.0; whole = p.1; spelled = p.2; in_force = p.3.last }
 
 pub accepted_pool : (read : List ℕ) (pool accepted : List Entry) → (records : List Entry) × AreRecords records × (read ≡ joined records) × IsInForce records pool
-    → accepted ≡ by_rising_id pool → IsAcceptable terminal accepted → IsAcceptedPoolOf read (contents accepted)
-unfolding by_rising_id
-accepted_pool read pool accepted p is all =
-    let same = same_objects pool accepted is in (
-      subst (IsPoolOf read) (sym same) (pool_of read pool p),
-      subst (IsAcceptable terminal) (is ∙ ap finite.entries (sym same)) all,
-    )
+    → accepted ≡ by_rising_id pool → IsVerified accepted → IsAcceptedPoolOf read (contents accepted)
+accepted_pool read pool accepted p is verified = (
+  subst (IsPoolOf read) (sym (same_objects pool accepted is)) (pool_of read pool p),
+  subst IsVerified (accepted_rising pool accepted is) verified,
+)
 
 pub refused_pool : (read : List ℕ) (pool : List Entry) (why : Refusal) → (records : List Entry) × AreRecords records × (read ≡ joined records) × IsInForce records pool
     → IsRefused terminal (by_rising_id pool) why → (IsWantOfMemory why → ⊥) → IsRefusedPool read why
 unfolding by_rising_id
 refused_pool read pool why p refused named = record { objects = contents pool; pool = pool_of read pool p; refused = refused; named = named }
+
+-- the pool of a file, where it is accepted
+pool_of_file : (file : Option (List ℕ)) (objects : Contents) → IfSome file (λ bytes. IsAcceptedPoolOf bytes objects) → IfSome file (λ bytes. IsPoolOf bytes objects)
+pool_of_file None objects is = tt
+pool_of_file (Some bytes) objects is = is.0
+
+-- the set of an accepted pool is loaded
+pub loaded_with : (files : Files) (p : Preload) (before after : State) (pool : List Entry)
+    → IfSome (files p.pool.now) (λ bytes. IsAcceptedPoolOf bytes (contents pool)) → IsVerified pool → pool ≡ finite.entries (contents pool)
+    → after ≡ preloading before p.owner (map_of pool) → IsLoaded files p before after
+loaded_with files p before after pool accepted verified rising state = record {
+  objects = contents pool;
+  verified = subst IsVerified rising verified;
+  pool = pool_of_file (files p.pool.now) (contents pool) accepted;
+  state = state ∙ ap (preloading before p.owner) (map_is pool rising);
+}
 
 -- the text of a report is that of the file's pool
 pub report_of_file : (file : Option (List ℕ)) (pool : List Entry) (text : List ℕ) → IfSome file (λ bytes. IsAcceptedPoolOf bytes (contents pool))

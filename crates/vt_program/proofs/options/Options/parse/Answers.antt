@@ -5,11 +5,11 @@ use Rattle.clap.specs.declared.builder.command.Command.{Command}
 use Rattle.clap.specs.declared.error.Error.{Error}
 use Rattle.clap.specs.declared.parser.matches.ArgMatches.{ArgMatches}
 use Rattle.clap.proofs.WalkLemmas.{first_value-rows, one_text-rows}
-use Rattle.vt_logs.specs.declared.options.Options.{Options}
-use Rattle.vt_logs.specs.declared.options.Refusal.{Refusal}
-use Rattle.vt_logs.specs.declared.options.Refusal.TheVariants.{Words, Address, Name, OwnerIsOwn, Alone, Memory}
-use Rattle.vt_logs.specs.Words.{AreApart, Given, Gives, IsMistake, IsRefusalFor, IsRefusalOf, WordsGive, app, faults_in, given_by, given_in}
-use Rattle.vt_logs.proofs.options.Options.parse.Goals as goal
+use Rattle.vt_program.specs.declared.options.Options.{Options}
+use Rattle.vt_program.specs.declared.options.Refusal.{Refusal}
+use Rattle.vt_program.specs.declared.options.Refusal.TheVariants.{Words, Address, Name, OwnerIsOwn, Alone, Memory}
+use Rattle.vt_program.specs.Words.{AreApart, Given, Gives, IsMistake, IsRefusalFor, IsRefusalOf, WordsGive, app, faults_in, given_by, given_in}
+use Rattle.vt_program.proofs.options.Options.parse.Goals as goal
 
 -- what the matches give is what the words give
 given_same : (m : ArgMatches) (words : List Text) → HasMatchesOf app words m

@@ -7,29 +7,30 @@ use Rattle.clap.specs.declared.error.kind.ErrorKind.{ErrorKind}
 use Rattle.clap.specs.declared.error.kind.ErrorKind.TheVariants.{DisplayHelp, DisplayVersion}
 use Rattle.vt_stores.specs.Stores.{Contents}
 use Rattle.vt_records.specs.declared.fault.PoolFault.{PoolFault}
+use Rattle.vt_records.specs.FaultTexts.{fault_text}
 use Rattle.vt_pool.specs.Pools.{Entry, AreRecords, IsFault, contents, joined}
 use Rattle.vt_pool.specs.Pools as pools
 use Rattle.std.specs.FinMap as finite
 use Rattle.vt_verify.specs.declared.refusal.Refusal.{Refusal as PoolRefusal}
-use Rattle.vt_verify.specs.Rules.{IsAcceptable, IsRefused}
+use Rattle.vt_verify.specs.Rules.{IsVerified, IsRefused}
 use Rattle.vt_chains.specs.Limits.{terminal}
 use Rattle.vt_verify.specs.Rules as rules
 use Rattle.vt_verify.specs.Reports as report
 use Rattle.vt_logs.specs.declared.counts.Counts.{Counts}
 use Rattle.vt_logs.specs.declared.fault.ReplayFault.{ReplayFault}
 use Rattle.vt_logs.specs.declared.fault.ReplayFault.TheVariants as replay_fault
-use Rattle.vt_logs.specs.declared.options.Options.{Options}
-use Rattle.vt_logs.specs.declared.options.Preload.{Preload}
-use Rattle.vt_logs.specs.declared.options.Refusal.{Refusal}
-use Rattle.vt_logs.specs.declared.options.Refusal.TheVariants.{Words, Address, Name, OwnerIsOwn, Alone, Memory}
-use Rattle.vt_logs.specs.declared.program.Fault.{Fault}
-use Rattle.vt_logs.specs.declared.program.Fault.TheVariants as fault
-use Rattle.vt_logs.specs.declared.program.Status.{Status}
-use Rattle.vt_logs.specs.declared.program.Status.TheVariants as status
+use Rattle.vt_program.specs.declared.options.Options.{Options}
+use Rattle.vt_program.specs.declared.options.Preload.{Preload}
+use Rattle.vt_program.specs.declared.options.Refusal.{Refusal}
+use Rattle.vt_program.specs.declared.options.Refusal.TheVariants.{Words, Address, Name, OwnerIsOwn, Alone, Memory}
+use Rattle.vt_program.specs.declared.program.Fault.{Fault}
+use Rattle.vt_program.specs.declared.program.Fault.TheVariants as fault
+use Rattle.vt_program.specs.declared.program.Status.{Status}
+use Rattle.vt_program.specs.declared.program.Status.TheVariants as status
 use Rattle.vt_logs.specs.Begun.{MayBegin, IsFrontOfReplay, HasStoppedAtLong}
 use Rattle.vt_logs.specs.Replays.{IsReplay, HasLongLine}
 use Rattle.vt_logs.specs.Texts.{newline}
-use Rattle.vt_logs.specs.Words.{IsRefusalOf, WordsGive}
+use Rattle.vt_program.specs.Words.{IsRefusalOf, WordsGive}
 use Rattle.vt_server.specs.Places.{empty}
 use Rattle.vt_server.specs.Steps.{preloading}
 use Rattle.vt_server.specs.Terminals.{State}
@@ -47,9 +48,9 @@ pub record IsPoolOf (bytes : List ℕ) (objects : Contents) : Type 0 where
   pub spelled : bytes ≡ joined records
   pub in_force : objects ≡ contents (reverse records)
 
--- the same of a pool that meets all rules
+-- the same of a pool that is verified
 abbrev pub IsAcceptedPoolOf : List ℕ → Contents → Type 0
-IsAcceptedPoolOf bytes objects = IsPoolOf bytes objects × IsAcceptable terminal (finite.entries objects)
+IsAcceptedPoolOf bytes objects = IsPoolOf bytes objects × IsVerified (finite.entries objects)
 
 -- The bytes are no pool, by a fault of theirs. Want of memory is none.
 pub record IsNoPool (bytes : List ℕ) (why : PoolFault) : Type 0 where
@@ -75,10 +76,11 @@ new_state own name = record {
   now = 0;
 }
 
--- A set with the pool of the file is preloaded at the owner.
+-- A set with the pool of the file is preloaded at the owner. It is verified, also where the bytes of the file are not known.
 pub record IsLoaded (files : Files) (p : Preload) (before after : State) : Type 0 where
   pub objects : Contents
-  pub pool : IfSome (files p.pool.now) (λ bytes. IsAcceptedPoolOf bytes objects)
+  pub verified : IsVerified (finite.entries objects)
+  pub pool : IfSome (files p.pool.now) (λ bytes. IsPoolOf bytes objects)
   pub state : after ≡ preloading before p.owner objects
 
 abbrev pub IsPreloaded : Files → Option Preload → State → State → Type 0
@@ -196,10 +198,10 @@ IsPrinted (fault.Refused why) = Unit {0}
 IsPrinted fault.Memory = ⊥
 IsPrinted (fault.Replay why) = ⊥
 
--- what is printed to the output of a fault; the text of a pool's fault no contract says
+-- what is printed to the output of a fault
 abbrev pub Prints : Fault → Option (List ℕ) → Option (List ℕ) → Type 0
 Prints (fault.File path cause) old new = Keeps old new
-Prints (fault.Pool why) old new = Unit {0}
+Prints (fault.Pool why) old new = Appends old new (fault_text why ++ newline)
 Prints (fault.Refused why) old new = Appends old new (report.refusal_text why ++ newline)
 Prints fault.Memory old new = Keeps old new
 Prints (fault.Replay why) old new = Keeps old new
@@ -304,10 +306,10 @@ HasPoolToPrint files path =
 
 -- ---- the texts of faults
 
--- what is printed of a fault; what the system, the fault of a pool and that of a replay print no contract says
+-- what is printed of a fault; what the system and the fault of a replay print no contract says
 abbrev pub fault_line : Fault → Option Text
 fault_line (fault.File path cause) = None
-fault_line (fault.Pool why) = None
+fault_line (fault.Pool why) = Some (fault_text why)
 fault_line (fault.Refused why) = Some (report.refusal_text why)
 fault_line fault.Memory = Some (codes "out of memory")
 fault_line (fault.Replay why) = None

@@ -1,0 +1,4 @@
+-- What the contracts of this crate cite.
+pub mod Promises
+pub mod Runs
+pub mod Words

@@ -1,0 +1,51 @@
+-- The headline of a replay: whatever log is replayed, the terminal keeps its promise over all the inputs of that log
+-- (docs/PROOFS.md, "The headline").
+use Rattle.std.specs.Prelude.{◌≡◌, List, [], ◌∷◌, Option, Some, None, Ok, Err, ℕ}
+use Rattle.vt_can.specs.lines.Readings.{FrameAt, OperatorAction, SkippedFrame, CommentLine}
+use Rattle.vt_laws.specs.Headline.{Pools, AreInForce, EventsKeep}
+use Rattle.vt_logs.specs.declared.counts.Counts.{Counts}
+use Rattle.vt_logs.specs.Replays.{IsReplay, TakesSome}
+use Rattle.vt_logs.specs.Taken.{IsEventOfLine}
+use Rattle.vt_logs.specs.Texts.{Reading}
+use Rattle.vt_program.specs.declared.options.Options.{Options}
+use Rattle.vt_node.specs.ByAddress.{with_at}
+use Rattle.vt_program.specs.declared.options.Preload.{Preload}
+use Rattle.vt_program.specs.Runs.{Files, IsPreloaded, IsStart, new_state}
+use Rattle.vt_server.specs.Findings.{AreFound}
+use Rattle.vt_server.specs.Steps.{Event, after_all}
+use Rattle.vt_server.specs.Terminals.{State}
+
+-- The events are those of the lines, in their order: one of each frame and of each action of the operator.
+abbrev pub AreEventsOfLines : List Reading → List Event → Type 0
+AreEventsOfLines [] [] = Unit {0}
+AreEventsOfLines [] (e ∷ events) = ⊥
+AreEventsOfLines (Err fault ∷ readings) events = AreEventsOfLines readings events
+AreEventsOfLines (Ok (SkippedFrame why) ∷ readings) events = AreEventsOfLines readings events
+AreEventsOfLines (Ok CommentLine ∷ readings) events = AreEventsOfLines readings events
+AreEventsOfLines (Ok (FrameAt time frame) ∷ readings) [] = ⊥
+AreEventsOfLines (Ok (FrameAt time frame) ∷ readings) (e ∷ events) = IsEventOfLine (FrameAt time frame) e × AreEventsOfLines readings events
+AreEventsOfLines (Ok (OperatorAction action) ∷ readings) [] = ⊥
+AreEventsOfLines (Ok (OperatorAction action) ∷ readings) (e ∷ events) = IsEventOfLine (OperatorAction action) e × AreEventsOfLines readings events
+
+-- From a state a terminal takes the events of these lines, and keeps its promise.
+pub record LinesKeep (pools : Pools) (start : State) (readings : List Reading) (now : State) : Type 0 where
+  pub events : List Event
+  pub of_lines : AreEventsOfLines readings events
+  pub found : AreFound start events
+  pub now_is : now ≡ after_all start events
+  pub keeps : EventsKeep pools start events
+
+-- the pools that options give: that of the file, at its owner
+abbrev pub given_pools : (files : Files) (preload : Option Preload) (before after : State) → IsPreloaded files preload before after → Pools
+given_pools files None before after is = λ address. None
+given_pools files (Some p) before after loaded = with_at p.owner (Some loaded.objects) (λ address. None)
+
+-- The terminal of the options has the pool that they give in force; and from any terminal whose pools are in force a replay keeps
+-- the promise, and so do the lines that one has taken which stopped.
+pub record ReplaysNeverStick : Type 0 where
+  pub start : (files : Files) (options : Options) (s : State) → (is : IsStart files options s)
+      → AreInForce (given_pools files options.preload (new_state options.own options.name) s is) s
+  pub replay : (pools : Pools) (start now : State) (input text : List ℕ) (counts : Counts) → AreInForce pools start
+      → (r : IsReplay start input text counts now) → LinesKeep pools start r.readings now
+  pub stopped : (pools : Pools) (start now : State) (lines : List (List ℕ)) → AreInForce pools start → (some : TakesSome start lines now)
+      → LinesKeep pools start some.readings now

@@ -1,0 +1,12 @@
+//! The program over words, files and writers: logs replayed, and the reports of pools printed.
+//!
+//! `run` takes the words of the program, and opens their files by `Open`; it answers a `Status`. `Options` are words that were read,
+//! or a `Refusal`. docs/PROFILE.md, "The program", has the words and the statuses.
+#![tactic(auto)]
+
+pub mod laws;
+mod options;
+mod program;
+
+pub use options::{Options, Preload, Refusal};
+pub use program::{Open, Status, run};
