@@ -233,7 +233,7 @@ fn id_at<S: Store>(store: &S, place: usize) -> Option<u16> {
 }
 
 /// An ID, its place, and the value of the number then.
-const NUMBERS: [(u16, Option<usize>, Option<u32>); 5] = [
+const NUMBERS: &[(u16, Option<usize>, Option<u32>)] = &[
     (0, Some(0), Some(2)),
     (7, Some(1), Some(70)),
     (8, None, None),
@@ -241,18 +241,33 @@ const NUMBERS: [(u16, Option<usize>, Option<u32>); 5] = [
     (65_535, None, None),
 ];
 
+/// The places of a store, and their IDs.
+const PLACES: &[(usize, Option<u16>)] = &[(0, Some(0)), (1, Some(7)), (2, Some(65_534)), (3, None)];
+
+fn has_numbers<S: Store>(store: &S, numbers: &[(u16, Option<usize>, Option<u32>)]) -> bool {
+    for (id, place, value) in numbers {
+        if value_of(store, *id) != *value || store.place(object_id(*id)) != *place {
+            return false;
+        }
+    }
+    true
+}
+
+fn has_places<S: Store>(store: &S, places: &[(usize, Option<u16>)]) -> bool {
+    for (place, id) in places {
+        if id_at(store, *place) != *id {
+            return false;
+        }
+    }
+    store.count() == 3
+}
+
 /// Finds and changes those numbers in a store.
 fn expect_numbers<S: Store>(rt: &impl Abort, store: &mut S) {
     assert!(rt; set_value(store, 0, 2) && set_value(store, 65_534, 6));
     assert!(rt; !set_value(store, 8, 3) && !set_value(store, 65_535, 3));
-    for (id, place, value) in NUMBERS {
-        assert_eq!(rt; value_of(store, id), value, "the value of {id}");
-        assert_eq!(rt; store.place(object_id(id)), place, "the place of {id}");
-    }
-    assert_eq!(rt; store.count(), 3);
-    for (place, id) in [(0, Some(0)), (1, Some(7)), (2, Some(65_534)), (3, None)] {
-        assert_eq!(rt; id_at(store, place), id, "at {place}");
-    }
+    assert!(rt; has_numbers(store, NUMBERS));
+    assert!(rt; has_places(store, PLACES));
 }
 
 fn changes_numbers<S: Store>(rt: &(impl Abort + AllocGlobal)) -> Result<(), OutOfMemory> {

@@ -113,6 +113,14 @@ pub(super) fn take_line(
     Ok(())
 }
 
+fn take_input(
+    terminal: &mut Terminal,
+    input: &Input<'_>,
+    outputs: &mut Vec<Output>,
+) -> Result<(), OutOfMemory> {
+    terminal.step(input, outputs)
+}
+
 // Takes an input, if need be a second time: the memory is there then, and the first try has left the outputs
 // as they were.
 fn step_again(
@@ -122,11 +130,11 @@ fn step_again(
     outputs: &mut Vec<Output>,
 ) -> Result<(), OutOfMemory> {
     let before = outputs.len();
-    match terminal.step(input, outputs) {
+    match take_input(terminal, input, outputs) {
         Ok(()) => Ok(()),
         Err(_) => {
             assert_eq!(rt; outputs.len(), before);
-            terminal.step(input, outputs)
+            take_input(terminal, input, outputs)
         }
     }
 }

@@ -52,7 +52,12 @@ fn deep(alloc: Global) -> Result<Vec<u8>, AllocError> {
 
 /// How many lines a text has, and whether its last one says that there are more.
 fn ends(text: &[u8]) -> (usize, bool) {
-    let lines = text.iter().filter(|byte| **byte == b'\n').count();
+    let mut lines = 0_usize;
+    for byte in text {
+        if *byte == b'\n' {
+            lines = lines.saturating_add(1);
+        }
+    }
     (lines, text.ends_with(b"\nmore\n"))
 }
 
