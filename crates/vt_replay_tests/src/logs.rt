@@ -2,6 +2,7 @@ ghost use Rattle.std.specs.Prelude.{Some, None, codes, if◌then◌else◌};
 ghost use Rattle.std.specs.Str.{bytes_eq};
 
 mod faults;
+mod many;
 mod messages;
 mod reports;
 mod screens;

@@ -2,6 +2,7 @@ mod addresses;
 mod alarms;
 mod changes;
 mod keys;
+mod large;
 mod library_example;
 mod linux;
 mod linux_logs;
