@@ -12,7 +12,7 @@ use Rattle.vt_stores.specs.Stores.{Contents}
 use Rattle.vt_effects.specs.Changes.{is_one_of}
 use Rattle.vt_effects.specs.Effects.{kind_in, pointer_value, allows}
 use Rattle.vt_effects.specs.Soundness.{value_fits, is_in_order}
-use Rattle.vt_stores.proofs.Rising.{true_both}
+use Rattle.vt_stores.proofs.Rising.{both_true, true_both}
 
 pub get_put : (m : Contents) (id : ℕ) (o : Seen) (q : ℕ) → finite.get (finite.insert m id o) q ≡ cond (eqb q id) (Some o) (finite.get m q)
 get_put m id o q = finite.get-insert nat_cmp_total m id o q ∙ ap (λ b. cond b (Some o) (finite.get m q)) (unsigned_tied q id)
@@ -23,6 +23,14 @@ get_there m id o q same = get_put m id o q ∙ ap (λ b. cond b (Some o) (finite
 
 pub get_other : (m : Contents) (id : ℕ) (o : Seen) (q : ℕ) → eqb q id ≡ false → finite.get (finite.insert m id o) q ≡ finite.get m q
 get_other m id o q other = get_put m id o q ∙ ap (λ b. cond b (Some o) (finite.get m q)) other
+
+-- an object that is put back into a store that differs in it alone
+pub put_back : (m n : Contents) (id : ℕ) (o : Seen) → finite.get m id ≡ Some o → ((q : ℕ) → eqb q id ≡ false → finite.get n q ≡ finite.get m q) → finite.insert n id o ≡ m
+put_back m n id o at others = finite.same_map nat_cmp_total finite.nat_cmp-IsAntisymmetric _ _ (λ q. by q (eqb q id) refl)
+  where
+    by : (q : ℕ) (b : Bool) → eqb q id ≡ b → finite.get (finite.insert n id o) q ≡ finite.get m q
+    by q true same = get_there n id o q same ∙ sym at ∙ ap (finite.get m) (sym (eqb-true q id same))
+    by q false other = get_other n id o q other ∙ others q other
 
 kinds_by : (m : Contents) (id : ℕ) (old new : Seen) (q : ℕ) (b : Bool) → eqb q id ≡ b → finite.get m id ≡ Some old → kind_of new ≡ kind_of old
     → kind_in (finite.insert m id new) q ≡ kind_in m q
@@ -42,21 +50,14 @@ allows_stays m id old new s v at kinds = ap (λ (k : Option Kind). cond (v == 0x
 -- ---- slots in order
 
 pub first_of : (a b : Bool) → IsTrue (a && b) → IsTrue a
-first_of true b is = refl
-first_of false b is = absurd cc
+first_of a b is = (both_true a b is).0
 
 pub second_of : (a b : Bool) → IsTrue (a && b) → IsTrue b
-second_of true b is = is
-second_of false b is = absurd cc
+second_of a b is = (both_true a b is).1
 
-value_same : (m m' : Contents) (s : Slot) (v : Option ℕ) → ((w : ℕ) → allows m' s w ≡ allows m s w) → IsTrue (value_fits m s v) → IsTrue (value_fits m' s v)
-value_same m m' s None same is = refl
-value_same m m' s (Some w) same is = same w ∙ is
-
-value_new : (m m' : Contents) (s : Slot) (v : Option ℕ) → ((w : ℕ) → allows m' s w ≡ allows m s w) → ((w : ℕ) → v ≡ Some w → IsTrue (allows m s w))
-    → IsTrue (value_fits m' s v)
-value_new m m' s None same of = refl
-value_new m m' s (Some w) same of = same w ∙ of w refl
+pub value_of : (m : Contents) (s : Slot) (v : Option ℕ) → ((w : ℕ) → v ≡ Some w → IsTrue (allows m s w)) → IsTrue (value_fits m s v)
+value_of m s None of = refl
+value_of m s (Some w) of = of w refl
 
 -- A slot stays in order where one object is changed, if it fits the new value of a pointer that it names.
 pub in_order_stays : (m : Contents) (id : ℕ) (old new : Seen) (s : Slot) → finite.get m id ≡ Some old → kind_of new ≡ kind_of old
@@ -71,10 +72,10 @@ in_order_stays m id old new s at kinds fits is = by (s.id == 0xFFFF) is
         → IsTrue (value_fits (finite.insert m id new) s (pointer_value (finite.get (finite.insert m id new) s.id)))
     value true e before =
         subst (λ (o : Option Seen). IsTrue (value_fits (finite.insert m id new) s (pointer_value o))) (sym (get_there m id new s.id e))
-        (value_new m (finite.insert m id new) s (pointer_value (Some new)) same (fits e))
+        (value_of (finite.insert m id new) s (pointer_value (Some new)) (λ w is. same w ∙ fits e w is))
     value false e before =
         subst (λ (o : Option Seen). IsTrue (value_fits (finite.insert m id new) s (pointer_value o))) (sym (get_other m id new s.id e))
-        (value_same m (finite.insert m id new) s (pointer_value (finite.get m s.id)) same before)
+        (value_of (finite.insert m id new) s (pointer_value (finite.get m s.id)) (λ w is. same w ∙ subst (λ (v : Option ℕ). IsTrue (value_fits m s v)) is before))
 
     by : (b : Bool) → IsTrue (cond b s.null (is_one_of s.kinds (kind_in m s.id) && value_fits m s (pointer_value (finite.get m s.id))))
         → IsTrue (cond b s.null (is_one_of s.kinds (kind_in (finite.insert m id new) s.id)

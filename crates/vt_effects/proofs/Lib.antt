@@ -1,20 +1,20 @@
 pub mod Adding
 mod AttributeChanges
+mod Changing
 mod Children
 pub mod Executing
 pub mod InOrder
-mod Keeping
 pub mod KeepingOrder
-mod KeptFields
+mod Levels
+mod Making
 pub mod Moving
 mod Places
 mod Pointing
 mod Puts
-mod Referring
+mod Replacing
 pub mod Shapes
 pub mod ShortChains
 mod SlotsInOrder
 mod Taking
 mod Walking
-mod Written
 mod WrittenSlots

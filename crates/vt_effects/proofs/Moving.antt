@@ -1,5 +1,5 @@
 -- A list of which the first entries are changed, and the others are not yet.
-use Rattle.std.proofs.Common.{◌≡◌, ◌<◌, ◌+◌, ℕ, zero, suc, Bool, true, false, ◌||◌, List, [], ◌∷◌, ◌++◌, map, take, drop, length, set, refl, ap, subst, ◌∙◌, arith}
+use Rattle.std.proofs.Common.{◌≡◌, ◌<◌, ◌+◌, ℕ, zero, suc, Bool, true, false, ◌||◌, List, [], ◌∷◌, ◌++◌, map, take, drop, length, set, refl, sym, ap, subst, ◌∙◌, arith, add-one}
 use Rattle.std.specs.Prelude.{slice_index_or}
 use Rattle.std.specs.List.{list_any}
 
@@ -19,13 +19,10 @@ set_next f (suc index) [] x lt is = absurd (omega (arith, lt))
 set_next f zero (y ∷ xs) x lt is = ap (λ z. f z ∷ xs) is
 set_next f (suc index) (y ∷ xs) x lt is = ap (λ zs. f y ∷ zs) (set_next f index xs x (omega (arith, lt)) is)
 
-one_more : (n : ℕ) → suc n ≡ n + 1
-one_more n = omega arith
-
 pub up_to_next : {A : Type 0} (f : A → A) (index : ℕ) (xs now : List A) (x : A) → now ≡ up_to f index xs → index < length xs
     → x ≡ slice_index_or now index x → set now index (f x) ≡ up_to f (index + 1) xs
 up_to_next f index xs now x are lt is =
-    ap (λ ys. set ys index (f x)) are ∙ set_next f index xs x lt (subst (λ ys. x ≡ slice_index_or ys index x) are is) ∙ ap (λ (i : ℕ). up_to f i xs) (one_more index)
+    ap (λ ys. set ys index (f x)) are ∙ set_next f index xs x lt (subst (λ ys. x ≡ slice_index_or ys index x) are is) ∙ ap (λ (i : ℕ). up_to f i xs) (sym (add-one index))
 
 pub either_false : (a b : Bool) → (a || b) ≡ false → (a ≡ false) × (b ≡ false)
 either_false false b is = (refl, is)

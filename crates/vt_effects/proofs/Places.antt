@@ -1,9 +1,9 @@
 -- Slots that stay in order where one object is changed, and slots that a command writes.
-use Rattle.std.proofs.Common.{◌≡◌, ℕ, Bool, true, false, cond, ◌==◌, ◌&&◌, ◌||◌, not, List, [], ◌∷◌, Option, Some, sym, subst, ◌∙◌}
-use Rattle.std.proofs.lemmas.Option.{same_Some}
+use Rattle.std.proofs.Common.{◌≡◌, ℕ, Bool, true, false, ◌==◌, ◌||◌, not, List, [], ◌∷◌, get_or, Some, sym, subst, ◌∙◌}
+use Rattle.std.proofs.lemmas.List.Elements.{All-from_recursion, recursion_from_All}
 use Rattle.std.proofs.lemmas.List.Folds.{list_all-append}
+use Rattle.std.proofs.lemmas.List.Sums.{AllPass-from_list_all}
 use Rattle.std.specs.Prelude.{IsTrue}
-use Rattle.std.specs.Ordering.{nat_cmp, eq_by_cmp}
 use Rattle.std.specs.List.{AllByRecursion, list_all, flat_map}
 use Rattle.std.specs.FinMap as finite
 use Rattle.vt_kinds.specs.declared.slot.Slot.{Slot}
@@ -12,7 +12,9 @@ use Rattle.vt_kinds.specs.References.{slots_of}
 use Rattle.vt_stores.specs.Stores.{Contents, Objects, object_at}
 use Rattle.vt_effects.specs.Effects.{pointer_value, allows, all_slots}
 use Rattle.vt_effects.specs.Soundness.{is_in_order}
-use Rattle.vt_effects.proofs.InOrder.{first_of, second_of, in_order_stays}
+use Rattle.vt_stores.proofs.Rising.{both_true}
+use Rattle.vt_chains.proofs.Including.{entry_case}
+use Rattle.vt_effects.proofs.InOrder.{in_order_stays}
 
 -- ---- the slots that an object had
 
@@ -26,28 +28,19 @@ Allowing m id new slots = (w : ℕ) → pointer_value (Some new) ≡ Some w → 
 
 pub slots_stay : (m : Contents) (id : ℕ) (old new : Seen) (slots : List Slot) → finite.get m id ≡ Some old → kind_of new ≡ kind_of old → Allowing m id new slots
     → AllByRecursion (λ s. IsTrue (is_in_order m s)) slots → AllByRecursion (λ s. IsTrue (is_in_order (finite.insert m id new) s)) slots
-slots_stay m id old new [] at kinds fits all = tt
-slots_stay m id old new (s ∷ slots) at kinds fits all = (
-  in_order_stays m id old new s at kinds
-      (λ e w is. or_second (s.id == id) (allows m s w) e (first_of (not (s.id == id) || allows m s w) (list_all (λ s. not (s.id == id) || allows m s w) slots) (fits w is))) all.0,
-  slots_stay m id old new slots at kinds
-      (λ w is. second_of (not (s.id == id) || allows m s w) (list_all (λ s. not (s.id == id) || allows m s w) slots) (fits w is)) all.1,
-)
+slots_stay m id old new slots at kinds fits all =
+    recursion_from_All _ slots
+    (λ k d lt. in_order_stays m id old new (get_or slots k d) at kinds (λ e w is. or_second _ _ e (AllPass-from_list_all _ slots (fits w is) k d lt))
+    (All-from_recursion _ slots all k d lt))
 
 -- all slots are those of each object
-found_or : (p : Slot → Bool) (y x : Seen) (rest : Option Seen) (b : Bool) → cond b (Some y) rest ≡ Some x → list_all p (slots_of y) ≡ true
-    → (rest ≡ Some x → list_all p (slots_of x) ≡ true) → list_all p (slots_of x) ≡ true
-found_or p y x rest true is here later = subst (λ (z : Seen). list_all p (slots_of z) ≡ true) (same_Some y x is) here
-found_or p y x rest false is here later = later is
-
 found_slots : (p : Slot → Bool) (es : Objects) (q : ℕ) (x : Seen) → object_at es q ≡ Some x → list_all p (flat_map (λ e. slots_of e.1) es) ≡ true
     → list_all p (slots_of x) ≡ true
 found_slots p [] q x found all = absurd cc
 found_slots p (e ∷ es) q x found all =
-    let parts : IsTrue (list_all p (slots_of e.1) && list_all p (flat_map (λ e. slots_of e.1) es)) =
-    sym (list_all-append p (slots_of e.1) (flat_map (λ e. slots_of e.1) es)) ∙ all in
-    found_or p e.1 x (object_at es q) (eq_by_cmp nat_cmp q e.0) found (first_of (list_all p (slots_of e.1)) (list_all p (flat_map (λ e. slots_of e.1) es)) parts)
-    (λ is. found_slots p es q x is (second_of (list_all p (slots_of e.1)) (list_all p (flat_map (λ e. slots_of e.1) es)) parts))
+    let parts = both_true (list_all p (slots_of e.1)) (list_all p (flat_map (λ e. slots_of e.1) es)) (sym (list_all-append p (slots_of e.1) _) ∙ all) in
+    entry_case (list_all p (slots_of x) ≡ true) e es q x found (λ _ same. subst (λ (o : Seen). list_all p (slots_of o) ≡ true) same parts.0)
+    (λ later. found_slots p es q x later parts.1)
 
 pub slots_among : (p : Slot → Bool) (m : Contents) (q : ℕ) (x : Seen) → finite.get m q ≡ Some x → list_all p (all_slots m) ≡ true → list_all p (slots_of x) ≡ true
 slots_among p m q x at all = found_slots p (finite.entries m) q x (sym (finite.get-entries m q) ∙ at) all

@@ -1,7 +1,9 @@
 -- Where a pointer has a value of a kind, the places that name it allow others of that kind.
-use Rattle.std.proofs.Common.{◌≡◌, ℕ, suc, Bool, true, false, cond, eqb, not, ◌&&◌, ◌||◌, List, [], ◌∷◌, Some, None, refl, sym, ap, ◌∙◌}
+use Rattle.std.proofs.Common.{◌≡◌, ℕ, suc, Bool, true, false, cond, eqb, not, ◌&&◌, ◌||◌, List, [], ◌∷◌, get_or, Some, None, refl, sym, ap, ◌∙◌}
 use Rattle.std.proofs.lemmas.Bool.{eqb-true}
+use Rattle.std.proofs.lemmas.List.Elements.{All-from_recursion}
 use Rattle.std.proofs.lemmas.List.Folds.{list_all-append}
+use Rattle.std.proofs.lemmas.List.Sums.{list_all-from_AllPass}
 use Rattle.std.specs.Prelude.{IsTrue, slice_get}
 use Rattle.std.specs.List.{AllByRecursion, list_all, flat_map}
 use Rattle.std.specs.FinMap as finite
@@ -15,6 +17,7 @@ use Rattle.vt_effects.specs.Changes.{is_one_of}
 use Rattle.vt_effects.specs.Effects.{kind_in, pointer_value, allows, all_slots}
 use Rattle.vt_effects.specs.Replacements.{slot_allows, IsOfThatKind}
 use Rattle.vt_effects.specs.Soundness.{IsSound, is_in_order, value_fits}
+use Rattle.vt_effects.proofs.InOrder.{second_of}
 
 either : (b : Bool) → cond b true true ≡ true
 either true = refl
@@ -25,10 +28,6 @@ allowed_by : (m : Contents) (p : Pointed) (slot : Slot) → (value : ℕ) → eq
     → allows m slot value ≡ true → is_one_of slot.kinds p.kind ≡ true
 allowed_by m p slot value there same is =
     ap (is_one_of slot.kinds) (sym same) ∙ ap (λ (b : Bool). cond b true (is_one_of slot.kinds (kind_in m value))) (sym there) ∙ is
-
-last_of : (a b : Bool) → (a && b) ≡ true → b ≡ true
-last_of true b is = is
-last_of false b is = absurd cc
 
 slot_is_allowed : (m : Contents) (p : Pointed) (slot : Slot) → finite.get m 65535 ≡ None → IsOfThatKind m p → is_in_order m slot ≡ true → slot_allows p slot ≡ true
 slot_is_allowed m p slot null held is = by (eqb slot.id p.pointer) refl (eqb slot.id 65535) refl
@@ -41,7 +40,7 @@ slot_is_allowed m p slot null held is = by (eqb slot.id p.pointer) refl (eqb slo
     named same false there is =
         allowed_by m p slot held.value held.there held.same
         (sym (ap (value_fits m slot) (ap (λ (id : ℕ). pointer_value (finite.get m id)) same ∙ held.held))
-        ∙ last_of (is_one_of slot.kinds (kind_in m slot.id)) (value_fits m slot (pointer_value (finite.get m slot.id))) is)
+        ∙ second_of (is_one_of slot.kinds (kind_in m slot.id)) (value_fits m slot (pointer_value (finite.get m slot.id))) is)
 
     by : (b : Bool) → eqb slot.id p.pointer ≡ b → (c : Bool) → eqb slot.id 65535 ≡ c → (not b || cond (eqb p.value 65535) true (is_one_of slot.kinds p.kind)) ≡ true
     by false other c at = refl
@@ -52,9 +51,8 @@ slot_is_allowed m p slot null held is = by (eqb slot.id p.pointer) refl (eqb slo
 
 slots_allowed : (m : Contents) (p : Pointed) (slots : List Slot) → finite.get m 65535 ≡ None → IsOfThatKind m p → AllByRecursion (λ slot. IsTrue (is_in_order m slot)) slots
     → list_all (slot_allows p) slots ≡ true
-slots_allowed m p [] null held all = refl
-slots_allowed m p (slot ∷ slots) null held all =
-    ap (λ (b : Bool). b && list_all (slot_allows p) slots) (slot_is_allowed m p slot null held all.0) ∙ slots_allowed m p slots null held all.1
+slots_allowed m p slots null held all =
+    list_all-from_AllPass (slot_allows p) slots (λ k d lt. slot_is_allowed m p (get_or slots k d) null held (All-from_recursion _ slots all k d lt))
 
 -- all slots are those of the objects at their places
 all_at_places : (test : Slot → Bool) (es : Objects) → ((place : ℕ) (e : ℕ × Seen) → slice_get es place ≡ Some e → list_all test (slots_of e.1) ≡ true)

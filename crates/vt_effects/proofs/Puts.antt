@@ -1,7 +1,5 @@
 -- What a write through a store leaves, where the object's new value is what a command makes of it.
-use Rattle.std.proofs.Common.{◌≡◌, ℕ, Bool, true, false, cond, eqb, Option, Some, Result, Ok, Err, refl, sym, ap, subst, ◌∙◌}
-use Rattle.std.proofs.lemmas.Bool.{eqb-true}
-use Rattle.std.specs.Cmp.{unsigned_tied, nat_cmp_total}
+use Rattle.std.proofs.Common.{◌≡◌, ℕ, Option, Some, Result, Ok, Err, refl, sym, ap, subst, ◌∙◌}
 use Rattle.std.specs.FinMap as finite
 use Rattle.vt_kinds.specs.declared.kind.Kind.{Kind}
 use Rattle.vt_commands.specs.declared.command.Command.{Command}
@@ -9,19 +7,11 @@ use Rattle.vt_kinds.specs.Records.{Seen}
 use Rattle.vt_stores.specs.Stores.{Contents, replaced, with_object}
 use Rattle.vt_effects.specs.Changes.{left, changed, Answers}
 use Rattle.vt_effects.specs.Effects.{put, changed_at, changed_in}
-
-at_key : (m : Contents) (id q : ℕ) (o : Seen) (b : Bool) → eqb q id ≡ b → finite.get m id ≡ Some o → cond b (Some o) (finite.get m q) ≡ finite.get m q
-at_key m id q o true same at = sym at ∙ ap (finite.get m) (sym (eqb-true q id same))
-at_key m id q o false other at = refl
-
--- to put an object where it stands changes nothing
-pub insert-same : (m : Contents) (id : ℕ) (o : Seen) → finite.get m id ≡ Some o → finite.insert m id o ≡ m
-insert-same m id o at = finite.same_map nat_cmp_total finite.nat_cmp-IsAntisymmetric _ _ (λ q.
-    finite.get-insert nat_cmp_total m id o q ∙ ap (λ b. cond b (Some o) (finite.get m q)) (unsigned_tied q id) ∙ at_key m id q o (eqb q id) refl at)
+use Rattle.vt_effects.proofs.InOrder.{put_back}
 
 settled : (m : Contents) (id : ℕ) (old : Seen) (made : Result Seen ℕ) → finite.get m id ≡ Some old → finite.insert m id (left old made) ≡ left m (put m id made)
 settled m id old (Ok o) at = refl
-settled m id old (Err error) at = insert-same m id old at
+settled m id old (Err error) at = put_back m m id old at (λ q other. refl)
 
 pub put_left : (m after : Contents) (id : ℕ) (command : Command) (named : Option Kind) (old new : Seen) → Some old ≡ finite.get m id
     → after ≡ with_object m id new → new ≡ left old (changed command named old) → after ≡ left m (changed_in m id command named)

@@ -13,7 +13,7 @@ use Rattle.vt_stores.specs.Stores.{Contents, Objects, object_at}
 use Rattle.vt_stores.specs.Shapes.{Shape, Fixed, fixed, shape_of}
 use Rattle.vt_effects.specs.Effects.{after}
 use Rattle.vt_effects.specs.Soundness.{shape_in}
-use Rattle.vt_effects.proofs.SlotsInOrder.{Made, fixed_same}
+use Rattle.vt_effects.proofs.Making.{fixed_same}
 use Rattle.vt_effects.proofs.KeepingOrder.{by_effect}
 
 shape_or : (k : ℕ) (v old : Seen) (e : ℕ × Seen) (es : Objects) (r : Ordering)
@@ -48,4 +48,4 @@ shape_same m id old new at same =
 pub shapes_stay : (m : Contents) (command : Command) → shape_in (after m command) ≡ shape_in m
 shapes_stay m command =
     by_effect (λ (n : Contents). shape_in n ≡ shape_in m) m command refl
-    (λ id old new made. shape_same m id old new (Made.at made) (fixed_same m id old new command made))
+    (λ id old new c. shape_same m id old new c.at (fixed_same m id old new command c.change))

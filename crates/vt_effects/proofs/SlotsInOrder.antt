@@ -16,30 +16,14 @@ use Rattle.vt_kinds.specs.Records.{Seen, kind_of}
 use Rattle.vt_kinds.specs.References.{slot, slots_of}
 use Rattle.vt_stores.specs.Stores.{Contents}
 use Rattle.vt_commands.specs.Targets.{object_of}
-use Rattle.vt_stores.specs.Shapes.{Fixed, fixed}
 use Rattle.vt_effects.specs.Fields.{word}
-use Rattle.vt_effects.specs.Changes.{left, if_passed, may_stand, change_attribute, other_id, changed, writes}
+use Rattle.vt_effects.specs.Changes.{if_passed, may_stand, change_attribute, other_id, changed, writes}
 use Rattle.vt_effects.specs.Effects.{kind_in, pointer_value, allows, all_slots, places_allow, value_drawn, chains_are_short, pointer_may, keeps_order, other_kind}
 use Rattle.vt_effects.specs.Soundness.{is_in_order}
-use Rattle.vt_effects.proofs.Keeping.{changes_keep}
-use Rattle.vt_effects.proofs.Referring.{slots_after}
 use Rattle.vt_effects.proofs.InOrder.{first_of, get_there, get_other, kinds_stay}
+use Rattle.vt_effects.proofs.Making.{Made, kinds_same, slots_made}
 use Rattle.vt_effects.proofs.Places.{Allowing, slots_stay, slots_among}
 use Rattle.vt_effects.proofs.WrittenSlots.{takes_pointers, pointer_kind, plain_in_order, list_changed, item_in_order}
-
--- what a command has made of the object of an ID
-pub record Made (m : Contents) (id : ℕ) (old new : Seen) (command : Command) : Type 0 where
-  pub at : finite.get m id ≡ Some old
-  pub for : object_of command ≡ Some id
-  pub made : ◌≡◌ {A = Result Seen ℕ} (changed command (other_kind m (other_id command)) old) (Ok new)
-  pub kept : keeps_order m command (finite.insert m id new) ≡ true
-
-pub fixed_same : (m : Contents) (id : ℕ) (old new : Seen) (command : Command) → Made m id old new command → fixed new ≡ fixed old
-fixed_same m id old new command c =
-    ap fixed (sym (ap (left old) c.made)) ∙ changes_keep command (other_kind m (other_id command)) old
-
-pub kinds_same : (m : Contents) (id : ℕ) (old new : Seen) (command : Command) → Made m id old new command → kind_of new ≡ kind_of old
-kinds_same m id old new command c = ap (λ (f : Fixed). f.kind) (fixed_same m id old new command c)
 
 -- ---- a pointer with another value
 
@@ -53,26 +37,21 @@ attribute_of_pointer named zero value p new made = absurd cc
 attribute_of_pointer named (suc zero) value p new made = passed_is _ _ (objects.ObjectPointer (record p { value = word value })) new made
 attribute_of_pointer named (suc (suc number)) value p new made = absurd cc
 
-value_is : (p : ObjectPointer) (new : Seen) (value w : ℕ) → objects.ObjectPointer (record p { value = word value }) ≡ new → pointer_value (Some new) ≡ Some w → word value ≡ w
-value_is p new value w is at = same_Some (word value) w (ap (λ (o : Seen). pointer_value (Some o)) is ∙ at)
-
-may_is : (m after : Contents) (id value : ℕ) (p : ObjectPointer) → finite.get m id ≡ Some (objects.ObjectPointer p)
-    → pointer_may m id (word value) (pointer_value (finite.get m id)) after ≡ true → places_allow m id (word value) ≡ true
-may_is m after id value p at may =
-    first_of (places_allow m id (word value)) (chains_are_short after)
-    (subst (λ (o : Option Seen). pointer_may m id (word value) (pointer_value o) after ≡ true) at may)
+allowed_value : (m after : Contents) (id it value : ℕ) (p : ObjectPointer) (new : Seen) → finite.get m id ≡ Some (objects.ObjectPointer p) → Some it ≡ Some id
+    → objects.ObjectPointer (record p { value = word value }) ≡ new → pointer_may m it (word value) (pointer_value (finite.get m it)) after ≡ true
+    → (w : ℕ) → pointer_value (Some new) ≡ Some w → places_allow m id w ≡ true
+allowed_value m after id it value p new at for is kept w has =
+    subst (λ (v : ℕ). places_allow m id v ≡ true) (same_Some (word value) w (ap (λ (o : Seen). pointer_value (Some o)) is ∙ has))
+    (first_of (places_allow m id (word value)) (chains_are_short after)
+    (subst (λ (o : Option Seen). pointer_may m id (word value) (pointer_value o) after ≡ true) at
+    (subst (λ (i : ℕ). pointer_may m i (word value) (pointer_value (finite.get m i)) after ≡ true) (same_Some it id for) kept)))
 
 new_value : (m after : Contents) (id : ℕ) (p : ObjectPointer) (new : Seen) (command : Command) (named : Option Kind) → finite.get m id ≡ Some (objects.ObjectPointer p)
     → object_of command ≡ Some id → ◌≡◌ {A = Result Seen ℕ} (changed command named (objects.ObjectPointer p)) (Ok new) → keeps_order m command after ≡ true
     → (w : ℕ) → pointer_value (Some new) ≡ Some w → places_allow m id w ≡ true
-new_value m after id p new (ChangeNumericValue it value) named at for made kept w is =
-    let same : it ≡ id = same_Some it id for in
-    subst (λ (v : ℕ). places_allow m id v ≡ true) (value_is p new value w (passed_is _ _ (objects.ObjectPointer (record p { value = word value })) new made) is)
-    (may_is m after id value p at (subst (λ (i : ℕ). pointer_may m i (word value) (pointer_value (finite.get m i)) after ≡ true) same kept))
+new_value m after id p new (ChangeNumericValue it value) named at for made kept w is = allowed_value m after id it value p new at for (passed_is _ _ _ new made) kept w is
 new_value m after id p new (ChangeAttribute it number value) named at for made kept w is =
-    let same : it ≡ id = same_Some it id for in
-    subst (λ (v : ℕ). places_allow m id v ≡ true) (value_is p new value w (attribute_of_pointer named number value p new made) is)
-    (may_is m after id value p at (subst (λ (i : ℕ). pointer_may m i (word value) (pointer_value (finite.get m i)) after ≡ true) same kept))
+    allowed_value m after id it value p new at for (attribute_of_pointer named number value p new made) kept w is
 new_value m after id p new _ named at for made kept w is = absurd cc
 
 -- the places that name the pointer allow its new value
@@ -80,7 +59,7 @@ allowing : (m : Contents) (id : ℕ) (old new : Seen) (command : Command) → Ma
 allowing m id (objects.ObjectPointer p) new command c w is =
     new_value m (finite.insert m id new) id p new command (other_kind m (other_id command)) c.at c.for c.made c.kept w is
 allowing m id old new command c w is =
-    let kind : kind_of old ≡ kinds.ObjectPointer = sym (kinds_same m id old new command c) ∙ pointer_kind new w is in
+    let kind : kind_of old ≡ kinds.ObjectPointer = sym (kinds_same m id old new command c.change) ∙ pointer_kind new w is in
     absurd cc
 
 -- ---- what is written
@@ -100,22 +79,14 @@ write_case (ChangeFillAttributes id type colour pattern) places.Pattern kind is 
 write_case (ChangeActiveMask set mask) places.ActiveMask kind is = inl refl
 write_case (ChangeSoftKeyMask type mask keys) places.SoftKeyMask kind is = inl refl
 write_case (ChangeListItem list index item) (places.Item at) kind is = inr (record { list = list; index = index; item = item; at = at; is = refl; stands = refl })
-write_case (ChangeAttribute id number value) places.SoftKeyMask kind is = inl refl
-write_case (ChangeAttribute id number value) places.Font kind is = inl refl
-write_case (ChangeAttribute id number value) places.InputAttributes kind is = inl refl
-write_case (ChangeAttribute id number value) places.Variable kind is = inl refl
-write_case (ChangeAttribute id number value) places.TargetVariable kind is = inl refl
-write_case (ChangeAttribute id number value) places.LineAttributes kind is = inl refl
-write_case (ChangeAttribute id number value) places.Fill kind is = inl refl
-write_case (ChangeAttribute id number value) places.Pattern kind is = inl refl
 write_case (ChangeAttribute id number value) places.Value kind is = inl refl
-write_case _ _ _ is = absurd cc
+write_case _ _ _ is = inl cc
 
 item_made : (m : Contents) (id : ℕ) (old new : Seen) (kind : Kind) (list index item at other : ℕ) → Made m id old new (ChangeListItem list index item)
     → Some item ≡ Some other → may_stand kind (places.Item at) other (kind_in (finite.insert m id new) other) ≡ true
     → IsTrue (is_in_order (finite.insert m id new) (slot kind (places.Item at) other))
 item_made m id old new kind list index item at other c same may =
-    item_in_order m id old new kind at other c.at (kinds_same m id old new (ChangeListItem list index item) c)
+    item_in_order m id old new kind at other c.at (kinds_same m id old new (ChangeListItem list index item) c.change)
     (list_changed (other_kind m (Some item)) index item old new c.made)
     (subst (λ (i : ℕ). value_drawn m (pointer_value (finite.get m i)) ≡ true) (same_Some item other same)
     (first_of (value_drawn m (pointer_value (finite.get m item))) (chains_are_short (finite.insert m id new)) c.kept))
@@ -129,7 +100,7 @@ written m id old new command c place other names writes may = by (write_case com
     stands : may_stand (kind_of old) place other (kind_in (finite.insert m id new) other) ≡ true
     stands =
         subst (λ (k : Option Kind). may_stand (kind_of old) place other k ≡ true)
-        (ap (other_kind m) names ∙ sym (kinds_stay m id old new other c.at (kinds_same m id old new command c))) may
+        (ap (other_kind m) names ∙ sym (kinds_stay m id old new other c.at (kinds_same m id old new command c.change))) may
 
     item : (i : IsItem command place) → IsTrue (is_in_order (finite.insert m id new) (slot (kind_of old) place other))
     item i =
@@ -149,17 +120,14 @@ slots_by : (m : Contents) (id : ℕ) (old new : Seen) (command : Command) → Ma
     → (q : ℕ) (x : Seen) (b : Bool) → eqb q id ≡ b → finite.get (finite.insert m id new) q ≡ Some x
     → AllByRecursion (λ s. IsTrue (is_in_order (finite.insert m id new) s)) (slots_of x)
 slots_by m id old new command c sound q x true e there =
-    subst (λ (y : Seen). AllByRecursion (λ s. IsTrue (is_in_order (finite.insert m id new) s)) (slots_of y)) same
-    (slots_after (λ s. IsTrue (is_in_order (finite.insert m id new) s)) command (other_kind m (other_id command)) old
-    (slots_stay m id old new (slots_of old) c.at (kinds_same m id old new command c)
+    subst (λ (y : Seen). AllByRecursion (λ s. IsTrue (is_in_order (finite.insert m id new) s)) (slots_of y)) (same_Some new x (sym (get_there m id new q e) ∙ there))
+    (slots_made _ m id old new command c.change
+    (slots_stay m id old new (slots_of old) c.at (kinds_same m id old new command c.change)
     (λ w is. slots_among (λ s. not (s.id == id) || allows m s w) m id old c.at (allowing m id old new command c w is)) (sound id old c.at))
     (written m id old new command c))
-  where
-    same : left old (changed command (other_kind m (other_id command)) old) ≡ x
-    same = ap (left old) c.made ∙ same_Some new x (sym (get_there m id new q e) ∙ there)
 slots_by m id old new command c sound q x false e there =
     let at : finite.get m q ≡ Some x = sym (get_other m id new q e) ∙ there in
-    slots_stay m id old new (slots_of x) c.at (kinds_same m id old new command c)
+    slots_stay m id old new (slots_of x) c.at (kinds_same m id old new command c.change)
     (λ w is. slots_among (λ s. not (s.id == id) || allows m s w) m q x at (allowing m id old new command c w is)) (sound q x at)
 
 pub slots_in_order : (m : Contents) (id : ℕ) (old new : Seen) (command : Command) → Made m id old new command

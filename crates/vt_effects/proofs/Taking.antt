@@ -60,21 +60,16 @@ is_scale n is =
 
 scale_is : (n : ℕ) (s : Scale) → n ≡ scale_number s → is_some (scale_at n) ≡ true
 scale_is n One e = subst (λ (m : ℕ). is_some (scale_at m) ≡ true) (sym e) refl
-scale_is n Tenth e = subst (λ (m : ℕ). is_some (scale_at m) ≡ true) (sym e) refl
-scale_is n Hundredth e = subst (λ (m : ℕ). is_some (scale_at m) ≡ true) (sym e) refl
-scale_is n Thousandth e = subst (λ (m : ℕ). is_some (scale_at m) ≡ true) (sym e) refl
+scale_is n _ e = subst (λ (m : ℕ). is_some (scale_at m) ≡ true) (sym e) refl
 
 -- ---- all
 
 pub takes_is : (kind : Kind) (sort : ValueType) (n : ℕ) (named : Option Kind) (b : Bool) → n % 2 ^ 32 ≡ n → (IsTrue b → Accepts kind sort (lowest sort n) named)
     → (Accepts kind sort (lowest sort n) named → IsTrue b) → b ≡ takes kind sort n named
-takes_is kind types.Byte n named b fits there back = back tt
-takes_is kind types.Word n named b fits there back = back tt
-takes_is kind types.Long n named b fits there back = back tt
-takes_is kind types.SignedLong n named b fits there back = back tt
 takes_is kind (types.Reference place) n named b fits there back =
     alike b _ (λ is. may kind place (word n) named (word n == 0xFFFF) refl (there is)) (λ is. back (stands kind place (word n) named (word n == 0xFFFF) refl is))
 takes_is kind types.Priority n named b fits there back = alike b _ (λ is. le-leb (n % 256) 2 (there is)) (λ is. back (leb-true (n % 256) 2 is))
 takes_is kind types.Scale n named b fits there back =
     alike b _ (λ is. subst (λ (m : ℕ). is_some (scale_at m) ≡ true) fits (scale_is (n % 2 ^ 32) (there is).0 (there is).1)) (λ is. back (is_scale (n % 2 ^ 32) (subst (λ (m : ℕ). is_some (scale_at m) ≡ true) (sym fits) is)))
 takes_is kind types.Decimals n named b fits there back = alike b _ (λ is. le-leb (n % 256) 7 (there is)) (λ is. back (leb-true (n % 256) 7 is))
+takes_is kind _ n named b fits there back = back tt

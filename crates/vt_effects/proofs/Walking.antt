@@ -1,5 +1,6 @@
 -- All slots of a store, entry by entry.
-use Rattle.std.proofs.Common.{◌≡◌, ◌≤◌, ◌+◌, ◌++◌, ◌&&◌, ℕ, zero, suc, Bool, true, false, List, [], ◌∷◌, drop, length, Option, refl, sym, ap, ◌∙◌, arith, append-nil}
+use Rattle.std.proofs.Common.{◌≡◌, ◌≤◌, ◌+◌, ◌&&◌, ℕ, zero, suc, Bool, true, false, List, [], ◌∷◌, drop, length, Option, refl, sym, ap, ◌∙◌, arith, add-one, append-nil}
+use Rattle.std.proofs.lemmas.List.Folds.{list_all-append}
 use Rattle.std.specs.Prelude.{slice_get}
 use Rattle.std.specs.Option.{option_to_list}
 use Rattle.std.specs.List.{list_all, flat_map}
@@ -18,28 +19,17 @@ slots_from es place = flat_map (λ e. slots_of e.1) (drop place es)
 abbrev pub slots_at : Objects → ℕ → List Slot
 slots_at es place = flat_map (λ e. slots_of e.1) (option_to_list (slice_get es place))
 
-both_all : {A : Type 0} (p : A → Bool) (xs ys : List A) → list_all p (xs ++ ys) ≡ (list_all p xs && list_all p ys)
-both_all p [] ys = refl
-both_all p (x ∷ xs) ys = by (p x) (both_all p xs ys)
-  where
-    by : (b : Bool) → list_all p (xs ++ ys) ≡ (list_all p xs && list_all p ys) → (b && list_all p (xs ++ ys)) ≡ ((b && list_all p xs) && list_all p ys)
-    by true is = is
-    by false is = refl
-
 entry_step : (p : Slot → Bool) (es : Objects) (place : ℕ) → list_all p (slots_from es place) ≡ (list_all p (slots_at es place) && list_all p (slots_from es (suc place)))
 entry_step p [] zero = refl
 entry_step p [] (suc place) = refl
 entry_step p (e ∷ es) zero =
-    both_all p (slots_of e.1) (flat_map (λ f. slots_of f.1) es)
+    list_all-append p (slots_of e.1) (flat_map (λ f. slots_of f.1) es)
     ∙ ap (λ (xs : List Slot). list_all p xs && list_all p (flat_map (λ f. slots_of f.1) es)) (sym (append-nil (slots_of e.1)))
 entry_step p (e ∷ es) (suc place) = entry_step p es place
 
-one_more : (place : ℕ) → suc place ≡ place + 1
-one_more place = omega arith
-
 pub entry_passed : (p : Slot → Bool) (es : Objects) (place : ℕ) → list_all p (slots_at es place) ≡ true → list_all p (slots_from es place) ≡ list_all p (slots_from es (place + 1))
 entry_passed p es place is =
-    entry_step p es place ∙ ap (λ b. b && list_all p (slots_from es (suc place))) is ∙ ap (λ (n : ℕ). list_all p (slots_from es n)) (one_more place)
+    entry_step p es place ∙ ap (λ b. b && list_all p (slots_from es (suc place))) is ∙ ap (λ (n : ℕ). list_all p (slots_from es n)) (sym (add-one place))
 
 pub entry_failed : (p : Slot → Bool) (es : Objects) (place : ℕ) → list_all p (slots_at es place) ≡ false → list_all p (slots_from es place) ≡ false
 entry_failed p es place is = entry_step p es place ∙ ap (λ b. b && list_all p (slots_from es (suc place))) is

@@ -9,15 +9,14 @@ use Rattle.vt_kinds.specs.declared.kind.Kind.TheVariants as kinds
 use Rattle.vt_kinds.specs.declared.kinds.Kinds.TheVariants as sets
 use Rattle.vt_kinds.specs.declared.place.Place.{Place}
 use Rattle.vt_kinds.specs.declared.place.Place.TheVariants as places
-use Rattle.vt_kinds.specs.declared.slot.Slot.{Slot}
 use Rattle.vt_kinds.specs.declared.object.Object.TheVariants as objects
 use Rattle.vt_kinds.specs.Records.{Seen, kind_of}
 use Rattle.vt_kinds.specs.References.{slot, allowed, may_be_null, is_member}
 use Rattle.vt_stores.specs.Stores.{Contents}
 use Rattle.vt_effects.specs.Changes.{is_one_of, may_stand, change_item}
-use Rattle.vt_effects.specs.Effects.{kind_in, pointer_value, allows, value_drawn}
+use Rattle.vt_effects.specs.Effects.{kind_in, pointer_value, value_drawn}
 use Rattle.vt_effects.specs.Soundness.{value_fits, is_in_order}
-use Rattle.vt_effects.proofs.InOrder.{get_there, get_other, allows_stays}
+use Rattle.vt_effects.proofs.InOrder.{get_there, get_other, allows_stays, value_of}
 use Rattle.vt_stores.proofs.Rising.{true_both}
 
 -- ---- pointers and their kind
@@ -43,31 +42,11 @@ takes_pointers place = false
 
 no_variable : (kind : Kind) → is_member (allowed kind places.Variable) kinds.ObjectPointer ≡ false
 no_variable kinds.InputString = refl
-no_variable kinds.OutputString = refl
 no_variable _ = refl
 
 no_pointer : (kind : Kind) (place : Place) → takes_pointers place ≡ false → is_member (allowed kind place) kinds.ObjectPointer ≡ false
-no_pointer kind places.ActiveMask other = refl
-no_pointer kind places.SoftKeyMask other = refl
-no_pointer kind (places.Child index) other = absurd cc
-no_pointer kind (places.Key index) other = absurd cc
-no_pointer kind places.Font other = refl
-no_pointer kind places.InputAttributes other = refl
 no_pointer kind places.Variable other = no_variable kind
-no_pointer kind places.TargetVariable other = refl
-no_pointer kind (places.Item index) other = absurd cc
-no_pointer kind places.LineAttributes other = refl
-no_pointer kind places.Fill other = refl
-no_pointer kind places.Pattern other = refl
-no_pointer kind places.Value other = refl
-
-value_none : (m : Contents) (s : Slot) (v : Option ℕ) → ((w : ℕ) → v ≡ Some w → ⊥) → IsTrue (value_fits m s v)
-value_none m s None never = refl
-value_none m s (Some w) never = absurd (never w refl)
-
-value_of : (m : Contents) (s : Slot) (v : Option ℕ) → ((w : ℕ) → v ≡ Some w → IsTrue (allows m s w)) → IsTrue (value_fits m s v)
-value_of m s None of = refl
-value_of m s (Some w) of = of w refl
+no_pointer kind _ other = cc
 
 -- no pointer stands where its kind is not allowed
 pub not_a_pointer : (m : Contents) (kind : Kind) (place : Place) (id : ℕ) → takes_pointers place ≡ false → is_one_of (allowed kind place) (kind_in m id) ≡ true
@@ -91,7 +70,7 @@ written_in_order m kind place id may value = by (id == 0xFFFF) may
 pub plain_in_order : (m : Contents) (kind : Kind) (place : Place) (id : ℕ) → takes_pointers place ≡ false → may_stand kind place id (kind_in m id) ≡ true
     → IsTrue (is_in_order m (slot kind place id))
 plain_in_order m kind place id other may =
-    written_in_order m kind place id may (λ one. value_none m (slot kind place id) (pointer_value (finite.get m id)) (not_a_pointer m kind place id other one))
+    written_in_order m kind place id may (λ one. value_of m (slot kind place id) (pointer_value (finite.get m id)) (λ w is. absurd (not_a_pointer m kind place id other one w is)))
 
 -- ---- items of lists
 
@@ -115,8 +94,8 @@ item_in_order m id old new kind place item at kinds_are none all may =
         → IsTrue (value_fits (finite.insert m id new) (slot kind (places.Item place) item) (pointer_value (finite.get (finite.insert m id new) item)))
     value true e =
         subst (λ (o : Option Seen). IsTrue (value_fits (finite.insert m id new) (slot kind (places.Item place) item) (pointer_value o))) (sym (get_there m id new item e))
-        (value_none (finite.insert m id new) (slot kind (places.Item place) item) (pointer_value (Some new))
-        (λ w is. kind_pointer old (sym kinds_are ∙ pointer_kind new w is) none))
+        (value_of (finite.insert m id new) (slot kind (places.Item place) item) (pointer_value (Some new))
+        (λ w is. absurd (kind_pointer old (sym kinds_are ∙ pointer_kind new w is) none)))
     value false e =
         subst (λ (o : Option Seen). IsTrue (value_fits (finite.insert m id new) (slot kind (places.Item place) item) (pointer_value o))) (sym (get_other m id new item e))
         (value_of (finite.insert m id new) (slot kind (places.Item place) item) (pointer_value (finite.get m item))

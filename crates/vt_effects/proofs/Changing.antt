@@ -1,0 +1,226 @@
+-- What a command leaves of an object: its kind, the macros of its events and the bytes of a macro, and of its references
+-- those that it had and what may stand where the command writes.
+use Rattle.std.proofs.Common.{◌≡◌, ◌⊎◌, inl, inr, ◌+◌, ℕ, zero, suc, ℤ, ◌==◌, Bool, true, false, cond, not, List, [], ◌∷◌, map, set, slice_get, IfSome, Option, Some, None, Result, Ok, Err, refl, sym, subst, arith}
+use Rattle.std.specs.Prelude.{Contains}
+use Rattle.std.specs.List.{AllByRecursion}
+use Rattle.std.proofs.lemmas.Bool.{eq-eqb}
+use Rattle.std.proofs.lemmas.List.Elements.{recursion_from_All, Contains-get_or}
+use Rattle.vt_kinds.specs.declared.kind.Kind.{Kind}
+use Rattle.vt_kinds.specs.declared.kind.Kind.TheVariants as kinds
+use Rattle.vt_kinds.specs.declared.kinds.Kinds.TheVariants as sets
+use Rattle.vt_kinds.specs.declared.place.Place.{Place}
+use Rattle.vt_kinds.specs.declared.place.Place.TheVariants as places
+use Rattle.vt_kinds.specs.declared.slot.Slot.{Slot}
+use Rattle.vt_kinds.specs.declared.entries.Child.{Child}
+use Rattle.vt_kinds.specs.declared.fields.Attribute.{Attribute}
+use Rattle.vt_kinds.specs.declared.fields.Field.TheVariants as fields
+use Rattle.vt_kinds.specs.declared.fields.ValueType.{ValueType}
+use Rattle.vt_kinds.specs.declared.fields.ValueType.TheVariants as types
+use Rattle.vt_kinds.specs.declared.object.Object.TheVariants as objects
+use Rattle.vt_commands.specs.declared.command.Command.{Command}
+use Rattle.vt_commands.specs.declared.command.Command.TheVariants.{HideShow, EnableDisable, ChangeChildLocation, ChangeSize, ChangeBackgroundColour, ChangeNumericValue, ChangeEndPoint, ChangeFontAttributes, ChangeLineAttributes, ChangeFillAttributes, ChangeActiveMask, ChangeSoftKeyMask, ChangeAttribute, ChangePriority, ChangeListItem, ChangeStringValue, ChangeChildPosition, ExecuteMacro}
+use Rattle.vt_kinds.specs.Records.{Seen, kind_of}
+use Rattle.vt_kinds.specs.References.{slot, slots_of, listed}
+use Rattle.vt_kinds.specs.Attributes.{attribute_at, attributes_of, numbered, byte}
+use Rattle.vt_stores.specs.Shapes.{fixed}
+use Rattle.vt_effects.specs.Fields.{word, with_field}
+use Rattle.vt_effects.specs.Changes.{left, bit, if_passed, is_one_of, may_stand, takes, other_id, child_at, move_child, shifted, placed, stands_in, leaves, for_child, change_location, change_position, put_children, in_parent, put_attribute, changed, writes, is_attribute, IsWritten}
+
+-- what is left of an object has all that no command changes, and each of its references is as told
+record Leaves (P : Slot → Type 0) (o : Seen) (made : Result Seen ℕ) : Type 0 where
+  kept : fixed (left o made) ≡ fixed o
+  slots : AllByRecursion P (slots_of (left o made))
+
+-- what may be written by a command
+abbrev pub MayWrite : (Slot → Type 0) → Command → Option Kind → Kind → Type 0
+MayWrite P command named kind =
+    (place : Place) (id : ℕ) → other_id command ≡ Some id → writes command place kind ≡ true → may_stand kind place id named ≡ true → P (slot kind place id)
+
+-- ---- children keep their IDs
+
+abbrev ids : List Child → List ℕ
+ids children = map (λ c. c.id) children
+
+moved_id : (child : ℕ) (move : Child → Child) (c : Child) → Child.id (move c) ≡ c.id → Child.id (child_at child move c) ≡ c.id
+moved_id child move c same = by (c.id == child)
+  where
+    by : (b : Bool) → Child.id (cond b (move c) c) ≡ c.id
+    by true = same
+    by false = refl
+
+moved_ids : (child : ℕ) (move : Child → Child) → ((c : Child) → Child.id (move c) ≡ c.id) → (children : List Child)
+    → ids (move_child child move children) ≡ ids children
+moved_ids child move same [] = refl
+moved_ids child move same (c ∷ children) = cc (moved_id child move c (same c), moved_ids child move same children)
+
+child_stays : (child : ℕ) (named : Option Kind) (children : List Child) (made : Result (List Child) ℕ) → ids (left children made) ≡ ids children
+    → ids (left children (for_child child named children made)) ≡ ids children
+child_stays child None children made stay = refl
+child_stays child (Some kind) children made stay = by (stands_in child children)
+  where
+    by : (b : Bool) → ids (left children (cond b made (Err (bit 0)))) ≡ ids children
+    by true = stay
+    by false = refl
+
+location_stays : (named : Option Kind) (child dx dy : ℕ) (children : List Child) → ids (left children (change_location named child dx dy children)) ≡ ids children
+location_stays named child dx dy children = child_stays child named children _ (by (leaves child dx dy children))
+  where
+    by : (b : Bool) → ids (left children (if_passed (not b) (bit 4) (move_child child (shifted dx dy) children))) ≡ ids children
+    by true = refl
+    by false = moved_ids child (shifted dx dy) (λ c. refl) children
+
+position_stays : (named : Option Kind) (child : ℕ) (x y : ℤ) (children : List Child) → ids (left children (change_position named child x y children)) ≡ ids children
+position_stays named child x y children = child_stays child named children _ (moved_ids child (placed x y) (λ c. refl) children)
+
+-- ---- attributes by their numbers
+
+at_index : (Q : Attribute → Type 0) (attributes : List Attribute) (index : ℕ) → AllByRecursion Q attributes → IfSome (slice_get attributes index) Q
+at_index Q [] index all = tt
+at_index Q (a ∷ attributes) zero all = all.0
+at_index Q (a ∷ attributes) (suc index) all = at_index Q attributes index all.1
+
+at_number : (Q : Attribute → Type 0) (attributes : List Attribute) (number : ℕ) → AllByRecursion Q attributes → IfSome (numbered attributes number) Q
+at_number Q attributes zero all = tt
+at_number Q attributes (suc index) all = at_index Q attributes index all
+
+-- the options of an Input List stand apart
+at_attribute : (Q : Attribute → Type 0) (kind : Kind) (number : ℕ) → AllByRecursion Q (byte fields.Options ∷ attributes_of kind) → IfSome (attribute_at kind number) Q
+at_attribute Q kinds.InputList number all = by (number == 5)
+  where
+    by : (b : Bool) → IfSome (cond b (Some (byte fields.Options)) (numbered (attributes_of kinds.InputList) number)) Q
+    by true = all.0
+    by false = at_number Q (attributes_of kinds.InputList) number all.1
+at_attribute Q kind number all = at_number Q (attributes_of kind) number all.1
+
+mask_may : (mask : ℕ) (named : Option Kind) → is_one_of sets.Masks named ≡ true → may_stand kinds.WorkingSet places.ActiveMask mask named ≡ true
+mask_may mask named is = by (mask == 0xFFFF)
+  where
+    by : (b : Bool) → cond b true (is_one_of sets.Masks named) ≡ true
+    by true = refl
+    by false = is
+
+module _ (P : Slot → Type 0) where
+  -- what is made where a test is passed
+  tested : (test : Bool) (made : Result Seen ℕ) (error : ℕ) (o : Seen) → AllByRecursion P (slots_of o) → (test ≡ true → Leaves P o made)
+      → Leaves P o (cond test made (Err error))
+  tested true made error o old of = of refl
+  tested false made error o old of = assumption
+
+  passes : (test : Bool) (error : ℕ) (o new : Seen) → fixed new ≡ fixed o → AllByRecursion P (slots_of o) → (test ≡ true → AllByRecursion P (slots_of new))
+      → Leaves P o (if_passed test error new)
+  passes test error o new kept old of = tested test (Ok new) error o old (λ passed. record { kept = kept; slots = of passed })
+
+  -- one test and then another
+  both_pass : (first test : Bool) (error other : ℕ) (o new : Seen) → fixed new ≡ fixed o → AllByRecursion P (slots_of o)
+      → (test ≡ true → AllByRecursion P (slots_of new)) → Leaves P o (cond {A = Result Seen ℕ} first (if_passed test error new) (Err other))
+  both_pass first test error other o new kept old of = tested first (if_passed test error new) other o old (λ _. passes test error o new kept old of)
+
+  put_children_leave : (o : Seen) (parent : List Child → Seen) (children : List Child) (made : Result (List Child) ℕ) → ids (left children made) ≡ ids children
+      → ((new : List Child) → fixed (parent new) ≡ fixed o) → ((new : List Child) → ids new ≡ ids children → slots_of (parent new) ≡ slots_of o)
+      → AllByRecursion P (slots_of o) → Leaves P o (put_children parent made)
+  put_children_leave o parent children (Ok new) stay kept same old = record { kept = kept new; slots = subst (AllByRecursion P) (sym (same new stay)) old }
+  put_children_leave o parent children (Err error) stay kept same old = assumption
+
+  in_parent_leaves : (change : List Child → Result (List Child) ℕ) (o : Seen) → ((children : List Child) → ids (left children (change children)) ≡ ids children)
+      → AllByRecursion P (slots_of o) → Leaves P o (in_parent change o)
+  in_parent_leaves change (objects.WorkingSet o) stay old =
+      put_children_leave (objects.WorkingSet o) _ o.children (change o.children) (stay o.children) (λ new. refl) (λ new same. cc) old
+  in_parent_leaves change (objects.DataMask o) stay old =
+      put_children_leave (objects.DataMask o) _ o.children (change o.children) (stay o.children) (λ new. refl) (λ new same. cc) old
+  in_parent_leaves change (objects.AlarmMask o) stay old =
+      put_children_leave (objects.AlarmMask o) _ o.children (change o.children) (stay o.children) (λ new. refl) (λ new same. cc) old
+  in_parent_leaves change (objects.Container o) stay old =
+      put_children_leave (objects.Container o) _ o.children (change o.children) (stay o.children) (λ new. refl) (λ new same. cc) old
+  in_parent_leaves change (objects.Key o) stay old =
+      put_children_leave (objects.Key o) _ o.children (change o.children) (stay o.children) (λ new. refl) (λ new same. cc) old
+  in_parent_leaves change (objects.Button o) stay old =
+      put_children_leave (objects.Button o) _ o.children (change o.children) (stay o.children) (λ new. refl) (λ new same. cc) old
+  in_parent_leaves change _ stay old = assumption
+
+  listed_set : (kind : Kind) (start index at item : ℕ) (items : List ℕ) → start + index ≡ at → AllByRecursion P (listed kind places.Item start items)
+      → P (slot kind (places.Item at) item) → AllByRecursion P (listed kind places.Item start (set items index item))
+  listed_set kind start index at item [] is old new = old
+  listed_set kind start zero at item (x ∷ items) is old new = let same : start ≡ at = omega arith in (rw same new, old.1)
+  listed_set kind start (suc index) at item (x ∷ items) is old new = (old.0, listed_set kind (suc start) index at item items (omega arith) old.1 new)
+
+  -- what a field of a sort is given: where it is a reference, an ID that may stand there
+  abbrev Given : Kind → ℕ → ValueType → Type 0
+  Given kind n (types.Reference place) = cond (is_attribute place kind) (P (slot kind place (word n))) (Unit {0})
+  Given kind n _ = Unit {0}
+
+  given_by : (named : Option Kind) (kind : Kind) (n : ℕ)
+      → ((place : Place) → is_attribute place kind ≡ true → may_stand kind place (word n) named ≡ true → P (slot kind place (word n)))
+      → (type : ValueType) → takes kind type n named ≡ true → Given kind n type
+  given_by named kind n may (types.Reference place) passed = by (is_attribute place kind) refl
+    where
+      by : (b : Bool) → is_attribute place kind ≡ b → cond b (P (slot kind place (word n))) (Unit {0})
+      by true is = may place is passed
+      by false is = tt
+  given_by named kind n may _ passed = tt
+
+  -- an attribute that may be written
+  abbrev IsPut : ℕ → Seen → Attribute → Type 0
+  IsPut n o a = Given (kind_of o) n a.value_type → Leaves P o (Ok (with_field a.field n o))
+
+  fields_leave : (n : ℕ) (o : Seen) → AllByRecursion P (slots_of o) → AllByRecursion (IsPut n o) (byte fields.Options ∷ attributes_of (kind_of o))
+  fields_leave n (objects.WorkingSet o) old = assumption
+  fields_leave n _ old = assumption
+
+  attribute_leaves : (named : Option Kind) (n : ℕ) (o : Seen) (found : Option Attribute) → IfSome found (IsPut n o) → AllByRecursion P (slots_of o)
+      → ((type : ValueType) → takes (kind_of o) type n named ≡ true → Given (kind_of o) n type) → Leaves P o (put_attribute found named n o)
+  attribute_leaves named n o None put old given = assumption
+  attribute_leaves named n o (Some a) put old given = tested _ _ _ _ old (λ passed. put (given a.value_type passed))
+
+  commands_leave : (command : Command) (named : Option Kind) (o : Seen) → AllByRecursion P (slots_of o) → MayWrite P command named (kind_of o)
+      → Leaves P o (changed command named o)
+  commands_leave (HideShow id state) named (objects.Container o) old may = passes _ _ _ _ refl old (λ _. old)
+  commands_leave (EnableDisable id state) named (objects.InputBoolean o) old may = passes _ _ _ _ refl old (λ _. old)
+  commands_leave (EnableDisable id state) named (objects.InputString o) old may = passes _ _ _ _ refl old (λ _. old)
+  commands_leave (EnableDisable id state) named (objects.InputNumber o) old may = passes _ _ _ _ refl old (λ _. old)
+  commands_leave (EnableDisable id state) named (objects.InputList o) old may = passes _ _ _ _ refl old (λ _. old)
+  commands_leave (ChangeChildLocation parent child dx dy) named o old may = in_parent_leaves _ o (location_stays named child dx dy) old
+  commands_leave (ChangeSize id width height) named (objects.Container o) old may = assumption
+  commands_leave (ChangeBackgroundColour id colour) named (objects.WorkingSet o) old may = assumption
+  commands_leave (ChangeNumericValue id value) named (objects.InputBoolean o) old may = passes _ _ _ _ refl old (λ _. old)
+  commands_leave (ChangeNumericValue id value) named (objects.InputNumber o) old may = passes _ _ _ _ refl old (λ _. old)
+  commands_leave (ChangeNumericValue id value) named (objects.InputList o) old may = passes _ _ _ _ refl old (λ _. old)
+  commands_leave (ChangeNumericValue id value) named (objects.ObjectPointer o) old may =
+      passes _ _ _ _ refl old (λ passed. (may places.Value (word value) refl refl passed, tt))
+  commands_leave (ChangeEndPoint id width height direction) named (objects.Line o) old may = passes _ _ _ _ refl old (λ _. old)
+  commands_leave (ChangeFontAttributes id colour size type style) named (objects.Font o) old may = assumption
+  commands_leave (ChangeLineAttributes id colour width art) named (objects.LineAttributes o) old may = assumption
+  commands_leave (ChangeFillAttributes id type colour pattern) named (objects.FillAttributes o) old may =
+      passes _ _ _ _ refl old (λ passed. (may places.Pattern pattern refl refl passed, tt))
+  commands_leave (ChangeActiveMask id mask) named (objects.WorkingSet o) old may =
+      passes _ _ _ _ refl old (λ passed. (may places.ActiveMask mask refl refl (mask_may mask named passed), old.1))
+  commands_leave (ChangeSoftKeyMask type mask keys) named (objects.DataMask o) old may =
+      both_pass _ _ _ _ _ _ refl old (λ passed. (may places.SoftKeyMask keys refl refl passed, old.1))
+  commands_leave (ChangeSoftKeyMask type mask keys) named (objects.AlarmMask o) old may =
+      both_pass _ _ _ _ _ _ refl old (λ passed. (may places.SoftKeyMask keys refl refl passed, old.1))
+  commands_leave (ChangeAttribute id number value) named o old may =
+      tested _ _ _ _ old (λ _. attribute_leaves named value o _ (at_attribute (IsPut value o) (kind_of o) number (fields_leave value o old)) old
+      (given_by named (kind_of o) value (λ place. may place (word value) refl)))
+  commands_leave (ChangePriority id priority) named (objects.AlarmMask o) old may = passes _ _ _ _ refl old (λ _. old)
+  commands_leave (ChangeListItem id index item) named (objects.InputList o) old may =
+      both_pass _ _ _ _ _ _ refl old (λ passed.
+      (old.0, listed_set kinds.InputList 0 index index item o.items (omega arith) old.1 (may (places.Item index) item refl (eq-eqb index index refl) passed)))
+  commands_leave (ChangeStringValue id count text) named (objects.InputString o) old may = passes _ _ _ _ refl old (λ _. old)
+  commands_leave (ChangeStringValue id count text) named (objects.OutputString o) old may = passes _ _ _ _ refl old (λ _. old)
+  commands_leave (ChangeStringValue id count text) named (objects.StringVariable o) old may = passes _ _ _ _ refl old (λ _. old)
+  commands_leave (ChangeChildPosition parent child x y) named o old may = in_parent_leaves _ o (position_stays named child x y) old
+  commands_leave (ExecuteMacro id) named (objects.Macro o) old may = passes _ _ _ _ refl old (λ _. old)
+  commands_leave _ named _ old may = assumption
+
+  pub slots_after : (command : Command) (named : Option Kind) (o : Seen) → AllByRecursion P (slots_of o) → MayWrite P command named (kind_of o)
+      → AllByRecursion P (slots_of (left o (changed command named o)))
+  slots_after command named o old may = Leaves.slots (commands_leave command named o old may)
+
+pub changes_keep : (command : Command) (named : Option Kind) (o : Seen) → fixed (left o (changed command named o)) ≡ fixed o
+changes_keep command named o =
+    Leaves.kept (commands_leave (λ s. Unit {0}) command named o (recursion_from_All (λ s. Unit {0}) (slots_of o) (λ k d lt. tt)) (λ place id other written stands. tt))
+
+pub references_written : (command : Command) (named : Option Kind) (o : Seen)
+    → AllByRecursion (λ s. Contains (slots_of o) s ⊎ IsWritten command named (kind_of o) s) (slots_of (left o (changed command named o)))
+references_written command named o =
+    slots_after _ command named o (recursion_from_All _ (slots_of o) (λ k d lt. inl (Contains-get_or (slots_of o) k d lt)))
+    (λ place id other written stands. inr (record { place = place; id = id; is = refl; other = other; written = written; stands = stands }))
