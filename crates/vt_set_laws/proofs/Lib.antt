@@ -1,0 +1,9 @@
+mod AttributeWrites
+mod FilledTexts
+mod KindsOfChanges
+mod MacrosBefore
+mod NamedPointers
+mod NewValues
+mod OneFault
+mod OrderDecided
+mod ShortByShallow

@@ -1,0 +1,5 @@
+use Rattle.vt_set_laws.proofs.OrderDecided.{decided}
+use Rattle.vt_set_laws.proofs.order_decides.Goals as goal
+
+pub returns : goal.returns
+returns c = decided c.commands_keep_order.ensures

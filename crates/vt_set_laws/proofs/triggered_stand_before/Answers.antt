@@ -1,0 +1,5 @@
+use Rattle.vt_set_laws.proofs.MacrosBefore.{stand-before}
+use Rattle.vt_set_laws.proofs.triggered_stand_before.Goals as goal
+
+pub returns : goal.returns
+returns c = stand-before
