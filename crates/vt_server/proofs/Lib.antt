@@ -14,6 +14,7 @@ mod Kept
 mod Lanes
 mod Messaged
 mod Performed
+mod Pooled
 mod Preloaded
 mod Prepared
 pub mod Puts

@@ -1,5 +1,5 @@
 -- A run of inputs, one more at a time.
-use Rattle.std.proofs.Common.{◌≡◌, true, cond, ◌<◌, ℕ, suc, ◌+◌, List, [], ◌∷◌, ◌++◌, length, take, get_or, refl, sym, ap, subst, ◌∙◌, append-nil, append_assoc, arith}
+use Rattle.std.proofs.Common.{◌≡◌, Bool, true, false, ◌||◌, cond, ◌<◌, ℕ, suc, ◌+◌, List, [], ◌∷◌, ◌++◌, length, take, get_or, refl, sym, ap, subst, ◌∙◌, append-nil, append_assoc, arith}
 use Rattle.std.proofs.Math.Seq.{take-suc}
 use Rattle.vt_server.specs.Findings.{IsEventOf, AreEventsOf, IsFound, AreFound}
 use Rattle.vt_server.specs.Outputs.{outputs_of}
@@ -41,6 +41,11 @@ lost-stays s t x old new lost takes = ap (λ (r : State). r.lost) (takes.state �
     still : (e : Event) → (step s e).after ≡ s
     still (FrameAt time frame verdict) = ap (λ b. (cond b (no_step s) (step_frame s time frame verdict)).after) lost
     still (ActionAt action shown) = ap (λ b. (cond b (no_step s) (step_action s action shown)).after) lost
+
+-- a flag that is joined with one that tells no
+pub first-alone : (a b : Bool) → b ≡ false → (a || b) ≡ a
+first-alone true b none = refl
+first-alone false b none = none
 
 next-place : (n : ℕ) → n + 1 ≡ suc n
 next-place n = omega arith

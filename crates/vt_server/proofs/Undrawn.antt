@@ -1,7 +1,6 @@
 -- Where the same set is shown with the same pool, the screen is the same; and which inputs leave it so. A command that is
 -- refused does, and so does an upload or an action; time and claims take pools away, and change none.
-use mathlib.Core.Bool.{beq}
-use Rattle.std.proofs.Common.{◌≡◌, ◌≢◌, ℕ, Bool, true, false, cond, not, List, [], ◌∷◌, map, Option, Some, None, is_some, true≢false, refl, sym, ap, subst, ◌∙◌, nat_eq}
+use Rattle.std.proofs.Common.{◌≡◌, ◌≢◌, ℕ, Bool, true, false, cond, List, [], ◌∷◌, map, Option, Some, None, is_some, true≢false, refl, sym, ap, subst, ◌∙◌, nat_eq}
 use Rattle.std.specs.List.{filter}
 use Rattle.std.specs.Option.{option_eq, option_map}
 use Rattle.std.specs.Prelude.{Result, Ok, Err}
@@ -41,6 +40,7 @@ use Rattle.vt_server.proofs.Changes.{shown-acts}
 use Rattle.vt_server.proofs.Framed.{any_verdict}
 use Rattle.vt_server.proofs.Keeping.{lapsed-keeps}
 use Rattle.vt_server.proofs.Messaged.{refused-is}
+use Rattle.vt_server.proofs.Pooled.{HasPoolAt, ShownHasPool}
 use Rattle.vt_server.proofs.Puts.{act-is}
 use Rattle.vt_node.proofs.ByAddress.{at-own, at-other}
 use Rattle.vt_names.proofs.Hearing.{option_same}
@@ -162,14 +162,13 @@ left-then s t u first second = record {
   pool = stays-then (pool_at s s.shown) (pool_at t t.shown) (pool_at u u.shown) first.pool second.pool;
 }
 
--- A pool is there after as it was before, or was not there.
-left-all : (s t : State) → ShowsWhatIsLeft s t → is_some (pool_at t t.shown) ≡ is_some (pool_at s s.shown) → ShowsSame s t
-left-all s t left there = record { shown = left.shown; pool = cases (pool_at s s.shown) (pool_at t t.shown) left.pool there }
+-- What is shown has a pool, so that is the one of before.
+left-all : (s t : State) → ShowsWhatIsLeft s t → ShownHasPool t → ShowsSame s t
+left-all s t left has = record { shown = left.shown; pool = cases t.shown refl has }
   where
-    cases : (old new : Option SetState) → Stays old new → is_some new ≡ is_some old → new ≡ old
-    cases None None stays there = refl
-    cases (Some x) None stays there = absurd (true≢false (sym there))
-    cases old (Some y) stays there = stays refl
+    cases : (o : Option ℕ) → t.shown ≡ o → HasPoolAt (pool_of t) o → pool_at t t.shown ≡ pool_at s s.shown
+    cases None is there = ap (pool_at t) is ∙ ap (pool_at s) (sym is ∙ left.shown)
+    cases (Some a) is there = left.pool (ap (λ o. is_some (pool_at t o)) is ∙ there)
 
 -- ---- acts that leave pools or take them away
 
@@ -257,12 +256,6 @@ claimed-left s t u v f n name recorded took settles =
 
 -- ---- an input
 
-pub same-flag : (a b : Bool) → not (beq a b) ≡ false → a ≡ b
-same-flag true true e = refl
-same-flag true false e = absurd (true≢false e)
-same-flag false true e = absurd (true≢false e)
-same-flag false false e = refl
-
 -- what was made ready for a frame is no change of a pool
 pub prepared-shows : (s : State) (t : Terminal) (now : ℕ) (n : Notice) (f : Frame) (ready : Ready) → IsPrepared s t now n f ready → ShowsSame s (state_of t)
 prepared-shows s t now n f readies.Loses it = subst (ShowsSame s) (sym it.0) (record { shown = refl; pool = refl })
@@ -271,10 +264,10 @@ prepared-shows s t now n f (readies.Prepared upload) it = subst (ShowsSame s) (s
 
 -- a frame: it is made ready for, its time ends what it ends, and it is heard
 pub line-kept : (s t u v : State) (now : ℕ) → ShowsSame s t → u ≡ lapsed (at_time t now) → ShowsWhatIsLeft u v
-    → is_some (pool_at v v.shown) ≡ is_some (pool_at t t.shown) → KeepsScreen s v
-line-kept s t u v now prepared lapses left there =
+    → ShownHasPool v → KeepsScreen s v
+line-kept s t u v now prepared lapses left has =
     let lapsing : ShowsWhatIsLeft t u = subst (ShowsWhatIsLeft t) (sym lapses) (lapsed-left t now) in
-    same-text s v (shows-then s t v prepared (left-all t v (left-then t u v lapsing left) there))
+    same-text s v (shows-then s t v prepared (left-all t v (left-then t u v lapsing left) has))
 
 -- an action: it is done, and then the shown set is chosen
 pub told-through : (t m x : Terminal) → m ≡ x → TellsChanges t x → m.redraws ≡ false → ShowsSame (state_of t) (state_of m)

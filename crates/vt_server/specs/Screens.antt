@@ -29,7 +29,7 @@ pub record GainsScreenOf (s : State) (old new : List ℕ) : Type 0 where
 
 -- ---- whether it has to be drawn again
 
--- what the terminal tells: whether the screen may be another than before the last input
+-- what the terminal tells: whether the screen may be another than before the last call of `step` or `run`
 abbrev pub redraws : Terminal → Bool
 redraws t = t.redraws
 

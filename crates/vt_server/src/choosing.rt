@@ -136,7 +136,7 @@ impl Terminal {
     }
 
     /// Whether there is a pool at an address.
-    pub(crate) fn has_pool(&self, address: Option<u8>) -> bool
+    fn has_pool(&self, address: Option<u8>) -> bool
         ensures { result ≡ is_some (spec.pool_at (state_of self.now) address) }
     {
         match address {

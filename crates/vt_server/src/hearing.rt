@@ -66,10 +66,8 @@ impl Terminal {
         let notice = notice_of(self.node.own(), self.node.name(), frame);
         let ready = self.prepare(now, &notice, frame)?;
         let before = self.display();
-        let had_pool = self.has_pool(self.shown);
         self.lapse(now, outputs);
         self.finish(&notice, frame, ready, &before, outputs);
-        self.redraws |= self.has_pool(self.shown) != had_pool;
         Ok(())
     }
 

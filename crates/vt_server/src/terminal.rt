@@ -34,7 +34,7 @@ pub struct Terminal {
     pub(crate) shown: Option<u8>,
     // Whether a lower NAME has claimed the own address.
     pub(crate) lost: bool,
-    // Whether the screen may be another than before the last input.
+    // Whether the screen may be another than before the last call of `step` or `run`.
     pub(crate) redraws: bool,
     // The latest time so far, in microseconds.
     pub(crate) time: u64,
@@ -113,8 +113,8 @@ impl Terminal {
         self.shown
     }
 
-    /// Whether the screen may be another than before the last input, so that it has to be drawn again. It may be after
-    /// `new` and `preload`.
+    /// Whether the screen may be another than before the last call of `step` or `run`, so that it has to be drawn again. It may
+    /// be after `new` and `preload`.
     pub fn redraws(&self) -> bool
         ensures { result ≡ redraws self.now }
     {
@@ -143,6 +143,7 @@ impl Terminal {
         ensures ok { OnOk result (state_of self.new ≡ preloading (state_of self.old) address (map_of pool.now)) }
         ensures err { OnErr result (state_of self.new ≡ state_of self.old) }
         ensures redraws { OnOk result (redraws self.new ≡ true) }
+        ensures err_redraws { OnErr result (redraws self.new ≡ redraws self.old) }
     {
         let live = Live::new(self.alloc, pool)?;
         self.registry.preload(address)?;
@@ -171,20 +172,29 @@ impl Terminal {
     }
 
     /// Takes inputs in their order and appends what the terminal sends. After a fault the terminal and the
-    /// outputs are those of the inputs before the one it names.
+    /// outputs are those of the inputs before the one it names. `redraws` tells of all that were taken.
     pub fn run(&mut self, inputs: &[Input<'_>], outputs: &mut Vec<Output>) -> Result<(), RunFault>
         ensures ok { OnOk result (TakesInputs (state_of self.old) inputs.now (state_of self.new) outputs.old.items outputs.new.items) }
         ensures within { IfErr result (λ fault. fault.at < length inputs.now) }
         ensures fault { IfErr result (λ fault. TakesInputs (state_of self.old) (take fault.at inputs.now) (state_of self.new) outputs.old.items outputs.new.items) }
         // A terminal without its address asks for no memory.
         ensures lost { (state_of self.old).lost ≡ true → IsOk result }
+        // Where it tells of no other screen, the text is the same as before all of them.
+        ensures same { redraws self.new ≡ false → KeepsScreen (state_of self.old) (state_of self.new) }
+        // Where no input was taken, it tells what it told before.
+        ensures err_redraws { IfErr result (λ fault. fault.at ≡ 0 → redraws self.new ≡ redraws self.old) }
     {
+        let mut redraws = false;
         for (at, input) in inputs.iter().enumerate() {
             match self.step(input, outputs) {
-                Ok(()) => {}
-                Err(_) => return Err(RunFault { at }),
+                Ok(()) => redraws |= self.redraws,
+                Err(_) => {
+                    self.redraws |= redraws;
+                    return Err(RunFault { at });
+                }
             }
         }
+        self.redraws |= redraws;
         Ok(())
     }
 }

@@ -1,6 +1,7 @@
 mod addresses;
 mod alarms;
 mod changes;
+mod commands;
 mod keys;
 mod large;
 mod library_example;

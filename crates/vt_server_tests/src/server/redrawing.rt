@@ -70,6 +70,19 @@ const WHEN_IT_ENDS: [Step; 14] = [
     Step::Redraws("! set 80", false),
 ];
 
+// Frames that are taken in one run, and whether the screen may be another one after it. The command that is done comes first,
+// between others, and last.
+const RUNS: [(&[&str], bool); 5] = [
+    (&["18FFFF80#00", "14E72680#C2"], false),
+    (&["14E72680#A0640000FFFFFFFF", "18FFFF80#00"], true),
+    (&["18FFFF80#00"], false),
+    (
+        &["18FFFF80#00", "14E72680#A0640001FFFFFFFF", "14E72680#C2"],
+        true,
+    ),
+    (&["18FFFF80#00", "14E72680#A0640000FFFFFFFF"], true),
+];
+
 const SCRIPTS: [Script; 2] = [
     Script {
         pool: Some(DRAWN),
@@ -84,4 +97,24 @@ const SCRIPTS: [Script; 2] = [
 #[test]
 fn inputs_that_change_the_screen_and_others(rt: HostRuntime) -> Result<(), Fail> {
     expect_scripts(&rt, &SCRIPTS)
+}
+
+#[test]
+fn runs_that_change_the_screen_and_others(rt: HostRuntime) -> Result<(), Fail> {
+    let mut terminal = started(&rt, Some(DRAWN))?;
+    expect_runs(&rt, &mut terminal, &RUNS)
+}
+
+fn expect_runs(
+    rt: &(impl Abort + AllocGlobal),
+    terminal: &mut Terminal,
+    runs: &[(&[&str], bool)],
+) -> Result<(), Fail> {
+    for (frames, redraws) in runs {
+        let inputs = inputs_of(rt, frames)?;
+        let mut outputs = Vec::new(rt.alloc());
+        run_all(rt, terminal, &inputs, &mut outputs);
+        assert_eq!(rt; terminal.redraws(), *redraws);
+    }
+    Ok(())
 }

@@ -1,14 +1,14 @@
-use mathlib.Core.Bool.{beq}
-use Rattle.std.proofs.Common.{◌++◌, not, sym, ◌∙◌}
+use Rattle.std.proofs.Common.{◌++◌, sym, subst, ◌∙◌}
+use Rattle.vt_can.specs.frames.Frame.{source_of}
 use Rattle.vt_node.specs.Bus.{notice_of}
 use Rattle.vt_server.specs.Lapses.{at_time, lapsed}
 use Rattle.vt_server.specs.Outputs.{outputs_of}
 use Rattle.vt_server.specs.States.{state_of}
 use Rattle.vt_server.proofs.Heard.{takes-line, takes-lost}
 use Rattle.vt_server.proofs.Prepared.{ready-then, prepared-display, prepared-sent}
-use Rattle.vt_server.proofs.Undrawn.{line-kept, prepared-shows, same-flag}
+use Rattle.vt_server.proofs.Pooled.{ShownHasPool, hearing-pooled}
+use Rattle.vt_server.proofs.Undrawn.{line-kept, prepared-shows}
 use Rattle.vt_server.proofs.terminal.Terminal.hear.Goals as goal
-use Rattle.vt_effects.proofs.Moving.{either_false}
 
 pub returns-then-self-clause-ok : goal.returns-then-self-clause-ok
 returns-then-self-clause-ok c = takes-lost (state_of c.args.self.now) c.args.time c.args.frame.now c.args.outputs.now.items c.if-self.true
@@ -42,10 +42,15 @@ pub returns-clause-same : goal.returns-clause-same
 returns-clause-same c none =
     let s = state_of c.args.self.now in
     let t = c.prepare.new.self in
+    let v = c.finish.new.self in
+    let n = c.notice_of-notice.result in
+    let frame = c.args.frame.now in
+    let ready = c.in_ok-ready.ready in
+    let prepared = c.in_ok-ready.ensures.ok in
     let now = c.max-now.result in
-    let has = c.has_pool.result in
-    let had = c.has_pool-had_pool.result in
-    let told = either_false c.finish.new.self.redraws (not (beq has had)) none in
-    line-kept s (state_of t) (state_of c.lapse.new.self) (state_of c.finish.new.self) now
-    (prepared-shows s t now c.notice_of-notice.result c.args.frame.now c.in_ok-ready.ready c.in_ok-ready.ensures.ok)
-    c.lapse.ensures.state (c.finish.ensures.tells told.0) (sym c.has_pool.ensures ∙ same-flag has had told.1 ∙ c.has_pool-had_pool.ensures)
+    let lapsed-is = lapsed (at_time s c.args.time) in
+    let heard = c.finish.ensures.hears s lapsed-is (c.display-before.ensures ∙ prepared-display s t c.args.time now n frame c.max-now.ensures ready prepared)
+    (ready-then s t c.args.time now n frame c.max-now.ensures c.lapse.new.self c.lapse.ensures.state c.lapse.ensures.lapsed ready prepared) in
+    line-kept s (state_of t) (state_of c.lapse.new.self) (state_of v) now (prepared-shows s t now n frame ready prepared)
+    c.lapse.ensures.state (c.finish.ensures.tells none)
+    (subst ShownHasPool (sym heard.state) (hearing-pooled s lapsed-is (source_of frame) n frame heard.verdict))
