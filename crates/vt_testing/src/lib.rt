@@ -1,6 +1,11 @@
 //! What the test crates share: the records of a small pool, and pools that are accepted.
 #![tactic(auto)]
 
+ghost use Rattle.std.specs.Prelude.{◌≡◌, IfOk};
+ghost use Rattle.vt_stores.specs.Stores.{by_rising_id};
+ghost use Rattle.vt_verify.specs.Rules.{IsVerified};
+ghost use Rattle.vt_testing.specs.Pools.{IsPoolOf};
+
 use std::alloc::{AllocError, Global};
 use vt_pool::{Pool, read_pool};
 use vt_verify::{Accepted, verify};
@@ -22,14 +27,20 @@ pub const POOL: &[u8] = &[
 ];
 
 /// The pool of bytes that are accepted. An error is want of memory, or that they are not.
-pub fn accepted_pool(alloc: Global, bytes: &[u8]) -> Result<Accepted, AllocError> {
+pub fn accepted_pool(alloc: Global, bytes: &[u8]) -> Result<Accepted, AllocError>
+    ensures read { IfOk result (IsPoolOf bytes.now) }
+    ensures verified { IfOk result IsVerified }
+{
     match read_pool(alloc, bytes) {
         Ok(pool) => verified(alloc, &pool),
         Err(_) => Err(AllocError),
     }
 }
 
-fn verified(alloc: Global, pool: &Pool<'_>) -> Result<Accepted, AllocError> {
+fn verified(alloc: Global, pool: &Pool<'_>) -> Result<Accepted, AllocError>
+    ensures objects { IfOk result (λ accepted. accepted ≡ by_rising_id pool.now) }
+    ensures verified { IfOk result IsVerified }
+{
     match verify(alloc, pool) {
         Ok(accepted) => Ok(accepted),
         Err(_) => Err(AllocError),

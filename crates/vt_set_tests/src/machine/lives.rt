@@ -28,6 +28,13 @@ const POINTER: &[u8] = &[
     200, 0, 27, 0xFF, 0xFF, // Object Pointer
 ];
 
+/// The Container 100, and the Output String 300 of eight bytes.
+const TEXT: &[u8] = &[
+    100, 0, 3, 50, 0, 20, 0, 0, 0, 0, // Container
+    0x2C, 1, 11, 10, 0, 5, 0, 0, 0xFF, 0xFF, 0, 0xFF, 0xFF, 0, 8, 0, // Output String
+    b'a', b'b', b'c', b'd', b'e', b'f', b'g', b'h', 0, //
+];
+
 /// The Container 100, which runs macro 1 where it is shown and macro 2 twice where it is hidden. Macro 1 shows the Data Mask 1001
 /// twice; the mask runs macro 2 where it is shown. Macro 2 has two commands, and the first is refused.
 const MASKS: &[u8] = &[
@@ -95,7 +102,9 @@ const SHARED_ROWS: &[Row] = &[
     (Act::Event(261, 11), 1, 0),
     (Act::Event(261, 12), 0, 0),
     (Act::Event(262, 11), 0, 0),
+    (Act::Event(1, 0), 2, 0),
     (Act::Event(2, 0), 2, 0),
+    (Act::Event(3, 0), 1, 0),
     (Act::Event(261, 200), 0, 0),
 ];
 
@@ -126,6 +135,18 @@ const CIRCLE_ROWS: &[Row] = &[
     (Act::Command(&[0xA8, 200, 0, 0xFF, 0xFF, 0xFF, 0, 0]), 1, 0),
 ];
 
+/// Texts of two bytes, and of nine, which is one too many.
+const TEXT_ROWS: &[Row] = &[
+    (Act::Command(&[0xB3, 0x2C, 1, 2, 0, b'A', b'B', 0xFF]), 1, 0),
+    (
+        Act::Command(&[
+            0xB3, 0x2C, 1, 9, 0, b'A', b'B', b'C', b'D', b'E', b'F', b'G', b'H', b'I',
+        ]),
+        0,
+        4,
+    ),
+];
+
 /// The working set runs macro 1 where its mask is changed, and the mask where it is shown and hidden.
 pub(super) const ONE_MASK: &[u8] = &[
     0, 0, 0, 0, 1, 0xE8, 3, 0, 1, 0, 7, 1, // Working Set
@@ -150,10 +171,11 @@ const ONE_MASK_ROWS: &[Row] = &[
 const LATE_SET_ROWS: &[Row] = &[(Act::Event(1200, 1), 1, 0), (Act::Event(1200, 2), 2, 0)];
 
 /// The first objects of a pool, the others, and what is done.
-const LIVES: [(&[u8], &[u8], &[Row]); 5] = [
+const LIVES: [(&[u8], &[u8], &[Row]); 6] = [
     (SET, SHARED, SHARED_ROWS),
     (SET, MASKS, MASKS_ROWS),
     (SET, POINTER, CIRCLE_ROWS),
+    (SET, TEXT, TEXT_ROWS),
     (&[], ONE_MASK, ONE_MASK_ROWS),
     (&[], LATE_SET, LATE_SET_ROWS),
 ];
@@ -185,12 +207,19 @@ fn lives<S: Store>(alloc: Global, set: &[u8], more: &[u8], rows: &[Row]) -> Resu
     Ok(come_to(&mut live, rows))
 }
 
+fn all_live<S: Store>(alloc: Global, pools: &[(&[u8], &[u8], &[Row])]) -> Result<bool, Fail> {
+    for (set, more, rows) in pools {
+        if !lives::<S>(alloc, set, more, rows)? {
+            return Ok(false);
+        }
+    }
+    Ok(true)
+}
+
 #[test]
 fn commands_and_events(rt: HostRuntime) -> Result<(), Fail> {
-    for (set, more, rows) in LIVES {
-        assert!(rt; lives::<SortedStore>(rt.alloc(), set, more, rows)?);
-        assert!(rt; lives::<ListStore>(rt.alloc(), set, more, rows)?);
-    }
+    assert!(rt; all_live::<SortedStore>(rt.alloc(), &LIVES)?);
+    assert!(rt; all_live::<ListStore>(rt.alloc(), &LIVES)?);
     Ok(())
 }
 
@@ -269,7 +298,7 @@ fn steps_of<S: Store>(alloc: Global, count: u8) -> Result<u32, Fail> {
 fn runs_as_long_as_their_budgets(rt: HostRuntime) -> Result<(), Fail> {
     assert!(rt; steps_of::<SortedStore>(rt.alloc(), 16)? == 65_534);
     assert!(rt; steps_of::<SortedStore>(rt.alloc(), 19)? == 524_286);
-    assert!(rt; steps_of::<ListStore>(rt.alloc(), 12)? == 4_094);
+    assert!(rt; steps_of::<ListStore>(rt.alloc(), 16)? == 65_534);
     Ok(())
 }
 

@@ -51,6 +51,40 @@ fn chain_too_long(rt: HostRuntime) -> Result<(), Fail> {
     Ok(())
 }
 
+/// The Data Mask 1000 with the child 101.
+const CHILD_101: &[u8] = &[0xE8, 3, 1, 0, 0xFF, 0xFF, 1, 0, 101, 0, 10, 0, 5, 0];
+
+/// Containers from 101 on, of which each lists the next, and the last one nothing.
+fn nested(alloc: Global, count: u8) -> Result<Vec<u8>, AllocError>
+    requires { count < 100 }
+{
+    let mut bytes = Vec::new(alloc);
+    for id in 101..100 + count {
+        write_container(&mut bytes, id, id + 1, 1)?;
+    }
+    write_container(&mut bytes, 100 + count, 0, 0)?;
+    Ok(bytes)
+}
+
+fn nested_report(alloc: Global, count: u8, wanted: &str) -> Result<bool, Fail>
+    requires { count < 100 }
+{
+    let containers = nested(alloc, count)?;
+    let records = [WORKING_SET, CHILD_101, containers.as_slice()];
+    reports(alloc, &records, wanted)
+}
+
+const TOO_DEEP: &str =
+    "refused 5 TooDeep 1000 101 102 103 104 105 106 107 108 109 110 111 112 113 114 115 116 \
+    117 118 119 120 121 122 123 124 125 126 127 128 129 130 131 132 133\n";
+
+#[test]
+fn nested_containers(rt: HostRuntime) -> Result<(), Fail> {
+    assert!(rt; nested_report(rt.alloc(), 32, "accepted 34 objects\n")?);
+    assert!(rt; nested_report(rt.alloc(), 33, TOO_DEEP)?);
+    Ok(())
+}
+
 #[test]
 fn itself(rt: HostRuntime) -> Result<(), Fail> {
     let containers = containers(rt.alloc(), 1, 1, 100)?;

@@ -19,7 +19,8 @@ fn point(x: u16, y: u16) -> Point {
     Point { x, y }
 }
 
-pub fn is_as_written(object: &Object<&[u8]>) -> bool {
+/// Whether an object has the fields that the record of its kind spells.
+pub(super) fn is_as_written(object: &Object<&[u8]>) -> bool {
     match object {
         Object::WorkingSet(o) => is_working_set(o),
         Object::DataMask(o) => is_data_mask(o),

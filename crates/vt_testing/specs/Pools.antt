@@ -1,0 +1,13 @@
+-- The pools of the tests, by their bytes.
+use Rattle.std.specs.Prelude.{◌≡◌, ℕ, List}
+use Rattle.vt_stores.specs.Stores.{Objects, by_rising_id}
+use Rattle.vt_pool.specs.Pools.{Entry, AreRecords, IsInForce, joined}
+
+-- The bytes are whole records, and the objects are those that the records leave in force, by rising ID.
+pub record IsPoolOf (bytes : List ℕ) (objects : Objects) : Type 0 where
+  pub records : List Entry
+  pub whole : AreRecords records
+  pub spelled : bytes ≡ joined records
+  pub pool : List Entry
+  pub in_force : IsInForce records pool
+  pub rising : objects ≡ by_rising_id pool
