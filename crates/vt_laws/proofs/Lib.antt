@@ -1,5 +1,6 @@
 mod Beginning
 mod Bringing
+mod Choices
 mod ClaimsHeard
 mod Counting
 mod Deciding
@@ -17,10 +18,12 @@ mod OneVerdict
 mod Overdue
 mod Own
 mod Packets
+mod PoolsOfSets
 mod Replies
 mod RunsOfSteps
 mod Sending
 mod Settling
+mod Spending
 mod Stepping
 mod Taking
 mod Timeless

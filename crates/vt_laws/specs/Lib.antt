@@ -1,9 +1,11 @@
 -- What the contracts of this crate cite.
 pub mod Certain
 pub mod ClaimsHeard
+pub mod Costs
 pub mod Happenings
 pub mod Headline
 pub mod Responses
 pub mod RunsOfSteps
 pub mod Sending
 pub mod SetLists
+pub mod ShownSets

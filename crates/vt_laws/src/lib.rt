@@ -6,6 +6,7 @@
 #![tactic(auto)]
 
 ghost use Rattle.vt_laws.specs.Certain.{StepsAreOne};
+ghost use Rattle.vt_laws.specs.Costs.{CostsAreWithin};
 ghost use Rattle.vt_laws.specs.ClaimsHeard.{HoldersOfRuns};
 ghost use Rattle.vt_laws.specs.Sending.{SentAreAddressed};
 ghost use Rattle.vt_laws.specs.Happenings.{EachTakesItsOwn, OwnHappeningsDecide, SetsHoldTheirAddress};
@@ -13,6 +14,7 @@ ghost use Rattle.vt_server.specs.Orderly.{IsOrderly};
 ghost use Rattle.vt_laws.specs.Headline.{NeverSticks};
 ghost use Rattle.vt_laws.specs.RunsOfSteps.{RunsAreOfSteps};
 ghost use Rattle.vt_laws.specs.SetLists.{SetsAfterSteps};
+ghost use Rattle.vt_laws.specs.ShownSets.{ShownAreChosen};
 
 /// The headline: whatever inputs a terminal takes after its pools were accepted, each set's objects and the outputs are those of the
 /// written machine, and that machine never sticks. Each command of a macro finds its object, of a kind that it may
@@ -40,6 +42,24 @@ pub fn the_machine_never_sticks()
 pub fn runs_are_of_steps()
     ensures { RunsAreOfSteps }
 {}
+
+/// The law that no run of macros in the course of an input takes more steps than the budgets of its events, by the report of the pool
+/// that was accepted last at its address, and that all of them take no more than the sum of these.
+pub fn costs_are_within()
+    ensures { CostsAreWithin }
+{
+    vt_machine::laws::commands_keep_order();
+    vt_machine::laws::commands_keep_shapes();
+    vt_machine::laws::entries_keep_order();
+    vt_machine::laws::entries_keep_shapes();
+    vt_machine::laws::events_end_in_turn();
+    vt_machine::laws::pools_are_ready();
+    vt_machine::laws::runs_end();
+    vt_machine::laws::null_is_no_object();
+    vt_layout::laws::drawings_never_stick();
+    vt_layout::laws::drawings_find_all();
+    vt_layout::laws::paths_are_chained();
+}
 
 /// The law that the step is a function of the input alone. Whatever verdict on a transfer is right, and whatever is rightly found
 /// to be shown, the step is one: a terminal that takes inputs from a state is in one state after them, and has sent the same.
@@ -108,6 +128,13 @@ pub fn sets_after_steps()
     vt_extended::laws::steps_are_timeless();
     vt_transport::laws::answers_are_timeless();
 }
+
+/// The law that the set that is chosen is the one of the alarm of the lowest priority number, of equal ones the one that was registered
+/// first, and where there is no alarm the one that is selected; and that it is shown at the end of each step and after a preload. A
+/// pool stands only where a set is registered, and a set is shown, or before the loss of the address selected, only where it has one.
+pub fn shown_are_chosen()
+    ensures { ShownAreChosen }
+{}
 
 /// The law that the holder of each address after a run is the least NAME among those whose last claim in it was of
 /// the address, over all claims but the one by which the terminal loses its own, and those after.
