@@ -1,89 +1,65 @@
 -- Where a replay ends before its end: in the whole log.
-use Rattle.std.proofs.Common.{◌≡◌, ℕ, List, [], ◌++◌, inl, inr, Option, Some, None, refl, sym, ap, subst, ◌∙◌, append_assoc}
+use Rattle.std.proofs.Common.{◌≡◌, ℕ, ◌+◌, List, [], ◌++◌, length, inl, inr, Option, Some, None, refl, sym, ap, subst, ◌∙◌, append_assoc, arith}
 use Rattle.std.specs.Prelude.{IfSome}
 use Rattle.std.proofs.lemmas.List.{append-nil}
 use Rattle.std.specs.Io.KnownBytes.{Appends, Consumes, IsAtEnd, Keeps}
-use Rattle.std.proofs.KnownBytes.{Consumes-trans, Consumes-whole}
+use Rattle.std.proofs.KnownBytes.{Appends-trans, Consumes-trans, Consumes-whole}
+use Rattle.vt_can.specs.lines.Line.{Reads}
 use Rattle.vt_logs.specs.declared.counts.Counts.{Counts}
-use Rattle.vt_logs.specs.Begun.{Begins, MayBegin, Stops, HasStopped}
+use Rattle.vt_logs.specs.Begun.{Begins, MayBegin, LeavesLines, Stops, HasStopped}
 use Rattle.vt_logs.specs.Lines.{lines_of}
 use Rattle.vt_logs.specs.Progress.{Stand, Takes, TakesBytes}
-use Rattle.vt_logs.specs.Replays.{TakesSome}
-use Rattle.vt_logs.specs.Taken.{Scene, TakesReadings}
+use Rattle.vt_logs.specs.Taken.{TakesReadings}
 use Rattle.vt_logs.specs.Texts.{no_counts, counts_text, with_lines}
-use Rattle.vt_logs.proofs.Begun.{begins_later, some_all, stops_none, later_bytes}
+use Rattle.vt_logs.proofs.Begun.{stops_none, later_bytes}
 use Rattle.vt_logs.proofs.LongLines.{begun}
 use Rattle.vt_logs.proofs.Midway.{IsUnderWay}
-use Rattle.vt_logs.proofs.Taking.{takes_more}
+use Rattle.vt_logs.proofs.Taking.{length-zip, takes-lines, takes_more}
 use Rattle.vt_server.specs.Screens.{IsScreenOf}
 use Rattle.vt_server.specs.Terminals.{State}
 
 -- ---- before the first screen stands
 
-pub begun_none : (given : Option (List ℕ)) (s : State) (old new : Option (List ℕ)) → Keeps old new → IfSome given (λ input. HasStopped s input s old new)
-begun_none None s old new keeps = tt
-begun_none (Some input) s old new keeps = record {
-  taken = record { front = []; back = lines_of input; readings = []; whole = refl; read = tt; short = tt; after = refl };
-  written = inl keeps;
-}
-
 pub begun_first : (given : Option (List ℕ)) (s : State) (old new : Option (List ℕ)) → MayBegin (IsScreenOf s) old new → IfSome given (λ input. HasStopped s input s old new)
-begun_first given s old new (inl keeps) = begun_none given s old new keeps
-begun_first None s old new (inr screen) = tt
-begun_first (Some input) s old new (inr (screen, is, stands)) =
-    let first : Scene = record { state = s; screen = screen } in record {
-      taken = record { front = []; back = lines_of input; readings = []; whole = refl; read = tt; short = tt; after = refl };
-      written = inr (
-        screen,
-        record {
-          front = [];
-          back = lines_of input;
-          readings = [];
-          first = first;
-          last = first;
-          printed = [];
-          ending = [];
-          whole = refl;
-          read = tt;
-          starts = refl;
-          shown = is;
-          takes = (refl, refl);
-          ends = inl refl;
-          text_is = sym (append-nil (screen ++ []) ∙ append-nil screen);
-        },
-        stands,
-      );
-    }
+begun_first None s old new screen = tt
+begun_first (Some input) s old new screen = inl (refl, screen)
+
+pub begun_none : (given : Option (List ℕ)) (s : State) (old new : Option (List ℕ)) → Keeps old new → IfSome given (λ input. HasStopped s input s old new)
+begun_none given s old new keeps = begun_first given s old new (inl keeps)
 
 -- ---- after it
+
+-- the number of the next line
+next_place : (a b : Stand) (lines : List (List ℕ)) (takes : Takes a lines b) → a.counts ≡ no_counts → b.counts.lines + 1 ≡ length lines + 1
+next_place a b lines takes none =
+    let zero : a.counts.lines ≡ 0 = ap (λ (k : Counts). k.lines) none in
+    omega (arith, takes-lines a b lines takes, length-zip Reads lines takes.readings takes.read, zero)
 
 -- where not all lines are taken
 stopped : (a : Stand) (t : State) (old held : Option (List ℕ)) (input : List ℕ) → a.counts ≡ no_counts → IsScreenOf a.scene.state a.scene.screen → Appends old a.held a.scene.screen
     → Stops a (lines_of input) t held → HasStopped a.scene.state input t old held
 stopped a t old held input none drawn first stops =
-    let print = stops.text_is in record {
-      taken = stops.taken;
-      written = inr (
-        a.scene.screen ++ stops.text,
-        record {
-          front = print.front;
-          back = print.back;
-          readings = print.readings;
-          first = a.scene;
-          last = print.to;
-          printed = stops.text;
-          ending = [];
-          whole = print.whole;
-          read = print.read;
-          starts = refl;
-          shown = drawn;
-          takes = subst (λ (k : ℕ). TakesReadings a.scene k print.readings print.to stops.text) (ap (λ (k : Counts). k.lines) none) print.takes;
-          ends = inl refl;
-          text_is = sym (append-nil (a.scene.screen ++ stops.text));
-        },
-        begins_later old a.held held a.scene.screen stops.text first stops.begun,
-      );
-    }
+    let to = stops.to in
+    let takes = stops.takes in
+    let place : to.counts.lines + 1 ≡ length stops.front + 1 = next_place a to stops.front takes none in
+    inr (record {
+      front = stops.front;
+      back = stops.back;
+      readings = takes.readings;
+      first = a.scene;
+      last = to.scene;
+      printed = takes.printed;
+      text = stops.text;
+      whole = stops.whole;
+      read = takes.read;
+      short = takes.short;
+      starts = refl;
+      shown = drawn;
+      takes = subst (λ (k : ℕ). TakesReadings a.scene k takes.readings to.scene takes.printed) (ap (λ (k : Counts). k.lines) none) takes.takes;
+      leaves = inl (subst (λ (n : ℕ). LeavesLines to.scene n stops.back t stops.text) place stops.leaves);
+      written = Appends-trans old to.held held (a.scene.screen ++ takes.printed) stops.text
+          (Appends-trans old a.held to.held a.scene.screen takes.printed first takes.text) stops.written;
+    })
 
 -- nothing more is read
 pub way_stop : (a b : Stand) (given left old held : Option (List ℕ)) (pending : List ℕ) (reads : ℕ) → a.counts ≡ no_counts → IsScreenOf a.scene.state a.scene.screen
@@ -123,30 +99,25 @@ counting a b c old held pending input none drawn first taken last counted =
     let all = takes_more a b c taken.lines (lines_of pending) taken.takes last in
     let lines : lines_of input ≡ taken.lines ++ lines_of pending =
     ap lines_of (sym (append-nil input)) ∙ taken.split [] ∙ ap (λ (text : List ℕ). taken.lines ++ lines_of text) (append-nil pending) in
-    record {
-      taken = subst (λ (ls : List (List ℕ)). TakesSome a.scene.state ls c.scene.state) (sym lines) (some_all a c (taken.lines ++ lines_of pending) all);
-      written = inr (
-        a.scene.screen ++ (all.printed ++ counts_text c.counts),
-        record {
-          front = taken.lines ++ lines_of pending;
-          back = [];
-          readings = all.readings;
-          first = a.scene;
-          last = c.scene;
-          printed = all.printed;
-          ending = counts_text c.counts;
-          whole = lines ∙ sym (append-nil (taken.lines ++ lines_of pending));
-          read = all.read;
-          starts = refl;
-          shown = drawn;
-          takes = subst (λ (k : ℕ). TakesReadings a.scene k all.readings c.scene all.printed) (ap (λ (k : Counts). k.lines) none) all.takes;
-          ends = inr (refl, ap counts_text (all.counts ∙ ap (λ (k : Counts). with_lines k all.readings) none));
-          text_is = sym (append_assoc a.scene.screen all.printed (counts_text c.counts));
-        },
-        begins_later old a.held held a.scene.screen (all.printed ++ counts_text c.counts) first
-            (begins_later a.held c.held held all.printed (counts_text c.counts) all.text counted),
-      );
-    }
+    let counts : c.counts ≡ with_lines no_counts all.readings = all.counts ∙ ap (λ (k : Counts). with_lines k all.readings) none in
+    inr (record {
+      front = taken.lines ++ lines_of pending;
+      back = [];
+      readings = all.readings;
+      first = a.scene;
+      last = c.scene;
+      printed = all.printed;
+      text = counted.front;
+      whole = lines ∙ sym (append-nil (taken.lines ++ lines_of pending));
+      read = all.read;
+      short = all.short;
+      starts = refl;
+      shown = drawn;
+      takes = subst (λ (k : ℕ). TakesReadings a.scene k all.readings c.scene all.printed) (ap (λ (k : Counts). k.lines) none) all.takes;
+      leaves = inr (record { none_left = refl; now_is = refl; rest = counted.rest; parts = ap counts_text (sym counts) ∙ counted.parts });
+      written = Appends-trans old c.held held (a.scene.screen ++ all.printed) counted.front
+          (Appends-trans old a.held c.held a.scene.screen all.printed first all.text) counted.written;
+    })
 
 pub way_counts : (a b c : Stand) (given left after old held : Option (List ℕ)) (pending chunk : List ℕ) (reads : ℕ) → a.counts ≡ no_counts → IsScreenOf a.scene.state a.scene.screen
     → Appends old a.held a.scene.screen → IsUnderWay a given left b pending reads → Consumes left after chunk → chunk ≡ [] → IsAtEnd after

@@ -198,7 +198,7 @@ AtMost-lines n c (r ∷ rs) most =
 pub AtMost-more : (m n : ℕ) (c : Counts) → m ≤ n → AtMost m c → AtMost n c
 AtMost-more m n c le most = record { lines = omega (arith, most.lines); frames = omega (arith, most.frames); operator = omega (arith, most.operator); skipped = omega (arith, most.skipped); comments = omega (arith, most.comments); faults = omega (arith, most.faults) }
 
-length-zip : {A B : Type 0} (R : A → B → Type 0) (xs : List A) (bs : List B) → AllZip R xs bs → length xs ≡ length bs
+pub length-zip : {A B : Type 0} (R : A → B → Type 0) (xs : List A) (bs : List B) → AllZip R xs bs → length xs ≡ length bs
 length-zip R [] [] p = refl
 length-zip R [] (b ∷ bs) p = absurd p
 length-zip R (a ∷ xs) [] p = absurd p

@@ -1,12 +1,12 @@
 -- What stands written where a replay ends before its end (docs/PROFILE.md, "Output of a replay").
-use Rattle.std.specs.Prelude.{◌≡◌, ◌⊎◌, ◌≤◌, ℕ, List, [], ◌++◌, length, Option}
+use Rattle.std.specs.Prelude.{◌≡◌, ◌⊎◌, ◌≤◌, ℕ, ◌+◌, List, [], ◌∷◌, ◌++◌, length, Option}
 use Rattle.std.specs.List.{AllZip, AllByRecursion}
 use Rattle.std.specs.Io.KnownBytes.{Appends, Keeps}
 use Rattle.vt_can.specs.lines.Line.{Reads}
 use Rattle.vt_logs.specs.Lines.{lines_of}
 use Rattle.vt_logs.specs.Progress.{Stand, Takes}
-use Rattle.vt_logs.specs.Replays.{TakesSome, HasLong, HasLongLine}
-use Rattle.vt_logs.specs.Taken.{Scene, TakesReadings}
+use Rattle.vt_logs.specs.Replays.{HasLong, HasLongLine}
+use Rattle.vt_logs.specs.Taken.{Scene, Follows, TakesReading, TakesReadings}
 use Rattle.vt_logs.specs.Texts.{Reading, with_lines, no_counts, counts_text}
 use Rattle.vt_server.specs.Screens.{IsScreenOf}
 use Rattle.vt_server.specs.Terminals.{State}
@@ -22,27 +22,52 @@ pub record Begins (old new : Option (List ℕ)) (text : List ℕ) : Type 0 where
 abbrev pub MayBegin : (List ℕ → Type 0) → Option (List ℕ) → Option (List ℕ) → Type 0
 MayBegin Is old new = Keeps old new ⊎ ((text : List ℕ) × Is text × Begins old new text)
 
--- what is printed on the way to some scene
-abbrev pub IsPrintOf : (Scene → List ℕ → Type 0) → List ℕ → Type 0
-IsPrintOf Takes text = (to : Scene) × Takes to text
+-- ---- a line
 
--- What the first of these lines print, none, some or all of them.
-pub record IsPrintOfSome (from : Scene) (n : ℕ) (lines : List (List ℕ)) (text : List ℕ) : Type 0 where
+-- the first bytes of what is printed on the way to this state
+pub record IsFrontOfPrint (Takes : Scene → List ℕ → Type 0) (now : State) (front : List ℕ) : Type 0 where
+  pub to : Scene
+  pub text : List ℕ
+  pub rest : List ℕ
+  pub takes : Takes to text
+  pub now_is : now ≡ to.state
+  pub parts : text ≡ front ++ rest
+
+-- The terminal has taken what a line says, and of what is printed for it nothing is written, or the first bytes.
+pub record TakesInPart (Does : State → Type 0) (Takes : Scene → List ℕ → Type 0) (now : State) (text : List ℕ) : Type 0 where
+  pub done : Does now
+  pub printed : (text ≡ []) ⊎ IsFrontOfPrint Takes now text
+
+-- The terminal has not taken it, and nothing is written; or it has taken it in part.
+abbrev pub BreaksOff : State → (State → Type 0) → (Scene → List ℕ → Type 0) → State → List ℕ → Type 0
+BreaksOff from Does Takes now text = ((now ≡ from) × (text ≡ [])) ⊎ TakesInPart Does Takes now text
+
+-- ---- lines
+
+-- The first of these lines, line n, is taken in part.
+pub record TakesNextInPart (from : Scene) (n : ℕ) (lines : List (List ℕ)) (now : State) (text : List ℕ) : Type 0 where
+  pub line : List ℕ
+  pub after : List (List ℕ)
+  pub reading : Reading
+  pub next : lines ≡ line ∷ after
+  pub read : Reads line reading
+  pub short : length line ≤ 4096
+  pub part : TakesInPart (Follows from.state reading) (TakesReading from n reading) now text
+
+-- None of these lines is taken, and nothing is written; or the first of them is taken in part.
+abbrev pub LeavesLines : Scene → ℕ → List (List ℕ) → State → List ℕ → Type 0
+LeavesLines from n lines now text = ((now ≡ from.state) × (text ≡ [])) ⊎ TakesNextInPart from n lines now text
+
+-- Not all of these lines are taken: the first of them are, and what they print is written; and one more at most, in part.
+pub record Stops (from : Stand) (lines : List (List ℕ)) (now : State) (held : Option (List ℕ)) : Type 0 where
   pub front : List (List ℕ)
   pub back : List (List ℕ)
-  pub readings : List Reading
-  pub to : Scene
-  pub whole : lines ≡ front ++ back
-  pub read : AllZip Reads front readings
-  pub takes : TakesReadings from n readings to text
-
--- Not all of these lines are taken: the terminal has taken the first of them, and what is written are the first bytes of what
--- the first of them print.
-pub record Stops (from : Stand) (lines : List (List ℕ)) (state : State) (held : Option (List ℕ)) : Type 0 where
-  pub taken : TakesSome from.scene.state lines state
+  pub to : Stand
   pub text : List ℕ
-  pub text_is : IsPrintOfSome from.scene from.counts.lines lines text
-  pub begun : Begins from.held held text
+  pub whole : lines ≡ front ++ back
+  pub takes : Takes from front to
+  pub leaves : LeavesLines to.scene (to.counts.lines + 1) back now text
+  pub written : Appends to.held held text
 
 -- The lines before the first that is longer than 4,096 bytes are taken, and what they print is written.
 pub record StopsAtLong (from : Stand) (lines : List (List ℕ)) (state : State) (held : Option (List ℕ)) : Type 0 where
@@ -52,27 +77,39 @@ pub record StopsAtLong (from : Stand) (lines : List (List ℕ)) (state : State) 
   pub state_is : state ≡ to.scene.state
   pub held_is : held ≡ to.held
 
--- The text of a replay up to one of its lines: the first screen, and what the first lines print; and after the last line the counts.
-pub record IsFrontOfReplay (start : State) (input : List ℕ) (text : List ℕ) : Type 0 where
+-- ---- a replay
+
+-- No line is left, and of the counts the first bytes are written.
+pub record BeginsCounts (last : Scene) (readings : List Reading) (lines : List (List ℕ)) (now : State) (text : List ℕ) : Type 0 where
+  pub none_left : lines ≡ []
+  pub now_is : now ≡ last.state
+  pub rest : List ℕ
+  pub parts : counts_text (with_lines no_counts readings) ≡ text ++ rest
+
+-- A replay ended before its end, behind its first screen: the terminal has taken the first of the lines, none, some or all, and the
+-- first screen is written and what these lines print. Behind that it has taken one line more at most, and the first bytes are written
+-- of what that prints; or no line is left, and those of the counts are written. No line taken is longer than 4,096 bytes.
+pub record StopsInLines (start : State) (input : List ℕ) (now : State) (old new : Option (List ℕ)) : Type 0 where
   pub front : List (List ℕ)
   pub back : List (List ℕ)
   pub readings : List Reading
   pub first : Scene
   pub last : Scene
   pub printed : List ℕ
-  pub ending : List ℕ
+  pub text : List ℕ
   pub whole : lines_of input ≡ front ++ back
   pub read : AllZip Reads front readings
+  pub short : AllByRecursion (λ line. length line ≤ 4096) front
   pub starts : first.state ≡ start
   pub shown : IsScreenOf start first.screen
   pub takes : TakesReadings first 0 readings last printed
-  pub ends : (ending ≡ []) ⊎ ((back ≡ []) × (ending ≡ counts_text (with_lines no_counts readings)))
-  pub text_is : text ≡ first.screen ++ printed ++ ending
+  pub leaves : LeavesLines last (length front + 1) back now text ⊎ BeginsCounts last readings back now text
+  pub written : Appends old new (first.screen ++ printed ++ text)
 
--- A replay ended before its end: the terminal has taken the first of the lines, and what stands written is a front of the text.
-pub record HasStopped (start : State) (input : List ℕ) (now : State) (old new : Option (List ℕ)) : Type 0 where
-  pub taken : TakesSome start (lines_of input) now
-  pub written : MayBegin (IsFrontOfReplay start input) old new
+-- A replay ended before its end: before the first line, when the first bytes of the first screen are written at most, or behind
+-- its first screen.
+abbrev pub HasStopped : State → List ℕ → State → Option (List ℕ) → Option (List ℕ) → Type 0
+HasStopped start input now old new = ((now ≡ start) × MayBegin (IsScreenOf start) old new) ⊎ StopsInLines start input now old new
 
 -- A replay ended at the first line that is longer than 4,096 bytes: the terminal has taken the lines before it, and what stands
 -- written are the first screen and what they print.

@@ -4,7 +4,7 @@ use Rattle.std.specs.List.{AllZip, AllByRecursion}
 use Rattle.vt_can.specs.lines.Line.{Reads}
 use Rattle.vt_logs.specs.declared.counts.Counts.{Counts}
 use Rattle.vt_logs.specs.Lines.{lines_of}
-use Rattle.vt_logs.specs.Taken.{Scene, TakesReadings, Reaches}
+use Rattle.vt_logs.specs.Taken.{Scene, TakesReadings}
 use Rattle.vt_logs.specs.Texts.{Reading, with_lines, no_counts, counts_text}
 use Rattle.vt_server.specs.Screens.{IsScreenOf}
 use Rattle.vt_server.specs.Terminals.{State}
@@ -24,16 +24,6 @@ pub record IsReplay (start : State) (input : List ℕ) (text : List ℕ) (counts
   pub text_is : text ≡ first.screen ++ printed ++ counts_text counts
   pub counts_are : counts ≡ with_lines no_counts readings
   pub now_is : now ≡ last.state
-
--- The terminal has taken the first of these lines: none, some or all. None of them is longer than 4,096 bytes.
-pub record TakesSome (from : State) (lines : List (List ℕ)) (to : State) : Type 0 where
-  pub front : List (List ℕ)
-  pub back : List (List ℕ)
-  pub readings : List Reading
-  pub whole : lines ≡ front ++ back
-  pub read : AllZip Reads front readings
-  pub short : AllByRecursion (λ line. length line ≤ 4096) front
-  pub after : Reaches from readings to
 
 -- One of these lines is longer than 4,096 bytes.
 pub record HasLong (lines : List (List ℕ)) : Type 0 where

@@ -81,7 +81,3 @@ abbrev pub Follows : State → Reading → State → Type 0
 Follows from (Ok (FrameAt time frame)) to = FollowsEvent from (FrameAt time frame) to
 Follows from (Ok (OperatorAction action)) to = FollowsEvent from (OperatorAction action) to
 Follows from _ to = to ≡ from
-
-abbrev pub Reaches : State → List Reading → State → Type 0
-Reaches from [] to = to ≡ from
-Reaches from (r ∷ rs) to = (middle : State) × Follows from r middle × Reaches middle rs to

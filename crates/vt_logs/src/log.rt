@@ -23,7 +23,8 @@ const READS: u32 = 1_000_000_000;
 /// Replays a log: reads it to its end, line by line, and writes the first screen, what the terminal sends, the
 /// screens that are new, the faulty lines and at last the counts. What the lines read so far print is written
 /// out before the next read. After an error the terminal has taken the first of the lines, the reader and the
-/// writer are where they stopped, and what stands written is a front of the text.
+/// writer are where they stopped, and what stands written is the first screen, what these lines print, and of the
+/// line that was taken last or of the counts the first bytes.
 pub fn replay<R: Read, W: Write>(
     alloc: Global,
     reader: &mut R,
@@ -35,7 +36,8 @@ pub fn replay<R: Read, W: Write>(
         × Appends (W.contents writer.old) (W.contents writer.new) text
         × IsReplay (state_of terminal.old) input text counts (state_of terminal.new))) }
     ensures end { OnOk result (IsAtEnd (R.remaining reader.new)) }
-    // After an error the terminal has taken the first of the lines, and what stands written is a front of the text.
+    // After an error the first of the lines are taken, none of which is too long, and what they print is written, but that of the
+    // last one or the counts may be written in part. Before the first line this holds of the first screen.
     ensures stopped { OnErr result (IfSome (R.remaining reader.old) (λ input.
         HasStopped (state_of terminal.old) input (state_of terminal.new) (W.contents writer.old) (W.contents writer.new))) }
     // TooLong is answered at the first line that is too long, when the lines before it are taken and what they print is written.

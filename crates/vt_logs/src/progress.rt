@@ -1,10 +1,10 @@
 //! How far a replay has come, and the lines that it takes.
 
-ghost use Rattle.std.specs.Prelude.{◌≡◌, ◌^◌, ◌+◌, ◌++◌, ◌⊎◌, [], ◌∷◌, ◌≤◌, ◌<◌, length, false, List, ℕ, OnOk, OnErr, IfOk, IfErr, IsErrOf, MatchOption, if◌then◌else◌};
+ghost use Rattle.std.specs.Prelude.{◌≡◌, ◌^◌, ◌+◌, ◌++◌, [], ◌∷◌, ◌≤◌, ◌<◌, length, false, List, ℕ, OnOk, OnErr, IfOk, IfErr, IsErrOf, MatchOption, if◌then◌else◌};
 ghost use Rattle.std.specs.Io.KnownBytes.{Appends};
 ghost use Rattle.vt_can.specs.lines.Readings.{reading_of};
 ghost use Rattle.vt_logs.specs.Lines.{lines_of};
-ghost use Rattle.vt_logs.specs.Begun.{IsPrintOf, MayBegin, Stops, StopsAtLong};
+ghost use Rattle.vt_logs.specs.Begun.{BreaksOff, MayBegin, Stops, StopsAtLong};
 ghost use Rattle.vt_logs.specs.Taken.{Follows, FollowsEvent, TakesInputLine, TakesReading, input_line};
 ghost use Rattle.vt_logs.specs.Texts.{with_line, no_counts, new_screen};
 ghost use Rattle.vt_logs.specs.Progress.{AtMost, HasNoNewline, IsLineFault, IsStepFault, Takes, TakesBytes, TakesOne, Writes, scene, stand};
@@ -204,9 +204,8 @@ impl Progress {
         ensures takes { OnOk result (TakesOne (stand terminal.old self.old.screen.items self.old.counts (W.contents writer.old))
             (reading_of reading.entry)
             (stand terminal.new self.new.screen.items self.new.counts (W.contents writer.new))) }
-        ensures stopped { OnErr result ((state_of terminal.new ≡ state_of terminal.old)
-            ⊎ Follows (state_of terminal.old) (reading_of reading.entry) (state_of terminal.new)) }
-        ensures front { OnErr result (MayBegin (IsPrintOf (TakesReading (scene terminal.old self.old.screen.items) (self.old.counts.lines + 1) (reading_of reading.entry)))
+        ensures stopped { OnErr result (Writes (BreaksOff (state_of terminal.old) (Follows (state_of terminal.old) (reading_of reading.entry))
+            (TakesReading (scene terminal.old self.old.screen.items) (self.old.counts.lines + 1) (reading_of reading.entry)) (state_of terminal.new))
             (W.contents writer.old) (W.contents writer.new)) }
         ensures counts { self.new.counts ≡ with_line self.old.counts (reading_of reading.entry) }
         ensures pending { self.new.pending ≡ self.old.pending }
@@ -247,9 +246,8 @@ impl Progress {
         requires drawn { IsScreenOf (state_of terminal.old) self.old.screen.items }
         ensures takes { OnOk result (Writes (TakesInputLine (scene terminal.old self.old.screen.items) (input_line input.now) (scene terminal.new self.new.screen.items))
             (W.contents writer.old) (W.contents writer.new)) }
-        ensures stopped { OnErr result ((state_of terminal.new ≡ state_of terminal.old)
-            ⊎ FollowsEvent (state_of terminal.old) (input_line input.now) (state_of terminal.new)) }
-        ensures front { OnErr result (MayBegin (IsPrintOf (TakesInputLine (scene terminal.old self.old.screen.items) (input_line input.now)))
+        ensures stopped { OnErr result (Writes (BreaksOff (state_of terminal.old) (FollowsEvent (state_of terminal.old) (input_line input.now))
+            (TakesInputLine (scene terminal.old self.old.screen.items) (input_line input.now)) (state_of terminal.new))
             (W.contents writer.old) (W.contents writer.new)) }
         ensures counts { self.new.counts ≡ self.old.counts }
         ensures pending { self.new.pending ≡ self.old.pending }

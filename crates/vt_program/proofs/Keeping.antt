@@ -1,20 +1,21 @@
 -- The terminal of the options has its pool in force, and whatever log it then replays, it keeps its promise.
-use Rattle.std.proofs.Common.{◌≡◌, ◌∙◌, ◌+◌, ℕ, List, [], ◌∷◌, Option, Some, None, Ok, Err, refl, sym, ap, subst}
+use Rattle.std.proofs.Common.{◌≡◌, ◌∙◌, ◌+◌, ◌⊎◌, inl, inr, ℕ, List, [], ◌∷◌, ◌++◌, length, Option, Some, None, Ok, Err, refl, sym, ap, subst}
 use Rattle.std.specs.FinMap as finite
 use Rattle.vt_can.specs.lines.Readings.{FrameAt, OperatorAction, SkippedFrame, CommentLine}
 use Rattle.vt_stores.specs.Stores.{Contents, map_of}
 use Rattle.vt_node.specs.ByAddress.{with_at}
 use Rattle.vt_server.specs.Findings.{AreFound}
-use Rattle.vt_server.specs.Steps.{Event, after_all, preloading}
+use Rattle.vt_server.specs.Steps.{Event, after_all, preloading, step}
 use Rattle.vt_server.specs.Terminals.{State}
 use Rattle.vt_laws.specs.Headline.{Pools, AreInForce, NeverSticks}
 use Rattle.vt_logs.specs.declared.counts.Counts.{Counts}
-use Rattle.vt_logs.specs.Replays.{IsReplay, TakesSome}
-use Rattle.vt_logs.specs.Taken.{Scene, TakesReadings, Reaches}
+use Rattle.vt_logs.specs.Begun.{BeginsCounts, HasStopped, LeavesLines}
+use Rattle.vt_logs.specs.Replays.{IsReplay}
+use Rattle.vt_logs.specs.Taken.{Scene, Follows, TakesReadings}
 use Rattle.vt_logs.specs.Texts.{Reading}
 use Rattle.vt_program.specs.declared.options.Options.{Options}
 use Rattle.vt_program.specs.declared.options.Preload.{Preload}
-use Rattle.vt_program.specs.Promises.{AreEventsOfLines, LinesKeep, given_pools}
+use Rattle.vt_program.specs.Promises.{AreEventsOfLines, LinesKeep, given_pools, reading_behind, readings_taken}
 use Rattle.vt_program.specs.Runs.{Files, IsPreloaded, IsStart, new_state}
 use Rattle.vt_program.proofs.Loading.{map_again}
 
@@ -86,28 +87,65 @@ replay-keeps laws pools start now input text counts is r =
 
 -- ---- the lines that a replay has taken which stopped
 
--- what lines do to a terminal alone their events do
-reached-events : (readings : List Reading) (from to : State) → Reaches from readings to → TakesEvents (AreEventsOfLines readings) from to
-reached-events [] from to reached = record { events = []; are_such = tt; found = tt; after = reached }
-reached-events (Err fault ∷ rs) from to reached =
-    subst (λ (s : State). TakesEvents (AreEventsOfLines rs) s to) reached.1 (reached-events rs reached.0 to reached.2)
-reached-events (Ok (SkippedFrame why) ∷ rs) from to reached =
-    subst (λ (s : State). TakesEvents (AreEventsOfLines rs) s to) reached.1 (reached-events rs reached.0 to reached.2)
-reached-events (Ok CommentLine ∷ rs) from to reached =
-    subst (λ (s : State). TakesEvents (AreEventsOfLines rs) s to) reached.1 (reached-events rs reached.0 to reached.2)
-reached-events (Ok (FrameAt time frame) ∷ rs) from to reached =
-    let f = reached.1 in
-    let later = subst (λ (s : State). TakesEvents (AreEventsOfLines rs) s to) f.state (reached-events rs reached.0 to reached.2) in
-    record { events = f.event ∷ later.events; are_such = (f.of_line, later.are_such); found = (f.found, later.found); after = later.after }
-reached-events (Ok (OperatorAction action) ∷ rs) from to reached =
-    let f = reached.1 in
-    let later = subst (λ (s : State). TakesEvents (AreEventsOfLines rs) s to) f.state (reached-events rs reached.0 to reached.2) in
-    record { events = f.event ∷ later.events; are_such = (f.of_line, later.are_such); found = (f.found, later.found); after = later.after }
+lines-append : (rs qs : List Reading) (es fs : List Event) → AreEventsOfLines rs es → AreEventsOfLines qs fs → AreEventsOfLines (rs ++ qs) (es ++ fs)
+lines-append [] qs [] fs p q = q
+lines-append [] qs (e ∷ es) fs p q = absurd p
+lines-append (Err fault ∷ rs) qs es fs p q = lines-append rs qs es fs p q
+lines-append (Ok (SkippedFrame why) ∷ rs) qs es fs p q = lines-append rs qs es fs p q
+lines-append (Ok CommentLine ∷ rs) qs es fs p q = lines-append rs qs es fs p q
+lines-append (Ok (FrameAt time frame) ∷ rs) qs [] fs p q = absurd p
+lines-append (Ok (FrameAt time frame) ∷ rs) qs (e ∷ es) fs p q = (p.0, lines-append rs qs es fs p.1 q)
+lines-append (Ok (OperatorAction action) ∷ rs) qs [] fs p q = absurd p
+lines-append (Ok (OperatorAction action) ∷ rs) qs (e ∷ es) fs p q = (p.0, lines-append rs qs es fs p.1 q)
 
-pub stopped-keeps : NeverSticks → (pools : Pools) (start now : State) (lines : List (List ℕ)) → AreInForce pools start → (some : TakesSome start lines now)
-    → LinesKeep pools start some.readings now
-stopped-keeps laws pools start now lines is some =
-    let taken = reached-events some.readings start now some.after in
+found-append : (s : State) (es fs : List Event) → AreFound s es → AreFound (after_all s es) fs → AreFound s (es ++ fs)
+found-append s [] fs p q = q
+found-append s (e ∷ es) fs p q = (p.0, found-append (step s e).after es fs p.1 q)
+
+after-append : (s : State) (es fs : List Event) → after_all s (es ++ fs) ≡ after_all (after_all s es) fs
+after-append s [] fs = refl
+after-append s (e ∷ es) fs = after-append (step s e).after es fs
+
+taken-more : (rs qs : List Reading) (from middle to : State) → TakesEvents (AreEventsOfLines rs) from middle → TakesEvents (AreEventsOfLines qs) middle to
+    → TakesEvents (AreEventsOfLines (rs ++ qs)) from to
+taken-more rs qs from middle to p q = record {
+  events = p.events ++ q.events;
+  are_such = lines-append rs qs p.events q.events p.are_such q.are_such;
+  found = found-append from p.events q.events p.found (subst (λ (s : State). AreFound s q.events) p.after q.found);
+  after = q.after ∙ ap (λ (s : State). after_all s q.events) p.after ∙ sym (after-append from p.events q.events);
+}
+
+-- what a line does to a terminal alone its event does
+followed-event : (r : Reading) (from to : State) → Follows from r to → TakesEvents (AreEventsOfLines (r ∷ [])) from to
+followed-event (Err fault) from to same = record { events = []; are_such = tt; found = tt; after = same }
+followed-event (Ok (SkippedFrame why)) from to same = record { events = []; are_such = tt; found = tt; after = same }
+followed-event (Ok CommentLine) from to same = record { events = []; are_such = tt; found = tt; after = same }
+followed-event (Ok (FrameAt time frame)) from to f = record { events = f.event ∷ []; are_such = (f.of_line, tt); found = (f.found, tt); after = f.state }
+followed-event (Ok (OperatorAction action)) from to f = record { events = f.event ∷ []; are_such = (f.of_line, tt); found = (f.found, tt); after = f.state }
+
+events-none : (from to : State) → to ≡ from → TakesEvents (AreEventsOfLines []) from to
+events-none from to same = record { events = []; are_such = tt; found = tt; after = same }
+
+events-behind : (last : Scene) (n : ℕ) (readings : List Reading) (lines : List (List ℕ)) (now : State) (text : List ℕ)
+    → (behind : LeavesLines last n lines now text ⊎ BeginsCounts last readings lines now text)
+    → TakesEvents (AreEventsOfLines (reading_behind last n readings lines now text behind)) last.state now
+events-behind last n readings lines now text (inl (inl none)) = events-none last.state now none.0
+events-behind last n readings lines now text (inl (inr next)) = followed-event next.reading last.state now next.part.done
+events-behind last n readings lines now text (inr counts) = events-none last.state now counts.now_is
+
+stopped-events : (start now : State) (input : List ℕ) (old new : Option (List ℕ)) → (stopped : HasStopped start input now old new)
+    → TakesEvents (AreEventsOfLines (readings_taken start input now old new stopped)) start now
+stopped-events start now input old new (inl before) = events-none start now before.0
+stopped-events start now input old new (inr s) =
+    let n = length s.front + 1 in
+    let taken = subst (λ (t : State). TakesEvents (AreEventsOfLines s.readings) t s.last.state) s.starts (taken-events s.readings 0 s.first s.last s.printed s.takes) in
+    taken-more s.readings (reading_behind s.last n s.readings s.back now s.text s.leaves) start s.last.state now taken
+    (events-behind s.last n s.readings s.back now s.text s.leaves)
+
+pub stopped-keeps : NeverSticks → (pools : Pools) (start now : State) (input : List ℕ) (old new : Option (List ℕ)) → AreInForce pools start
+    → (stopped : HasStopped start input now old new) → LinesKeep pools start (readings_taken start input now old new stopped) now
+stopped-keeps laws pools start now input old new is stopped =
+    let taken = stopped-events start now input old new stopped in
     record {
       events = taken.events;
       of_lines = taken.are_such;

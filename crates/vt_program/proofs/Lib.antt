@@ -1,3 +1,4 @@
 mod Chains
 mod Keeping
 mod Loading
+mod OneReplay

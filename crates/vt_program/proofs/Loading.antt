@@ -17,7 +17,7 @@ use Rattle.vt_program.specs.declared.options.Options.{Options}
 use Rattle.vt_program.specs.declared.options.Preload.{Preload}
 use Rattle.vt_logs.specs.declared.fault.ReplayFault.{ReplayFault}
 use Rattle.vt_logs.specs.declared.fault.ReplayFault.TheVariants.{TooLong, Write}
-use Rattle.vt_logs.specs.Begun.{IsFrontOfReplay, HasStopped, HasStoppedAtLong}
+use Rattle.vt_logs.specs.Begun.{HasStopped, HasStoppedAtLong}
 use Rattle.vt_logs.specs.Lines.{lines_of}
 use Rattle.vt_logs.specs.Replays.{IsReplay, HasLongLine}
 use Rattle.vt_program.specs.Runs.{Files, IsLoaded, IsPoolOf, IsAcceptedPoolOf, IsRefusedPool, IsReportOf, IsStart, StandsReplayed, WritesReplay, new_state}
@@ -116,24 +116,32 @@ replay_written (Some bytes) remaining old mid new start end counts same replay k
 
 -- ---- what stands written where a log is not replayed
 
--- the whole text of a replay is a front of it
-whole_front : (start end : State) (input text : List ℕ) (counts : Counts) → IsReplay start input text counts end → IsFrontOfReplay start input text
-whole_front start end input text counts r = record {
-  front = lines_of input;
-  back = [];
-  readings = r.readings;
-  first = r.first;
-  last = r.last;
-  printed = r.printed;
-  ending = counts_text counts;
-  whole = sym (append-nil (lines_of input));
-  read = r.read;
-  starts = r.starts;
-  shown = r.shown;
-  takes = r.takes;
-  ends = inr (refl, ap counts_text r.counts_are);
-  text_is = r.text_is;
-}
+-- the text of a whole replay stands written
+whole_stands : (start end : State) (input text : List ℕ) (counts : Counts) (old new : Option (List ℕ)) → IsReplay start input text counts end
+    → Appends old new text → HasStopped start input end old new
+whole_stands start end input text counts old new r written =
+    inr (record {
+      front = lines_of input;
+      back = [];
+      readings = r.readings;
+      first = r.first;
+      last = r.last;
+      printed = r.printed;
+      text = counts_text counts;
+      whole = sym (append-nil (lines_of input));
+      read = r.read;
+      short = r.short;
+      starts = r.starts;
+      shown = r.shown;
+      takes = r.takes;
+      leaves = inr (record {
+        none_left = refl;
+        now_is = r.now_is;
+        rest = [];
+        parts = ap counts_text (sym r.counts_are) ∙ sym (append-nil (counts_text counts));
+      });
+      written = subst (Appends old new) r.text_is written;
+    })
 
 -- all of it is written, but it could not be written out
 pub whole_written : (file remaining old mid new : Option (List ℕ)) (start end : State) (counts : Counts)
@@ -142,14 +150,12 @@ pub whole_written : (file remaining old mid new : Option (List ℕ)) (start end 
     → Keeps mid new → IfSome file (λ input. StandsReplayed start input Write old new)
 whole_written None remaining old mid new start end counts same replay keeps = tt
 whole_written (Some bytes) remaining old mid new start end counts same replay keeps =
-    let r = rw same at replay in (
-      inr (
-        r.0,
-        whole_front start end bytes r.0 counts r.2,
-        record { front = r.0; rest = []; parts = sym (append-nil r.0); written = Appends-kept old mid new r.0 r.1 keeps },
-      ),
-      λ e. absurd cc,
-    )
+    let r = rw same at replay in
+    record {
+      now = end;
+      stopped = whole_stands start end bytes r.0 counts old new r.2 (Appends-kept old mid new r.0 r.1 keeps);
+      at_long = λ e. absurd cc;
+    }
 
 -- the replay ended before its end
 pub front_written : (file remaining old new : Option (List ℕ)) (start end : State) (why : ReplayFault) → IfSome file (λ bytes. remaining ≡ Some bytes)
@@ -158,7 +164,7 @@ pub front_written : (file remaining old new : Option (List ℕ)) (start end : St
     → IfSome file (λ input. StandsReplayed start input why old new)
 front_written None remaining old new start end why same stopped at_long = tt
 front_written (Some bytes) remaining old new start end why same stopped at_long =
-    let s = rw same at stopped in (s.written, λ e. (end, rw same at (at_long e)))
+    record { now = end; stopped = rw same at stopped; at_long = λ e. rw same at (at_long e) }
 
 -- the line that was too long is one of the file's
 pub long_written : (file remaining old new : Option (List ℕ)) (start end : State) (why : ReplayFault) → IfSome file (λ bytes. remaining ≡ Some bytes)

@@ -1,11 +1,13 @@
 -- The headline of a replay: whatever log is replayed, the terminal keeps its promise over all the inputs of that log
 -- (docs/PROOFS.md, "The headline").
-use Rattle.std.specs.Prelude.{◌≡◌, List, [], ◌∷◌, Option, Some, None, Ok, Err, ℕ}
+use Rattle.std.proofs.Common.{inl, inr}
+use Rattle.std.specs.Prelude.{◌≡◌, ◌⊎◌, List, [], ◌∷◌, ◌++◌, ◌+◌, length, Option, Some, None, Ok, Err, ℕ}
 use Rattle.vt_can.specs.lines.Readings.{FrameAt, OperatorAction, SkippedFrame, CommentLine}
 use Rattle.vt_laws.specs.Headline.{Pools, AreInForce, EventsKeep}
 use Rattle.vt_logs.specs.declared.counts.Counts.{Counts}
-use Rattle.vt_logs.specs.Replays.{IsReplay, TakesSome}
-use Rattle.vt_logs.specs.Taken.{IsEventOfLine}
+use Rattle.vt_logs.specs.Begun.{BeginsCounts, HasStopped, LeavesLines}
+use Rattle.vt_logs.specs.Replays.{IsReplay}
+use Rattle.vt_logs.specs.Taken.{IsEventOfLine, Scene}
 use Rattle.vt_logs.specs.Texts.{Reading}
 use Rattle.vt_program.specs.declared.options.Options.{Options}
 use Rattle.vt_node.specs.ByAddress.{with_at}
@@ -40,12 +42,31 @@ abbrev pub given_pools : (files : Files) (preload : Option Preload) (before afte
 given_pools files None before after is = λ address. None
 given_pools files (Some p) before after loaded = with_at p.owner (Some loaded.objects) (λ address. None)
 
+-- ---- the lines that a replay has taken which stopped
+
+-- the one that is taken in part
+abbrev pub reading_in_part : (last : Scene) (n : ℕ) (lines : List (List ℕ)) (now : State) (text : List ℕ) → LeavesLines last n lines now text → List Reading
+reading_in_part last n lines now text (inl none) = []
+reading_in_part last n lines now text (inr part) = part.reading ∷ []
+
+-- the one behind those that are taken to their end
+abbrev pub reading_behind : (last : Scene) (n : ℕ) (readings : List Reading) (lines : List (List ℕ)) (now : State) (text : List ℕ)
+    → LeavesLines last n lines now text ⊎ BeginsCounts last readings lines now text → List Reading
+reading_behind last n readings lines now text (inl leaves) = reading_in_part last n lines now text leaves
+reading_behind last n readings lines now text (inr counts) = []
+
+-- how they were read
+abbrev pub readings_taken : (start : State) (input : List ℕ) (now : State) (old new : Option (List ℕ)) → HasStopped start input now old new → List Reading
+readings_taken start input now old new (inl before) = []
+readings_taken start input now old new (inr s) =
+    s.readings ++ reading_behind s.last (length s.front + 1) s.readings s.back now s.text s.leaves
+
 -- The terminal of the options has the pool that they give in force; and from any terminal whose pools are in force a replay keeps
--- the promise, and so do the lines that one has taken which stopped.
+-- the promise, and so does one that stopped, over the lines that it has taken.
 pub record ReplaysNeverStick : Type 0 where
   pub start : (files : Files) (options : Options) (s : State) → (is : IsStart files options s)
       → AreInForce (given_pools files options.preload (new_state options.own options.name) s is) s
   pub replay : (pools : Pools) (start now : State) (input text : List ℕ) (counts : Counts) → AreInForce pools start
       → (r : IsReplay start input text counts now) → LinesKeep pools start r.readings now
-  pub stopped : (pools : Pools) (start now : State) (lines : List (List ℕ)) → AreInForce pools start → (some : TakesSome start lines now)
-      → LinesKeep pools start some.readings now
+  pub stopped : (pools : Pools) (start now : State) (input : List ℕ) (old new : Option (List ℕ)) → AreInForce pools start
+      → (stopped : HasStopped start input now old new) → LinesKeep pools start (readings_taken start input now old new stopped) now

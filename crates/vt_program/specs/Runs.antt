@@ -27,7 +27,7 @@ use Rattle.vt_program.specs.declared.program.Fault.{Fault}
 use Rattle.vt_program.specs.declared.program.Fault.TheVariants as fault
 use Rattle.vt_program.specs.declared.program.Status.{Status}
 use Rattle.vt_program.specs.declared.program.Status.TheVariants as status
-use Rattle.vt_logs.specs.Begun.{MayBegin, IsFrontOfReplay, HasStoppedAtLong}
+use Rattle.vt_logs.specs.Begun.{HasStopped, HasStoppedAtLong}
 use Rattle.vt_logs.specs.Replays.{IsReplay, HasLongLine}
 use Rattle.vt_logs.specs.Texts.{newline}
 use Rattle.vt_program.specs.Words.{IsRefusalOf, WordsGive}
@@ -125,7 +125,7 @@ pub record WritesReport (bytes : List ℕ) (old new : Option (List ℕ)) : Type 
 abbrev pub IsFileFault : Bor Text → Fault → Type 0
 IsFileFault path (fault.File other cause) = other ≡ path
 IsFileFault path (fault.Pool why) = ⊥
-IsFileFault path (fault.Refused why) = ⊥
+IsFileFault path (fault.Refused why named) = ⊥
 IsFileFault path fault.Memory = ⊥
 IsFileFault path (fault.Replay why) = ⊥
 
@@ -133,7 +133,7 @@ IsFileFault path (fault.Replay why) = ⊥
 abbrev pub IsFaultOfPool : List ℕ → Fault → Type 0
 IsFaultOfPool bytes (fault.File path cause) = ⊥
 IsFaultOfPool bytes (fault.Pool why) = IsNoPool bytes why
-IsFaultOfPool bytes (fault.Refused why) = IsRefusedPool bytes why
+IsFaultOfPool bytes (fault.Refused why named) = IsRefusedPool bytes why
 IsFaultOfPool bytes fault.Memory = Unit {0}
 IsFaultOfPool bytes (fault.Replay why) = ⊥
 
@@ -141,7 +141,7 @@ IsFaultOfPool bytes (fault.Replay why) = ⊥
 abbrev pub IsPoolFileFault : Files → Bor Text → Fault → Type 0
 IsPoolFileFault files path (fault.File other cause) = other ≡ path
 IsPoolFileFault files path (fault.Pool why) = IfSome (files path.now) (λ bytes. IsNoPool bytes why)
-IsPoolFileFault files path (fault.Refused why) = IfSome (files path.now) (λ bytes. IsRefusedPool bytes why)
+IsPoolFileFault files path (fault.Refused why named) = IfSome (files path.now) (λ bytes. IsRefusedPool bytes why)
 IsPoolFileFault files path fault.Memory = Unit {0}
 IsPoolFileFault files path (fault.Replay why) = ⊥
 
@@ -149,7 +149,7 @@ IsPoolFileFault files path (fault.Replay why) = ⊥
 abbrev pub IsLogFault : Files → Text → Fault → Type 0
 IsLogFault files log (fault.File path cause) = path.now ≡ log
 IsLogFault files log (fault.Pool why) = ⊥
-IsLogFault files log (fault.Refused why) = ⊥
+IsLogFault files log (fault.Refused why named) = ⊥
 IsLogFault files log fault.Memory = ⊥
 IsLogFault files log (fault.Replay why) = IfSome (files log) (λ input. why ≡ replay_fault.TooLong → HasLongLine input)
 
@@ -157,17 +157,19 @@ abbrev pub IsReplayFault : Files → Options → Fault → Type 0
 IsReplayFault files options why =
     IsSomeAnd options.preload (λ p. IsPoolFileFault files p.pool why) ⊎ IsLogFault files options.file.now why
 
--- what stands written where the replay of a log has a fault: a front of its text; and where a line is too long, the first screen
--- and what the lines before it print
-abbrev pub StandsReplayed : State → List ℕ → ReplayFault → Option (List ℕ) → Option (List ℕ) → Type 0
-StandsReplayed start input why old new =
-    MayBegin (IsFrontOfReplay start input) old new × (why ≡ replay_fault.TooLong → (now : State) × HasStoppedAtLong start input now old new)
+-- What stands written where the replay of a log has a fault, and the terminal then: the first of the lines are taken, and what they
+-- print is written, of the last one maybe in part. Where a line is too long, all lines before it are taken, and what they print is
+-- written whole.
+pub record StandsReplayed (start : State) (input : List ℕ) (why : ReplayFault) (old new : Option (List ℕ)) : Type 0 where
+  pub now : State
+  pub stopped : HasStopped start input now old new
+  pub at_long : why ≡ replay_fault.TooLong → HasStoppedAtLong start input now old new
 
 -- what stands written where the log has a fault: nothing where it could not be opened, else of the text of its replay
 abbrev pub StandsWritten : State → Option (List ℕ) → Fault → Option (List ℕ) → Option (List ℕ) → Type 0
 StandsWritten start log (fault.File path cause) old new = Keeps old new
 StandsWritten start log (fault.Pool why) old new = ⊥
-StandsWritten start log (fault.Refused why) old new = ⊥
+StandsWritten start log (fault.Refused why named) old new = ⊥
 StandsWritten start log fault.Memory old new = ⊥
 StandsWritten start log (fault.Replay why) old new = IfSome log (λ input. StandsReplayed start input why old new)
 
@@ -194,7 +196,7 @@ IsFaultOf files options why =
 abbrev pub IsPrinted : Fault → Type 0
 IsPrinted (fault.File path cause) = ⊥
 IsPrinted (fault.Pool why) = Unit {0}
-IsPrinted (fault.Refused why) = Unit {0}
+IsPrinted (fault.Refused why named) = Unit {0}
 IsPrinted fault.Memory = ⊥
 IsPrinted (fault.Replay why) = ⊥
 
@@ -202,7 +204,7 @@ IsPrinted (fault.Replay why) = ⊥
 abbrev pub Prints : Fault → Option (List ℕ) → Option (List ℕ) → Type 0
 Prints (fault.File path cause) old new = Keeps old new
 Prints (fault.Pool why) old new = Appends old new (fault_text why ++ newline)
-Prints (fault.Refused why) old new = Appends old new (report.refusal_text why ++ newline)
+Prints (fault.Refused why named) old new = Appends old new (report.refusal_text why ++ newline)
 Prints fault.Memory old new = Keeps old new
 Prints (fault.Replay why) old new = Keeps old new
 
@@ -217,8 +219,8 @@ abbrev pub EndsBy : Refusal → Status → Type 0
 EndsBy (Words error) status.Done = IsHelp (kind_of error)
 EndsBy (Words error) status.Usage = IsHelp (kind_of error) → ⊥
 EndsBy (Words error) status.Fault = ⊥
-EndsBy (Address option) end = end ≡ status.Usage
-EndsBy Name end = end ≡ status.Usage
+EndsBy (Address option value) end = end ≡ status.Usage
+EndsBy (Name value) end = end ≡ status.Usage
 EndsBy OwnerIsOwn end = end ≡ status.Usage
 EndsBy Alone end = end ≡ status.Usage
 EndsBy Memory end = end ≡ status.Fault
@@ -310,6 +312,6 @@ HasPoolToPrint files path =
 abbrev pub fault_line : Fault → Option Text
 fault_line (fault.File path cause) = None
 fault_line (fault.Pool why) = Some (fault_text why)
-fault_line (fault.Refused why) = Some (report.refusal_text why)
+fault_line (fault.Refused why named) = Some (report.refusal_text why)
 fault_line fault.Memory = Some (codes "out of memory")
 fault_line (fault.Replay why) = None

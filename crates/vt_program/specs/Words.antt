@@ -140,9 +140,15 @@ pub record WordsGive (words : List Text) (options : Options) : Type 0 where
 
 -- ---- which words are refused
 
--- the option of this name has a value that is no address
-abbrev pub IsMisgiven : Given → Text → Type 0
-IsMisgiven given name = ((name ≡ codes "own") × GivesNoAddress given.own) ⊎ ((name ≡ codes "owner") × GivesNoAddress given.owner)
+-- the value of an option is no address, and stands in the refusal
+abbrev pub IsBadAddress : Text → Option Text → Refusal → Type 0
+IsBadAddress name given (Address option value) = (option.now ≡ name) × (given ≡ Some value.now) × GivesNoAddress given
+IsBadAddress name given refusal = ⊥
+
+-- the value of --name is no NAME, and stands in the refusal
+abbrev pub IsBadName : Option Text → Refusal → Type 0
+IsBadName given (Name value) = (given ≡ Some value.now) × GivesNoName given
+IsBadName given refusal = ⊥
 
 -- a pool is given, and its owner is the terminal itself
 pub record HasOwnOwner (given : Given) : Type 0 where
@@ -153,8 +159,9 @@ pub record HasOwnOwner (given : Given) : Type 0 where
 
 -- what is wrong with words in which clap finds no fault
 abbrev pub IsMistake : Given → Refusal → Type 0
-IsMistake given (Address option) = IsMisgiven given option.now
-IsMistake given Name = GivesNoName given.name
+IsMistake given (Address option value) =
+    IsBadAddress (codes "own") given.own (Address option value) ⊎ IsBadAddress (codes "owner") given.owner (Address option value)
+IsMistake given (Name value) = IsBadName given.name (Name value)
 IsMistake given OwnerIsOwn = HasOwnOwner given
 IsMistake given Alone = is_some given.pool ≢ is_some given.owner
 IsMistake given (Words error) = ⊥
@@ -167,8 +174,8 @@ IsMistakeIn words refusal = (faults_in words ≡ []) × IsMistake (given_by word
 -- Why these words give no options. Memory may run out at any words.
 abbrev pub IsRefusalOf : List Text → Refusal → Type 0
 IsRefusalOf words (Words error) = IsAmong (kind_of error) (faults_in words)
-IsRefusalOf words (Address option) = IsMistakeIn words (Address option)
-IsRefusalOf words Name = IsMistakeIn words Name
+IsRefusalOf words (Address option value) = IsMistakeIn words (Address option value)
+IsRefusalOf words (Name value) = IsMistakeIn words (Name value)
 IsRefusalOf words OwnerIsOwn = IsMistakeIn words OwnerIsOwn
 IsRefusalOf words Alone = IsMistakeIn words Alone
 IsRefusalOf words Memory = Unit {0}
@@ -177,17 +184,17 @@ IsRefusalOf words Memory = Unit {0}
 abbrev pub IsRefusalFor : Error → Refusal → Type 0
 IsRefusalFor error Memory = kind_of error ≡ OutOfMemory
 IsRefusalFor error (Words other) = (other ≡ error) × (kind_of error ≢ OutOfMemory)
-IsRefusalFor error (Address option) = ⊥
-IsRefusalFor error Name = ⊥
+IsRefusalFor error (Address option value) = ⊥
+IsRefusalFor error (Name value) = ⊥
 IsRefusalFor error OwnerIsOwn = ⊥
 IsRefusalFor error Alone = ⊥
 
 -- what is printed of a refusal; what clap prints no contract says
 abbrev pub refusal_text : Refusal → Option Text
 refusal_text (Words error) = None
-refusal_text (Address option) = Some (codes "error: the value of --" ++ option.now ++ codes " is not two hex digits up to FD\n")
-refusal_text Name = Some (codes "error: the value of --name is not 16 hex digits\n")
-refusal_text OwnerIsOwn = Some (codes "error: the owner is the terminal itself\n")
+refusal_text (Address option value) = Some (codes "error: --" ++ option.now ++ codes " " ++ value.now ++ codes ": two hex digits up to FD are wanted\n")
+refusal_text (Name value) = Some (codes "error: --name " ++ value.now ++ codes ": 16 hex digits are wanted\n")
+refusal_text OwnerIsOwn = Some (codes "error: --owner is the terminal's own address (--own, 26 unless given)\n")
 refusal_text Alone = Some (codes "error: --pool and --owner are given together or not at all\n")
 refusal_text Memory = Some (codes "vt_replay: out of memory\n")
 

@@ -1,5 +1,6 @@
 //! What is promised of whole runs: each function is a law, and calling it changes nothing.
 
+ghost use Rattle.vt_program.specs.Certain.{ReplaysAreOne};
 ghost use Rattle.vt_program.specs.Promises.{ReplaysNeverStick};
 
 /// The headline of a replay: the terminal that the options give has the pool of their file in force; and whatever log is replayed, to
@@ -9,4 +10,15 @@ pub fn replays_never_stick()
     ensures { ReplaysNeverStick }
 {
     vt_laws::the_machine_never_sticks();
+}
+
+/// The law that a log has one replay, from a terminal whose pools are in force: one text, one list of counts, and one terminal after
+/// it. So what is written for options is one, where the bytes of their files are known.
+pub fn replays_are_one()
+    ensures { ReplaysAreOne }
+{
+    vt_can::laws::readings_are_one();
+    vt_laws::steps_are_one();
+    vt_laws::the_machine_never_sticks();
+    vt_layout::laws::screens_are_one();
 }

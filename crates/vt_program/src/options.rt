@@ -5,7 +5,7 @@ ghost use Rattle.clap.specs.Words.{IsParsedFrom, IsPlainArg, app_of, first_value
 ghost use Rattle.clap.specs.Built.{TakesValue};
 ghost use Rattle.clap.specs.declared.parser.matches.ArgMatches.{ArgMatches};
 ghost use Rattle.vt_program.specs.declared.options.Refusal.TheVariants.{Memory};
-ghost use Rattle.vt_program.specs.Words.{AreApart, GivesAddress, GivesNoAddress, GivesNoName, Gives, IsAddress, IsMistake, IsName, IsOwnName, IsRefusalFor, IsRefusalOf, WordsGive, app, file_word, given_in, refusal_text, report_flag, valued_option};
+ghost use Rattle.vt_program.specs.Words.{AreApart, Gives, GivesAddress, IsAddress, IsBadAddress, IsBadName, IsMistake, IsName, IsOwnName, IsRefusalFor, IsRefusalOf, WordsGive, app, file_word, given_in, refusal_text, report_flag, valued_option};
 
 use byteorder::{BigEndian, ByteOrder};
 use clap::error::ErrorKind;
@@ -48,13 +48,18 @@ pub struct Preload<'a> {
 
 /// Why the words give no options, or that help is asked for.
 #[derive(Drop)]
-pub enum Refusal {
+pub enum Refusal<'a> {
     /// What `clap` says of the words.
     Words(Error),
-    /// The value of this option is no address: two hex digits up to FD.
-    Address(&'static str),
+    /// The value of an option is no address: two hex digits up to FD.
+    Address {
+        /// The option's name.
+        option: &'static str,
+        /// Its value.
+        value: &'a str,
+    },
     /// The value of `--name` is no NAME: 16 hex digits.
-    Name,
+    Name(&'a str),
     /// The owner's address is the terminal's own.
     OwnerIsOwn,
     /// A pool is given without its owner, or an owner without a pool.
@@ -63,20 +68,27 @@ pub enum Refusal {
     Memory,
 }
 
-impl fmt::Display for Refusal {
+impl fmt::Display for Refusal<'_> {
     ghost output = { refusal_text };
 
     fn fmt<W: fmt::Write>(&self, f: &mut fmt::Formatter<W>) -> fmt::Result {
         match self {
             Refusal::Words(error) => write!(f, "{error}"),
-            Refusal::Address(option) => {
+            Refusal::Address { option, value } => {
                 writeln!(
                     f,
-                    "error: the value of --{option} is not two hex digits up to FD"
+                    "error: --{option} {value}: two hex digits up to FD are wanted"
                 )
             }
-            Refusal::Name => writeln!(f, "error: the value of --name is not 16 hex digits"),
-            Refusal::OwnerIsOwn => writeln!(f, "error: the owner is the terminal itself"),
+            Refusal::Name(value) => {
+                writeln!(f, "error: --name {value}: 16 hex digits are wanted")
+            }
+            Refusal::OwnerIsOwn => {
+                writeln!(
+                    f,
+                    "error: --owner is the terminal's own address (--own, 26 unless given)"
+                )
+            }
             Refusal::Alone => {
                 writeln!(
                     f,
@@ -88,10 +100,10 @@ impl fmt::Display for Refusal {
     }
 }
 
-impl From<Error> for Refusal {
+impl From<Error> for Refusal<'_> {
     ghost from_gives = { IsRefusalFor };
 
-    fn from(error: Error) -> Refusal {
+    fn from(error: Error) -> Self {
         match error.kind() {
             ErrorKind::OutOfMemory => Refusal::Memory,
             _ => Refusal::Words(error),
@@ -99,17 +111,17 @@ impl From<Error> for Refusal {
     }
 }
 
-impl From<AllocError> for Refusal {
+impl From<AllocError> for Refusal<'_> {
     ghost from_gives = { λ _ refusal. refusal ≡ Memory };
 
-    fn from(_error: AllocError) -> Refusal {
+    fn from(_error: AllocError) -> Self {
         Refusal::Memory
     }
 }
 
 impl<'a> Options<'a> {
     /// Reads the words, of which the first is the program's name.
-    pub fn parse<S: AsStr>(alloc: Global, words: &'a [S]) -> Result<Options<'a>, Refusal>
+    pub fn parse<S: AsStr>(alloc: Global, words: &'a [S]) -> Result<Options<'a>, Refusal<'a>>
         ensures given { IfOk result (WordsGive (map S.text words.now)) }
         ensures refused { IfErr result (IsRefusalOf (map S.text words.now)) }
     {
@@ -117,6 +129,22 @@ impl<'a> Options<'a> {
         options_of(&matches)
     }
 }
+
+/// What help says behind the options.
+const AFTER_HELP: &str = "\
+Lines of the log, beside frames and comments (#):
+  ! press ID, ! release ID   presses and releases a soft key or a button
+  ! select ID                selects an input
+  ! number ID N              enters a number
+  ! text ID TEXT             enters a text
+  ! set AA                   chooses the working set of an address
+
+Status: 0 done, 1 a fault of a file, a pool or the replay, 2 the words
+
+  vt_replay seeder.log                               replays a log
+  vt_replay my.log --pool my.iop --owner 80          the same, with a pool from the start
+  candump -L can0 | vt_replay -                      listens to a bus
+  vt_replay my.iop --report                          checks a pool (docs/POOLS.md)";
 
 /// The words that the program takes.
 fn command<'a>(alloc: Global) -> Result<Command<'a>, AllocError>
@@ -130,7 +158,7 @@ fn command<'a>(alloc: Global) -> Result<Command<'a>, AllocError>
         alloc,
         "own",
         "AA",
-        "The terminal's own address, two hex digits up to FD [default: 26]",
+        "The terminal's own address, two hex digits up to FD [default: 26, which is 38 in decimal]",
     );
     let name = valued_option(
         alloc,
@@ -152,6 +180,7 @@ fn command<'a>(alloc: Global) -> Result<Command<'a>, AllocError>
             "Replays a CAN log to a virtual terminal and prints what it answers, or checks an \
              object pool and prints its report",
         )
+        .after_help(AFTER_HELP)
         .arg(file)?
         .arg(own)?
         .arg(name)?
@@ -167,7 +196,9 @@ fn file_word<'a>(alloc: Global) -> Arg<'a>
     ensures value { TakesValue result }
 {
     Arg::new(alloc, "FILE")
-        .help("The log to replay, as candump writes it; with --report an object pool")
+        .help(
+            "The log to replay, as candump -L writes it, or - for the standard input; with --report an object pool",
+        )
         .action(ArgAction::Set)
         .required(true)
 }
@@ -196,7 +227,7 @@ fn report_flag<'a>(alloc: Global) -> Arg<'a>
 }
 
 /// The options that parsed words give. They have a FILE.
-fn options_of<'a>(matches: &ArgMatches<'a>) -> Result<Options<'a>, Refusal>
+fn options_of<'a>(matches: &ArgMatches<'a>) -> Result<Options<'a>, Refusal<'a>>
     requires { is_some (first_value (found_of matches.now) (codes "FILE")) ≡ true }
     ensures gives { IfOk result (Gives (given_in (first_value (found_of matches.now)) (one_text (found_of matches.now)))) }
     ensures apart { IfOk result AreApart }
@@ -223,17 +254,19 @@ fn options_of<'a>(matches: &ArgMatches<'a>) -> Result<Options<'a>, Refusal>
 }
 
 /// The address that an option gives, if it is there.
-fn address_given(matches: &ArgMatches<'_>, option: &'static str) -> Result<Option<u8>, Refusal>
+fn address_given<'a>(
+    matches: &ArgMatches<'a>,
+    option: &'static str,
+) -> Result<Option<u8>, Refusal<'a>>
     ensures given { IfOk result (GivesAddress (first_value (found_of matches.now) option.now)) }
-    ensures refusal { IfErr result (λ refusal. refusal ≡ Refusal.Address option.entry) }
-    ensures refused { IfErr result (λ _. GivesNoAddress (first_value (found_of matches.now) option.now)) }
+    ensures refused { IfErr result (IsBadAddress option.now (first_value (found_of matches.now) option.now)) }
 {
-    let Some(text) = matches.get_str(option) else {
+    let Some(value) = matches.get_str(option) else {
         return Ok(None);
     };
-    match address(text) {
+    match address(value) {
         Some(address) => Ok(Some(address)),
-        None => Err(Refusal::Address(option)),
+        None => Err(Refusal::Address { option, value }),
     }
 }
 
@@ -246,17 +279,16 @@ pub fn address(text: &str) -> Option<u8>
 }
 
 /// The terminal's NAME.
-fn name_given(matches: &ArgMatches<'_>) -> Result<Name, Refusal>
+fn name_given<'a>(matches: &ArgMatches<'a>) -> Result<Name, Refusal<'a>>
     ensures given { IfOk result (IsOwnName (first_value (found_of matches.now) (codes "name"))) }
-    ensures refusal { IfErr result (λ refusal. refusal ≡ Refusal.Name) }
-    ensures refused { IfErr result (λ _. GivesNoName (first_value (found_of matches.now) (codes "name"))) }
+    ensures refused { IfErr result (IsBadName (first_value (found_of matches.now) (codes "name"))) }
 {
-    let Some(text) = matches.get_str("name") else {
+    let Some(value) = matches.get_str("name") else {
         return Ok(Name::from_raw(OWN_NAME));
     };
-    match name(text) {
+    match name(value) {
         Some(name) => Ok(name),
-        None => Err(Refusal::Name),
+        None => Err(Refusal::Name(value)),
     }
 }
 

@@ -11,12 +11,14 @@ ghost use Rattle.vt_pool.specs.Pools.{contents};
 ghost use Rattle.vt_server.specs.States.{state_of};
 
 use crate::options::{Options, Preload, Refusal};
+use crate::sentences::{FaultSentence, Named, RefusalSentence};
 use std::alloc::{AllocError, Global};
 use std::convert::AsStr;
 use std::fmt;
 use std::io::{self, Read, Write};
+use vt_kinds::{Kind, ObjectId};
 use vt_logs::{ReplayFault, replay};
-use vt_pool::{PoolFault, read_pool};
+use vt_pool::{Pool, PoolFault, read_pool};
 use vt_server::Terminal;
 use vt_verify::{Accepted, verify};
 
@@ -59,9 +61,15 @@ impl Status {
 /// Why a log was not replayed to its end, or a pool has no report.
 #[derive(Drop)]
 enum Fault<'a> {
-    File { path: &'a str, cause: io::Error },
+    File {
+        path: &'a str,
+        cause: io::Error,
+    },
     Pool(PoolFault),
-    Refused(vt_verify::Refusal),
+    Refused {
+        why: vt_verify::Refusal,
+        named: Named,
+    },
     Memory,
     Replay(ReplayFault),
 }
@@ -73,7 +81,7 @@ impl fmt::Display for Fault<'_> {
         match self {
             Fault::File { path, cause } => write!(f, "{path}: {cause}"),
             Fault::Pool(fault) => write!(f, "{fault}"),
-            Fault::Refused(refusal) => write!(f, "{refusal}"),
+            Fault::Refused { why, named: _ } => write!(f, "{why}"),
             Fault::Memory => write!(f, "out of memory"),
             Fault::Replay(fault) => write!(f, "{fault}"),
         }
@@ -110,7 +118,10 @@ pub fn run<S: AsStr, F: Open, W: Write, E: Write>(
     }
     match replay_log(alloc, &options, files, out) {
         Ok(()) => Ok(Status::Done),
-        Err(fault) => print_fault(&fault, out, errors),
+        Err(fault) => {
+            let pool = options.preload.as_ref().map_or("", |preload| preload.pool);
+            print_fault(&fault, pool, out, errors)
+        }
     }
 }
 
@@ -133,9 +144,10 @@ fn refuse<W: Write, E: Write>(refusal: &Refusal, out: &mut W, errors: &mut E) ->
     Ok(status)
 }
 
-/// Prints the fault or the refusal of a pool, and names any other fault on `errors`.
+/// Prints the fault or the refusal of the pool of a path, and says it in words on `errors`, as any other fault.
 fn print_fault<W: Write, E: Write>(
     fault: &Fault<'_>,
+    pool: &str,
     out: &mut W,
     errors: &mut E,
 ) -> io::Result<Status>
@@ -144,9 +156,20 @@ fn print_fault<W: Write, E: Write>(
     ensures fails { OnErr result (IsPrinted fault.now) }
 {
     match fault {
-        Fault::Pool(_) | Fault::Refused(_) => {
+        Fault::Pool(fault) => {
             writeln!(out, "{fault}")?;
             out.flush()?;
+            let sentence = FaultSentence { fault };
+            let _ = writeln!(errors, "vt_replay: {pool}: {sentence}");
+        }
+        Fault::Refused { why, named } => {
+            writeln!(out, "{why}")?;
+            out.flush()?;
+            let sentence = RefusalSentence {
+                refusal: why,
+                named: *named,
+            };
+            let _ = writeln!(errors, "vt_replay: {pool}: {sentence}");
         }
         _ => {
             let _ = writeln!(errors, "vt_replay: {fault}");
@@ -172,7 +195,7 @@ fn print_report<F: Open, W: Write, E: Write>(
             out.flush()?;
             Ok(Status::Done)
         }
-        Err(fault) => print_fault(&fault, out, errors),
+        Err(fault) => print_fault(&fault, path, out, errors),
     }
 }
 
@@ -266,8 +289,33 @@ fn accepted<'a>(alloc: Global, bytes: &[u8]) -> Result<Accepted, Fault<'a>>
     match verify(alloc, &pool) {
         Ok(accepted) => Ok(accepted),
         Err(vt_verify::Refusal::OutOfMemory) => Err(Fault::Memory),
-        Err(refusal) => Err(Fault::Refused(refusal)),
+        Err(why) => {
+            let named = named_in(&pool, &why);
+            Err(Fault::Refused { why, named })
+        }
     }
+}
+
+/// The kinds of the objects that a refusal of a pool names.
+fn named_in(pool: &Pool<'_>, why: &vt_verify::Refusal) -> Named {
+    match why {
+        vt_verify::Refusal::Missing { parent, id }
+        | vt_verify::Refusal::WrongKind { parent, id }
+        | vt_verify::Refusal::MacroMissing { parent, id }
+        | vt_verify::Refusal::MacroKind { parent, id } => Named {
+            parent: kind_in(pool, *parent),
+            object: kind_in(pool, *id),
+        },
+        vt_verify::Refusal::OverBudget { id } => Named {
+            parent: kind_in(pool, *id),
+            object: None,
+        },
+        _ => Named::default(),
+    }
+}
+
+fn kind_in(pool: &Pool<'_>, id: ObjectId) -> Option<Kind> {
+    pool.get(id).map(|object| object.kind())
 }
 
 fn read_file<'a, F: Open>(alloc: Global, path: &'a str, files: &mut F) -> Result<Vec<u8>, Fault<'a>>

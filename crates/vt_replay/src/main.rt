@@ -4,29 +4,9 @@
 //! docs/PROFILE.md, "The program", has the words, the statuses and the output.
 #![tactic(auto)]
 
-use std::fs::{self, File};
-use std::io::{self, BufWriter, Error, ErrorKind, Write};
+use std::io::{self, BufWriter, ErrorKind, Write};
 use std::process::ExitCode;
-use vt_program::{Open, Status, run};
-
-/// The files of the system.
-#[derive(Drop)]
-struct Files<'a> {
-    rt: &'a HostRuntime,
-}
-
-impl Open for Files<'_> {
-    type Reader = File;
-
-    // The system opens a directory too, and refuses to read it.
-    fn open(&mut self, path: &str) -> io::Result<File> {
-        let file = fs::open(self.rt, path)?;
-        if file.metadata()?.is_dir() {
-            return Err(Error::from(ErrorKind::IsADirectory));
-        }
-        Ok(file)
-    }
-}
+use vt_program::{Files, Status, run};
 
 fn main(rt: HostRuntime) -> io::Result<ExitCode> {
     let alloc = rt.alloc();
@@ -43,7 +23,7 @@ fn main(rt: HostRuntime) -> io::Result<ExitCode> {
     let status = run(
         alloc,
         words.as_slice(),
-        &mut Files { rt: &rt },
+        &mut Files::new(&rt),
         &mut out,
         &mut errors,
     )?;

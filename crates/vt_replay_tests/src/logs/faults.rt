@@ -15,7 +15,7 @@ const POOL: &[u8] = b"\x00\x00\x00\x00\x01\xE8\x03\x00\x00\x00\
     \xD0\x07\x02\x00\xFF\xFF\x01\x00\x00\x00";
 
 /// A second set uploads a pool in packets, and both show alarms.
-pub const LOG: &[u8] = b"(1.000000) can0 18EEFF81#0200000000008020\n\
+pub(super) const LOG: &[u8] = b"(1.000000) can0 18EEFF81#0200000000008020\n\
     (1.000000) can0 18FE0D81#01FFFFFFFFFFFFFF\n\
     (1.000000) can0 1CEC2681#103C0009FF00E700\n\
     (1.000000) can0 1CEB2681#01110000000001E8\n\
@@ -34,7 +34,7 @@ pub const LOG: &[u8] = b"(1.000000) can0 18EEFF81#0200000000008020\n\
     (1.000000) can0 14E72680#AD0000D007FFFFFF\n";
 
 /// What the replay of it prints.
-pub const TEXT: &[u8] = b"screen 80 mask 1000\n\
+pub(super) const TEXT: &[u8] = b"screen 80 mask 1000\n\
     container 100 10 5 50x20\n\
     1CEC8126#110901FFFF00E700\n\
     1CEC8126#133C0009FF00E700\n\
@@ -54,7 +54,7 @@ pub const TEXT: &[u8] = b"screen 80 mask 1000\n\
     lines 17 frames 17 operator 0 skipped 0 comments 0 faults 0\n";
 
 /// A terminal with a set at 80 that has the pool, which is accepted: what it may want is memory alone.
-pub fn started(alloc: Global) -> Result<Terminal, AllocError> {
+pub(super) fn started(alloc: Global) -> Result<Terminal, AllocError> {
     let accepted = accepted_pool(alloc, POOL)?;
     let mut terminal = Terminal::new(alloc, 0x26, Name::from_raw(0x2000_1D00_0000_0001));
     terminal.preload(0x80, &accepted)?;

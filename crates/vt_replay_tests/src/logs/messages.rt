@@ -91,19 +91,19 @@ fn the_pool_is_opened_before_the_log(rt: HostRuntime) -> Result<(), Fail> {
 const REFUSALS: [(&[&str], &str); 6] = [
     (
         &["vt_replay", "log", "--own", "2G"],
-        "error: the value of --own is not two hex digits up to FD\n",
+        "error: --own 2G: two hex digits up to FD are wanted\n",
     ),
     (
         &["vt_replay", "log", "--pool", "pool", "--owner", "FE"],
-        "error: the value of --owner is not two hex digits up to FD\n",
+        "error: --owner FE: two hex digits up to FD are wanted\n",
     ),
     (
         &["vt_replay", "log", "--name", "1"],
-        "error: the value of --name is not 16 hex digits\n",
+        "error: --name 1: 16 hex digits are wanted\n",
     ),
     (
         &["vt_replay", "log", "--pool", "pool", "--owner", "26"],
-        "error: the owner is the terminal itself\n",
+        "error: --owner is the terminal's own address (--own, 26 unless given)\n",
     ),
     (
         &["vt_replay", "log", "--owner", "80"],

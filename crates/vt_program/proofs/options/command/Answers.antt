@@ -14,7 +14,8 @@ returns-clause-app c =
     let versioned : app_of c.version.result ≡ with_version (new_app (codes "vt_replay")) =
     ap app_of_fields c.version.ensures ∙ ap with_version c.new.ensures.app in
     let named : app_of c.about.result ≡ with_version (new_app (codes "vt_replay")) = ap app_of_fields c.about.ensures ∙ versioned in
-    let one = c.in_ok-arg.ensures.shape c.file_word-file.ensures.local ∙ ap₂ with_rule named c.file_word-file.ensures.rule in
+    let helped : app_of c.after_help.result ≡ with_version (new_app (codes "vt_replay")) = ap app_of_fields c.after_help.ensures ∙ named in
+    let one = c.in_ok-arg.ensures.shape c.file_word-file.ensures.local ∙ ap₂ with_rule helped c.file_word-file.ensures.rule in
     let two = c.in_ok-arg-2.ensures.shape c.valued_option-own.ensures.local ∙ ap₂ with_rule one c.valued_option-own.ensures.rule in
     let three = c.in_ok-arg-3.ensures.shape c.valued_option-name.ensures.local ∙ ap₂ with_rule two c.valued_option-name.ensures.rule in
     let four = c.in_ok-arg-4.ensures.shape c.valued_option-pool.ensures.local ∙ ap₂ with_rule three c.valued_option-pool.ensures.rule in
@@ -51,12 +52,12 @@ returns-clause-file c =
     (fits_chain report _ is_report c.report_flag-report.ensures.plain c.report_flag-report.ensures.local
     (λ e. absurd (omega arith)) (λ e. absurd (omega arith)) (λ e. absurd (omega arith))) in
     IfOk-weaker c.arg-6.result _ _ (λ command adds matches parsed.
-    let chain : AddsInTurn AddsArg c.about.result (file ∷ own ∷ name ∷ pool ∷ owner ∷ report ∷ []) command = (
+    let chain : AddsInTurn AddsArg c.after_help.result (file ∷ own ∷ name ∷ pool ∷ owner ∷ report ∷ []) command = (
       c.in_ok-arg.field-0,
       c.in_ok-arg.ensures,
       (c.in_ok-arg-2.field-0, c.in_ok-arg-2.ensures, (c.in_ok-arg-3.field-0, c.in_ok-arg-3.ensures, (c.in_ok-arg-4.field-0, c.in_ok-arg-4.ensures, (c.in_ok-arg-5.field-0, c.in_ok-arg-5.ensures, (command, adds, refl))))),
     ) in
-    let has = required_in_chain c.about.result command (file ∷ own ∷ name ∷ pool ∷ owner ∷ report ∷ []) 0 file matches chain
+    let has = required_in_chain c.after_help.result command (file ∷ own ∷ name ∷ pool ∷ owner ∷ report ∷ []) 0 file matches chain
     (search rules) (search rules) (search rules) (search rules) fit
     (six_ids file own name pool owner report is_file is_own is_name is_pool is_owner is_report) (omega arith) c.file_word-file.ensures.value parsed in
     rw is_file at has) c.arg-6.ensures

@@ -13,5 +13,5 @@ pub returns : goal.returns
 returns c = record {
   pool = tt;
   rising = tt;
-  fault = refused_pool c.args.bytes.now c.in-Ok.pool c.in-Err-verify.refusal c.in-Ok.ensures.pool c.in-Err-verify.ensures.refused (λ w. search rules);
+  fault = refused_pool c.args.bytes.now c.in-Ok.pool c.in-Err-verify.why c.in-Ok.ensures.pool c.in-Err-verify.ensures.refused (λ w. search rules);
 }

@@ -5,14 +5,28 @@ use Rattle.vt_logs.specs.Progress.{scene}
 use Rattle.vt_logs.specs.Taken.{Scene}
 use Rattle.vt_logs.specs.Texts.{new_screen}
 use Rattle.vt_logs.proofs.Begun.{on_any_err}
-use Rattle.vt_logs.proofs.Stepping.{input_prints, input_taken, sent_begun, shown_begun}
+use Rattle.vt_logs.proofs.Stepping.{input_prints, input_refused, input_taken, input_unprinted, sent_begun, shown_begun}
+use Rattle.vt_server.specs.States.{state_of}
 use Rattle.vt_logs.proofs.progress.Progress.take_input.Goals as goal
 
 pub draw-requires : goal.draw-requires
 draw-requires g c = record { kept = λ none. c.in_ok-step.ensures.same none c.args.self.now.screen.items c.requires.drawn }
 
-pub returns-in_err-put_outputs-clause-front : goal.returns-in_err-put_outputs-clause-front
-returns-in_err-put_outputs-clause-front g c =
+pub returns-in_err-step-clause-stopped : goal.returns-in_err-step-clause-stopped
+returns-in_err-step-clause-stopped g c =
+    let held = g.W.Write.contents in
+    on_any_err c.from_residual.result
+    (input_refused (scene c.args.terminal.now c.args.self.now.screen.items) (state_of c.step.new.self) c.args.input.now (held c.args.writer.now) c.in_err-step.ensures.err)
+
+pub returns-in_err-is_new-clause-stopped : goal.returns-in_err-is_new-clause-stopped
+returns-in_err-is_new-clause-stopped g c =
+    let held = g.W.Write.contents in
+    on_any_err c.from_residual-in_err-is_new.result
+    (input_unprinted (scene c.args.terminal.now c.args.self.now.screen.items) (state_of c.step.new.self) c.args.input.now c.clear.new.self.items c.step.new.outputs.items
+    (held c.args.writer.now) c.in_ok-step.ensures.ok)
+
+pub returns-in_err-put_outputs-clause-stopped : goal.returns-in_err-put_outputs-clause-stopped
+returns-in_err-put_outputs-clause-stopped g c =
     let held = g.W.Write.contents in
     let from : Scene = scene c.args.terminal.now c.args.self.now.screen.items in
     let to : Scene = scene c.step.new.self c.draw.new.self.screen.items in
@@ -21,8 +35,8 @@ returns-in_err-put_outputs-clause-front g c =
     (sent_begun from to c.args.input.now c.step.new.outputs.items (held c.args.writer.now) (held c.put_outputs.new.writer) prints
     (rw (c.deref.ensures.value, c.draw.ensures.outputs) at c.in_err-put_outputs.ensures.front))
 
-pub returns-in_err-put-clause-front : goal.returns-in_err-put-clause-front
-returns-in_err-put-clause-front g c =
+pub returns-in_err-put-clause-stopped : goal.returns-in_err-put-clause-stopped
+returns-in_err-put-clause-stopped g c =
     let held = g.W.Write.contents in
     let from : Scene = scene c.args.terminal.now c.args.self.now.screen.items in
     let to : Scene = scene c.step.new.self c.draw.new.self.screen.items in

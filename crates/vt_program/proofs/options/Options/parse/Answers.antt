@@ -32,8 +32,8 @@ faults_of_app command words r same kinds =
 refused_by_clap : (words : List Text) (e : Error) (r : Refusal) → IsRefusalFor e r → HasKind (faults_in words) e → IsRefusalOf words r
 refused_by_clap words e (Words other) for (inl memory) = absurd (for.1 memory)
 refused_by_clap words e (Words other) for (inr among) = rw for.0 among
-refused_by_clap words e (Address option) for kind = absurd for
-refused_by_clap words e Name for kind = absurd for
+refused_by_clap words e (Address option value) for kind = absurd for
+refused_by_clap words e (Name value) for kind = absurd for
 refused_by_clap words e OwnerIsOwn for kind = absurd for
 refused_by_clap words e Alone for kind = absurd for
 refused_by_clap words e Memory for kind = tt
@@ -48,9 +48,9 @@ words_are_refused : (words : List Text) (given : Given) (r : Result Options Refu
     → IfErr r (IsMistake given) → IfErr r (IsRefusalOf words)
 words_are_refused words given (Ok options) same none mistake = tt
 words_are_refused words given (Err (Words error)) same none mistake = absurd mistake
-words_are_refused words given (Err (Address option)) same none mistake =
-    (none, subst (λ (g : Given). IsMistake g (Address option)) same mistake)
-words_are_refused words given (Err Name) same none mistake = (none, subst (λ (g : Given). IsMistake g Name) same mistake)
+words_are_refused words given (Err (Address option value)) same none mistake =
+    (none, subst (λ (g : Given). IsMistake g (Address option value)) same mistake)
+words_are_refused words given (Err (Name value)) same none mistake = (none, subst (λ (g : Given). IsMistake g (Name value)) same mistake)
 words_are_refused words given (Err OwnerIsOwn) same none mistake = (none, subst (λ (g : Given). IsMistake g OwnerIsOwn) same mistake)
 words_are_refused words given (Err Alone) same none mistake = (none, subst (λ (g : Given). IsMistake g Alone) same mistake)
 words_are_refused words given (Err Memory) same none mistake = absurd mistake

@@ -1,0 +1,52 @@
+//! The files of the system, and its standard input.
+
+use crate::program::Open;
+use std::fs::{self, File};
+use std::io::{self, Error, ErrorKind, Read, Stdin};
+
+/// The files of the system. The path `-` is that of the standard input.
+#[derive(Drop)]
+pub struct Files<'a> {
+    rt: &'a HostRuntime,
+}
+
+/// A file that is open, or the standard input.
+#[derive(Drop)]
+pub enum Opened {
+    /// A file.
+    File(File),
+    /// The standard input.
+    Input(Stdin),
+}
+
+impl<'a> Files<'a> {
+    /// Those of a runtime.
+    pub fn new(rt: &'a HostRuntime) -> Files<'a> {
+        Files { rt }
+    }
+}
+
+impl Read for Opened {
+    fn read(&mut self, buf: &mut [u8]) -> io::Result<usize> {
+        match self {
+            Opened::File(file) => file.read(buf),
+            Opened::Input(input) => input.read(buf),
+        }
+    }
+}
+
+impl Open for Files<'_> {
+    type Reader = Opened;
+
+    // The system opens a directory too, and refuses to read it.
+    fn open(&mut self, path: &str) -> io::Result<Opened> {
+        if path == "-" {
+            return Ok(Opened::Input(self.rt.stdin()));
+        }
+        let file = fs::open(self.rt, path)?;
+        if file.metadata()?.is_dir() {
+            return Err(Error::from(ErrorKind::IsADirectory));
+        }
+        Ok(Opened::File(file))
+    }
+}

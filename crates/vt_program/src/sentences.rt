@@ -1,0 +1,252 @@
+//! What the error output says of a pool in words: the file, the place, the cause, and where the cure stands.
+
+use std::fmt;
+use vt_kinds::{Kind, ObjectId};
+use vt_records::PoolFault;
+use vt_verify::Refusal;
+
+/// The kinds of the objects that a refusal names, where they are in the pool.
+#[derive(Clone, Copy, Debug, Default, PartialEq, Eq)]
+pub struct Named {
+    /// That of the parent, or of the only object.
+    pub parent: Option<Kind>,
+    /// That of the object that the parent names.
+    pub object: Option<Kind>,
+}
+
+/// A fault of a pool.
+#[derive(Drop)]
+pub(crate) struct FaultSentence<'a> {
+    pub(crate) fault: &'a PoolFault,
+}
+
+impl fmt::Display for FaultSentence<'_> {
+    fn fmt<W: fmt::Write>(&self, f: &mut fmt::Formatter<W>) -> fmt::Result {
+        match self.fault {
+            PoolFault::Truncated { at } => {
+                write!(
+                    f,
+                    "the bytes end inside the record that begins at byte {at} (fault 1; docs/POOLS.md)"
+                )
+            }
+            PoolFault::UnknownType { at } => {
+                write!(
+                    f,
+                    "the record at byte {at} has a type above 33, which VT version 3 does not have (fault 2; docs/POOLS.md)"
+                )
+            }
+            PoolFault::LeftOutType { at } => {
+                write!(
+                    f,
+                    "the record at byte {at} is an auxiliary function or input, which this terminal does not have (fault 3; docs/POOLS.md)"
+                )
+            }
+            PoolFault::Scale { at } => {
+                write!(
+                    f,
+                    "the scale at byte {at} is none of 1, 0.1, 0.01 and 0.001 (fault 4; docs/POOLS.md)"
+                )
+            }
+            PoolFault::Decimals { at } => {
+                write!(
+                    f,
+                    "the number of decimals at byte {at} is above 7 (fault 5; docs/POOLS.md)"
+                )
+            }
+            PoolFault::OutOfMemory { at } => {
+                write!(
+                    f,
+                    "the memory for the record at byte {at} was refused (fault 6; docs/POOLS.md)"
+                )
+            }
+            PoolFault::NullId { at } => {
+                write!(
+                    f,
+                    "the record at byte {at} has the ID 65535, which no object has (fault 7; docs/POOLS.md)"
+                )
+            }
+        }
+    }
+}
+
+/// A refusal of a pool, with the kinds of what it names.
+#[derive(Drop)]
+pub(crate) struct RefusalSentence<'a> {
+    pub(crate) refusal: &'a Refusal,
+    pub(crate) named: Named,
+}
+
+impl fmt::Display for RefusalSentence<'_> {
+    fn fmt<W: fmt::Write>(&self, f: &mut fmt::Formatter<W>) -> fmt::Result {
+        let Named { parent, object } = self.named;
+        match self.refusal {
+            Refusal::NoWorkingSet => write!(
+                f,
+                "no object is a Working Set (refusal 1; docs/POOLS.md)"
+            ),
+            Refusal::TwoWorkingSets => {
+                write!(
+                    f,
+                    "more than one object is a Working Set (refusal 2; docs/POOLS.md)"
+                )
+            }
+            Refusal::Missing { parent: holder, id } => {
+                write!(
+                    f,
+                    "the {}",
+                    WithKind {
+                        kind: parent,
+                        id: *holder
+                    }
+                )?;
+                write_missing(f, *id)?;
+                write!(f, " (refusal 3; docs/POOLS.md)")
+            }
+            Refusal::WrongKind { parent: holder, id } => {
+                let holder = WithKind {
+                    kind: parent,
+                    id: *holder,
+                };
+                let object = WithKind {
+                    kind: object,
+                    id: *id,
+                };
+                write!(
+                    f,
+                    "the {holder} names the {object}, which may not stand there (refusal 4; docs/POOLS.md)"
+                )
+            }
+            Refusal::TooDeep { chain } => write_chain(f, chain.as_slice()),
+            Refusal::MacroBytes { id } => {
+                write!(
+                    f,
+                    "the bytes of the Macro {} end inside a command (refusal 6; docs/POOLS.md)",
+                    id.raw()
+                )
+            }
+            Refusal::MacroCommand { id, at } => {
+                write!(
+                    f,
+                    "the Macro {} has at byte {at} a command that may not stand in a macro (refusal 7; docs/POOLS.md)",
+                    id.raw()
+                )
+            }
+            Refusal::MacroMissing { parent: holder, id } => {
+                let verb = if parent == Some(Kind::Macro) {
+                    "has a command for"
+                } else {
+                    "lists"
+                };
+                write!(
+                    f,
+                    "the {} {verb} object {}",
+                    WithKind {
+                        kind: parent,
+                        id: *holder
+                    },
+                    id.raw()
+                )?;
+                write!(f, ", which is not in the pool (refusal 8; docs/POOLS.md)")
+            }
+            Refusal::MacroKind { parent: holder, id } => {
+                let holder = WithKind {
+                    kind: parent,
+                    id: *holder,
+                };
+                let object = WithKind {
+                    kind: object,
+                    id: *id,
+                };
+                if parent == Some(Kind::Macro) {
+                    write!(
+                        f,
+                        "the {holder} has a command that cannot take the {object} (refusal 9; docs/POOLS.md)"
+                    )
+                } else {
+                    write!(
+                        f,
+                        "the {holder} lists the {object}, which is no macro (refusal 9; docs/POOLS.md)"
+                    )
+                }
+            }
+            Refusal::MacroValue { id, at } => {
+                write!(
+                    f,
+                    "the Macro {} changes at byte {at} an attribute that its object does not have (refusal 10; docs/POOLS.md)",
+                    id.raw()
+                )
+            }
+            Refusal::MacroCircle { path } => write_circle(f, path.as_slice()),
+            Refusal::OverBudget { id } => {
+                let object = WithKind {
+                    kind: parent,
+                    id: *id,
+                };
+                write!(
+                    f,
+                    "the {object} can cost more than 1000000 steps (refusal 12; docs/POOLS.md)"
+                )
+            }
+            Refusal::OutOfMemory => write!(f, "the memory for its verification was refused"),
+        }
+    }
+}
+
+/// An object by its kind and ID, and by its ID alone where it is not in the pool.
+#[derive(Drop)]
+struct WithKind {
+    kind: Option<Kind>,
+    id: ObjectId,
+}
+
+impl fmt::Display for WithKind {
+    fn fmt<W: fmt::Write>(&self, f: &mut fmt::Formatter<W>) -> fmt::Result {
+        match self.kind {
+            Some(kind) => write!(f, "{kind} {}", self.id.raw()),
+            None => write!(f, "object {}", self.id.raw()),
+        }
+    }
+}
+
+/// What is missing: an object, or any object where NULL may not stand.
+fn write_missing<W: fmt::Write>(f: &mut fmt::Formatter<W>, id: ObjectId) -> fmt::Result {
+    if id.is_null() {
+        write!(f, " names no object where one has to be")
+    } else {
+        write!(f, " names object {}, which is not in the pool", id.raw())
+    }
+}
+
+/// A chain of too many inclusions, or an object within itself.
+fn write_chain<W: fmt::Write>(f: &mut fmt::Formatter<W>, ids: &[ObjectId]) -> fmt::Result {
+    let first = ids.first().copied().unwrap_or(ObjectId::from_raw(0xFFFF));
+    let rest = ids.get(1..).unwrap_or(&[]);
+    if rest.contains(&first) {
+        write!(f, "object {} includes itself", first.raw())?;
+    } else {
+        write!(
+            f,
+            "object {} includes objects more than 32 deep",
+            first.raw()
+        )?;
+    }
+    write!(f, " (refusal 5; docs/POOLS.md)")
+}
+
+/// Macros of which each triggers the next, and the last the first.
+fn write_circle<W: fmt::Write>(f: &mut fmt::Formatter<W>, ids: &[u8]) -> fmt::Result {
+    if let [id] = ids {
+        return write!(
+            f,
+            "the Macro {id} triggers itself (refusal 11; docs/POOLS.md)"
+        );
+    }
+    write!(f, "the macros")?;
+    for id in ids {
+        write!(f, " {id}")?;
+    }
+    write!(
+        f,
+        " trigger each other in a circle (refusal 11; docs/POOLS.md)"
+    )
+}
