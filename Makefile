@@ -1,16 +1,25 @@
 # The program's words. Paths are those of the folder in which make runs.
 ARGS ?= examples/seeder.log
 
-.PHONY: run test wrong-bodies build bench bench-hostile refuse-memory
+.PHONY: run help test examples wrong-bodies build bench bench-hostile refuse-memory
 
 # Runs the program by the toolchain's quick build, which proves nothing.
 run:
 	@bash scripts/run.sh $(ARGS)
 
+# Lists these commands.
+help:
+	@awk '/^# /{text = text substr($$0, 2)} /^[a-z-]+:/{sub(/:.*/, ""); printf "make %-14s%s\n", $$0, text} !/^# /{text = ""}' Makefile
+
 # Proves every crate and its tests from nothing, tries the must-fail edits, and runs the tests and the program.
 test:
 	@rt version
+	@bash scripts/examples.sh --check
 	rt ci
+
+# Copies the examples to where the gate runs programs on them.
+examples:
+	@bash scripts/examples.sh
 
 # Tries the wrong bodies that the gate does not try. CRATES may name some crates.
 wrong-bodies:

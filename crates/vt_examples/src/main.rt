@@ -1,0 +1,68 @@
+//! Runs `vt_replay` on each of the examples, and prints what it prints, its messages and its status: the gate compares that with the
+//! file `stdout`.
+#![tactic(auto)]
+
+use std::io::{self, BufWriter, Write};
+use vt_program::{Files, run};
+
+/// The words of each run, behind the program's name.
+const RUNS: [&[&str]; 23] = [
+    &["vt_replay", "seeder.log"],
+    &[
+        "vt_replay",
+        "sprayer.log",
+        "--pool",
+        "sprayer.iop",
+        "--owner",
+        "80",
+    ],
+    &[
+        "vt_replay",
+        "hide.log",
+        "--pool",
+        "pool.iop",
+        "--owner",
+        "80",
+    ],
+    &["vt_replay", "sprayer.iop", "--report"],
+    &["vt_replay", "fault-1-truncated.iop", "--report"],
+    &["vt_replay", "fault-2-unknown-type.iop", "--report"],
+    &["vt_replay", "fault-3-left-out-type.iop", "--report"],
+    &["vt_replay", "fault-4-scale.iop", "--report"],
+    &["vt_replay", "fault-5-decimals.iop", "--report"],
+    &["vt_replay", "fault-7-null-id.iop", "--report"],
+    &["vt_replay", "refusal-01-no-working-set.iop", "--report"],
+    &["vt_replay", "refusal-02-two-working-sets.iop", "--report"],
+    &["vt_replay", "refusal-03-missing.iop", "--report"],
+    &["vt_replay", "refusal-04-wrong-kind.iop", "--report"],
+    &["vt_replay", "refusal-05-too-deep.iop", "--report"],
+    &["vt_replay", "refusal-06-macro-bytes.iop", "--report"],
+    &["vt_replay", "refusal-07-macro-command.iop", "--report"],
+    &["vt_replay", "refusal-08-macro-missing.iop", "--report"],
+    &["vt_replay", "refusal-09-macro-kind.iop", "--report"],
+    &["vt_replay", "refusal-10-macro-value.iop", "--report"],
+    &["vt_replay", "refusal-11-macro-circle.iop", "--report"],
+    &["vt_replay", "refusal-12-over-budget.iop", "--report"],
+    &["vt_replay", "refusal-03-missing.iop"],
+];
+
+fn main(rt: HostRuntime) -> io::Result<()> {
+    let mut out = BufWriter::new(rt.alloc(), io::writer(&rt))?;
+    for words in &RUNS {
+        run_words(&rt, words, &mut out)?;
+    }
+    out.flush()
+}
+
+/// Prints a run as a terminal shows it: its words, what it prints, its messages and its status.
+fn run_words<W: Write>(rt: &HostRuntime, words: &[&str], out: &mut W) -> io::Result<()> {
+    let mut messages = Vec::new(rt.alloc());
+    write!(out, "$")?;
+    for word in words {
+        write!(out, " {word}")?;
+    }
+    writeln!(out)?;
+    let status = run(rt.alloc(), words, &mut Files::new(rt), out, &mut messages)?;
+    out.write_all(&messages)?;
+    writeln!(out, "status {}", status.code())
+}
