@@ -83,17 +83,17 @@ const FAULTY_FILES: [Run<'static>; 6] = [
     (
         &POOL_FIRST,
         (HIDE, CUT_RECORDS),
-        (Status::Fault, "fault 1 Truncated at 10\n", false),
+        (Status::Fault, "fault 1 Truncated at 10\n", true),
     ),
     (
         &POOL_FIRST,
         (HIDE, b"\x01\x00\x1D"),
-        (Status::Fault, "fault 3 LeftOutType at 0\n", false),
+        (Status::Fault, "fault 3 LeftOutType at 0\n", true),
     ),
     (
         &POOL_FIRST,
         (HIDE, TWO_RECORDS),
-        (Status::Fault, "refused 3 Missing 1000 100\n", false),
+        (Status::Fault, "refused 3 Missing 1000 100\n", true),
     ),
     (&POOL_FIRST, (HIDE, POOL), (Status::Fault, "", true)),
     (
@@ -135,22 +135,22 @@ const REPORTS: [Run<'static>; 7] = [
     (
         &REPORT,
         (HIDE, TWO_RECORDS),
-        (Status::Fault, "refused 3 Missing 1000 100\n", false),
+        (Status::Fault, "refused 3 Missing 1000 100\n", true),
     ),
     (
         &REPORT,
         (HIDE, b""),
-        (Status::Fault, "refused 1 NoWorkingSet\n", false),
+        (Status::Fault, "refused 1 NoWorkingSet\n", true),
     ),
     (
         &REPORT,
         (HIDE, b"\x01\x00\x22"),
-        (Status::Fault, "fault 2 UnknownType at 0\n", false),
+        (Status::Fault, "fault 2 UnknownType at 0\n", true),
     ),
     (
         &REPORT,
         (HIDE, CUT_RECORDS),
-        (Status::Fault, "fault 1 Truncated at 10\n", false),
+        (Status::Fault, "fault 1 Truncated at 10\n", true),
     ),
     (
         &[
