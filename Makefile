@@ -1,11 +1,15 @@
 # The program's words. Paths are those of the folder in which make runs.
 ARGS ?= examples/seeder.log
 
-.PHONY: run help test examples wrong-bodies build bench bench-hostile refuse-memory
+.PHONY: run sample help test examples wrong-bodies build bench bench-hostile refuse-memory
 
 # Runs the program by the toolchain's quick build, which proves nothing.
 run:
 	@bash scripts/run.sh $(ARGS)
+
+# Runs a whole caller of the library by the quick build.
+sample:
+	@cd crates/vt_sample && rt try --data sprayer.iop=$(CURDIR)/examples/sprayer.iop
 
 # Lists these commands.
 help:

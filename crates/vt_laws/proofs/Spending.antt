@@ -7,11 +7,10 @@ use Rattle.vt_stores.specs.Shapes.{Shape}
 use Rattle.vt_stores.specs.Stores.{Contents}
 use Rattle.vt_effects.specs.Soundness.{shape_in}
 use Rattle.vt_macros.specs.Machines.{End, Ended, run_of, total_budget}
+use Rattle.vt_macros.specs.Runs.{PoolsAreReady}
 use Rattle.vt_laws.specs.Costs.{CostsAreWithin, used, steps_of, printed, budget_of}
-use Rattle.vt_laws.specs.Headline.{Pools, Run, EndsInTime, accepted_after, runs}
+use Rattle.vt_laws.specs.Headline.{NeverSticks, Pools, Run, EndsInTime, accepted_after, runs}
 use Rattle.vt_laws.proofs.Ending.{AllInTime}
-use Rattle.vt_laws.proofs.InForce.{never-sticks}
-use Rattle.vt_laws.proofs.Unstuck.{Laws}
 
 -- a run that ends uses no more steps than it begins with
 used-within : (most : ℕ) (end : End) (new : Contents) (left : ℕ) → end ≡ Ended new left → used most end ≤ most
@@ -20,11 +19,11 @@ used-within most end new left is = subst (λ (e : End). used most e ≤ most) (s
     below : (n m : ℕ) → n - m ≤ n
     below n m = omega arith
 
-module _ (laws : Laws) where
+module _ (never : NeverSticks) (ready : PoolsAreReady) where
   -- and it begins with the budgets that the pool's report prints
   begins-with : (last : Option Contents) (run : Run) → EndsInTime last run → total_budget (shape_in run.objects) run.raised ≡ printed last run.raised
   begins-with last run ends =
-      let pool = laws.pools ends.accepted ends.verified.stored ends.verified.acceptable in
+      let pool = ready ends.accepted ends.verified.stored ends.verified.acceptable in
       ap (λ (shape : Shape). total_budget shape run.raised) (ends.ready.shape ∙ sym pool.shape)
       ∙ sym (ap (λ (o : Option Contents). printed o run.raised) ends.is_last)
 
@@ -48,7 +47,7 @@ module _ (laws : Laws) where
 
   pub costs-within : CostsAreWithin
   costs-within pools s e is found =
-      let ends = ((never-sticks laws).events pools s (e ∷ []) is (found, tt)).runs_end.0.each in
+      let ends = (never.events pools s (e ∷ []) is (found, tt)).runs_end.0.each in
       record {
         each = each-within (accepted_after s e pools) (runs s e) ends;
         whole = runs-within (accepted_after s e pools) (runs s e) ends;

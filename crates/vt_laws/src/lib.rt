@@ -48,17 +48,8 @@ pub fn runs_are_of_steps()
 pub fn costs_are_within()
     ensures { CostsAreWithin }
 {
-    vt_machine::laws::commands_keep_order();
-    vt_machine::laws::commands_keep_shapes();
-    vt_machine::laws::entries_keep_order();
-    vt_machine::laws::entries_keep_shapes();
-    vt_machine::laws::events_end_in_turn();
+    the_machine_never_sticks();
     vt_machine::laws::pools_are_ready();
-    vt_machine::laws::runs_end();
-    vt_machine::laws::null_is_no_object();
-    vt_layout::laws::drawings_never_stick();
-    vt_layout::laws::drawings_find_all();
-    vt_layout::laws::paths_are_chained();
 }
 
 /// The law that the step is a function of the input alone. Whatever verdict on a transfer is right, and whatever is rightly found

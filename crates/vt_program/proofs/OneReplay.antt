@@ -24,7 +24,7 @@ use Rattle.vt_program.specs.declared.options.Options.{Options}
 use Rattle.vt_program.specs.declared.options.Preload.{Preload}
 use Rattle.vt_program.specs.Certain.{AppendSame, IsKnown, IsPoolKnown, ReplaysAreOne}
 use Rattle.vt_program.specs.Promises.{given_pools}
-use Rattle.vt_program.specs.Runs.{Files, HasReplayed, IsLoaded, IsPoolOf, IsPreloaded, IsStart, WritesReplay, new_state}
+use Rattle.vt_program.specs.Runs.{Files, HasReplayed, IsPoolOf, IsPreloaded, IsStart, WritesReplay, new_state}
 use Rattle.vt_program.proofs.Keeping.{start-in-force}
 use Rattle.vt_records.proofs.Taken.{same_record}
 use Rattle.vt_server.specs.Findings.{IsEventOf, IsFound}
@@ -33,7 +33,6 @@ use Rattle.vt_server.specs.Screens.{IsScreenAt, IsScreenOf, IsScreenOfShown}
 use Rattle.vt_server.specs.Steps as steps
 use Rattle.vt_server.specs.Steps.{Event, Step, preloading, step}
 use Rattle.vt_server.specs.Terminals.{State, pool_of}
-use Rattle.vt_server.specs.declared.input.Input.{Input}
 use Rattle.vt_server.specs.declared.input.Input.TheVariants as inputs
 use Rattle.vt_stores.specs.Stores.{Contents}
 

@@ -1,5 +1,7 @@
 //! The files of the system, and its standard input.
 
+ghost use Rattle.std.specs.Prelude.{◌≡◌};
+
 use crate::program::Open;
 use std::fs::{self, File};
 use std::io::{self, Error, ErrorKind, Read, Stdin};
@@ -21,7 +23,9 @@ pub enum Opened {
 
 impl<'a> Files<'a> {
     /// Those of a runtime.
-    pub fn new(rt: &'a HostRuntime) -> Files<'a> {
+    pub fn new(rt: &'a HostRuntime) -> Files<'a>
+        ensures { result.rt ≡ rt.entry }
+    {
         Files { rt }
     }
 }

@@ -132,21 +132,16 @@ impl fmt::Display for RefusalSentence<'_> {
                 )
             }
             Refusal::MacroMissing { parent: holder, id } => {
-                let verb = if parent == Some(Kind::Macro) {
-                    "has a command for"
-                } else {
-                    "lists"
+                let holder = WithKind {
+                    kind: parent,
+                    id: *holder,
                 };
-                write!(
-                    f,
-                    "the {} {verb} object {}",
-                    WithKind {
-                        kind: parent,
-                        id: *holder
-                    },
-                    id.raw()
-                )?;
-                write!(f, ", which is not in the pool (refusal 8; docs/POOLS.md)")
+                write!(f, "the {holder}")?;
+                if parent == Some(Kind::Macro) {
+                    write!(f, " has a command that")?;
+                }
+                write_missing(f, *id)?;
+                write!(f, " (refusal 8; docs/POOLS.md)")
             }
             Refusal::MacroKind { parent: holder, id } => {
                 let holder = WithKind {
@@ -219,18 +214,22 @@ fn write_missing<W: fmt::Write>(f: &mut fmt::Formatter<W>, id: ObjectId) -> fmt:
 
 /// A chain of too many inclusions, or an object within itself.
 fn write_chain<W: fmt::Write>(f: &mut fmt::Formatter<W>, ids: &[ObjectId]) -> fmt::Result {
-    let first = ids.first().copied().unwrap_or(ObjectId::from_raw(0xFFFF));
-    let rest = ids.get(1..).unwrap_or(&[]);
-    if rest.contains(&first) {
-        write!(f, "object {} includes itself", first.raw())?;
-    } else {
-        write!(
-            f,
-            "object {} includes objects more than 32 deep",
-            first.raw()
-        )?;
+    match (repeated(ids), ids.first()) {
+        (Some(id), _) => write!(f, "object {} includes itself", id.raw())?,
+        (None, Some(id)) => write!(f, "object {} includes objects more than 32 deep", id.raw())?,
+        (None, None) => write!(f, "objects include each other more than 32 deep")?,
     }
     write!(f, " (refusal 5; docs/POOLS.md)")
+}
+
+/// The first ID that stands twice.
+fn repeated(ids: &[ObjectId]) -> Option<ObjectId> {
+    for (index, id) in ids.iter().enumerate() {
+        if ids[..index].contains(id) {
+            return Some(*id);
+        }
+    }
+    None
 }
 
 /// Macros of which each triggers the next, and the last the first.

@@ -1,7 +1,6 @@
 -- The set that is shown after an input has a pool: it is chosen of those that have one, and the events of its change take none
 -- away.
-use Rattle.std.proofs.Common.{◌≡◌, ℕ, Bool, true, false, cond, List, [], ◌∷◌, Option, Some, None, is_some, true≢false, refl, sym, ap, subst, ◌∙◌, nat_le}
-use Rattle.std.specs.Option.{option_map}
+use Rattle.std.proofs.Common.{◌≡◌, ℕ, Bool, true, false, cond, List, [], ◌∷◌, Option, Some, None, is_some, refl, sym, ap, subst, ◌∙◌, nat_le}
 use Rattle.vt_can.specs.declared.frames.frame.Frame.{Frame}
 use Rattle.vt_machine.specs.Lives.{SetState}
 use Rattle.vt_names.specs.Registry.{Set}
@@ -9,7 +8,7 @@ use Rattle.vt_server.specs.Choosing.{alarm_in, choosing, events_of_change, first
 use Rattle.vt_server.specs.Parts.{Act, Part, Raises, outcome, raised_on}
 use Rattle.vt_server.specs.Places.{Place}
 use Rattle.vt_server.specs.Steps.{acted, acting, answer_to, hearing, is_lost_by, losing, settled}
-use Rattle.vt_server.specs.Terminals.{State, pool_of, pool_at, part, put, after_act, after_acts}
+use Rattle.vt_server.specs.Terminals.{State, pool_of, pool_at, part, after_act, after_acts}
 use Rattle.vt_server.specs.Transfers.{Verdict}
 use Rattle.vt_server.specs.declared.choosing.Alarm.{Alarm}
 use Rattle.vt_node.specs.ByAddress.{with_at}
