@@ -2,8 +2,8 @@
 use Rattle.std.proofs.Common.{◌≡◌, ℕ, zero, suc, ◌<◌, ◌≤◌, inl, inr, List, [], ◌∷◌, length, None, refl, sym, subst, ◌∙◌, arith}
 use Rattle.std.specs.Prelude.{slice_index, slice_index_or, Contains}
 use Rattle.std.specs.FinMap as finite
-use Rattle.vt_stores.specs.Stores.{Contents, IsPlace}
-use Rattle.vt_chains.specs.Depths.{Stands, IsBelow, IsClosed, AreDepths, ids_of, inclusions_of}
+use Rattle.vt_stores.specs.Stores.{ObjectMap, IsPlace}
+use Rattle.vt_chains.specs.Depths.{IsAt, IsBelow, IsClosed, AreDepths, ids_of, inclusions_of}
 use Rattle.vt_chains.specs.Inclusions.{IsChain, IsShallow, IsTooDeep}
 use Rattle.vt_chains.specs.Limits.{terminal}
 use Rattle.vt_chains.proofs.Including.{IsSourced, sourced}
@@ -12,7 +12,7 @@ use Rattle.vt_chains.specs.declared.levels.Levels.{Levels}
 use Rattle.vt_chains.specs.Certificates.{IsCertificate, IsCertificateBut, AreLevels, AreLevelsBut}
 
 shorter_chain : (ids : List ℕ) (included : ℕ → List ℕ) (levels : List ℕ) → IsCertificate ids included levels
-    → (a place : ℕ) (rest : List ℕ) → Stands ids place a → IsChain included (a ∷ rest) → length rest ≤ slice_index levels place
+    → (a place : ℕ) (rest : List ℕ) → IsAt ids place a → IsChain included (a ∷ rest) → length rest ≤ slice_index levels place
 shorter_chain ids included levels is a place [] there chain = omega arith
 shorter_chain ids included levels is a place (b ∷ rest) there chain =
     let lower = is.falls place a there b chain.0 in
@@ -30,7 +30,7 @@ certified_shallow ids included levels sourced is (a ∷ b ∷ rest) chain =
     let bound = is.within at.0 in
     omega arith
 
-pub levels_shallow : (m : Contents) (levels : List ℕ) → IsCertificate (ids_of m) (inclusions_of m) levels → IsShallow terminal.inclusions (inclusions_of m)
+pub levels_shallow : (m : ObjectMap) (levels : List ℕ) → IsCertificate (ids_of m) (inclusions_of m) levels → IsShallow terminal.inclusions (inclusions_of m)
 levels_shallow m levels is = certified_shallow (ids_of m) (inclusions_of m) levels (sourced (finite.entries m)) is
 
 -- a chain with one inclusion too many
@@ -43,21 +43,21 @@ depths_fall ids included levels are =
 
 -- an inclusion that falls too
 pub one_more : (ids : List ℕ) (included : ℕ → List ℕ) (levels : List ℕ) (from to : ℕ) → IsCertificateBut ids included levels from to
-    → ((place : ℕ) → Stands ids place from → Contains (included from) to → IsBelow ids levels to (slice_index levels place)) → IsCertificate ids included levels
+    → ((place : ℕ) → IsAt ids place from → Contains (included from) to → IsBelow ids levels to (slice_index levels place)) → IsCertificate ids included levels
 one_more ids included levels from to but falls = record { each = but.each; within = but.within; falls = all }
   where
-    all : (place id : ℕ) → Stands ids place id → (other : ℕ) → Contains (included id) other → IsBelow ids levels other (slice_index levels place)
+    all : (place id : ℕ) → IsAt ids place id → (other : ℕ) → Contains (included id) other → IsBelow ids levels other (slice_index levels place)
     all place id there other h =
         elim (but.falls place id there other h) as (λ _. IsBelow ids levels other (slice_index levels place)) [
           | inl lower ↦ lower
           | inr is ↦
               subst (λ (k : ℕ). IsBelow ids levels k (slice_index levels place)) (sym is.1)
-              (falls place (subst (λ (k : ℕ). Stands ids place k) is.0 there)
+              (falls place (subst (λ (k : ℕ). IsAt ids place k) is.0 there)
               (subst (λ (k : ℕ). Contains (included k) to) is.0 (subst (λ (k : ℕ). Contains (included id) k) is.1 h)))
         ]
 
 -- nothing is included under an ID that is not there
-pub never_included : (m : Contents) (from to : ℕ) → IsClosed (ids_of m) (inclusions_of m) → finite.get m to ≡ None → Contains (inclusions_of m from) to → ⊥
+pub never_included : (m : ObjectMap) (from to : ℕ) → IsClosed (ids_of m) (inclusions_of m) → finite.get m to ≡ None → Contains (inclusions_of m from) to → ⊥
 never_included m from to closed none h = let at = closed from to h in missing_nowhere m at.0 to at.1 none
 
 -- what stands at a place that there is, whatever stands for what is not there
@@ -66,16 +66,16 @@ same_or [] place d lt = absurd (omega (arith, lt))
 same_or (x ∷ xs) zero d lt = refl
 same_or (x ∷ xs) (suc place) d lt = same_or xs place d (omega (arith, lt))
 
-pub place_within : (m : Contents) (levels : List ℕ) (id place : ℕ) → length levels ≡ length (ids_of m) → IsPlace (finite.entries m) id place → place < length levels
+pub place_within : (m : ObjectMap) (levels : List ℕ) (id place : ℕ) → length levels ≡ length (ids_of m) → IsPlace (finite.entries m) id place → place < length levels
 place_within m levels id place long at =
     let lt = within (ids_of m) place id (stands_of (finite.entries m) place id at.object at.there) in
     omega (arith, lt, long)
 
-pub level_is : (m : Contents) (levels : List ℕ) (id place level d : ℕ) → length levels ≡ length (ids_of m) → IsPlace (finite.entries m) id place
+pub level_is : (m : ObjectMap) (levels : List ℕ) (id place level d : ℕ) → length levels ≡ length (ids_of m) → IsPlace (finite.entries m) id place
     → level ≡ slice_index_or levels place d → level ≡ slice_index levels place
 level_is m levels id place level d long at is = is ∙ same_or levels place d (place_within m levels id place long at)
 
-pub falling_there : (m : Contents) (levels : Levels) (from to above below : ℕ) → AreLevelsBut m levels from to → IsPlace (finite.entries m) from above
+pub falling_there : (m : ObjectMap) (levels : Levels) (from to above below : ℕ) → AreLevelsBut m levels from to → IsPlace (finite.entries m) from above
     → IsPlace (finite.entries m) to below → slice_index levels.levels.items below < slice_index levels.levels.items above → AreLevels m levels
 falling_there m levels from to above below but one other less =
     record {
@@ -90,7 +90,7 @@ falling_there m levels from to above below but one other less =
       room = but.room;
     }
 
-pub falling_nowhere : (m : Contents) (levels : Levels) (from to : ℕ) → AreLevelsBut m levels from to → finite.get m to ≡ None → AreLevels m levels
+pub falling_nowhere : (m : ObjectMap) (levels : Levels) (from to : ℕ) → AreLevelsBut m levels from to → finite.get m to ≡ None → AreLevels m levels
 falling_nowhere m levels from to but none =
     record {
       certificate = one_more (ids_of m) (inclusions_of m) levels.levels.items from to but.certificate
@@ -98,7 +98,7 @@ falling_nowhere m levels from to but none =
       room = but.room;
     }
 
-pub falling_from_nowhere : (m : Contents) (levels : Levels) (from to : ℕ) → AreLevelsBut m levels from to → finite.get m from ≡ None → AreLevels m levels
+pub falling_from_nowhere : (m : ObjectMap) (levels : Levels) (from to : ℕ) → AreLevelsBut m levels from to → finite.get m from ≡ None → AreLevels m levels
 falling_from_nowhere m levels from to but none =
     record {
       certificate = one_more (ids_of m) (inclusions_of m) levels.levels.items from to but.certificate

@@ -9,21 +9,21 @@ use Rattle.std.specs.declared.cmp.Ordering.{Ordering}
 use Rattle.std.specs.FinMap as finite
 use Rattle.std.specs.FinMap.Entries.{below_all}
 use Rattle.vt_kinds.specs.Records.{Seen}
-use Rattle.vt_stores.specs.Stores.{Objects, Contents, IsRising, ids, object_at}
+use Rattle.vt_stores.specs.Stores.{Objects, ObjectMap, IsRising, ids, object_at}
 use Rattle.vt_stores.proofs.Rising.{three, both_true, equal, greater}
 use Rattle.vt_stores.proofs.Searching.{is_below}
-use Rattle.vt_chains.specs.Depths.{ids_of, Stands}
+use Rattle.vt_chains.specs.Depths.{ids_of, IsAt}
 
 true_of : (b : Bool) → T b → b ≡ true
 true_of true t = refl
 true_of false t = absurd t
 
-pub rising : (m : Contents) → IsRising (finite.entries m)
+pub rising : (m : ObjectMap) → IsRising (finite.entries m)
 rising m = true_of (finite.is_sorted nat_cmp (finite.entries m)) (finite.entries_sorted m)
 
 -- ---- what stands at a place
 
-pub stands_of : (objects : Objects) (place id : ℕ) (o : Seen) → slice_get objects place ≡ Some (id, o) → Stands (ids objects) place id
+pub stands_of : (objects : Objects) (place id : ℕ) (o : Seen) → slice_get objects place ≡ Some (id, o) → IsAt (ids objects) place id
 stands_of objects place id o is = slice_get-map (λ (e : ℕ × Seen). e.0) objects place ∙ ap (option_map (λ (e : ℕ × Seen). e.0)) is
 
 object_case : (P : Type 0) (o : Option (ℕ × Seen)) (id : ℕ) → option_map (λ (e : ℕ × Seen). e.0) o ≡ Some id → ((s : Seen) → o ≡ Some (id, s) → P) → P
@@ -31,12 +31,12 @@ object_case P None id is here = absurd cc
 object_case P (Some e) id is here = here e.1 (ap (λ (k : ℕ). Some (k, e.1)) (same_Some e.0 id is))
 
 -- the object that stands there
-pub object_of : (objects : Objects) (place id : ℕ) → Stands (ids objects) place id → (o : Seen) × (slice_get objects place ≡ Some (id, o))
+pub object_of : (objects : Objects) (place id : ℕ) → IsAt (ids objects) place id → (o : Seen) × (slice_get objects place ≡ Some (id, o))
 object_of objects place id is =
     object_case ((o : Seen) × (slice_get objects place ≡ Some (id, o))) (slice_get objects place) id (sym (slice_get-map (λ (e : ℕ × Seen). e.0) objects place) ∙ is)
     (λ o some. (o, some))
 
-pub above_at : (a : ℕ) (objects : Objects) (place id : ℕ) → IsTrue (below_all nat_cmp a objects) → Stands (ids objects) place id → a < id
+pub above_at : (a : ℕ) (objects : Objects) (place id : ℕ) → IsTrue (below_all nat_cmp a objects) → IsAt (ids objects) place id → a < id
 above_at a [] place id all is = absurd cc
 above_at a (e ∷ objects) zero id all is =
     subst (λ (k : ℕ). a < k) (same_Some e.0 id is) (is_below a e.0 (three a e.0) (both_true (is_lt (nat_cmp a e.0)) (below_all nat_cmp a objects) all).0)
@@ -53,7 +53,7 @@ found_at (e ∷ objects) (suc place) id o rising is =
     ∙ found_at objects place id o parts.1 is
 
 -- an ID stands at one place
-pub one_place : (objects : Objects) (a b id : ℕ) → IsRising objects → Stands (ids objects) a id → Stands (ids objects) b id → a ≡ b
+pub one_place : (objects : Objects) (a b id : ℕ) → IsRising objects → IsAt (ids objects) a id → IsAt (ids objects) b id → a ≡ b
 one_place [] a b id rising one other = absurd cc
 one_place (e ∷ objects) zero zero id rising one other = refl
 one_place (e ∷ objects) zero (suc b) id rising one other =
@@ -71,30 +71,30 @@ one_place (e ∷ objects) (suc a) (suc b) id rising one other =
 
 -- ---- in a store
 
-pub get_placed : (m : Contents) (place id : ℕ) (o : Seen) → slice_get (finite.entries m) place ≡ Some (id, o) → finite.get m id ≡ Some o
+pub get_placed : (m : ObjectMap) (place id : ℕ) (o : Seen) → slice_get (finite.entries m) place ≡ Some (id, o) → finite.get m id ≡ Some o
 get_placed m place id o is = finite.get-entries m id ∙ found_at (finite.entries m) place id o (rising m) is
 
-pub missing_nowhere : (m : Contents) (place id : ℕ) → Stands (ids_of m) place id → finite.get m id ≡ None → ⊥
+pub missing_nowhere : (m : ObjectMap) (place id : ℕ) → IsAt (ids_of m) place id → finite.get m id ≡ None → ⊥
 missing_nowhere m place id is none =
     let o = object_of (finite.entries m) place id is in
     let some = sym none ∙ get_placed m place id o.0 o.1 in
     absurd cc
 
-pub once : (m : Contents) (a b id : ℕ) → Stands (ids_of m) a id → Stands (ids_of m) b id → a ≡ b
+pub once : (m : ObjectMap) (a b id : ℕ) → IsAt (ids_of m) a id → IsAt (ids_of m) b id → a ≡ b
 once m a b id one other = one_place (finite.entries m) a b id (rising m) one other
 
-pub within : (ids : List ℕ) (place id : ℕ) → Stands ids place id → place < length ids
+pub within : (ids : List ℕ) (place id : ℕ) → IsAt ids place id → place < length ids
 within ids place id is = slice_get_within ids place id is
 
 -- an ID stands at each place
-pub someone : (ids : List ℕ) (place : ℕ) → place < length ids → (id : ℕ) × Stands ids place id
+pub someone : (ids : List ℕ) (place : ℕ) → place < length ids → (id : ℕ) × IsAt ids place id
 someone [] place lt = absurd (omega arith)
 someone (id ∷ ids) zero lt = (id, refl)
 someone (id ∷ ids) (suc place) lt = someone ids place (omega arith)
 
-pub same_id : (ids : List ℕ) (place a b : ℕ) → Stands ids place a → Stands ids place b → a ≡ b
+pub same_id : (ids : List ℕ) (place a b : ℕ) → IsAt ids place a → IsAt ids place b → a ≡ b
 same_id ids place a b one other = same_Some a b (sym one ∙ other)
 
 -- there are as many IDs as objects
-pub count_is : (m : Contents) → finite.len m ≡ length (ids_of m)
+pub count_is : (m : ObjectMap) → finite.len m ≡ length (ids_of m)
 count_is m = finite.len-entries m ∙ sym (length-map (finite.entries m) (λ (e : ℕ × Seen). e.0))

@@ -6,7 +6,7 @@ use Rattle.vt_kinds.specs.declared.slot.Slot.{Slot}
 use Rattle.vt_kinds.specs.declared.object.Object.{Object}
 use Rattle.vt_kinds.specs.Records.{seen}
 use Rattle.vt_kinds.specs.References.{slots_of}
-use Rattle.vt_stores.specs.Stores.{Contents}
+use Rattle.vt_stores.specs.Stores.{ObjectMap}
 use Rattle.vt_chains.specs.Inclusions.{includes, included_by}
 use Rattle.vt_chains.specs.Depths.{inclusions_of}
 use Rattle.vt_stores.proofs.Shapes.{seen_slots}
@@ -21,7 +21,7 @@ filter_case P false s rest next h here later = later h
 abbrev pub included_in : List Slot → List ℕ
 included_in slots = map (λ slot. slot.id) (filter includes slots)
 
-pub inclusions_are : {B : Type 0} (m : Contents) (id : ℕ) (o : Object B) → finite.get m id ≡ Some (seen o) → inclusions_of m id ≡ included_in (slots_of o)
+pub inclusions_are : {B : Type 0} (m : ObjectMap) (id : ℕ) (o : Object B) → finite.get m id ≡ Some (seen o) → inclusions_of m id ≡ included_in (slots_of o)
 inclusions_are m id o is = ap included_by (sym (finite.get-entries m id) ∙ is) ∙ ap included_in (seen_slots o)
 
 pub in_more : (slot : Slot) (slots : List Slot) (next : ℕ) → Contains (included_in slots) next → Contains (included_in (slot ∷ slots)) next

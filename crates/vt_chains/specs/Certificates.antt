@@ -1,8 +1,8 @@
 -- The certificate that no chain of inclusions is too long: a level for each object, which falls with each inclusion
 -- (docs/PROFILE.md, "Inclusions and chains").
 use Rattle.std.specs.Prelude.{◌≡◌, ◌≤◌, ◌⊎◌, ℕ, List, length, slice_index, Contains}
-use Rattle.vt_stores.specs.Stores.{Contents}
-use Rattle.vt_chains.specs.Depths.{ids_of, inclusions_of, Stands, IsBelow, IsClosed}
+use Rattle.vt_stores.specs.Stores.{ObjectMap}
+use Rattle.vt_chains.specs.Depths.{ids_of, inclusions_of, IsAt, IsBelow, IsClosed}
 use Rattle.vt_chains.specs.Inclusions.{IsShallow}
 use Rattle.vt_chains.specs.Limits.{terminal}
 use Rattle.vt_chains.specs.declared.levels.Levels.{Levels}
@@ -11,27 +11,27 @@ use Rattle.vt_chains.specs.declared.levels.Levels.{Levels}
 pub record IsCertificate (ids : List ℕ) (included : ℕ → List ℕ) (levels : List ℕ) : Type 0 where
   pub each : length levels ≡ length ids
   pub within : (place : ℕ) → slice_index levels place ≤ terminal.inclusions
-  pub falls : (place id : ℕ) → Stands ids place id → (other : ℕ) → Contains (included id) other → IsBelow ids levels other (slice_index levels place)
+  pub falls : (place id : ℕ) → IsAt ids place id → (other : ℕ) → Contains (included id) other → IsBelow ids levels other (slice_index levels place)
 
 -- a certificate but for one inclusion, of which the level may not fall
 pub record IsCertificateBut (ids : List ℕ) (included : ℕ → List ℕ) (levels : List ℕ) (from to : ℕ) : Type 0 where
   pub each : length levels ≡ length ids
   pub within : (place : ℕ) → slice_index levels place ≤ terminal.inclusions
-  pub falls : (place id : ℕ) → Stands ids place id → (other : ℕ) → Contains (included id) other
+  pub falls : (place id : ℕ) → IsAt ids place id → (other : ℕ) → Contains (included id) other
       → IsBelow ids levels other (slice_index levels place) ⊎ ((id ≡ from) × (other ≡ to))
   pub closed : IsClosed ids included
 
 -- a chain has more inclusions than the terminal allows
-abbrev pub HasLongChain : Contents → Type 0
+abbrev pub HasLongChain : ObjectMap → Type 0
 HasLongChain store = IsShallow terminal.inclusions (inclusions_of store) → ⊥
 
 -- the levels of a store, and room for as many others
-pub record AreLevels (store : Contents) (levels : Levels) : Type 0 where
+pub record AreLevels (store : ObjectMap) (levels : Levels) : Type 0 where
   pub certificate : IsCertificate (ids_of store) (inclusions_of store) levels.levels.items
   pub room : length levels.spare.items ≡ length (ids_of store)
 
 -- those of a store but for one inclusion
-pub record AreLevelsBut (store : Contents) (levels : Levels) (from to : ℕ) : Type 0 where
+pub record AreLevelsBut (store : ObjectMap) (levels : Levels) (from to : ℕ) : Type 0 where
   pub certificate : IsCertificateBut (ids_of store) (inclusions_of store) levels.levels.items from to
   pub room : length levels.spare.items ≡ length (ids_of store)
 

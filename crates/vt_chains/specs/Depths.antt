@@ -1,36 +1,36 @@
 -- How many inclusions in a row begin with each object at most: its depth.
 use Rattle.std.specs.Prelude.{◌≡◌, ◌≢◌, ◌≤◌, ◌<◌, ◌+◌, ℕ, suc, List, length, slice_get, slice_index, Some, Contains}
 use Rattle.std.specs.FinMap as finite
-use Rattle.vt_stores.specs.Stores.{Contents, Objects, ids, map_of}
+use Rattle.vt_stores.specs.Stores.{ObjectMap, Objects, ids, map_of}
 use Rattle.vt_chains.specs.declared.limits.Limits.{Limits}
 use Rattle.vt_chains.specs.Inclusions.{included, IsChain}
 
 -- the IDs of a store, by rising ID, and what the object of each includes
-abbrev pub ids_of : Contents → List ℕ
+abbrev pub ids_of : ObjectMap → List ℕ
 ids_of store = ids (finite.entries store)
 
-abbrev pub inclusions_of : Contents → ℕ → List ℕ
+abbrev pub inclusions_of : ObjectMap → ℕ → List ℕ
 inclusions_of store = included (finite.entries store)
 
 -- an ID stands at the place
-abbrev pub Stands : List ℕ → ℕ → ℕ → Type 0
-Stands ids place id = slice_get ids place ≡ Some id
+abbrev pub IsAt : List ℕ → ℕ → ℕ → Type 0
+IsAt ids place id = slice_get ids place ≡ Some id
 
 -- an ID that stands at a place of a depth
 pub record IsAt (ids depths : List ℕ) (id depth : ℕ) : Type 0 where
   pub place : ℕ
-  pub there : Stands ids place id
+  pub there : IsAt ids place id
   pub is : slice_index depths place ≡ depth
 
 -- an ID that stands at a place of less depth
 pub record IsBelow (ids depths : List ℕ) (id most : ℕ) : Type 0 where
   pub place : ℕ
-  pub there : Stands ids place id
+  pub there : IsAt ids place id
   pub less : slice_index depths place < most
 
 -- all that is included stands at a place
 abbrev pub IsClosed : List ℕ → (ℕ → List ℕ) → Type 0
-IsClosed ids included = (id other : ℕ) → Contains (included id) other → (place : ℕ) × Stands ids place other
+IsClosed ids included = (id other : ℕ) → Contains (included id) other → (place : ℕ) × IsAt ids place other
 
 -- the depth of an ID: one more than the greatest of what it includes
 pub record IsDepth (ids : List ℕ) (included : ℕ → List ℕ) (depths : List ℕ) (id depth : ℕ) : Type 0 where
@@ -41,7 +41,7 @@ pub record IsDepth (ids : List ℕ) (included : ℕ → List ℕ) (depths : List
 pub record AreDepths (ids : List ℕ) (included : ℕ → List ℕ) (most : ℕ) (depths : List ℕ) : Type 0 where
   pub each : length depths ≡ length ids
   pub within : (place : ℕ) → slice_index depths place ≤ most
-  pub depth : (place id : ℕ) → Stands ids place id → IsDepth ids included depths id (slice_index depths place)
+  pub depth : (place id : ℕ) → IsAt ids place id → IsDepth ids included depths id (slice_index depths place)
 
 -- the depths of objects by rising ID, at most the most inclusions in a row
 abbrev pub HasDepths : Limits → Objects → List ℕ → Type 0
@@ -57,7 +57,7 @@ unset = 255
 pub record AreFound (ids : List ℕ) (included : ℕ → List ℕ) (depths : List ℕ) : Type 0 where
   pub each : length depths ≡ length ids
   pub within : (place : ℕ) → slice_index depths place ≤ unset
-  pub found : (place id : ℕ) → Stands ids place id → slice_index depths place ≢ unset → IsDepth ids included depths id (slice_index depths place)
+  pub found : (place id : ℕ) → IsAt ids place id → slice_index depths place ≢ unset → IsDepth ids included depths id (slice_index depths place)
 
 -- what was found stays
 abbrev pub Keeps : List ℕ → List ℕ → Type 0

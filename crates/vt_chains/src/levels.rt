@@ -1,7 +1,7 @@
 //! The certificate that no chain of inclusions is too long.
 
 ghost use Rattle.std.specs.Prelude.{◌≡◌, IfOk, true, false, length};
-ghost use Rattle.vt_stores.specs.Stores.{Contents};
+ghost use Rattle.vt_stores.specs.Stores.{ObjectMap};
 ghost use Rattle.vt_chains.specs.Depths.{ids_of, inclusions_of, AreDepths, IsClosed};
 ghost use Rattle.vt_chains.specs.Inclusions.{IsShallow};
 ghost use Rattle.vt_chains.specs.Limits.{terminal};
@@ -40,7 +40,7 @@ impl Levels {
 
     /// The levels of a store whose objects have these depths.
     pub fn of_depths(alloc: Global, depths: Vec<u8>) -> Result<Levels, AllocError>
-        ensures { IfOk result (λ levels. (store : Contents) → AreDepths (ids_of store) (inclusions_of store) terminal.inclusions depths.items → AreLevels store levels) }
+        ensures { IfOk result (λ levels. (store : ObjectMap) → AreDepths (ids_of store) (inclusions_of store) terminal.inclusions depths.items → AreLevels store levels) }
     {
         let spare = Vec::from_elem(alloc, 0, depths.len())?;
         Ok(Levels {

@@ -16,7 +16,7 @@ use Rattle.vt_commands.specs.declared.command.Command.{Command}
 use Rattle.vt_commands.specs.declared.command.Command.TheVariants.{ChangeNumericValue, ChangeFillAttributes, ChangeActiveMask, ChangeSoftKeyMask, ChangeAttribute, ChangeListItem}
 use Rattle.vt_kinds.specs.Records.{Seen, kind_of}
 use Rattle.vt_kinds.specs.References.{slot, slots_of, allowed, may_be_null}
-use Rattle.vt_stores.specs.Stores.{Contents, Objects, ids}
+use Rattle.vt_stores.specs.Stores.{ObjectMap, Objects, ids}
 use Rattle.vt_stores.specs.Shapes.{Fixed, shape_of}
 use Rattle.vt_chains.specs.Inclusions.{is_inclusion, includes, included_by}
 use Rattle.vt_chains.specs.Depths.{ids_of, inclusions_of}
@@ -42,7 +42,7 @@ each_included [] goal all x h = absurd (Contains-nil x h)
 each_included (s ∷ slots) goal all x h = slot_case (goal x) s slots x h (λ is same. subst goal same (all.0 is)) (each_included slots goal all.1 x)
 
 -- an ID that a command makes the object include
-pub record Adds (m : Contents) (command : Command) (old : Seen) (x : ℕ) : Type 0 where
+pub record Adds (m : ObjectMap) (command : Command) (old : Seen) (x : ℕ) : Type 0 where
   pub place : Place
   pub written : writes command place (kind_of old) ≡ true
   pub inclusion : is_inclusion place ≡ true
@@ -54,7 +54,7 @@ there_by null kinds k true differs may = absurd cc
 there_by null kinds None false differs may = absurd cc
 there_by null kinds (Some k) false differs may = refl
 
-adds : (m : Contents) (command : Command) (old : Seen) (place : Place) (other : ℕ) → other_id command ≡ Some other → writes command place (kind_of old) ≡ true
+adds : (m : ObjectMap) (command : Command) (old : Seen) (place : Place) (other : ℕ) → other_id command ≡ Some other → writes command place (kind_of old) ≡ true
     → may_stand (kind_of old) place other (other_kind m (other_id command)) ≡ true → includes (slot (kind_of old) place other) ≡ true → Adds m command old other
 adds m command old place other names written may is =
     record {
@@ -67,7 +67,7 @@ adds m command old place other names written may is =
           (second_of (is_inclusion place) (not (other == 0xFFFF)) is) may);
     }
 
-included_after : (m : Contents) (id : ℕ) (old new : Seen) (command : Command) → Changed m id old new command → (x : ℕ) → Contains (included_by (Some new)) x
+included_after : (m : ObjectMap) (id : ℕ) (old new : Seen) (command : Command) → Changed m id old new command → (x : ℕ) → Contains (included_by (Some new)) x
     → Contains (included_by (Some old)) x ⊎ Adds m command old x
 included_after m id old new command c x h =
     each_included (slots_of new) (λ (y : ℕ). Contains (included_by (Some old)) y ⊎ Adds m command old y)
@@ -76,7 +76,7 @@ included_after m id old new command c x h =
     (λ place other names written may is. inr (adds m command old place other names written may is)))
     x h
 
-pub inclusions_after : (m : Contents) (id : ℕ) (old new : Seen) (command : Command) → Changed m id old new command → (q x : ℕ)
+pub inclusions_after : (m : ObjectMap) (id : ℕ) (old new : Seen) (command : Command) → Changed m id old new command → (q x : ℕ)
     → Contains (inclusions_of (finite.insert m id new) q) x → Contains (inclusions_of m q) x ⊎ ((q ≡ id) × Adds m command old x)
 inclusions_after m id old new command c q x h = by (eqb q id) refl (along _ _ (sym (finite.get-entries (finite.insert m id new) q)) h)
   where
@@ -91,7 +91,7 @@ inclusions_after m id old new command c q x h = by (eqb q id) refl (along _ _ (s
 
 -- ---- a command that replaces nothing adds nothing
 
-not_pointer : (m : Contents) (it id : ℕ) (old : Seen) (h : ℕ → Replacement) → finite.get m id ≡ Some old → Some it ≡ Some id
+not_pointer : (m : ObjectMap) (it id : ℕ) (old : Seen) (h : ℕ → Replacement) → finite.get m id ≡ Some old → Some it ≡ Some id
     → option_map h (pointer_value (finite.get m it)) ≡ None → kind_of old ≡ kinds.ObjectPointer → ⊥
 not_pointer m it id old h at for none is =
     kind_pointer old is
@@ -103,7 +103,7 @@ has_value (ChangeNumericValue it value) kinds.ObjectPointer is = refl
 has_value (ChangeAttribute it number value) kinds.ObjectPointer is = refl
 has_value _ _ is = cc
 
-none_at : (m : Contents) (id : ℕ) (old new : Seen) (command : Command) → Changed m id old new command → replaced m command ≡ None
+none_at : (m : ObjectMap) (id : ℕ) (old new : Seen) (command : Command) → Changed m id old new command → replaced m command ≡ None
     → (place : Place) → writes command place (kind_of old) ≡ true → is_inclusion place ≡ true → ⊥
 none_at m id old new (ChangeListItem list index item) c none place is inclusion = item_replaced m id old new list index item c none
 none_at m id old new (ChangeNumericValue it value) c none places.Value is inclusion =
@@ -115,7 +115,7 @@ none_at m id old new (ChangeActiveMask set mask) c none places.ActiveMask is inc
 none_at m id old new (ChangeSoftKeyMask type mask keys) c none places.SoftKeyMask is inclusion = cc
 none_at m id old new _ c none _ is inclusion = cc
 
-pub none_added : (m : Contents) (id : ℕ) (old new : Seen) (command : Command) → Changed m id old new command → replaced m command ≡ None
+pub none_added : (m : ObjectMap) (id : ℕ) (old new : Seen) (command : Command) → Changed m id old new command → replaced m command ≡ None
     → (x : ℕ) → Adds m command old x → ⊥
 none_added m id old new command c none x a = none_at m id old new command c none a.place a.written a.inclusion
 
@@ -125,6 +125,6 @@ ids_in : (es : Objects) → map (λ (e : ℕ × Fixed). e.0) (shape_of es) ≡ i
 ids_in [] = refl
 ids_in (e ∷ es) = ap (λ (l : List ℕ). e.0 ∷ l) (ids_in es)
 
-pub ids_by : (a b : Contents) → shape_in a ≡ shape_in b → ids_of a ≡ ids_of b
+pub ids_by : (a b : ObjectMap) → shape_in a ≡ shape_in b → ids_of a ≡ ids_of b
 unfolding shape_in
 ids_by a b same = sym (ids_in (finite.entries a)) ∙ ap (map (λ (e : ℕ × Fixed). e.0)) same ∙ ids_in (finite.entries b)

@@ -6,7 +6,7 @@ use Rattle.vt_kinds.specs.declared.slot.Slot.{Slot}
 use Rattle.vt_commands.specs.declared.command.Command.{Command}
 use Rattle.vt_kinds.specs.Records.{Seen, kind_of}
 use Rattle.vt_kinds.specs.References.{slots_of}
-use Rattle.vt_stores.specs.Stores.{Contents}
+use Rattle.vt_stores.specs.Stores.{ObjectMap}
 use Rattle.vt_commands.specs.Targets.{object_of}
 use Rattle.vt_stores.specs.Shapes.{Fixed, fixed}
 use Rattle.vt_effects.specs.Changes.{left, other_id, changed}
@@ -14,36 +14,36 @@ use Rattle.vt_effects.specs.Effects.{missing_error, keeps_order, other_kind, put
 use Rattle.vt_effects.proofs.Changing.{MayWrite, changes_keep, slots_after}
 
 -- the object of an ID and what is made of it, whether the store is in order with that or not
-pub record Changed (m : Contents) (id : ℕ) (old new : Seen) (command : Command) : Type 0 where
+pub record Changed (m : ObjectMap) (id : ℕ) (old new : Seen) (command : Command) : Type 0 where
   pub at : finite.get m id ≡ Some old
   pub for : object_of command ≡ Some id
   pub made : ◌≡◌ {A = Result Seen ℕ} (changed command (other_kind m (other_id command)) old) (Ok new)
 
 -- and the store is in order with it
-pub record Made (m : Contents) (id : ℕ) (old new : Seen) (command : Command) : Type 0 where
+pub record Made (m : ObjectMap) (id : ℕ) (old new : Seen) (command : Command) : Type 0 where
   pub change : Changed m id old new command
   pub open change use *
   pub kept : keeps_order m command (finite.insert m id new) ≡ true
 
-pub fixed_same : (m : Contents) (id : ℕ) (old new : Seen) (command : Command) → Changed m id old new command → fixed new ≡ fixed old
+pub fixed_same : (m : ObjectMap) (id : ℕ) (old new : Seen) (command : Command) → Changed m id old new command → fixed new ≡ fixed old
 fixed_same m id old new command c = ap fixed (sym (ap (left old) c.made)) ∙ changes_keep command (other_kind m (other_id command)) old
 
-pub kinds_same : (m : Contents) (id : ℕ) (old new : Seen) (command : Command) → Changed m id old new command → kind_of new ≡ kind_of old
+pub kinds_same : (m : ObjectMap) (id : ℕ) (old new : Seen) (command : Command) → Changed m id old new command → kind_of new ≡ kind_of old
 kinds_same m id old new command c = ap (λ (f : Fixed). f.kind) (fixed_same m id old new command c)
 
-pub slots_made : (P : Slot → Type 0) (m : Contents) (id : ℕ) (old new : Seen) (command : Command) → Changed m id old new command → AllByRecursion P (slots_of old)
+pub slots_made : (P : Slot → Type 0) (m : ObjectMap) (id : ℕ) (old new : Seen) (command : Command) → Changed m id old new command → AllByRecursion P (slots_of old)
     → MayWrite P command (other_kind m (other_id command)) (kind_of old) → AllByRecursion P (slots_of new)
 slots_made P m id old new command c before may =
     subst (λ (o : Seen). AllByRecursion P (slots_of o)) (ap (left old) c.made) (slots_after P command (other_kind m (other_id command)) old before may)
 
 -- What holds of every error, and of the store with whatever is made of the object, holds of what the command comes to.
-put_case : (Q : Result Contents ℕ → Type 0) (m : Contents) (id : ℕ) (old : Seen) (command : Command) (made : Result Seen ℕ) → finite.get m id ≡ Some old
+put_case : (Q : Result ObjectMap ℕ → Type 0) (m : ObjectMap) (id : ℕ) (old : Seen) (command : Command) (made : Result Seen ℕ) → finite.get m id ≡ Some old
     → object_of command ≡ Some id → changed command (other_kind m (other_id command)) old ≡ made → ((error : ℕ) → Q (Err error))
     → ((old new : Seen) → Changed m id old new command → Q (Ok (finite.insert m id new))) → Q (put m id made)
 put_case Q m id old command (Err error) at for made failed done = failed error
 put_case Q m id old command (Ok new) at for made failed done = done old new (record { at = at; for = for; made = made })
 
-pub changed_case : (Q : Result Contents ℕ → Type 0) (m : Contents) (id : ℕ) (command : Command) → object_of command ≡ Some id → ((error : ℕ) → Q (Err error))
+pub changed_case : (Q : Result ObjectMap ℕ → Type 0) (m : ObjectMap) (id : ℕ) (command : Command) → object_of command ≡ Some id → ((error : ℕ) → Q (Err error))
     → ((old new : Seen) → Changed m id old new command → Q (Ok (finite.insert m id new))) → Q (changed_in m id command (other_kind m (other_id command)))
 changed_case Q m id command for failed done = by (finite.get m id) refl
   where

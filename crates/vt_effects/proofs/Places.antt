@@ -9,7 +9,7 @@ use Rattle.std.specs.FinMap as finite
 use Rattle.vt_kinds.specs.declared.slot.Slot.{Slot}
 use Rattle.vt_kinds.specs.Records.{Seen, kind_of}
 use Rattle.vt_kinds.specs.References.{slots_of}
-use Rattle.vt_stores.specs.Stores.{Contents, Objects, object_at}
+use Rattle.vt_stores.specs.Stores.{ObjectMap, Objects, object_at}
 use Rattle.vt_effects.specs.Effects.{pointer_value, allows, all_slots}
 use Rattle.vt_effects.specs.Soundness.{is_in_order}
 use Rattle.vt_stores.proofs.Rising.{both_true}
@@ -23,10 +23,10 @@ or_second true c e is = is
 or_second false c e is = absurd cc
 
 -- the places that name a pointer allow its new value
-abbrev pub Allowing : Contents → ℕ → Seen → List Slot → Type 0
+abbrev pub Allowing : ObjectMap → ℕ → Seen → List Slot → Type 0
 Allowing m id new slots = (w : ℕ) → pointer_value (Some new) ≡ Some w → list_all (λ s. not (s.id == id) || allows m s w) slots ≡ true
 
-pub slots_stay : (m : Contents) (id : ℕ) (old new : Seen) (slots : List Slot) → finite.get m id ≡ Some old → kind_of new ≡ kind_of old → Allowing m id new slots
+pub slots_stay : (m : ObjectMap) (id : ℕ) (old new : Seen) (slots : List Slot) → finite.get m id ≡ Some old → kind_of new ≡ kind_of old → Allowing m id new slots
     → AllByRecursion (λ s. IsTrue (is_in_order m s)) slots → AllByRecursion (λ s. IsTrue (is_in_order (finite.insert m id new) s)) slots
 slots_stay m id old new slots at kinds fits all =
     recursion_from_All _ slots
@@ -42,5 +42,5 @@ found_slots p (e ∷ es) q x found all =
     entry_case (list_all p (slots_of x) ≡ true) e es q x found (λ _ same. subst (λ (o : Seen). list_all p (slots_of o) ≡ true) same parts.0)
     (λ later. found_slots p es q x later parts.1)
 
-pub slots_among : (p : Slot → Bool) (m : Contents) (q : ℕ) (x : Seen) → finite.get m q ≡ Some x → list_all p (all_slots m) ≡ true → list_all p (slots_of x) ≡ true
+pub slots_among : (p : Slot → Bool) (m : ObjectMap) (q : ℕ) (x : Seen) → finite.get m q ≡ Some x → list_all p (all_slots m) ≡ true → list_all p (slots_of x) ≡ true
 slots_among p m q x at all = found_slots p (finite.entries m) q x (sym (finite.get-entries m q) ∙ at) all

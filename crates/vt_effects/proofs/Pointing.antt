@@ -10,7 +10,7 @@ use Rattle.std.specs.FinMap as finite
 use Rattle.vt_kinds.specs.declared.slot.Slot.{Slot}
 use Rattle.vt_kinds.specs.Records.{Seen}
 use Rattle.vt_kinds.specs.References.{slots_of}
-use Rattle.vt_stores.specs.Stores.{Contents, Objects}
+use Rattle.vt_stores.specs.Stores.{ObjectMap, Objects}
 use Rattle.vt_chains.proofs.Places.{get_placed}
 use Rattle.vt_effects.specs.declared.pointers.Pointed.{Pointed}
 use Rattle.vt_effects.specs.Changes.{is_one_of}
@@ -24,12 +24,12 @@ either true = refl
 either false = refl
 
 -- a place that is in order and names the pointer
-allowed_by : (m : Contents) (p : Pointed) (slot : Slot) → (value : ℕ) → eqb value 65535 ≡ false → kind_in m value ≡ p.kind
+allowed_by : (m : ObjectMap) (p : Pointed) (slot : Slot) → (value : ℕ) → eqb value 65535 ≡ false → kind_in m value ≡ p.kind
     → allows m slot value ≡ true → is_one_of slot.kinds p.kind ≡ true
 allowed_by m p slot value there same is =
     ap (is_one_of slot.kinds) (sym same) ∙ ap (λ (b : Bool). cond b true (is_one_of slot.kinds (kind_in m value))) (sym there) ∙ is
 
-slot_is_allowed : (m : Contents) (p : Pointed) (slot : Slot) → finite.get m 65535 ≡ None → IsOfThatKind m p → is_in_order m slot ≡ true → slot_allows p slot ≡ true
+slot_is_allowed : (m : ObjectMap) (p : Pointed) (slot : Slot) → finite.get m 65535 ≡ None → IsOfThatKind m p → is_in_order m slot ≡ true → slot_allows p slot ≡ true
 slot_is_allowed m p slot null held is = by (eqb slot.id p.pointer) refl (eqb slot.id 65535) refl
   where
     named : slot.id ≡ p.pointer → (b : Bool) → eqb slot.id 65535 ≡ b → cond b slot.null (is_one_of slot.kinds (kind_in m slot.id) && value_fits m slot (pointer_value (finite.get m slot.id))) ≡ true
@@ -49,7 +49,7 @@ slot_is_allowed m p slot null held is = by (eqb slot.id p.pointer) refl (eqb slo
         (named (eqb-true slot.id p.pointer same) (eqb slot.id 65535) refl is)
         ∙ either (eqb p.value 65535)
 
-slots_allowed : (m : Contents) (p : Pointed) (slots : List Slot) → finite.get m 65535 ≡ None → IsOfThatKind m p → AllByRecursion (λ slot. IsTrue (is_in_order m slot)) slots
+slots_allowed : (m : ObjectMap) (p : Pointed) (slots : List Slot) → finite.get m 65535 ≡ None → IsOfThatKind m p → AllByRecursion (λ slot. IsTrue (is_in_order m slot)) slots
     → list_all (slot_allows p) slots ≡ true
 slots_allowed m p slots null held all =
     list_all-from_AllPass (slot_allows p) slots (λ k d lt. slot_is_allowed m p (get_or slots k d) null held (All-from_recursion _ slots all k d lt))
@@ -63,7 +63,7 @@ all_at_places test (e ∷ es) each =
     ∙ ap (λ (b : Bool). b && list_all test (flat_map (λ e. slots_of e.1) es)) (each 0 e refl)
     ∙ all_at_places test es (λ place. each (suc place))
 
-pub same_kind_allowed : (m : Contents) (p : Pointed) → IsSound m → finite.get m 65535 ≡ None → IsOfThatKind m p → list_all (slot_allows p) (all_slots m) ≡ true
+pub same_kind_allowed : (m : ObjectMap) (p : Pointed) → IsSound m → finite.get m 65535 ≡ None → IsOfThatKind m p → list_all (slot_allows p) (all_slots m) ≡ true
 same_kind_allowed m p sound null held =
     all_at_places (slot_allows p) (finite.entries m)
     (λ place e at. slots_allowed m p (slots_of e.1) null held (sound.slots e.0 e.1 (get_placed m place e.0 e.1 at)))

@@ -14,7 +14,7 @@ use Rattle.vt_kinds.specs.declared.object.Object.TheVariants as objects
 use Rattle.vt_commands.specs.declared.command.Command.{Command}
 use Rattle.vt_commands.specs.declared.command.Command.TheVariants.{ChangeNumericValue, ChangeAttribute, ChangeListItem}
 use Rattle.vt_kinds.specs.Records.{Seen}
-use Rattle.vt_stores.specs.Stores.{Contents}
+use Rattle.vt_stores.specs.Stores.{ObjectMap}
 use Rattle.vt_commands.specs.Targets.{object_of}
 use Rattle.vt_chains.proofs.Places.{someone}
 use Rattle.vt_effects.specs.declared.replacements.Replacement.{Replacement}
@@ -77,13 +77,13 @@ mapped h x (Some b) r is = (ap (λ q. Some q.before) same, sym (ap (λ q. q.hold
     same = same_Some (replacement h x b) r is
 
 -- what it is for, what it names, what is to be met, and what is there again with the ID put back
-pub record Parts (m : Contents) (command : Command) (r : Replacement) : Type 0 where
+pub record Parts (m : ObjectMap) (command : Command) (r : Replacement) : Type 0 where
   pub for : object_of command ≡ Some r.holder
   pub names : other_id command ≡ Some r.after
-  pub order : (n : Contents) → keeps_order m command n ≡ (fits m command && chains_are_short n)
+  pub order : (n : ObjectMap) → keeps_order m command n ≡ (fits m command && chains_are_short n)
   pub back : (old new : Seen) → Changed m r.holder old new command → restored command r.before new ≡ old
 
-pub parts_of : (m : Contents) (command : Command) (r : Replacement) → replaced m command ≡ Some r → Parts m command r
+pub parts_of : (m : ObjectMap) (command : Command) (r : Replacement) → replaced m command ≡ Some r → Parts m command r
 parts_of m (ChangeNumericValue it value) r is =
     let of = mapped it (word value) (pointer_value (finite.get m it)) r is in
     record {
@@ -127,13 +127,13 @@ item_there named index item (objects.InputList o) new made none = item_by o.item
 item_there named index item _ new made none = cc
 
 -- an item that was changed was there
-pub item_replaced : (m : Contents) (id : ℕ) (old new : Seen) (list index item : ℕ) → Changed m id old new (ChangeListItem list index item)
+pub item_replaced : (m : ObjectMap) (id : ℕ) (old new : Seen) (list index item : ℕ) → Changed m id old new (ChangeListItem list index item)
     → replaced m (ChangeListItem list index item) ≡ None → ⊥
 item_replaced m id old new list index item c none =
     item_there (other_kind m (Some item)) index item old new c.made
     (sym (ap (item_at index) (ap (finite.get m) (same_Some list id c.for) ∙ c.at)) ∙ unmapped _ (item_at index (finite.get m list)) none)
 
-pub kept_none : (m n : Contents) (id : ℕ) (old new : Seen) (command : Command) → Changed m id old new command → replaced m command ≡ None → keeps_order m command n ≡ true
+pub kept_none : (m n : ObjectMap) (id : ℕ) (old new : Seen) (command : Command) → Changed m id old new command → replaced m command ≡ None → keeps_order m command n ≡ true
 kept_none m n id old new (ChangeListItem list index item) c none = absurd (item_replaced m id old new list index item c none)
 kept_none m n id old new (ChangeNumericValue it value) c none =
     ap (λ (o : Option ℕ). pointer_may m it (word value) o n) (unmapped _ (pointer_value (finite.get m it)) none)

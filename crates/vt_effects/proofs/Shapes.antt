@@ -9,7 +9,7 @@ use Rattle.std.specs.FinMap as finite
 use Rattle.std.specs.FinMap.Entries.{by_order, length-put}
 use Rattle.vt_commands.specs.declared.command.Command.{Command}
 use Rattle.vt_kinds.specs.Records.{Seen}
-use Rattle.vt_stores.specs.Stores.{Contents, Objects, object_at}
+use Rattle.vt_stores.specs.Stores.{ObjectMap, Objects, object_at}
 use Rattle.vt_stores.specs.Shapes.{Shape, Fixed, fixed, shape_of}
 use Rattle.vt_effects.specs.Effects.{after}
 use Rattle.vt_effects.specs.Soundness.{shape_in}
@@ -32,20 +32,20 @@ shape_put k v old [] long found same = absurd cc
 shape_put k v old (e ∷ es) long found same =
     shape_or k v old e es (nat_cmp k e.0) long found same (λ shorter there. shape_put k v old es shorter there same)
 
-as_long : (m : Contents) (id : ℕ) (old new : Seen) → object_at (finite.entries m) id ≡ Some old
+as_long : (m : ObjectMap) (id : ℕ) (old new : Seen) → object_at (finite.entries m) id ≡ Some old
     → length (finite.put nat_cmp id new (finite.entries m)) ≡ length (finite.entries m)
 as_long m id old new found =
     length-put nat_cmp nat_cmp_total id new (finite.entries m) (finite.entries_sorted m)
     ∙ ap (λ (o : Option Seen). cond (is_some o) (length (finite.entries m)) (length (finite.entries m) + 1)) found
 
 -- another object of the same fixed part
-pub shape_same : (m : Contents) (id : ℕ) (old new : Seen) → finite.get m id ≡ Some old → fixed new ≡ fixed old → shape_in (finite.insert m id new) ≡ shape_in m
+pub shape_same : (m : ObjectMap) (id : ℕ) (old new : Seen) → finite.get m id ≡ Some old → fixed new ≡ fixed old → shape_in (finite.insert m id new) ≡ shape_in m
 unfolding shape_in
 shape_same m id old new at same =
     let found : object_at (finite.entries m) id ≡ Some old = sym (finite.get-entries m id) ∙ at in
     ap shape_of (finite.entries-insert nat_cmp_total m id new) ∙ shape_put id new old (finite.entries m) (as_long m id old new found) found same
 
-pub shapes_stay : (m : Contents) (command : Command) → shape_in (after m command) ≡ shape_in m
+pub shapes_stay : (m : ObjectMap) (command : Command) → shape_in (after m command) ≡ shape_in m
 shapes_stay m command =
-    by_effect (λ (n : Contents). shape_in n ≡ shape_in m) m command refl
+    by_effect (λ (n : ObjectMap). shape_in n ≡ shape_in m) m command refl
     (λ id old new c. shape_same m id old new c.at (fixed_same m id old new command c.change))

@@ -8,7 +8,7 @@ use Rattle.std.specs.Prelude.{Contains}
 use Rattle.std.specs.FinMap as finite
 use Rattle.vt_commands.specs.declared.command.Command.{Command}
 use Rattle.vt_kinds.specs.Records.{Seen}
-use Rattle.vt_stores.specs.Stores.{Contents}
+use Rattle.vt_stores.specs.Stores.{ObjectMap}
 use Rattle.vt_chains.specs.Inclusions.{IsChain, IsShallow}
 use Rattle.vt_chains.specs.Limits.{terminal}
 use Rattle.vt_chains.specs.Depths.{ids_of, inclusions_of}
@@ -37,7 +37,7 @@ short_chain next (suc most) id (b ∷ rest) short chain =
     let fewer : length rest ≤ most = short_chain next most b rest (All-contains (λ (x : ℕ). is_short most next x ≡ true) (next id) b all chain.0) chain.1 in
     omega (arith, fewer)
 
-pub shallow_by_test : (m : Contents) → chains_are_short m ≡ true → IsShallow terminal.inclusions (inclusions_of m)
+pub shallow_by_test : (m : ObjectMap) → chains_are_short m ≡ true → IsShallow terminal.inclusions (inclusions_of m)
 shallow_by_test m short [] chain = omega arith
 shallow_by_test m short (id ∷ []) chain = omega arith
 shallow_by_test m short (id ∷ b ∷ rest) chain =
@@ -56,7 +56,7 @@ fewer_chains next less of (a ∷ []) is = tt
 fewer_chains next less of (a ∷ b ∷ rest) is = (of a b is.0, fewer_chains next less of (b ∷ rest) is.1)
 
 -- either chains were tested, or no inclusion was added
-pub shallow_after : (m : Contents) (id : ℕ) (old new : Seen) (command : Command) → Made m id old new command → IsShallow terminal.inclusions (inclusions_of m)
+pub shallow_after : (m : ObjectMap) (id : ℕ) (old new : Seen) (command : Command) → Made m id old new command → IsShallow terminal.inclusions (inclusions_of m)
     → IsShallow terminal.inclusions (inclusions_of (finite.insert m id new))
 shallow_after m id old new command c shallow = by (replaced m command) refl
   where

@@ -14,7 +14,7 @@ use Rattle.vt_commands.specs.declared.command.Command.{Command}
 use Rattle.vt_commands.specs.declared.command.Command.TheVariants.{ChangeNumericValue, ChangeFillAttributes, ChangeActiveMask, ChangeSoftKeyMask, ChangeAttribute, ChangeListItem}
 use Rattle.vt_kinds.specs.Records.{Seen, kind_of}
 use Rattle.vt_kinds.specs.References.{slot, slots_of}
-use Rattle.vt_stores.specs.Stores.{Contents}
+use Rattle.vt_stores.specs.Stores.{ObjectMap}
 use Rattle.vt_commands.specs.Targets.{object_of}
 use Rattle.vt_effects.specs.Fields.{word}
 use Rattle.vt_effects.specs.Changes.{if_passed, may_stand, change_attribute, other_id, changed, writes}
@@ -37,7 +37,7 @@ attribute_of_pointer named zero value p new made = absurd cc
 attribute_of_pointer named (suc zero) value p new made = passed_is _ _ (objects.ObjectPointer (record p { value = word value })) new made
 attribute_of_pointer named (suc (suc number)) value p new made = absurd cc
 
-allowed_value : (m after : Contents) (id it value : ℕ) (p : ObjectPointer) (new : Seen) → finite.get m id ≡ Some (objects.ObjectPointer p) → Some it ≡ Some id
+allowed_value : (m after : ObjectMap) (id it value : ℕ) (p : ObjectPointer) (new : Seen) → finite.get m id ≡ Some (objects.ObjectPointer p) → Some it ≡ Some id
     → objects.ObjectPointer (record p { value = word value }) ≡ new → pointer_may m it (word value) (pointer_value (finite.get m it)) after ≡ true
     → (w : ℕ) → pointer_value (Some new) ≡ Some w → places_allow m id w ≡ true
 allowed_value m after id it value p new at for is kept w has =
@@ -46,7 +46,7 @@ allowed_value m after id it value p new at for is kept w has =
     (subst (λ (o : Option Seen). pointer_may m id (word value) (pointer_value o) after ≡ true) at
     (subst (λ (i : ℕ). pointer_may m i (word value) (pointer_value (finite.get m i)) after ≡ true) (same_Some it id for) kept)))
 
-new_value : (m after : Contents) (id : ℕ) (p : ObjectPointer) (new : Seen) (command : Command) (named : Option Kind) → finite.get m id ≡ Some (objects.ObjectPointer p)
+new_value : (m after : ObjectMap) (id : ℕ) (p : ObjectPointer) (new : Seen) (command : Command) (named : Option Kind) → finite.get m id ≡ Some (objects.ObjectPointer p)
     → object_of command ≡ Some id → ◌≡◌ {A = Result Seen ℕ} (changed command named (objects.ObjectPointer p)) (Ok new) → keeps_order m command after ≡ true
     → (w : ℕ) → pointer_value (Some new) ≡ Some w → places_allow m id w ≡ true
 new_value m after id p new (ChangeNumericValue it value) named at for made kept w is = allowed_value m after id it value p new at for (passed_is _ _ _ new made) kept w is
@@ -55,7 +55,7 @@ new_value m after id p new (ChangeAttribute it number value) named at for made k
 new_value m after id p new _ named at for made kept w is = absurd cc
 
 -- the places that name the pointer allow its new value
-allowing : (m : Contents) (id : ℕ) (old new : Seen) (command : Command) → Made m id old new command → Allowing m id new (all_slots m)
+allowing : (m : ObjectMap) (id : ℕ) (old new : Seen) (command : Command) → Made m id old new command → Allowing m id new (all_slots m)
 allowing m id (objects.ObjectPointer p) new command c w is =
     new_value m (finite.insert m id new) id p new command (other_kind m (other_id command)) c.at c.for c.made c.kept w is
 allowing m id old new command c w is =
@@ -82,7 +82,7 @@ write_case (ChangeListItem list index item) (places.Item at) kind is = inr (reco
 write_case (ChangeAttribute id number value) places.Value kind is = inl refl
 write_case _ _ _ is = inl cc
 
-item_made : (m : Contents) (id : ℕ) (old new : Seen) (kind : Kind) (list index item at other : ℕ) → Made m id old new (ChangeListItem list index item)
+item_made : (m : ObjectMap) (id : ℕ) (old new : Seen) (kind : Kind) (list index item at other : ℕ) → Made m id old new (ChangeListItem list index item)
     → Some item ≡ Some other → may_stand kind (places.Item at) other (kind_in (finite.insert m id new) other) ≡ true
     → IsTrue (is_in_order (finite.insert m id new) (slot kind (places.Item at) other))
 item_made m id old new kind list index item at other c same may =
@@ -92,7 +92,7 @@ item_made m id old new kind list index item at other c same may =
     (first_of (value_drawn m (pointer_value (finite.get m item))) (chains_are_short (finite.insert m id new)) c.kept))
     may
 
-written : (m : Contents) (id : ℕ) (old new : Seen) (command : Command) → Made m id old new command → (place : Place) (other : ℕ) → other_id command ≡ Some other
+written : (m : ObjectMap) (id : ℕ) (old new : Seen) (command : Command) → Made m id old new command → (place : Place) (other : ℕ) → other_id command ≡ Some other
     → writes command place (kind_of old) ≡ true → may_stand (kind_of old) place other (other_kind m (other_id command)) ≡ true
     → IsTrue (is_in_order (finite.insert m id new) (slot (kind_of old) place other))
 written m id old new command c place other names writes may = by (write_case command place (kind_of old) writes)
@@ -115,7 +115,7 @@ written m id old new command c place other names writes may = by (write_case com
 
 -- ---- all slots
 
-slots_by : (m : Contents) (id : ℕ) (old new : Seen) (command : Command) → Made m id old new command
+slots_by : (m : ObjectMap) (id : ℕ) (old new : Seen) (command : Command) → Made m id old new command
     → ((q : ℕ) (x : Seen) → finite.get m q ≡ Some x → AllByRecursion (λ s. IsTrue (is_in_order m s)) (slots_of x))
     → (q : ℕ) (x : Seen) (b : Bool) → eqb q id ≡ b → finite.get (finite.insert m id new) q ≡ Some x
     → AllByRecursion (λ s. IsTrue (is_in_order (finite.insert m id new) s)) (slots_of x)
@@ -130,7 +130,7 @@ slots_by m id old new command c sound q x false e there =
     slots_stay m id old new (slots_of x) c.at (kinds_same m id old new command c.change)
     (λ w is. slots_among (λ s. not (s.id == id) || allows m s w) m q x at (allowing m id old new command c w is)) (sound q x at)
 
-pub slots_in_order : (m : Contents) (id : ℕ) (old new : Seen) (command : Command) → Made m id old new command
+pub slots_in_order : (m : ObjectMap) (id : ℕ) (old new : Seen) (command : Command) → Made m id old new command
     → ((q : ℕ) (x : Seen) → finite.get m q ≡ Some x → AllByRecursion (λ s. IsTrue (is_in_order m s)) (slots_of x))
     → (q : ℕ) (x : Seen) → finite.get (finite.insert m id new) q ≡ Some x → AllByRecursion (λ s. IsTrue (is_in_order (finite.insert m id new) s)) (slots_of x)
 slots_in_order m id old new command c sound q x there = slots_by m id old new command c sound q x (eqb q id) refl there

@@ -7,7 +7,7 @@ use Rattle.std.specs.List.{list_all, flat_map}
 use Rattle.vt_kinds.specs.declared.kind.Kind.{Kind}
 use Rattle.vt_kinds.specs.declared.slot.Slot.{Slot}
 use Rattle.vt_kinds.specs.References.{slots_of}
-use Rattle.vt_stores.specs.Stores.{Contents, Objects}
+use Rattle.vt_stores.specs.Stores.{ObjectMap, Objects}
 use Rattle.vt_effects.specs.Effects.{kind_in, all_slots, places_allow}
 use Rattle.vt_effects.specs.Replacements.{slot_allows}
 
@@ -40,7 +40,7 @@ none_left p [] (suc place) le = refl
 none_left p (e ∷ es) zero le = absurd (omega (arith, le))
 none_left p (e ∷ es) (suc place) le = none_left p es place (omega (arith, le))
 
-pub allow_is : (m : Contents) (pointer value : ℕ) (kind : Option Kind) (b : Bool) → kind ≡ kind_in m value
+pub allow_is : (m : ObjectMap) (pointer value : ℕ) (kind : Option Kind) (b : Bool) → kind ≡ kind_in m value
     → list_all (slot_allows (record { pointer = pointer; value = value; kind = kind })) (all_slots m) ≡ b → b ≡ places_allow m pointer value
 allow_is m pointer value kind b is all =
     sym all ∙ ap (λ (k : Option Kind). list_all (slot_allows (record { pointer = pointer; value = value; kind = k })) (all_slots m)) is

@@ -12,7 +12,7 @@ use Rattle.vt_kinds.specs.declared.place.Place.TheVariants as places
 use Rattle.vt_kinds.specs.declared.object.Object.TheVariants as objects
 use Rattle.vt_kinds.specs.Records.{Seen, kind_of}
 use Rattle.vt_kinds.specs.References.{slot, allowed, may_be_null, is_member}
-use Rattle.vt_stores.specs.Stores.{Contents}
+use Rattle.vt_stores.specs.Stores.{ObjectMap}
 use Rattle.vt_effects.specs.Changes.{is_one_of, may_stand, change_item}
 use Rattle.vt_effects.specs.Effects.{kind_in, pointer_value, value_drawn}
 use Rattle.vt_effects.specs.Soundness.{value_fits, is_in_order}
@@ -49,7 +49,7 @@ no_pointer kind places.Variable other = no_variable kind
 no_pointer kind _ other = cc
 
 -- no pointer stands where its kind is not allowed
-pub not_a_pointer : (m : Contents) (kind : Kind) (place : Place) (id : ℕ) → takes_pointers place ≡ false → is_one_of (allowed kind place) (kind_in m id) ≡ true
+pub not_a_pointer : (m : ObjectMap) (kind : Kind) (place : Place) (id : ℕ) → takes_pointers place ≡ false → is_one_of (allowed kind place) (kind_in m id) ≡ true
     → (w : ℕ) → pointer_value (finite.get m id) ≡ Some w → ⊥
 not_a_pointer m kind place id other one w is =
     let never : false ≡ true =
@@ -57,7 +57,7 @@ not_a_pointer m kind place id other one w is =
     absurd cc
 
 -- a slot whose ID may stand in its place, and where it names a pointer its value may stand there too
-pub written_in_order : (m : Contents) (kind : Kind) (place : Place) (id : ℕ) → may_stand kind place id (kind_in m id) ≡ true
+pub written_in_order : (m : ObjectMap) (kind : Kind) (place : Place) (id : ℕ) → may_stand kind place id (kind_in m id) ≡ true
     → (is_one_of (allowed kind place) (kind_in m id) ≡ true → IsTrue (value_fits m (slot kind place id) (pointer_value (finite.get m id))))
     → IsTrue (is_in_order m (slot kind place id))
 written_in_order m kind place id may value = by (id == 0xFFFF) may
@@ -67,7 +67,7 @@ written_in_order m kind place id may value = by (id == 0xFFFF) may
     by true is = is
     by false is = true_both _ _ is (value is)
 
-pub plain_in_order : (m : Contents) (kind : Kind) (place : Place) (id : ℕ) → takes_pointers place ≡ false → may_stand kind place id (kind_in m id) ≡ true
+pub plain_in_order : (m : ObjectMap) (kind : Kind) (place : Place) (id : ℕ) → takes_pointers place ≡ false → may_stand kind place id (kind_in m id) ≡ true
     → IsTrue (is_in_order m (slot kind place id))
 plain_in_order m kind place id other may =
     written_in_order m kind place id may (λ one. value_of m (slot kind place id) (pointer_value (finite.get m id)) (λ w is. absurd (not_a_pointer m kind place id other one w is)))
@@ -78,12 +78,12 @@ pub list_changed : (named : Option Kind) (index item : ℕ) (o new : Seen) → �
 list_changed named index item (objects.InputList o) new made = refl
 list_changed named index item _ new made = absurd cc
 
-drawn : (m : Contents) (w : ℕ) (v : Option ℕ) → v ≡ Some w → value_drawn m v ≡ true → cond (w == 0xFFFF) true (is_one_of sets.Drawn (kind_in m w)) ≡ true
+drawn : (m : ObjectMap) (w : ℕ) (v : Option ℕ) → v ≡ Some w → value_drawn m v ≡ true → cond (w == 0xFFFF) true (is_one_of sets.Drawn (kind_in m w)) ≡ true
 drawn m w None is all = absurd cc
 drawn m w (Some x) is all = subst (λ (y : ℕ). cond (y == 0xFFFF) true (is_one_of sets.Drawn (kind_in m y)) ≡ true) (same_Some x w is) all
 
 -- an item, in a store of which the list was changed
-pub item_in_order : (m : Contents) (id : ℕ) (old new : Seen) (kind : Kind) (place item : ℕ) → finite.get m id ≡ Some old → kind_of new ≡ kind_of old
+pub item_in_order : (m : ObjectMap) (id : ℕ) (old new : Seen) (kind : Kind) (place item : ℕ) → finite.get m id ≡ Some old → kind_of new ≡ kind_of old
     → pointer_value (Some old) ≡ None → value_drawn m (pointer_value (finite.get m item)) ≡ true
     → may_stand kind (places.Item place) item (kind_in (finite.insert m id new) item) ≡ true
     → IsTrue (is_in_order (finite.insert m id new) (slot kind (places.Item place) item))

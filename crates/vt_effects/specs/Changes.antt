@@ -310,11 +310,11 @@ changed DeletePool named o = Ok o
 -- ---- what a call makes of an object
 
 -- a call's result, and what is made of the object
-abbrev pub Answers : {A : Type 0} → Result (Unit {0}) ℕ → Result A ℕ → Type 0
-Answers (Ok done) (Ok x) = Unit {0}
-Answers (Err error) (Err other) = error ≡ other
-Answers (Ok done) (Err other) = ⊥
-Answers (Err error) (Ok x) = ⊥
+abbrev pub HasResult : {A : Type 0} → Result (Unit {0}) ℕ → Result A ℕ → Type 0
+HasResult (Ok done) (Ok x) = Unit {0}
+HasResult (Err error) (Err other) = error ≡ other
+HasResult (Ok done) (Err other) = ⊥
+HasResult (Err error) (Ok x) = ⊥
 
 -- an object that is refused stays as it is
 abbrev pub left : {A : Type 0} → A → Result A ℕ → A

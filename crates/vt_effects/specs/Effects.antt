@@ -13,7 +13,7 @@ use Rattle.vt_commands.specs.declared.command.Command.{Command}
 use Rattle.vt_commands.specs.declared.command.Command.TheVariants.{HideShow, EnableDisable, SetVolume, ChangeNumericValue, ChangeAttribute, ChangeListItem, ChangeStringValue}
 use Rattle.vt_kinds.specs.Records.{Seen, kind_of}
 use Rattle.vt_kinds.specs.References.{slots_of}
-use Rattle.vt_stores.specs.Stores.{Contents}
+use Rattle.vt_stores.specs.Stores.{ObjectMap}
 use Rattle.vt_commands.specs.Targets.{object_of}
 use Rattle.vt_chains.specs.Depths.{ids_of, inclusions_of}
 use Rattle.vt_chains.specs.Limits.{terminal}
@@ -29,35 +29,35 @@ missing_error (EnableDisable id state) = bit 1
 missing_error (ChangeStringValue id count text) = bit 1
 missing_error _ = bit 0
 
-abbrev pub put : Contents → ℕ → Result Seen ℕ → Result Contents ℕ
+abbrev pub put : ObjectMap → ℕ → Result Seen ℕ → Result ObjectMap ℕ
 put store id (Ok o) = Ok (finite.insert store id o)
 put store id (Err error) = Err error
 
-abbrev pub changed_at : Contents → ℕ → Command → Option Kind → Option Seen → Result Contents ℕ
+abbrev pub changed_at : ObjectMap → ℕ → Command → Option Kind → Option Seen → Result ObjectMap ℕ
 changed_at store id command named None = Err (missing_error command)
 changed_at store id command named (Some o) = put store id (changed command named o)
 
 -- the objects after a command has changed that of an ID, where `named` is the kind of the object of the other ID
-abbrev pub changed_in : Contents → ℕ → Command → Option Kind → Result Contents ℕ
+abbrev pub changed_in : ObjectMap → ℕ → Command → Option Kind → Result ObjectMap ℕ
 changed_in store id command named = changed_at store id command named (finite.get store id)
 
 -- the sounds of a terminal are no part of its objects
-abbrev pub without_object : Contents → Command → Result Contents ℕ
+abbrev pub without_object : ObjectMap → Command → Result ObjectMap ℕ
 without_object store (SetVolume volume) = if_passed (nat_le volume 100) (bit 4) store
 without_object store command = Ok store
 
-abbrev pub changed_for : Contents → Command → Option Kind → Option ℕ → Result Contents ℕ
+abbrev pub changed_for : ObjectMap → Command → Option Kind → Option ℕ → Result ObjectMap ℕ
 changed_for store command named None = without_object store command
 changed_for store command named (Some id) = changed_in store id command named
 
 -- The objects after a command, but for what a pointer's new value and a list's new item have to meet besides.
-abbrev pub changed_by : Contents → Command → Option Kind → Result Contents ℕ
+abbrev pub changed_by : ObjectMap → Command → Option Kind → Result ObjectMap ℕ
 changed_by store command named = changed_for store command named (object_of command)
 
 -- ---- what a pointer stands for, and chains
 
 -- the kind of the object of an ID, if it is there
-abbrev pub kind_in : Contents → ℕ → Option Kind
+abbrev pub kind_in : ObjectMap → ℕ → Option Kind
 kind_in store id = option_map kind_of (finite.get store id)
 
 -- the value of a pointer
@@ -66,19 +66,19 @@ pointer_value (Some (objects.ObjectPointer o)) = Some o.value
 pointer_value _ = None
 
 -- NULL, or an object of a kind that a slot allows
-abbrev pub allows : Contents → Slot → ℕ → Bool
+abbrev pub allows : ObjectMap → Slot → ℕ → Bool
 allows store slot id = if id == 0xFFFF then true else is_one_of slot.kinds (kind_in store id)
 
 -- all slots, by rising ID
-abbrev pub all_slots : Contents → List Slot
+abbrev pub all_slots : ObjectMap → List Slot
 all_slots store = flat_map (λ e. slots_of e.1) (finite.entries store)
 
 -- each place that names a pointer allows the kind of a value
-abbrev pub places_allow : Contents → ℕ → ℕ → Bool
+abbrev pub places_allow : ObjectMap → ℕ → ℕ → Bool
 places_allow store pointer value = list_all (λ slot. not (slot.id == pointer) || allows store slot value) (all_slots store)
 
 -- what stands for an item may be drawn
-abbrev pub value_drawn : Contents → Option ℕ → Bool
+abbrev pub value_drawn : ObjectMap → Option ℕ → Bool
 value_drawn store None = true
 value_drawn store (Some value) = if value == 0xFFFF then true else is_one_of sets.Drawn (kind_in store value)
 
@@ -88,17 +88,17 @@ is_short zero included id = length (included id) == 0
 is_short (suc most) included id = list_all (is_short most included) (included id)
 
 -- no chain has more inclusions than the terminal allows
-abbrev pub chains_are_short : Contents → Bool
+abbrev pub chains_are_short : ObjectMap → Bool
 chains_are_short store = list_all (is_short terminal.inclusions (inclusions_of store)) (ids_of store)
 
 -- a pointer may have a value
-abbrev pub pointer_may : Contents → ℕ → ℕ → Option ℕ → Contents → Bool
+abbrev pub pointer_may : ObjectMap → ℕ → ℕ → Option ℕ → ObjectMap → Bool
 pointer_may store id value None new = true
 pointer_may store id value (Some before) new = places_allow store id value && chains_are_short new
 
 -- The objects are in order with another value of a pointer or another item of a list. Nothing else that a command changes
 -- matters to that.
-abbrev pub keeps_order : Contents → Command → Contents → Bool
+abbrev pub keeps_order : ObjectMap → Command → ObjectMap → Bool
 keeps_order store (ChangeListItem list index item) new = value_drawn store (pointer_value (finite.get store item)) && chains_are_short new
 keeps_order store (ChangeNumericValue id value) new = pointer_may store id (word value) (pointer_value (finite.get store id)) new
 keeps_order store (ChangeAttribute id number value) new = pointer_may store id (word value) (pointer_value (finite.get store id)) new
@@ -111,21 +111,21 @@ abbrev pub value_error : Command → ℕ
 value_error (ChangeNumericValue id value) = bit 1
 value_error _ = bit 2
 
-abbrev pub in_order : Contents → Command → Result Contents ℕ → Result Contents ℕ
+abbrev pub in_order : ObjectMap → Command → Result ObjectMap ℕ → Result ObjectMap ℕ
 in_order store command (Err error) = Err error
 in_order store command (Ok new) = if_passed (keeps_order store command new) (value_error command) new
 
 -- the kind of the object of the other ID
-abbrev pub other_kind : Contents → Option ℕ → Option Kind
+abbrev pub other_kind : ObjectMap → Option ℕ → Option Kind
 other_kind store None = None
 other_kind store (Some id) = kind_in store id
 
-abbrev pub effect_on : Contents → Command → Option ℕ → Result Contents ℕ
+abbrev pub effect_on : ObjectMap → Command → Option ℕ → Result ObjectMap ℕ
 effect_on store command None = without_object store command
 effect_on store command (Some id) = in_order store command (changed_in store id command (other_kind store (other_id command)))
 
-unfoldable pub effect : Contents → Command → Result Contents ℕ
+unfoldable pub effect : ObjectMap → Command → Result ObjectMap ℕ
 effect store command = effect_on store command (object_of command)
 
-abbrev pub after : Contents → Command → Contents
+abbrev pub after : ObjectMap → Command → ObjectMap
 after store command = left store (effect store command)

@@ -8,7 +8,7 @@ use Rattle.vt_kinds.specs.declared.object.Object.TheVariants as objects
 use Rattle.vt_commands.specs.declared.command.Command.{Command}
 use Rattle.vt_commands.specs.declared.command.Command.TheVariants.{ChangeNumericValue, ChangeAttribute, ChangeListItem}
 use Rattle.vt_kinds.specs.Records.{Seen}
-use Rattle.vt_stores.specs.Stores.{Contents}
+use Rattle.vt_stores.specs.Stores.{ObjectMap}
 use Rattle.vt_effects.specs.declared.pointers.Pointed.{Pointed}
 use Rattle.vt_effects.specs.declared.replacements.Replacement.{Replacement}
 use Rattle.vt_effects.specs.Changes.{is_one_of}
@@ -24,14 +24,14 @@ abbrev pub replacement : ℕ → ℕ → ℕ → Replacement
 replacement holder after before = record { holder = holder; before = before; after = after }
 
 -- what a command replaces, if it does
-abbrev pub replaced : Contents → Command → Option Replacement
+abbrev pub replaced : ObjectMap → Command → Option Replacement
 replaced store (ChangeNumericValue id value) = option_map (replacement id (word value)) (pointer_value (finite.get store id))
 replaced store (ChangeAttribute id number value) = option_map (replacement id (word value)) (pointer_value (finite.get store id))
 replaced store (ChangeListItem id index item) = option_map (replacement id item) (item_at index (finite.get store id))
 replaced store command = None
 
 -- the ID fits wherever it is to stand, and a pointer's value wherever the pointer stands
-abbrev pub fits : Contents → Command → Bool
+abbrev pub fits : ObjectMap → Command → Bool
 fits store (ChangeNumericValue id value) = places_allow store id (word value)
 fits store (ChangeAttribute id number value) = places_allow store id (word value)
 fits store (ChangeListItem id index item) = value_drawn store (pointer_value (finite.get store item))
@@ -42,7 +42,7 @@ abbrev pub slot_allows : Pointed → Slot → Bool
 slot_allows p slot = not (slot.id == p.pointer) || (if p.value == 0xFFFF then true else is_one_of slot.kinds p.kind)
 
 -- the value that a pointer has is of the kind of another one
-pub record IsOfThatKind (store : Contents) (p : Pointed) : Type 0 where
+pub record IsOfThatKind (store : ObjectMap) (p : Pointed) : Type 0 where
   pub value : ℕ
   pub held : pointer_value (finite.get store p.pointer) ≡ Some value
   pub there : (value == 0xFFFF) ≡ false

@@ -7,7 +7,7 @@ use Rattle.vt_commands.specs.declared.command.Command.{Command}
 use Rattle.vt_kinds.specs.Records.{Seen}
 use Rattle.vt_kinds.specs.References.{slots_of}
 use Rattle.vt_stores.specs.Shapes.{Shape, shape_of}
-use Rattle.vt_stores.specs.Stores.{Contents}
+use Rattle.vt_stores.specs.Stores.{ObjectMap}
 use Rattle.vt_chains.specs.Depths.{inclusions_of}
 use Rattle.vt_chains.specs.Inclusions.{IsShallow}
 use Rattle.vt_chains.specs.Limits.{terminal}
@@ -15,30 +15,30 @@ use Rattle.vt_effects.specs.Changes.{is_one_of}
 use Rattle.vt_effects.specs.Effects.{kind_in, pointer_value, allows, after}
 
 -- the value of a pointer fits where the pointer stands
-abbrev pub value_fits : Contents → Slot → Option ℕ → Bool
+abbrev pub value_fits : ObjectMap → Slot → Option ℕ → Bool
 value_fits store slot None = true
 value_fits store slot (Some value) = allows store slot value
 
 -- NULL, where NULL may stand, or an object of an allowed kind; through a pointer too
-abbrev pub is_in_order : Contents → Slot → Bool
+abbrev pub is_in_order : ObjectMap → Slot → Bool
 is_in_order store slot =
     if slot.id == 0xFFFF
     then slot.null
     else is_one_of slot.kinds (kind_in store slot.id) && value_fits store slot (pointer_value (finite.get store slot.id))
 
 -- Each reference of each object is in order, and no chain has more inclusions than the terminal allows.
-pub record IsSound (store : Contents) : Type 0 where
+pub record IsSound (store : ObjectMap) : Type 0 where
   pub slots : (id : ℕ) (o : Seen) → finite.get store id ≡ Some o → AllByRecursion (λ slot. IsTrue (is_in_order store slot)) (slots_of o)
   pub shallow : IsShallow terminal.inclusions (inclusions_of store)
 
 -- what no command changes of a store
-unfoldable pub shape_in : Contents → Shape
+unfoldable pub shape_in : ObjectMap → Shape
 shape_in store = shape_of (finite.entries store)
 
 -- No command breaks that order.
 abbrev pub CommandsKeepOrder : Type 0
-CommandsKeepOrder = (store : Contents) (command : Command) → IsSound store → IsSound (after store command)
+CommandsKeepOrder = (store : ObjectMap) (command : Command) → IsSound store → IsSound (after store command)
 
 -- Under each ID stays an object of the same kind, with the same macros for its events and the same bytes of a macro.
 abbrev pub CommandsKeepShapes : Type 0
-CommandsKeepShapes = (store : Contents) (command : Command) → shape_in (after store command) ≡ shape_in store
+CommandsKeepShapes = (store : ObjectMap) (command : Command) → shape_in (after store command) ≡ shape_in store

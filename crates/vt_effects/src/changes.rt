@@ -2,7 +2,7 @@
 
 ghost use Rattle.std.specs.Prelude.{◌≡◌};
 ghost use Rattle.vt_kinds.specs.Records.{seen};
-ghost use Rattle.vt_effects.specs.Changes.{Answers, left, changed};
+ghost use Rattle.vt_effects.specs.Changes.{HasResult, left, changed};
 
 mod attribute_objects;
 mod attributes;
@@ -32,7 +32,7 @@ pub fn change(
     command: &Command<'_>,
     named: Option<Kind>,
 ) -> Result<(), u8>
-    ensures result { Answers result (changed command.now named (seen object.old)) }
+    ensures result { HasResult result (changed command.now named (seen object.old)) }
     ensures object { seen object.new ≡ left (seen object.old) (changed command.now named (seen object.old)) }
 {
     match *command {

@@ -1,8 +1,8 @@
 //! What commands make of the objects of a store.
 
 ghost use Rattle.std.specs.Prelude.{◌≡◌};
-ghost use Rattle.vt_stores.specs.Stores.{Contents};
-ghost use Rattle.vt_effects.specs.Changes.{Answers, left};
+ghost use Rattle.vt_stores.specs.Stores.{ObjectMap};
+ghost use Rattle.vt_effects.specs.Changes.{HasResult, left};
 ghost use Rattle.vt_effects.specs.Effects as effects;
 ghost use Rattle.vt_effects.specs.Effects.{changed_by, changed_in};
 
@@ -19,7 +19,7 @@ pub fn change_in<S: Store>(
     command: &Command<'_>,
     named: Option<Kind>,
 ) -> Result<(), u8>
-    ensures result { Answers result (changed_by (S.contents store.old) command.now named) }
+    ensures result { HasResult result (changed_by (S.contents store.old) command.now named) }
     ensures objects { S.contents store.new ≡ left (S.contents store.old) (changed_by (S.contents store.old) command.now named) }
 {
     match command.object() {
@@ -30,7 +30,7 @@ pub fn change_in<S: Store>(
 
 /// Tests a command that is for no object.
 fn without_object(command: &Command<'_>) -> Result<(), u8>
-    ensures { (store : Contents) → Answers result (effects.without_object store command.now) }
+    ensures { (store : ObjectMap) → HasResult result (effects.without_object store command.now) }
 {
     match *command {
         Command::SetVolume { volume } if volume > 100 => Err(1 << 4),
@@ -45,7 +45,7 @@ fn change_object<S: Store>(
     command: &Command<'_>,
     named: Option<Kind>,
 ) -> Result<(), u8>
-    ensures result { Answers result (changed_in (S.contents store.old) id command.now named) }
+    ensures result { HasResult result (changed_in (S.contents store.old) id command.now named) }
     ensures objects { S.contents store.new ≡ left (S.contents store.old) (changed_in (S.contents store.old) id command.now named) }
 {
     match store.get_mut(id) {

@@ -1,7 +1,7 @@
 //! The commands of an implement, on the objects of a store.
 
 ghost use Rattle.std.specs.Prelude.{◌≡◌, ◌⊎◌, true, false, Some};
-ghost use Rattle.vt_effects.specs.Changes.{Answers};
+ghost use Rattle.vt_effects.specs.Changes.{HasResult};
 ghost use Rattle.vt_effects.specs.Changes as changes;
 ghost use Rattle.vt_effects.specs.Effects as effects;
 ghost use Rattle.vt_effects.specs.Effects.{effect, after};
@@ -28,7 +28,7 @@ pub fn execute<S: Store>(
 ) -> Result<(), u8>
     requires levels { AreLevels (S.contents store.old) levels.old }
     requires sound { IsSound (S.contents store.old) }
-    ensures result { Answers result (effect (S.contents store.old) command.now) }
+    ensures result { HasResult result (effect (S.contents store.old) command.now) }
     ensures objects { S.contents store.new ≡ after (S.contents store.old) command.now }
     ensures levels { AreLevels (S.contents store.new) levels.new }
 {
@@ -52,7 +52,7 @@ fn replace<S: Store>(
     requires sound { IsSound (S.contents store.old) }
     requires named { named ≡ effects.other_kind (S.contents store.old) (changes.other_id command.now) }
     requires replaces { replacements.replaced (S.contents store.old) command.now ≡ Some replacement.now }
-    ensures result { Answers result (effect (S.contents store.old) command.now) }
+    ensures result { HasResult result (effect (S.contents store.old) command.now) }
     ensures objects { S.contents store.new ≡ after (S.contents store.old) command.now }
     ensures levels { AreLevels (S.contents store.new) levels.new }
 {

@@ -13,9 +13,9 @@ use Rattle.vt_extended.specs.declared.messages.Part.{Part}
 use Rattle.vt_extended.specs.declared.messages.Part.TheVariants.{Offset, Packet}
 use Rattle.vt_extended.specs.declared.messages.EtpFrame.TheVariants as etp
 use Rattle.vt_extended.specs.declared.messages.Reply.TheVariants.{Abort}
-use Rattle.vt_extended.specs.Messages.{SessionEvent, Group, Announced, packet_count_of, received, bytes_of, spelling, Stands, IsWhole, IsAnswered, reply_to, offset_reply, packet_reply, part_reply}
+use Rattle.vt_extended.specs.Messages.{SessionEvent, Group, Announced, packet_count_of, received, bytes_of, spelling, IsOpen, IsWhole, IsAnswered, reply_to, offset_reply, packet_reply, part_reply}
 use Rattle.vt_extended.specs.SessionState.{SessionState}
-use Rattle.vt_extended.specs.Steps.{Outcome, is_open, after_offset, is_next, after_packet, after_part, HasGroups, HasPackets}
+use Rattle.vt_extended.specs.Steps.{SessionOutcome, is_open, after_offset, is_next, after_packet, after_part, HasGroups, HasPackets}
 use Rattle.vt_extended.specs.Protocol.{protocol, StepsAssembleMessages}
 use Rattle.vt_extended.proofs.Histories.{sent_packet, IsNext, packet_last}
 use Rattle.vt_extended.proofs.Stepping.{offset_right, offset_wrong, grown_reply, packet_more, packet_whole, packet_wrong, is_open_as, is_next_as, is_next_true, grown_bytes}
@@ -28,7 +28,7 @@ whole_message current packet =
     record { pgn = current.session.opening.pgn; bytes = take current.session.opening.size (current.session.bytes ++ packet) }
 
 whole_of_groups : (hs : List SessionEvent) (number : ℕ) (packet : List ℕ) (current : Timed SessionState) (message : Message) (groups : List Group)
-    → Next current number current.session.opening groups → Stands hs current.session.opening groups
+    → Next current number current.session.opening groups → IsOpen hs current.session.opening groups
     → current.session.received + 1 ≡ packet_count_of current.session.opening → whole_message current packet ≡ message
     → IsWhole hs (Came (etp.Part (Packet number packet))) message
 whole_of_groups hs number packet current message groups (InGroup count packets before next within h) stands all is =
@@ -48,22 +48,22 @@ whole_at : (now number : ℕ) (packet : List ℕ) (hs : List SessionEvent) (curr
     → (after_packet now current number packet).message ≡ Some message → IsWhole hs (Came (etp.Part (Packet number packet))) message
 whole_at now number packet hs current message true all next k is =
     let some : Some (whole_message current packet) ≡ Some message =
-    sym (ap (λ (out : Outcome). out.message) (packet_whole now number packet current next (eqb-true _ _ all))) ∙ is in
+    sym (ap (λ (out : SessionOutcome). out.message) (packet_whole now number packet current next (eqb-true _ _ all))) ∙ is in
     whole_of_groups hs number packet current message k.0 (next_in current number current.session.opening k.0 next k.2) k.1 (eqb-true _ _ all) (cc)
 whole_at now number packet hs current message false all next k is =
-    let none = ap (λ (out : Outcome). out.message) (packet_more now number packet current next (λ e. false≢true (sym all ∙ eq-eqb _ _ e))) in absurd cc
+    let none = ap (λ (out : SessionOutcome). out.message) (packet_more now number packet current next (λ e. false≢true (sym all ∙ eq-eqb _ _ e))) in absurd cc
 
 whole_number : (now number : ℕ) (packet : List ℕ) (hs : List SessionEvent) (current : Timed SessionState) (message : Message) (next : Bool)
     → is_next current.session number ≡ next → IsStanding hs current
     → (after_packet now current number packet).message ≡ Some message → IsWhole hs (Came (etp.Part (Packet number packet))) message
 whole_number now number packet hs current message true next k is = whole_at now number packet hs current message _ refl next k is
 whole_number now number packet hs current message false next k is =
-    let none = ap (λ (out : Outcome). out.message) (packet_wrong now number packet current next) in absurd cc
+    let none = ap (λ (out : SessionOutcome). out.message) (packet_wrong now number packet current next) in absurd cc
 
 no_message : (now count offset : ℕ) (current : Timed SessionState) (right : Bool) → is_open current.session count offset ≡ right
     → (after_offset now current count offset).message ≡ None
-no_message now count offset current true right = ap (λ (out : Outcome). out.message) (offset_right now count offset current right)
-no_message now count offset current false wrong = ap (λ (out : Outcome). out.message) (offset_wrong now count offset current wrong)
+no_message now count offset current true right = ap (λ (out : SessionOutcome). out.message) (offset_right now count offset current right)
+no_message now count offset current false wrong = ap (λ (out : SessionOutcome). out.message) (offset_wrong now count offset current wrong)
 
 whole_part : (now : ℕ) (part : Part) (hs : List SessionEvent) (session : Option (Timed SessionState)) (message : Message) → Matches hs session
     → (after_part now session part).message ≡ Some message → IsWhole hs (Came (etp.Part part)) message
@@ -91,7 +91,7 @@ message_of now number packet None o count packets groups message h next within a
 message_of now number packet (Some current) o count packets groups message h next within all pgn bytes =
     let was = h.received_is in
     let every : packet_count_of current.session.opening ≡ packet_count_of o = ap packet_count_of h.opening in
-    ap (λ (out : Outcome). out.message)
+    ap (λ (out : SessionOutcome). out.message)
     (packet_whole now number packet current (is_next_true current.session count (length packets) number h.last.0 h.last.1 within next) (omega arith))
     ∙ ap₂ (λ (p : ℕ) (bs : List ℕ). Some (record { pgn = p; bytes = bs })) (ap (λ (q : Opening). q.pgn) h.opening ∙ sym pgn)
     (grown_bytes current.session packet o count packets groups h ∙ sym bytes)
@@ -122,11 +122,11 @@ reply_offset : (now count offset : ℕ) (current : Timed SessionState) (o : Open
     → HasGroups current.session o groups → (after_offset now current count offset).reply ≡ offset_reply o groups count offset
 reply_offset now count offset current o groups true right h =
     let tests = sym (is_open_as current.session o groups count offset h) ∙ right in
-    ap (λ (out : Outcome). out.reply) (offset_right now count offset current right)
+    ap (λ (out : SessionOutcome). out.reply) (offset_right now count offset current right)
     ∙ sym (ap (λ (b : Bool). cond b None (Some (Abort Disorder o.pgn))) tests)
 reply_offset now count offset current o groups false wrong h =
     let tests = sym (is_open_as current.session o groups count offset h) ∙ wrong in
-    ap (λ (out : Outcome). out.reply) (offset_wrong now count offset current wrong)
+    ap (λ (out : SessionOutcome). out.reply) (offset_wrong now count offset current wrong)
     ∙ ap (λ (q : Opening). Some (Abort Disorder q.pgn)) h.opening
     ∙ sym (ap (λ (b : Bool). cond b None (Some (Abort Disorder o.pgn))) tests)
 
@@ -136,9 +136,9 @@ reply_whole : (now number : ℕ) (packet : List ℕ) (current : Timed SessionSta
     → eqb (current.session.received + 1) (packet_count_of current.session.opening) ≡ whole → is_next current.session number ≡ true
     → (after_packet now current number packet).reply ≡ grown_reply current
 reply_whole now number packet current true all next =
-    ap (λ (out : Outcome). out.reply) (packet_whole now number packet current next (eqb-true _ _ all))
+    ap (λ (out : SessionOutcome). out.reply) (packet_whole now number packet current next (eqb-true _ _ all))
 reply_whole now number packet current false all next =
-    ap (λ (out : Outcome). out.reply) (packet_more now number packet current next (λ e. false≢true (sym all ∙ eq-eqb _ _ e)))
+    ap (λ (out : SessionOutcome). out.reply) (packet_more now number packet current next (λ e. false≢true (sym all ∙ eq-eqb _ _ e)))
 
 reply_grown : (current : Timed SessionState) (o : Opening) (number count : ℕ) (packets : List (List ℕ)) (groups : List Group)
     → HasGroups current.session o (Announced count packets ∷ groups) → number ≡ length packets + 1
@@ -157,7 +157,7 @@ reply_number : (now number : ℕ) (packet : List ℕ) (current : Timed SessionSt
 reply_number now number packet current o [] true next h =
     let none : (ltb 0 0 && eqb number 1) ≡ true = sym (is_next_as current.session 0 0 number h.last.0 h.last.1) ∙ next in absurd cc
 reply_number now number packet current o [] false next h =
-    ap (λ (out : Outcome). out.reply) (packet_wrong now number packet current next)
+    ap (λ (out : SessionOutcome). out.reply) (packet_wrong now number packet current next)
     ∙ ap (λ (q : Opening). Some (Abort Disorder q.pgn)) h.opening
 reply_number now number packet current o (Announced count packets ∷ groups) true next h =
     let tests = sym (is_next_as current.session count (length packets) number h.last.0 h.last.1) ∙ next in
@@ -166,7 +166,7 @@ reply_number now number packet current o (Announced count packets ∷ groups) tr
     ∙ sym (ap (λ (b : Bool). cond b (reply_to o (received groups + number) (eqb number count)) (Some (Abort Disorder o.pgn))) tests)
 reply_number now number packet current o (Announced count packets ∷ groups) false next h =
     let tests = sym (is_next_as current.session count (length packets) number h.last.0 h.last.1) ∙ next in
-    ap (λ (out : Outcome). out.reply) (packet_wrong now number packet current next)
+    ap (λ (out : SessionOutcome). out.reply) (packet_wrong now number packet current next)
     ∙ ap (λ (q : Opening). Some (Abort Disorder q.pgn)) h.opening
     ∙ sym (ap (λ (b : Bool). cond b (reply_to o (received groups + number) (eqb number count)) (Some (Abort Disorder o.pgn))) tests)
 
@@ -179,7 +179,7 @@ reply_part now (Offset count offset) (Some current) o groups h = reply_offset no
 reply_part now (Packet number packet) (Some current) o groups h = reply_number now number packet current o groups _ refl h
 
 no_reply : (now : ℕ) (part : Part) (hs : List SessionEvent) (session : Option (Timed SessionState)) → Matches hs session
-    → ((o : Opening) (groups : List Group) → Stands hs o groups → ⊥) → (after_part now session part).reply ≡ None
+    → ((o : Opening) (groups : List Group) → IsOpen hs o groups → ⊥) → (after_part now session part).reply ≡ None
 no_reply now part hs None m never = refl
 no_reply now part hs (Some current) m never = let k = m.only current refl in absurd (never current.session.opening k.0 k.1)
 

@@ -12,9 +12,9 @@ use Rattle.vt_extended.specs.declared.messages.Opening.{Opening}
 use Rattle.vt_extended.specs.declared.messages.Part.{Part}
 use Rattle.vt_extended.specs.declared.messages.Part.TheVariants.{Offset, Packet}
 use Rattle.vt_extended.specs.declared.messages.EtpFrame.TheVariants as etp
-use Rattle.vt_extended.specs.Messages.{SessionEvent, Group, Announced, opens, packet_count_of, received, edge, spelling, Stands}
+use Rattle.vt_extended.specs.Messages.{SessionEvent, Group, Announced, opens, packet_count_of, received, edge, spelling, IsOpen}
 use Rattle.vt_extended.specs.SessionState.{SessionState}
-use Rattle.vt_extended.specs.Steps.{Outcome, fresh, is_open, after_offset, is_next, after_packet, after_part, HasGroups, HasPackets}
+use Rattle.vt_extended.specs.Steps.{SessionOutcome, fresh, is_open, after_offset, is_next, after_packet, after_part, HasGroups, HasPackets}
 use Rattle.vt_extended.specs.Protocol.{protocol}
 use Rattle.vt_extended.proofs.Openings.{opened_packets}
 use Rattle.vt_extended.proofs.Histories.{sent_offset, sent_packet, no_parts, IsAnnounced, offset_last, IsNext, packet_last}
@@ -50,7 +50,7 @@ has_offset : (now count offset : ℕ) (session : Option (Timed SessionState)) (o
     → HasPackets (after_part now session (Offset count offset)).session o (Announced count [] ∷ groups)
 has_offset now count offset None o groups h one within next = absurd h
 has_offset now count offset (Some current) o groups h one within next =
-    subst (λ (out : Outcome). HasPackets out.session o (Announced count [] ∷ groups))
+    subst (λ (out : SessionOutcome). HasPackets out.session o (Announced count [] ∷ groups))
     (sym (offset_right now count offset current (is_open_true current.session o groups count offset h one within next)))
     (has_announced current.session o groups count h one)
 
@@ -64,7 +64,7 @@ stands_offset now count offset hs session o groups m n more =
 
 -- a session that stands, and the group that is announced
 standing_announced : (now count offset : ℕ) (hs : List SessionEvent) (current : Timed SessionState) (groups : List Group)
-    → Stands hs current.session.opening groups → HasGroups current.session current.session.opening groups → 1 ≤ count
+    → IsOpen hs current.session.opening groups → HasGroups current.session current.session.opening groups → 1 ≤ count
     → received groups + count ≤ edge current.session.opening groups → offset ≡ received groups
     → IsStanding (Came (etp.Part (Offset count offset)) ∷ hs) (announced now current count)
 standing_announced now count offset hs current groups stands h one within next =
@@ -78,14 +78,14 @@ standing_open : (now count offset : ℕ) (hs : List SessionEvent) (current curre
     → IsStanding hs current → (after_offset now current count offset).session ≡ Some current' → IsStanding (Came (etp.Part (Offset count offset)) ∷ hs) current'
 standing_open now count offset hs current current' true right k is =
     let some : Some (announced now current count) ≡ Some current' =
-    sym (ap (λ (out : Outcome). out.session) (offset_right now count offset current right)) ∙ is in
+    sym (ap (λ (out : SessionOutcome). out.session) (offset_right now count offset current right)) ∙ is in
     let same : announced now current count ≡ current' = cc in
     let tests = all_of (leb 1 count) (leb (received k.0 + count) (edge current.session.opening k.0)) (eqb offset (received k.0))
     (sym (is_open_as current.session current.session.opening k.0 count offset k.2) ∙ right) in
     subst (IsStanding (Came (etp.Part (Offset count offset)) ∷ hs)) same
     (standing_announced now count offset hs current k.0 k.1 k.2 (leb-true _ _ tests.first) (leb-true _ _ tests.second) (eqb-true _ _ tests.third))
 standing_open now count offset hs current current' false wrong k is =
-    let none = ap (λ (out : Outcome). out.session) (offset_wrong now count offset current wrong) in absurd cc
+    let none = ap (λ (out : SessionOutcome). out.session) (offset_wrong now count offset current wrong) in absurd cc
 
 standing_offset : (now count offset : ℕ) (hs : List SessionEvent) (session : Option (Timed SessionState)) (current' : Timed SessionState) → Matches hs session
     → (after_part now session (Offset count offset)).session ≡ Some current' → IsStanding (Came (etp.Part (Offset count offset)) ∷ hs) current'
@@ -102,7 +102,7 @@ has_packet now number packet None o count packets groups h next within more = ab
 has_packet now number packet (Some current) o count packets groups h next within more =
     let was = h.received_is in
     let all : packet_count_of current.session.opening ≡ packet_count_of o = ap packet_count_of h.opening in
-    subst (λ (out : Outcome). HasPackets out.session o (Announced count (packet ∷ packets) ∷ groups))
+    subst (λ (out : SessionOutcome). HasPackets out.session o (Announced count (packet ∷ packets) ∷ groups))
     (sym (packet_more now number packet current (is_next_true current.session count (length packets) number h.last.0 h.last.1 within next) (λ e. omega arith)))
     (has_grown current.session packet o count packets groups h within)
 
@@ -130,7 +130,7 @@ next_in current number o (Announced count packets ∷ groups) next h =
     InGroup count packets groups (eqb-true _ _ tests.second) (ltb-true _ _ tests.first) h
 
 standing_grown : (now number : ℕ) (packet : List ℕ) (hs : List SessionEvent) (current : Timed SessionState) (groups : List Group) → Next current number current.session.opening groups
-    → Stands hs current.session.opening groups → (current.session.received + 1 ≡ packet_count_of current.session.opening → ⊥)
+    → IsOpen hs current.session.opening groups → (current.session.received + 1 ≡ packet_count_of current.session.opening → ⊥)
     → IsStanding (Came (etp.Part (Packet number packet)) ∷ hs) (grown now current packet)
 standing_grown now number packet hs current groups (InGroup count packets before next within h) stands more =
     let was = h.received_is in
@@ -144,11 +144,11 @@ standing_at : (now number : ℕ) (packet : List ℕ) (hs : List SessionEvent) (c
     → eqb (current.session.received + 1) (packet_count_of current.session.opening) ≡ whole → is_next current.session number ≡ true → IsStanding hs current
     → (after_packet now current number packet).session ≡ Some current' → IsStanding (Came (etp.Part (Packet number packet)) ∷ hs) current'
 standing_at now number packet hs current current' true all next k is =
-    let none = ap (λ (out : Outcome). out.session) (packet_whole now number packet current next (eqb-true _ _ all)) in absurd cc
+    let none = ap (λ (out : SessionOutcome). out.session) (packet_whole now number packet current next (eqb-true _ _ all)) in absurd cc
 standing_at now number packet hs current current' false all next k is =
     let more : current.session.received + 1 ≡ packet_count_of current.session.opening → ⊥ = λ e. false≢true (sym all ∙ eq-eqb _ _ e) in
     let some : Some (grown now current packet) ≡ Some current' =
-    sym (ap (λ (out : Outcome). out.session) (packet_more now number packet current next more)) ∙ is in
+    sym (ap (λ (out : SessionOutcome). out.session) (packet_more now number packet current next more)) ∙ is in
     let same : grown now current packet ≡ current' = cc in
     subst (IsStanding (Came (etp.Part (Packet number packet)) ∷ hs)) same
     (standing_grown now number packet hs current k.0 (next_in current number current.session.opening k.0 next k.2) k.1 more)
@@ -157,7 +157,7 @@ standing_number : (now number : ℕ) (packet : List ℕ) (hs : List SessionEvent
     → IsStanding hs current → (after_packet now current number packet).session ≡ Some current' → IsStanding (Came (etp.Part (Packet number packet)) ∷ hs) current'
 standing_number now number packet hs current current' true next k is = standing_at now number packet hs current current' _ refl next k is
 standing_number now number packet hs current current' false next k is =
-    let none = ap (λ (out : Outcome). out.session) (packet_wrong now number packet current next) in absurd cc
+    let none = ap (λ (out : SessionOutcome). out.session) (packet_wrong now number packet current next) in absurd cc
 
 standing_packet : (now number : ℕ) (packet : List ℕ) (hs : List SessionEvent) (session : Option (Timed SessionState)) (current' : Timed SessionState) → Matches hs session
     → (after_part now session (Packet number packet)).session ≡ Some current' → IsStanding (Came (etp.Part (Packet number packet)) ∷ hs) current'

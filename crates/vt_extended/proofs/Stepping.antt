@@ -12,7 +12,7 @@ use Rattle.vt_extended.specs.declared.messages.Reply.{Reply}
 use Rattle.vt_extended.specs.declared.messages.Reply.TheVariants.{Abort}
 use Rattle.vt_extended.specs.Messages.{Group, Announced, packet_count_of, received, full, edge_after, edge, bytes_of, reply_to}
 use Rattle.vt_extended.specs.SessionState.{SessionState}
-use Rattle.vt_extended.specs.Steps.{Outcome, is_open, with_group, after_offset, is_next, with_packet, after_packet, HasGroups}
+use Rattle.vt_extended.specs.Steps.{SessionOutcome, is_open, with_group, after_offset, is_next, with_packet, after_packet, HasGroups}
 
 -- the step of a DPO, in its two cases
 
@@ -37,7 +37,7 @@ grown_reply current = reply_to current.session.opening (current.session.received
 
 pub packet_more : (now number : ℕ) (packet : List ℕ) (current : Timed SessionState) → is_next current.session number ≡ true
     → (current.session.received + 1 ≡ packet_count_of current.session.opening → ⊥)
-    → ◌≡◌ {A = Outcome} (after_packet now current number packet)
+    → ◌≡◌ {A = SessionOutcome} (after_packet now current number packet)
     (record { session = Some (grown now current packet); reply = grown_reply current; message = None })
 packet_more now number packet current next more =
     let f : eqb (current.session.received + 1) (packet_count_of current.session.opening) ≡ false = ne_eqb _ _ more in
@@ -45,7 +45,7 @@ packet_more now number packet current next more =
 
 pub packet_whole : (now number : ℕ) (packet : List ℕ) (current : Timed SessionState) → is_next current.session number ≡ true
     → current.session.received + 1 ≡ packet_count_of current.session.opening
-    → ◌≡◌ {A = Outcome} (after_packet now current number packet) (record {
+    → ◌≡◌ {A = SessionOutcome} (after_packet now current number packet) (record {
       session = None;
       reply = grown_reply current;
       message = Some (record { pgn = current.session.opening.pgn; bytes = take current.session.opening.size (current.session.bytes ++ packet) });

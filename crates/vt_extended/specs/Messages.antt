@@ -103,8 +103,8 @@ spelling = record {
 }
 
 -- a session is open, with packets still to come
-abbrev pub Stands : List SessionEvent → Opening → List Group → Type 0
-Stands = histories.Stands spelling
+abbrev pub IsOpen : List SessionEvent → Opening → List Group → Type 0
+IsOpen = histories.IsOpen spelling
 
 -- an event is the last packet of a message
 abbrev pub IsWhole : List SessionEvent → SessionEvent → Message → Type 0
@@ -153,6 +153,6 @@ abbrev pub IsAnswered : List SessionEvent → SessionEvent → Option Reply → 
 IsAnswered hs TimedOut reply = reply ≡ None
 IsAnswered hs (Came (etp.Rts o)) reply = reply ≡ Some (first_reply o)
 IsAnswered hs (Came (etp.Part part)) reply =
-    ((o : Opening) (groups : List Group) → Stands hs o groups → reply ≡ part_reply o groups part)
-    × (((o : Opening) (groups : List Group) → Stands hs o groups → ⊥) → reply ≡ None)
+    ((o : Opening) (groups : List Group) → IsOpen hs o groups → reply ≡ part_reply o groups part)
+    × (((o : Opening) (groups : List Group) → IsOpen hs o groups → ⊥) → reply ≡ None)
 IsAnswered hs (Came _) reply = reply ≡ None

@@ -14,14 +14,14 @@ use Rattle.vt_extended.specs.declared.messages.Reply.TheVariants.{Abort}
 use Rattle.vt_extended.specs.Messages.{Group, Announced, opens, packet_count_of, received, edge_after, edge, bytes_of, first_reply, reply_to}
 use Rattle.vt_extended.specs.SessionState.{SessionState}
 
-abbrev pub Outcome : Type 0
-Outcome = protocols.Outcome SessionState Reply
+abbrev pub SessionOutcome : Type 0
+SessionOutcome = protocols.SessionOutcome SessionState Reply
 
 -- a session without packets
 abbrev pub fresh : Opening → SessionState
 fresh o = record { opening = o; bytes = []; received = 0; announced = 0; arrived = 0; edge = edge_after o 0 }
 
-abbrev pub after_rts : ℕ → Opening → Outcome
+abbrev pub after_rts : ℕ → Opening → SessionOutcome
 after_rts now o = record {
   session = if opens o then Some (record { last = now; session = fresh o }) else None;
   reply = Some (first_reply o);
@@ -36,7 +36,7 @@ abbrev pub with_group : SessionState → ℕ → SessionState
 with_group s count =
     record { opening = s.opening; bytes = s.bytes; received = s.received; announced = count; arrived = 0; edge = s.edge }
 
-abbrev pub after_offset : ℕ → Timed SessionState → ℕ → ℕ → Outcome
+abbrev pub after_offset : ℕ → Timed SessionState → ℕ → ℕ → SessionOutcome
 after_offset now current count offset =
     if is_open current.session count offset
     then silent (Some (record { last = max now current.last; session = with_group current.session count }))
@@ -58,25 +58,25 @@ with_packet s packet = record {
 }
 
 -- the next packet of a session: the last one, or one with more to come
-abbrev pub next_packet : ℕ → Timed SessionState → List ℕ → Outcome
+abbrev pub next_packet : ℕ → Timed SessionState → List ℕ → SessionOutcome
 next_packet now current packet =
     let s = with_packet current.session packet in
     if s.received == packet_count_of s.opening
     then record { session = None; reply = reply_to s.opening s.received (s.arrived == s.announced); message = Some (record { pgn = s.opening.pgn; bytes = s.bytes }) }
     else record { session = Some (record { last = max now current.last; session = s }); reply = reply_to s.opening s.received (s.arrived == s.announced); message = None }
 
-abbrev pub after_packet : ℕ → Timed SessionState → ℕ → List ℕ → Outcome
+abbrev pub after_packet : ℕ → Timed SessionState → ℕ → List ℕ → SessionOutcome
 after_packet now current number packet =
     if is_next current.session number then next_packet now current packet else ended (Abort Disorder current.session.opening.pgn)
 
 -- the step of a DPO or a DT
-abbrev pub after_part : ℕ → Option (Timed SessionState) → Part → Outcome
+abbrev pub after_part : ℕ → Option (Timed SessionState) → Part → SessionOutcome
 after_part now None part = silent None
 after_part now (Some current) (Offset count offset) = after_offset now current count offset
 after_part now (Some current) (Packet number packet) = after_packet now current number packet
 
 -- the step of one frame
-abbrev pub step : ℕ → Option (Timed SessionState) → EtpFrame → Outcome
+abbrev pub step : ℕ → Option (Timed SessionState) → EtpFrame → SessionOutcome
 step now current (etp.Rts o) = after_rts now o
 step now current (etp.Part part) = after_part now current part
 step now current etp.Aborted = silent None

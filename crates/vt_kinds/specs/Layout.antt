@@ -19,18 +19,18 @@ pub data Size : Type 0 where
   Signed : (width : Width) → Size
 
 -- A field of a record.
-pub data Field : Type 0 where
-  Number : (size : Size) → Field
+pub data RecordField : Type 0 where
+  Number : (size : Size) → RecordField
   -- how many there are of the rows or bytes of a later field
-  Count : (size : ℕ) → (of : Counted) → Field
+  Count : (size : ℕ) → (of : Counted) → RecordField
   -- so many rows as were counted, each of numbers of these sizes
-  Rows : (of : Counted) → (sizes : List Size) → Field
+  Rows : (of : Counted) → (sizes : List Size) → RecordField
   -- so many bytes as were counted
-  Bytes : (of : Counted) → Field
+  Bytes : (of : Counted) → RecordField
   -- the four bytes of a scale
-  ScaleBytes : Field
+  ScaleBytes : RecordField
   -- a number of decimals, one byte
-  DecimalPlaces : Field
+  DecimalPlaces : RecordField
 
 -- a number, unsigned or signed
 pub data Numeral : Type 0 where
@@ -45,14 +45,14 @@ pub data Value : Type 0 where
 
 -- a field of the record of an A, the attribute that it is, if it is one, and its value in an A
 pub record Named (A : Type 0) : Type 0 where
-  pub field : Field
+  pub field : RecordField
   pub name : Option names.Field
   pub value : A → Value
 
 abbrev pub Table : Type 0 → Type 0
 Table A = List (Named A)
 
-abbrev pub fields : {A : Type 0} → Table A → List Field
+abbrev pub fields : {A : Type 0} → Table A → List RecordField
 fields t = map (λ f. f.field) t
 
 abbrev pub names_in : {A : Type 0} → Table A → List (Option names.Field)
@@ -116,7 +116,7 @@ row_spelling (size ∷ sizes) (n ∷ ns) = number_spelling size n ++ row_spellin
 abbrev pub rows_spelling : List Size → List (List Numeral) → List ℕ
 rows_spelling sizes rs = flat_map (row_spelling sizes) rs
 
-abbrev pub field_spelling : Field → Value → List ℕ
+abbrev pub field_spelling : RecordField → Value → List ℕ
 field_spelling (Number size) (number n) = number_spelling size n
 field_spelling (Count size of) (number n) = number_spelling (Unsigned size) n
 field_spelling (Rows of sizes) (rows rs) = rows_spelling sizes rs
@@ -125,7 +125,7 @@ field_spelling ScaleBytes (number n) = number_spelling (Unsigned 4) n
 field_spelling DecimalPlaces (number n) = number_spelling (Unsigned 1) n
 field_spelling _ _ = []
 
-abbrev pub spelling : List Field → List Value → List ℕ
+abbrev pub spelling : List RecordField → List Value → List ℕ
 spelling [] vs = []
 spelling (f ∷ fs) [] = []
 spelling (f ∷ fs) (v ∷ vs) = field_spelling f v ++ spelling fs vs
@@ -165,7 +165,7 @@ RowFits (size ∷ sizes) [] = ⊥
 RowFits (size ∷ sizes) (n ∷ ns) = Fits size n × RowFits sizes ns
 
 -- each value fits its field: numbers their sizes, and lists are as long as they were counted
-abbrev pub FieldsFit : List Field → Counts → List Value → Type 0
+abbrev pub FieldsFit : List RecordField → Counts → List Value → Type 0
 FieldsFit [] counts [] = Unit {0}
 FieldsFit (Number size ∷ fs) counts (number n ∷ vs) = Fits size n × FieldsFit fs counts vs
 FieldsFit (Count size of ∷ fs) counts (number (natural n) ∷ vs) = (n < 256 ^ size) × FieldsFit fs (counted of n counts) vs
@@ -176,11 +176,11 @@ FieldsFit (DecimalPlaces ∷ fs) counts (number (natural n) ∷ vs) = (n < 256 ^
 FieldsFit _ _ _ = ⊥
 
 -- a value is one that its field may have: scales are among those that there are, and decimals at most 7
-abbrev pub IsProper : Field → Value → Type 0
+abbrev pub IsProper : RecordField → Value → Type 0
 IsProper ScaleBytes (number (natural n)) = IsScale n
 IsProper DecimalPlaces (number (natural n)) = n ≤ 7
 IsProper _ _ = Unit {0}
 
-abbrev pub Proper : List Field → List Value → Type 0
+abbrev pub Proper : List RecordField → List Value → Type 0
 Proper (f ∷ fs) (v ∷ vs) = IsProper f v × Proper fs vs
 Proper _ _ = Unit {0}

@@ -13,7 +13,7 @@ use Rattle.vt_kinds.specs.declared.macros.Macro.{Macro}
 use Rattle.vt_kinds.specs.declared.object.Object.{Object}
 use Rattle.vt_kinds.specs.declared.object.Object.TheVariants as objects
 use Rattle.vt_kinds.specs.declared.fields.Field as names
-use Rattle.vt_kinds.specs.Layout.{Field, Value, fields, names_in, values, spelling, FieldsFit, Proper, no_counts}
+use Rattle.vt_kinds.specs.Layout.{RecordField, Value, fields, names_in, values, spelling, FieldsFit, Proper, no_counts}
 use Rattle.vt_kinds.specs.Kinds.{kind_number}
 use Rattle.vt_kinds.specs.Tables.{working_set, data_mask, alarm_mask, container, soft_key_mask, key, button, input_boolean, input_string, input_number, input_list, output_string, output_number, line, rectangle, ellipse, polygon, meter, linear_bar, arched_bar, picture, number_variable, string_variable, font, line_attributes, fill_attributes, input_attributes, object_pointer, macro_object}
 
@@ -169,7 +169,7 @@ macros_of (objects.Macro o) = []
 
 -- ---- the table of each kind
 
-abbrev pub fields_of : Kind → List Field
+abbrev pub fields_of : Kind → List RecordField
 fields_of kinds.WorkingSet = fields working_set
 fields_of kinds.DataMask = fields data_mask
 fields_of kinds.AlarmMask = fields alarm_mask

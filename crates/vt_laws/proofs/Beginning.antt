@@ -10,19 +10,19 @@ use Rattle.vt_names.specs.Registry.{Set}
 use Rattle.vt_commands.specs.declared.command.Command.{Command}
 use Rattle.vt_commands.specs.declared.event.Event.TheVariants as events
 use Rattle.vt_commands.specs.Commands.{command_at}
-use Rattle.vt_stores.specs.Stores.{Contents}
+use Rattle.vt_stores.specs.Stores.{ObjectMap}
 use Rattle.vt_effects.specs.Effects.{effect}
 use Rattle.vt_macros.proofs.Faultless.{all_append}
 use Rattle.vt_machine.specs.Lives.{SetState}
 use Rattle.vt_machine.specs.Operating as operating
 use Rattle.vt_node.specs.Bus.{notice_of}
-use Rattle.vt_node.specs.declared.bus.Notice.{Notice}
+use Rattle.vt_node.specs.declared.bus.FrameMeaning.{FrameMeaning}
 use Rattle.vt_server.specs.Choosing.{choosing, shown_now, events_of_change}
 use Rattle.vt_server.specs.Lapses.{at_time, lapsed}
 use Rattle.vt_server.specs.Operators.{action_on, is_busy}
-use Rattle.vt_server.specs.Parts.{Part, Act, Hears, Rebinds, Preloads, TpExpires, EtpExpires, SendingExpires, FallsSilent, Operates, Raises}
+use Rattle.vt_server.specs.Parts.{AddressView, Act, Hears, Rebinds, Preloads, TpExpires, EtpExpires, SendingExpires, FallsSilent, Operates, Raises}
 use Rattle.vt_server.specs.Sessions.{came}
-use Rattle.vt_server.specs.Steps.{Event, FrameAt, ActionAt, before, acts, acted, answer_to, is_lost_by, changes, heard_at_source, selecting, at_shown}
+use Rattle.vt_server.specs.Steps.{JudgedInput, FrameAt, ActionAt, before, acts, acted, answer_to, is_lost_by, changes, heard_at_source, selecting, at_shown}
 use Rattle.vt_server.specs.Terminals.{State, part, after_act, after_acts}
 use Rattle.vt_server.specs.Transfers.{Verdict}
 use Rattle.vt_server.proofs.ActsAt.{AllAt, at-append, at-changes, at-heard}
@@ -37,7 +37,7 @@ AreBegun rs = AllByRecursion IsBegun rs
 
 -- ---- by a command
 
-effect-begun : (a : ℕ) (old : Contents) (command : Command) (r : Result Contents ℕ) → effect old command ≡ r → AreBegun (runs_of_effect a old command r)
+effect-begun : (a : ℕ) (old : ObjectMap) (command : Command) (r : Result ObjectMap ℕ) → effect old command ≡ r → AreBegun (runs_of_effect a old command r)
 effect-begun a old command (Ok middle) is = (ByCommand command is refl, tt)
 effect-begun a old command (Err bits) is = tt
 
@@ -84,7 +84,7 @@ abbrev IsWell : ℕ → Act → Type 0
 IsWell a (Raises event) = (event ≡ 2) ⊎ (event ≡ 1)
 IsWell a h = Unit {0}
 
-act-begun : (now a : ℕ) (p : Part) (h : Act) → IsWell a h → AreBegun (runs_at now a p h)
+act-begun : (now a : ℕ) (p : AddressView) (h : Act) → IsWell a h → AreBegun (runs_at now a p h)
 act-begun now a p (Hears n f verdict) well = message-begun a p.set p.place.content.pool (came now p.terminal a p.place n f).message
 act-begun now a p Rebinds well = tt
 act-begun now a p (Preloads contents) well = tt
@@ -122,13 +122,13 @@ all-well (h ∷ hs) plain = (plain-well h.0 h.1 plain.0, all-well hs plain.1)
 settling-begun : (s : State) → AreBegun (runs_of_settling s)
 settling-begun s = acts-begun (choosing s) (events_of_change s.shown (shown_now s)) (all-well (events_of_change s.shown (shown_now s)) (change-plain s.shown (shown_now s)))
 
-frame-begun : (s : State) (source : ℕ) (n : Notice) (f : Frame) (verdict : Verdict) → AreBegun (runs_of_acts (before s source n) (acts s source n f verdict))
+frame-begun : (s : State) (source : ℕ) (n : FrameMeaning) (f : Frame) (verdict : Verdict) → AreBegun (runs_of_acts (before s source n) (acts s source n f verdict))
 frame-begun s source n f verdict =
     acts-begun (before s source n) (acts s source n f verdict)
     (at-append IsWell (changes s source n) (heard_at_source s.claims.own source n f verdict) (at-changes IsWell (λ a. tt) s source n)
     (at-heard IsWell s.claims.own source n f verdict tt))
 
-hearing-begun : (s : State) (source : ℕ) (n : Notice) (f : Frame) (verdict : Verdict) → AreBegun (runs_of_hearing s source n f verdict)
+hearing-begun : (s : State) (source : ℕ) (n : FrameMeaning) (f : Frame) (verdict : Verdict) → AreBegun (runs_of_hearing s source n f verdict)
 hearing-begun s source n f verdict = cases (is_lost_by (answer_to s source n))
   where
     first : List Run
@@ -141,13 +141,13 @@ hearing-begun s source n f verdict = cases (is_lost_by (answer_to s source n))
     cases true = tt
     cases false = all_append IsBegun first later (frame-begun s source n f verdict) (settling-begun (acted s source n f verdict))
 
-pub are-begun : (s : State) (e : Event) → AreBegun (runs s e)
+pub are-begun : (s : State) (e : JudgedInput) → AreBegun (runs s e)
 are-begun s (FrameAt time f verdict) = cases s.lost
   where
     t : State
     t = lapsed (at_time s time)
 
-    n : Notice
+    n : FrameMeaning
     n = notice_of s.claims.own s.claims.name f
 
     cases : (b : Bool) → AreBegun (cond b [] (runs_of_hearing t (source_of f) n f verdict))

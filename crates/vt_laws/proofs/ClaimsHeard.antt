@@ -3,18 +3,18 @@ use Rattle.std.proofs.Common.{◌≡◌, ℕ, Bool, true, false, cond, ◌&&◌,
 use Rattle.vt_can.specs.frames.Frame.{source_of}
 use Rattle.vt_can.specs.declared.frames.frame.Frame.{Frame}
 use Rattle.vt_names.specs.Claims.{Claim, Claimed, HoldersAreLeast, IsHolder, after_claims, heard, holder_of}
-use Rattle.vt_names.specs.declared.claims.Heard.TheVariants as claims
+use Rattle.vt_names.specs.declared.claims.ClaimMeaning.TheVariants as claims
 use Rattle.vt_node.specs.Bus.{notice_of}
 use Rattle.vt_server.specs.Choosing.{choosing, shown_now, events_of_change}
 use Rattle.vt_laws.specs.ClaimsHeard.{claim_of, takes_address, claims_heard, HoldersOfRuns}
 use Rattle.vt_server.specs.Lapses.{at_time, lapsed}
 use Rattle.vt_server.specs.Parts.{Act, Operates}
-use Rattle.vt_server.specs.Steps.{Event, FrameAt, ActionAt, step, after_all, before, hear_claim, acts, no_step, losing, acted, acting, hearing, settled, is_lost_by, answer_to, selecting, at_shown, step_frame, step_action}
+use Rattle.vt_server.specs.Steps.{JudgedInput, FrameAt, ActionAt, step, after_all, before, hear_claim, acts, no_step, losing, acted, acting, hearing, settled, is_lost_by, answer_to, selecting, at_shown, step_frame, step_action}
 use Rattle.vt_server.specs.Terminals.{State, after_acts}
 use Rattle.vt_server.specs.Transfers.{Verdict}
-use Rattle.vt_node.specs.declared.bus.Notice.{Notice}
-use Rattle.vt_node.specs.declared.bus.Notice.TheVariants.{ClaimRequest, Master, Member, Message, Tp, Etp, Nothing}
-use Rattle.vt_node.specs.declared.bus.Notice.TheVariants as notices
+use Rattle.vt_node.specs.declared.bus.FrameMeaning.{FrameMeaning}
+use Rattle.vt_node.specs.declared.bus.FrameMeaning.TheVariants.{ClaimRequest, Master, Member, Message, Tp, Etp, Nothing}
+use Rattle.vt_node.specs.declared.bus.FrameMeaning.TheVariants as notices
 use Rattle.vt_server.proofs.Changes.{claims-acts}
 use Rattle.vt_server.proofs.Keeping.{lapsed-keeps, claims-lapsed}
 use Rattle.vt_server.proofs.Puts.{beside, beside-act}
@@ -23,11 +23,11 @@ use Rattle.vt_laws.proofs.Stepping.{selecting-same}
 
 -- ---- after the loss nothing changes
 
-lost-step : (s : State) (e : Event) → s.lost ≡ true → (step s e).after ≡ s
+lost-step : (s : State) (e : JudgedInput) → s.lost ≡ true → (step s e).after ≡ s
 lost-step s (FrameAt time f verdict) lost = ap (λ b. (cond b (no_step s) (step_frame s time f verdict)).after) lost
 lost-step s (ActionAt action shown) lost = ap (λ b. (cond b (no_step s) (step_action s action shown)).after) lost
 
-lost-all : (s : State) (xs : List Event) → s.lost ≡ true → after_all s xs ≡ s
+lost-all : (s : State) (xs : List JudgedInput) → s.lost ≡ true → after_all s xs ≡ s
 lost-all s [] lost = refl
 lost-all s (e ∷ xs) lost = ap (λ t. after_all t xs) (lost-step s e lost) ∙ lost-all s xs lost
 
@@ -52,7 +52,7 @@ answer_cases true false true = refl
 answer_cases true false false = refl
 answer_cases false lower higher = refl
 
-loss-is : (s : State) (source : ℕ) (m : Notice) → is_lost_by (answer_to s source m) ≡ takes_address s.claims.own s.claims.name source m
+loss-is : (s : State) (source : ℕ) (m : FrameMeaning) → is_lost_by (answer_to s source m) ≡ takes_address s.claims.own s.claims.name source m
 loss-is s source (notices.Claim name) = answer_cases (eqb source s.claims.own) (nat_lt name s.claims.name) (nat_lt s.claims.name name)
 loss-is s source ClaimRequest = refl
 loss-is s source (Master count) = refl
@@ -67,7 +67,7 @@ loss-is s source Nothing = refl
 unfoldable kept-by : ℕ → ℕ → List Claim → Claimed
 kept-by own name earlier = record { own = own; name = name; addresses = after_claims earlier }
 
-heard-is : (own name : ℕ) (earlier : List Claim) (s : State) (source : ℕ) (m : Notice) → s.claims ≡ kept-by own name earlier
+heard-is : (own name : ℕ) (earlier : List Claim) (s : State) (source : ℕ) (m : FrameMeaning) → s.claims ≡ kept-by own name earlier
     → hear_claim s source m ≡ kept-by own name (claim_of source m ++ earlier)
 unfolding kept-by
 heard-is own name earlier s source (notices.Claim other) is = ap (λ (c : Claimed). heard c source other) is
@@ -80,7 +80,7 @@ heard-is own name earlier s source Etp is = is
 heard-is own name earlier s source Nothing is = is
 
 -- a frame that is heard at a state with those claims
-run-frame : (own name : ℕ) (earlier : List Claim) (old s : State) (f : Frame) (verdict : Verdict) (xs : List Event) (m : Notice) (gone : Bool)
+run-frame : (own name : ℕ) (earlier : List Claim) (old s : State) (f : Frame) (verdict : Verdict) (xs : List JudgedInput) (m : FrameMeaning) (gone : Bool)
     → s.claims ≡ kept-by own name earlier → s.lost ≡ false
     → ((t : State) → t.claims ≡ kept-by own name (claim_of (source_of f) m ++ earlier) → t.lost ≡ false
     → (after_all t xs).claims.addresses ≡ after_claims (claims_heard own name (claim_of (source_of f) m ++ earlier) xs))
@@ -96,7 +96,7 @@ run-frame own name earlier old s f verdict xs m false is has rest =
     (settled-claims u ∙ claims-acts t (acts s (source_of f) m f verdict) ∙ heard-is own name earlier s (source_of f) m is)
     (settled-lost u ∙ lost-acts t (acts s (source_of f) m f verdict) ∙ has)
 
-run-claims : (own name : ℕ) (earlier : List Claim) (s : State) (xs : List Event) → s.claims ≡ kept-by own name earlier → s.lost ≡ false
+run-claims : (own name : ℕ) (earlier : List Claim) (s : State) (xs : List JudgedInput) → s.claims ≡ kept-by own name earlier → s.lost ≡ false
     → (after_all s xs).claims.addresses ≡ after_claims (claims_heard own name earlier xs)
 unfolding kept-by
 run-claims own name earlier s [] is has = ap (λ (c : Claimed). c.addresses) is
@@ -118,7 +118,7 @@ run-claims own name earlier s (FrameAt time f verdict ∷ xs) is has =
     let gone : is_lost_by (answer_to u source m) ≡ takes_address own name source m =
     loss-is u source m ∙ ap (λ (c : Claimed). takes_address c.own c.name source m) u-is in
     ap (λ b. (after_all (cond b (no_step s) (step_frame s time f verdict)).after xs).claims.addresses) has
-    ∙ ap (λ (n : Notice). (after_all (hearing s u source n f verdict).after xs).claims.addresses) same
+    ∙ ap (λ (n : FrameMeaning). (after_all (hearing s u source n f verdict).after xs).claims.addresses) same
     ∙ ap (λ b. (after_all (cond b (losing u) (acting s u source m f verdict)).after xs).claims.addresses) gone
     ∙ run-frame own name earlier s u f verdict xs m (takes_address own name source m) u-is (lost-lapsed (at_time s time) ∙ has) rest
 

@@ -17,21 +17,21 @@ use Rattle.vt_machine.specs.Lives.{SetState}
 use Rattle.vt_machine.specs.Operating as operating
 use Rattle.vt_names.specs.Registry.{Set}
 use Rattle.vt_node.specs.Bus.{notice_of}
-use Rattle.vt_server.specs.Choosing.{choosing, shown_now, events_of_change, display, status, same_display, Display, status_frame}
+use Rattle.vt_server.specs.Choosing.{choosing, shown_now, events_of_change, display, status, same_display, ShownMasks, status_frame}
 use Rattle.vt_server.specs.Handling.{handled}
 use Rattle.vt_server.specs.Lapses.{at_time, lapsed, sent_by_lapses, tp_due, etp_due, sending_due, after_tp_timeouts, after_etp_timeouts}
 use Rattle.vt_node.specs.Messages.{message_to, claim_from}
 use Rattle.vt_server.specs.Operators.{action_on, is_long, is_busy, filled, message_frames, sending_after, ran}
-use Rattle.vt_server.specs.Parts.{Part, Outcome, Act, Hears, TpExpires, EtpExpires, SendingExpires, Operates, unchanged, without_set, after_change, after_claim_heard, after_master, after_member, after_message, behind, after_notice, refused_by, with_place, after_action, after_operator, outcome}
-use Rattle.vt_server.specs.Places.{Place, heard_at, with_pool}
+use Rattle.vt_server.specs.Parts.{AddressView, AddressOutcome, Act, Hears, TpExpires, EtpExpires, SendingExpires, Operates, unchanged, without_set, after_change, after_claim_heard, after_master, after_member, after_message, behind, after_notice, refused_by, with_place, after_action, after_operator, outcome}
+use Rattle.vt_server.specs.Places.{AddressState, heard_at, with_pool}
 use Rattle.vt_node.specs.Receiving.{taken}
 use Rattle.vt_laws.specs.Sending.{HasByte}
 use Rattle.vt_server.specs.Sessions.{came, message_to_terminal}
-use Rattle.vt_server.specs.Steps.{Event, FrameAt, ActionAt, step, before, changes, heard_at_source, acts, answer_to, is_lost_by, is_defended, defence, settled, sent_by_settling, losing, acting, no_step, step_frame, has_no_set, selecting, at_shown, no_set, step_action}
+use Rattle.vt_server.specs.Steps.{JudgedInput, FrameAt, ActionAt, step, before, changes, heard_at_source, acts, answer_to, is_lost_by, is_defended, defence, settled, sent_by_settling, losing, acting, no_step, step_frame, has_no_set, selecting, at_shown, no_set, step_action}
 use Rattle.vt_server.specs.Terminals.{State, Sent, ToOne, ToAll, part, after_act, after_acts, sent_by_act, sent_by_acts, to_address, refusal}
 use Rattle.vt_server.specs.Transfers.{Verdict}
-use Rattle.vt_node.specs.declared.bus.Notice.{Notice}
-use Rattle.vt_node.specs.declared.bus.Notice.TheVariants.{Claim, ClaimRequest, Master, Member, Message, Tp, Etp, Nothing}
+use Rattle.vt_node.specs.declared.bus.FrameMeaning.{FrameMeaning}
+use Rattle.vt_node.specs.declared.bus.FrameMeaning.TheVariants.{Claim, ClaimRequest, Master, Member, Message, Tp, Etp, Nothing}
 use Rattle.vt_server.specs.declared.output.OperatorFault.TheVariants.{Busy}
 use Rattle.vt_server.proofs.ActsAt.{AllAt, at-append, at-below, at-changes, at-heard, at-change}
 use Rattle.vt_laws.proofs.Packets.{option-few, one_if, tp-few, one-few}
@@ -39,24 +39,24 @@ use Rattle.vt_server.proofs.Puts.{sent_by_one-is}
 
 -- ---- the outputs of an act
 
-outputs-length : (a : ℕ) (after : Outcome) → length (to_address a after) ≡ length after.frames + length (refusal after.refused)
+outputs-length : (a : ℕ) (after : AddressOutcome) → length (to_address a after) ≡ length after.frames + length (refusal after.refused)
 outputs-length a after =
     length-append (map (ToOne a) after.frames) (refusal after.refused)
     ∙ ap (λ n. n + length (refusal after.refused)) (length-map after.frames (ToOne a))
 
 -- frames alone
-frames-few : (a n : ℕ) (after : Outcome) → after.refused ≡ None → length after.frames ≤ n → length (to_address a after) ≤ n
+frames-few : (a n : ℕ) (after : AddressOutcome) → after.refused ≡ None → length after.frames ≤ n → length (to_address a after) ≤ n
 frames-few a n after none few =
     let is = outputs-length a after in
     let zero-more : length (refusal after.refused) ≡ 0 = ap (λ o. length (refusal o)) none in
     omega arith
 
-message-few : (a : ℕ) (p : Part) (verdict : Verdict) (o : Option Set) (bytes : Option (List ℕ)) → length (after_message a p verdict o bytes).frames ≤ one_if bytes
+message-few : (a : ℕ) (p : AddressView) (verdict : Verdict) (o : Option Set) (bytes : Option (List ℕ)) → length (after_message a p verdict o bytes).frames ≤ one_if bytes
 message-few a p verdict None bytes = omega arith
 message-few a p verdict (Some set) None = omega arith
 message-few a p verdict (Some set) (Some bytes) = option-few (message_to p.terminal a) (handled p.place.content verdict bytes).reply
 
-message-refused : (a : ℕ) (p : Part) (verdict : Verdict) (o : Option Set) (bytes : Option (List ℕ)) → (after_message a p verdict o bytes).refused ≡ None
+message-refused : (a : ℕ) (p : AddressView) (verdict : Verdict) (o : Option Set) (bytes : Option (List ℕ)) → (after_message a p verdict o bytes).refused ≡ None
 message-refused a p verdict None bytes = refl
 message-refused a p verdict (Some set) None = refl
 message-refused a p verdict (Some set) (Some bytes) = refl
@@ -69,7 +69,7 @@ to_terminal-few (Some message) = cases (eqb message.pgn 0xE700)
     cases true = omega arith
     cases false = omega arith
 
-came-few : (now own a : ℕ) (place : Place) (n : Notice) (frame : Frame) → slice_index frame.bytes.items 1 < 256 → let c = came now own a place n frame in
+came-few : (now own a : ℕ) (place : AddressState) (n : FrameMeaning) (frame : Frame) → slice_index frame.bytes.items 1 < 256 → let c = came now own a place n frame in
     length c.frames + one_if c.message ≤ 255
 came-few now own a place (Claim name) frame small = omega arith
 came-few now own a place ClaimRequest frame small = omega arith
@@ -90,23 +90,23 @@ came-few now own a place Etp frame small =
     omega arith
 came-few now own a place Nothing frame small = omega arith
 
-silent-none : (a : ℕ) (p : Part) (verdict : Verdict) (o : Option Set) → length (to_address a (behind [] (after_message a p verdict o None))) ≤ 0
+silent-none : (a : ℕ) (p : AddressView) (verdict : Verdict) (o : Option Set) → length (to_address a (behind [] (after_message a p verdict o None))) ≤ 0
 silent-none a p verdict None = omega arith
 silent-none a p verdict (Some set) = omega arith
 
-claim-none : (a : ℕ) (p : Part) (o : Option Set) → length (to_address a (after_claim_heard p o)) ≤ 0
+claim-none : (a : ℕ) (p : AddressView) (o : Option Set) → length (to_address a (after_claim_heard p o)) ≤ 0
 claim-none a p None = omega arith
 claim-none a p (Some set) = omega arith
 
-master-none : (a : ℕ) (p : Part) (o : Option ℕ) (count : ℕ) → length (to_address a (after_master a p o count)) ≤ 0
+master-none : (a : ℕ) (p : AddressView) (o : Option ℕ) (count : ℕ) → length (to_address a (after_master a p o count)) ≤ 0
 master-none a p None count = omega arith
 master-none a p (Some h) count = omega arith
 
-member-none : (a : ℕ) (p : Part) (o : Option Set) (name : ℕ) → length (to_address a (after_member p o name)) ≤ 0
+member-none : (a : ℕ) (p : AddressView) (o : Option Set) (name : ℕ) → length (to_address a (after_member p o name)) ≤ 0
 member-none a p None name = omega arith
 member-none a p (Some set) name = omega arith
 
-change-none : (a : ℕ) (p : Part) (o : Option Set) → length (to_address a (after_change p o)) ≤ 0
+change-none : (a : ℕ) (p : AddressView) (o : Option Set) → length (to_address a (after_change p o)) ≤ 0
 change-none a p None = omega arith
 change-none a p (Some set) = cases (option_eq nat_eq set.name None || option_eq nat_eq set.name p.holder)
   where
@@ -114,8 +114,8 @@ change-none a p (Some set) = cases (option_eq nat_eq set.name None || option_eq 
     cases true = omega arith
     cases false = omega arith
 
-module _ (now a : ℕ) (p : Part) (frame : Frame) (verdict : Verdict) (small : slice_index frame.bytes.items 1 < 256) where
-  carried-few : (n : Notice) → let c = came now p.terminal a p.place n frame in let after = after_message a (record p { place = c.place }) verdict p.set c.message in
+module _ (now a : ℕ) (p : AddressView) (frame : Frame) (verdict : Verdict) (small : slice_index frame.bytes.items 1 < 256) where
+  carried-few : (n : FrameMeaning) → let c = came now p.terminal a p.place n frame in let after = after_message a (record p { place = c.place }) verdict p.set c.message in
       length (to_address a (record after { frames = c.frames ++ after.frames })) ≤ 255
   carried-few n =
       let c = came now p.terminal a p.place n frame in
@@ -125,7 +125,7 @@ module _ (now a : ℕ) (p : Part) (frame : Frame) (verdict : Verdict) (small : s
       let both = length-append c.frames after.frames in
       frames-few a 255 (record after { frames = c.frames ++ after.frames }) (message-refused a (record p { place = c.place }) verdict p.set c.message) (omega arith)
 
-  notice-few : (n : Notice) → length (to_address a (after_notice now a p n frame verdict)) ≤ 255
+  notice-few : (n : FrameMeaning) → length (to_address a (after_notice now a p n frame verdict)) ≤ 255
   notice-few (Claim name) = let none = claim-none a p p.set in omega arith
   notice-few ClaimRequest = carried-few ClaimRequest
   notice-few (Master count) = let none = master-none a p p.holder count in omega arith
@@ -135,7 +135,7 @@ module _ (now a : ℕ) (p : Part) (frame : Frame) (verdict : Verdict) (small : s
   notice-few Etp = carried-few Etp
   notice-few Nothing = carried-few Nothing
 
-either-few : (a n : ℕ) (b : Bool) (x y : Outcome) → length (to_address a x) ≤ n → length (to_address a y) ≤ n → length (to_address a (cond b x y)) ≤ n
+either-few : (a n : ℕ) (b : Bool) (x y : AddressOutcome) → length (to_address a x) ≤ n → length (to_address a y) ≤ n → length (to_address a (cond b x y)) ≤ n
 either-few a n true x y first second = first
 either-few a n false x y first second = second
 
@@ -147,14 +147,14 @@ message_frames-few own a (byte ∷ bytes) = cases (is_long (byte ∷ bytes))
     cases true = omega arith
     cases false = omega arith
 
-action-few : (now a : ℕ) (p : Part) (o : Option operating.Action) → length (to_address a (after_action now a p o)) ≤ 1
+action-few : (now a : ℕ) (p : AddressView) (o : Option operating.Action) → length (to_address a (after_action now a p o)) ≤ 1
 action-few now a p None = omega arith
 action-few now a p (Some (operating.Refused refusal)) = omega arith
 action-few now a p (Some (operating.Acts message start raised)) =
     let acted = with_place p (record (with_pool p.place (Some (ran start raised))) { sending = sending_after now message p.place.sending }) (message_frames p.terminal a message) in
     either-few a 1 (is_busy message p.place.sending) (refused_by p Busy) acted (omega arith) (frames-few a 1 acted refl (message_frames-few p.terminal a message))
 
-operator-few : (now a : ℕ) (p : Part) (action : ActionValue) (shown : Bool) (o : Option SetState) → length (to_address a (after_operator now a p action shown o)) ≤ 1
+operator-few : (now a : ℕ) (p : AddressView) (action : ActionValue) (shown : Bool) (o : Option SetState) → length (to_address a (after_operator now a p action shown o)) ≤ 1
 operator-few now a p action shown None = omega arith
 operator-few now a p action shown (Some state) = action-few now a p (action_on state shown action)
 
@@ -219,7 +219,7 @@ lapses-few s =
 
 -- ---- the end of a step
 
-status-few : (own : ℕ) (was now : Display) → length (status own was now) ≤ 1
+status-few : (own : ℕ) (was now : ShownMasks) → length (status own was now) ≤ 1
 status-few own was now = cases (same_display was now)
   where
     cases : (b : Bool) → length (cond b [] (ToAll (status_frame own now) ∷ [])) ≤ 1
@@ -250,7 +250,7 @@ heard-few s false a h few =
 
 module _ (old s : State) (source : ℕ) (f : Frame) (verdict : Verdict) (small : slice_index f.bytes.items 1 < 256) where
   -- a claim, or a request of one, is answered to all alone
-  answered-few : (n : Notice) → SendsFew 0 (Hears n f verdict) → length (acting old s source n f verdict).sent ≤ 2
+  answered-few : (n : FrameMeaning) → SendsFew 0 (Hears n f verdict) → length (acting old s source n f verdict).sent ≤ 2
   answered-few n none =
       let t = before s source n in
       let hs = acts s source n f verdict in
@@ -264,7 +264,7 @@ module _ (old s : State) (source : ℕ) (f : Frame) (verdict : Verdict) (small :
       omega arith
 
   -- and any other frame to its source
-  source-few : (n : Notice) → defence s source n ≡ [] → changes s source n ≡ [] → length (acting old s source n f verdict).sent ≤ 256
+  source-few : (n : FrameMeaning) → defence s source n ≡ [] → changes s source n ≡ [] → length (acting old s source n f verdict).sent ≤ 256
   source-few n no-claim no-change =
       let t = before s source n in
       let hs = acts s source n f verdict in
@@ -277,7 +277,7 @@ module _ (old s : State) (source : ℕ) (f : Frame) (verdict : Verdict) (small :
       let last = settling-few old (after_acts t hs) in
       omega arith
 
-  acting-few : (n : Notice) → length (acting old s source n f verdict).sent ≤ 256
+  acting-few : (n : FrameMeaning) → length (acting old s source n f verdict).sent ≤ 256
   acting-few (Claim name) = let few = answered-few (Claim name) (λ x a. claim-none a (record (part a x) { place = heard_at x.now (x.places a) }) (part a x).set) in omega arith
   acting-few ClaimRequest = let few = answered-few ClaimRequest (λ x a. silent-none a (record (part a x) { place = heard_at x.now (x.places a) }) verdict (part a x).set) in omega arith
   acting-few (Master count) = source-few (Master count) refl refl
@@ -287,7 +287,7 @@ module _ (old s : State) (source : ℕ) (f : Frame) (verdict : Verdict) (small :
   acting-few Etp = source-few Etp refl refl
   acting-few Nothing = source-few Nothing refl refl
 
-  hearing-few : (n : Notice) (b : Bool) → length (cond b (losing s) (acting old s source n f verdict)).sent ≤ 256
+  hearing-few : (n : FrameMeaning) (b : Bool) → length (cond b (losing s) (acting old s source n f verdict)).sent ≤ 256
   hearing-few n true = omega arith
   hearing-few n false = acting-few n
 
@@ -324,7 +324,7 @@ action-sent-few s action shown =
     let both = length-append (no_set (has_no_set s action)) (sent_by_acts u hs) in
     omega arith
 
-pub step-few : (s : State) (e : Event) → HasByte e → length (step s e).sent ≤ 1024
+pub step-few : (s : State) (e : JudgedInput) → HasByte e → length (step s e).sent ≤ 1024
 step-few s (FrameAt time f verdict) small = cases s.lost
   where
     cases : (b : Bool) → length (cond b (no_step s) (step_frame s time f verdict)).sent ≤ 1024

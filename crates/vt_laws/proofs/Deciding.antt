@@ -18,13 +18,13 @@ use Rattle.vt_server.specs.Orderly.{IsOrderly, IsOther}
 use Rattle.vt_server.specs.Lapses.{at_time, lapsed}
 use Rattle.vt_node.specs.Watches.{is_silent}
 use Rattle.vt_server.specs.Operators.{object_of}
-use Rattle.vt_server.specs.Parts.{Part, Outcome, untimed_part}
+use Rattle.vt_server.specs.Parts.{AddressView, AddressOutcome, untimed_part}
 use Rattle.vt_server.specs.Sessions.{Came}
-use Rattle.vt_server.specs.Steps.{Event, FrameAt, ActionAt, step, hear_claim}
+use Rattle.vt_server.specs.Steps.{JudgedInput, FrameAt, ActionAt, step, hear_claim}
 use Rattle.vt_server.specs.Terminals.{State, part, pool_at}
 use Rattle.vt_server.specs.Transfers.{Verdict}
-use Rattle.vt_node.specs.declared.bus.Notice.{Notice}
-use Rattle.vt_node.specs.declared.bus.Notice.TheVariants.{Claim, ClaimRequest, Master, Member, Message, Tp, Etp, Nothing}
+use Rattle.vt_node.specs.declared.bus.FrameMeaning.{FrameMeaning}
+use Rattle.vt_node.specs.declared.bus.FrameMeaning.TheVariants.{Claim, ClaimRequest, Master, Member, Message, Tp, Etp, Nothing}
 use Rattle.vt_server.proofs.Changes.{option-true}
 use Rattle.vt_laws.proofs.Happened.{notice-there}
 use Rattle.vt_server.proofs.Keeping.{claims-lapsed, other-step}
@@ -38,29 +38,29 @@ use Rattle.vt_names.proofs.Hearing.{option_same}
 
 -- ---- what is rightly found, by the part of the address alone
 
-abbrev IsOwnFound : ℕ → Part → Happening → Type 0
+abbrev IsOwnFound : ℕ → AddressView → Happening → Type 0
 IsOwnFound a p (FrameHeard f verdict) = IsJudged 0 a p (frame_notice p.terminal f) f verdict
 IsOwnFound a p (Operated action shown) = IsSeenIn p.place.content.pool (object_of action) shown
 IsOwnFound a p _ = Unit {0}
 
-abbrev AreOwnFound : ℕ → Part → List Happening → Type 0
+abbrev AreOwnFound : ℕ → AddressView → List Happening → Type 0
 AreOwnFound a p [] = Unit {0}
 AreOwnFound a p (h ∷ hs) = IsOwnFound a p h × AreOwnFound a (response a p h).part hs
 
-found-append : (a : ℕ) (p : Part) (xs ys : List Happening) → AreOwnFound a p xs → AreOwnFound a (part_after_all a p xs) ys → AreOwnFound a p (xs ++ ys)
+found-append : (a : ℕ) (p : AddressView) (xs ys : List Happening) → AreOwnFound a p xs → AreOwnFound a (part_after_all a p xs) ys → AreOwnFound a p (xs ++ ys)
 found-append a p [] ys found rest = rest
 found-append a p (x ∷ xs) ys found rest = (found.0, found-append a (response a p x).part xs ys found.1 rest)
 
 -- ---- happenings with which nothing is found
 
 abbrev IsPlain : Happening → Type 0
-IsPlain h = (a : ℕ) (p : Part) → IsOwnFound a p h
+IsPlain h = (a : ℕ) (p : AddressView) → IsOwnFound a p h
 
 abbrev ArePlain : List Happening → Type 0
 ArePlain [] = Unit {0}
 ArePlain (h ∷ hs) = IsPlain h × ArePlain hs
 
-plain-found : (a : ℕ) (p : Part) (hs : List Happening) → ArePlain hs → AreOwnFound a p hs
+plain-found : (a : ℕ) (p : AddressView) (hs : List Happening) → ArePlain hs → AreOwnFound a p hs
 plain-found a p [] plain = tt
 plain-found a p (h ∷ hs) plain = (plain.0 a p, plain-found a (response a p h).part hs plain.1)
 
@@ -108,7 +108,7 @@ never-ends None e = absurd (false≢true e)
 never-ends (Some set) e = absurd (false≢true e)
 
 module _ (laws : Laws) where
-  judged-timeless : (now a : ℕ) (p : Part) (n : Notice) (f : Frame) (verdict : Verdict) → IsJudged now a p n f verdict → IsJudged 0 a (untimed_part p) n f verdict
+  judged-timeless : (now a : ℕ) (p : AddressView) (n : FrameMeaning) (f : Frame) (verdict : Verdict) → IsJudged now a p n f verdict → IsJudged 0 a (untimed_part p) n f verdict
   judged-timeless now a p n f verdict judged =
       λ e. judged (ap (λ (c : Came). ends_transfer p.set c.message) (came-timeless laws now p.terminal a p.place n f) ∙ e)
 
@@ -132,14 +132,14 @@ module _ (laws : Laws) where
     claim-right name is =
         let q = part_after_all a (bare a u) (holder_change a u.claims (hear_claim u (source_of f) (Claim name))) in
         let said = ap (λ (t : ℕ). frame_notice t f) (terminal-after (hear_claim u (source_of f) (Claim name))) ∙ is in
-        subst (λ (n : Notice). IsJudged 0 a q n f verdict) (sym said) (λ e. never-ends q.set e)
+        subst (λ (n : FrameMeaning). IsJudged 0 a q n f verdict) (sym said) (λ e. never-ends q.set e)
 
-    same-right : (n : Notice) → frame_notice own f ≡ n → IsJudged u.now a (part a u) n f verdict → IsRightAfter (holder_change a u.claims u.claims)
+    same-right : (n : FrameMeaning) → frame_notice own f ≡ n → IsJudged u.now a (part a u) n f verdict → IsRightAfter (holder_change a u.claims u.claims)
     same-right n is judged =
         subst IsRightAfter (sym (same-holder a u.claims))
-        (subst (λ (m : Notice). IsJudged 0 a (bare a u) m f verdict) (sym is) (judged-timeless u.now a (part a u) n f verdict judged))
+        (subst (λ (m : FrameMeaning). IsJudged 0 a (bare a u) m f verdict) (sym is) (judged-timeless u.now a (part a u) n f verdict judged))
 
-    notice-right : (n : Notice) → frame_notice own f ≡ n → IsJudged u.now a (part a u) n f verdict → IsRightAfter (holder_change a u.claims (hear_claim u (source_of f) n))
+    notice-right : (n : FrameMeaning) → frame_notice own f ≡ n → IsJudged u.now a (part a u) n f verdict → IsRightAfter (holder_change a u.claims (hear_claim u (source_of f) n))
     notice-right (Claim name) is judged = claim-right name is
     notice-right ClaimRequest is judged = same-right ClaimRequest is judged
     notice-right (Master count) is judged = same-right (Master count) is judged
@@ -149,7 +149,7 @@ module _ (laws : Laws) where
     notice-right Etp is judged = same-right Etp is judged
     notice-right Nothing is judged = same-right Nothing is judged
 
-    abbrev m : Notice
+    abbrev m : FrameMeaning
     m = notice_of own u.claims.name f
 
     heard-found : IsJudged u.now (source_of f) (part (source_of f) u) m f verdict → AreOwnFound a (bare a u) (heard_happenings a u f verdict)
@@ -158,7 +158,7 @@ module _ (laws : Laws) where
         (plain-found a (bare a u) (holder_change a u.claims (claims_after u f)) (holder-plain a u.claims (claims_after u f)))
         (cases (eqb (source_of f) a) (λ here. right (eqb-true (source_of f) a here)))
       where
-        q : Part
+        q : AddressView
         q = part_after_all a (bare a u) (holder_change a u.claims (claims_after u f))
 
         right : source_of f ≡ a → IsOwnFound a q (FrameHeard f verdict)
@@ -207,7 +207,7 @@ module _ (laws : Laws) where
       cases true is = (is refl, tt)
       cases false is = tt
 
-  step-found : (a : ℕ) (s : State) (e : Event) → IsOrderly s → IsOther a s → IsFound s e → AreOwnFound a (own_part a s) (happenings a s e)
+  step-found : (a : ℕ) (s : State) (e : JudgedInput) → IsOrderly s → IsOther a s → IsFound s e → AreOwnFound a (own_part a s) (happenings a s e)
   step-found a s (FrameAt time f verdict) orderly other found = cases s.lost refl
     where
       hs : List Happening
@@ -225,7 +225,7 @@ module _ (laws : Laws) where
       cases true lost = tt
       cases false has = subst (λ p. AreOwnFound a p hs) (sym (own-bare a s has)) (action-found a s action shown (found has))
 
-  all-found : (a : ℕ) (s : State) (xs : List Event) → IsOrderly s → IsOther a s → AreFound s xs → AreOwnFound a (own_part a s) (happenings_all a s xs)
+  all-found : (a : ℕ) (s : State) (xs : List JudgedInput) → IsOrderly s → IsOther a s → AreFound s xs → AreOwnFound a (own_part a s) (happenings_all a s xs)
   all-found a s [] orderly other found = tt
   all-found a s (e ∷ xs) orderly other found =
       let later = happenings_all a (step s e).after xs in
@@ -236,24 +236,24 @@ module _ (laws : Laws) where
 -- ---- like happenings, with right findings
 
 module _ (judging : Judging) (a : ℕ) where
-  response-one : (p : Part) (h k : Happening) → AreAlike h k → IsOwnFound a p h → IsOwnFound a p k → response a p h ≡ response a p k
+  response-one : (p : AddressView) (h k : Happening) → AreAlike h k → IsOwnFound a p h → IsOwnFound a p k → response a p h ≡ response a p k
   response-one p (FrameHeard f v) (FrameHeard g w) same is too =
       let n = frame_notice p.terminal f in
       let right = subst (λ (x : Frame). IsJudged 0 a p (frame_notice p.terminal x) x w) (sym same) too in
-      ap (λ (o : Outcome). cond p.lost (record { part = p; frames = [] }) (response_of p o)) (heard-one judging 0 a p n f v w is right)
+      ap (λ (o : AddressOutcome). cond p.lost (record { part = p; frames = [] }) (response_of p o)) (heard-one judging 0 a p n f v w is right)
       ∙ ap (λ (x : Frame). response a p (FrameHeard x w)) same
   response-one p (Operated x b) (Operated y d) same is too =
       let right = subst (λ (z : ActionValue). IsSeenIn p.place.content.pool (object_of z) d) (sym same) too in
-      ap (λ (o : Outcome). cond p.lost (record { part = p; frames = [] }) (response_of p o)) (operator-one 0 a p x b d p.place.content.pool is right)
+      ap (λ (o : AddressOutcome). cond p.lost (record { part = p; frames = [] }) (response_of p o)) (operator-one 0 a p x b d p.place.content.pool is right)
       ∙ ap (λ (z : ActionValue). response a p (Operated z d)) same
   response-one p h k same is too = ap (response a p) same
 
   -- what an address makes of either
-  record AreOne (p : Part) (hs ks : List Happening) : Type 0 where
+  record AreOne (p : AddressView) (hs ks : List Happening) : Type 0 where
     pub part : part_after_all a p hs ≡ part_after_all a p ks
     pub frames : frames_of_all a p hs ≡ frames_of_all a p ks
 
-  alike-one : (p : Part) (hs ks : List Happening) → AreOwnFound a p hs → AreOwnFound a p ks → AllZip AreAlike hs ks → AreOne p hs ks
+  alike-one : (p : AddressView) (hs ks : List Happening) → AreOwnFound a p hs → AreOwnFound a p ks → AllZip AreAlike hs ks → AreOne p hs ks
   alike-one p [] [] found too alike = record { part = refl; frames = refl }
   alike-one p [] (k ∷ ks) found too alike = absurd alike
   alike-one p (h ∷ hs) [] found too alike = absurd alike
@@ -277,7 +277,7 @@ decide laws judging = record {
   alike = λ a s t xs ys here there other then-other found too same alike.
       let hs = happenings_all a s xs in
       let ks = happenings_all a t ys in
-      let moved = subst (λ (p : Part). AreOwnFound a p ks) (sym same) (all-found laws a t ys there then-other too) in
+      let moved = subst (λ (p : AddressView). AreOwnFound a p ks) (sym same) (all-found laws a t ys there then-other too) in
       let one = alike-one judging a (own_part a s) hs ks (all-found laws a s xs here other found) moved alike in
       record {
         part = part-all laws a s xs here other ∙ one.part ∙ ap (λ p. part_after_all a p ks) same ∙ sym (part-all laws a t ys there then-other);

@@ -9,7 +9,7 @@ use Rattle.vt_names.specs.Registry.{Set}
 use Rattle.vt_commands.specs.declared.command.Command.{Command}
 use Rattle.vt_commands.specs.Commands.{command_at}
 use Rattle.vt_commands.specs.Events.{event_at}
-use Rattle.vt_stores.specs.Stores.{Contents}
+use Rattle.vt_stores.specs.Stores.{ObjectMap}
 use Rattle.vt_effects.specs.Effects.{effect}
 use Rattle.vt_machine.specs.Lives.{SetState, working_set_in}
 use Rattle.vt_macros.specs.Machines.{events_of}
@@ -19,10 +19,10 @@ use Rattle.vt_server.specs.Findings.{ends_transfer}
 use Rattle.vt_server.specs.Handling.{END_OF_POOL}
 use Rattle.vt_laws.specs.Headline.{Pools, Run, IsInForce, EndsInTime, accepted_at, accepted_with, runs_of_effect, runs_of_command, runs_of_message, runs_of_action, runs_of_operator, runs_of_event, runs_at, named}
 use Rattle.vt_server.specs.Operators.{action_on, is_busy}
-use Rattle.vt_server.specs.Parts.{Part, Act, Hears, Rebinds, Preloads, TpExpires, EtpExpires, SendingExpires, FallsSilent, Operates, Raises}
+use Rattle.vt_server.specs.Parts.{AddressView, Act, Hears, Rebinds, Preloads, TpExpires, EtpExpires, SendingExpires, FallsSilent, Operates, Raises}
 use Rattle.vt_server.specs.Sessions.{came}
 use Rattle.vt_server.specs.Transfers.{Verdict}
-use Rattle.vt_node.specs.declared.bus.Notice.{Notice}
+use Rattle.vt_node.specs.declared.bus.FrameMeaning.{FrameMeaning}
 use Rattle.vt_node.proofs.ByAddress.{at-own, at-other}
 use Rattle.vt_names.proofs.Holding.{by_eq}
 use Rattle.vt_laws.proofs.FewRaised.{few-events, few-named}
@@ -40,10 +40,10 @@ AllInTime pools rs = AllByRecursion (InTime pools) rs
 pub in-time-at : (pools others : Pools) → ((q : ℕ) → others q ≡ pools q) → (rs : List Run) → AllInTime pools rs → AllInTime others rs
 in-time-at pools others same [] all = tt
 in-time-at pools others same (run ∷ rs) all =
-    (subst (λ (last : Option Contents). EndsInTime last run) (sym (same run.address)) all.0, in-time-at pools others same rs all.1)
+    (subst (λ (last : Option ObjectMap). EndsInTime last run) (sym (same run.address)) all.0, in-time-at pools others same rs all.1)
 
 -- what was accepted stays where the same is written
-pub stays-at : (pools : Pools) (a : ℕ) (x : Option Contents) → x ≡ pools a → (q : ℕ) → with_at a x pools q ≡ pools q
+pub stays-at : (pools : Pools) (a : ℕ) (x : Option ObjectMap) → x ≡ pools a → (q : ℕ) → with_at a x pools q ≡ pools q
 stays-at pools a x is q =
     by_eq q a
     (λ same. ap (with_at a x pools) same ∙ at-own a pools x ∙ is ∙ ap pools (sym same))
@@ -53,7 +53,7 @@ module _ (laws : Laws) (pools : Pools) (a : ℕ) where
   -- ---- messages
 
   -- the run of a command that is done
-  done-runs : (state : SetState) (command : Command) → IsInForce (pools a) state → (r : Result Contents ℕ) → effect state.objects command ≡ r
+  done-runs : (state : SetState) (command : Command) → IsInForce (pools a) state → (r : Result ObjectMap ℕ) → effect state.objects command ≡ r
       → AllInTime pools (runs_of_effect a state.objects command r)
   done-runs state command is (Ok middle) done = (
     run-ends laws (pools a) a state.objects is.accepted middle (events_of state.objects command) is.is_last is.verified
@@ -100,14 +100,14 @@ module _ (laws : Laws) (pools : Pools) (a : ℕ) where
           in-time-at pools (with_at a (pools a) pools) (stays-at pools a (pools a) refl) rs (command-runs pool (command_at (function ∷ bytes)) is)
 
   -- the runs of a frame, by what is accepted with it
-  pub heard-runs : (now : ℕ) (p : Part) (n : Notice) (f : Frame) (verdict : Verdict) → IsEach (pools a) p.place.content.pool
+  pub heard-runs : (now : ℕ) (p : AddressView) (n : FrameMeaning) (f : Frame) (verdict : Verdict) → IsEach (pools a) p.place.content.pool
       → AllInTime (with_at a (accepted_at now a p (Hears n f verdict) (pools a)) pools) (runs_at now a p (Hears n f verdict))
   heard-runs now p n f verdict is = ending-runs p.set p.place.content.pool (came now p.terminal a p.place n f).message verdict is
 
   -- ---- the operator, and events of the Working Set
 
   -- of an action that is not refused
-  action-runs : (sending : Option (Timed Message)) (old : Contents) (o : Option operating.Action) → ActsInForce laws (pools a) o
+  action-runs : (sending : Option (Timed Message)) (old : ObjectMap) (o : Option operating.Action) → ActsInForce laws (pools a) o
       → AllInTime pools (runs_of_action a sending old o)
   action-runs sending old None acts = tt
   action-runs sending old (Some (operating.Refused refusal)) acts = tt
@@ -137,7 +137,7 @@ module _ (laws : Laws) (pools : Pools) (a : ℕ) where
   -- ---- an act
 
   -- the runs of any act, by what was accepted before it
-  pub act-runs : (now : ℕ) (p : Part) (h : Act) → IsEach (pools a) p.place.content.pool → AllInTime pools (runs_at now a p h)
+  pub act-runs : (now : ℕ) (p : AddressView) (h : Act) → IsEach (pools a) p.place.content.pool → AllInTime pools (runs_at now a p h)
   act-runs now p (Hears n f verdict) is = message-runs p.set p.place.content.pool (came now p.terminal a p.place n f).message is
   act-runs now p Rebinds is = tt
   act-runs now p (Preloads contents) is = tt

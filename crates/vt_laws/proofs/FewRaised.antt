@@ -7,7 +7,7 @@ use Rattle.vt_commands.specs.declared.event.Event.{Event}
 use Rattle.vt_commands.specs.declared.event.Event.TheVariants as events
 use Rattle.vt_commands.specs.declared.raising.Raised.{Raised}
 use Rattle.vt_commands.specs.Events.{raise}
-use Rattle.vt_stores.specs.Stores.{Contents}
+use Rattle.vt_stores.specs.Stores.{ObjectMap}
 use Rattle.vt_machine.specs.Entering.{entry_events}
 use Rattle.vt_macros.specs.Machines.{mask_of, events_of}
 use Rattle.vt_machine.specs.Operating as operating
@@ -26,7 +26,7 @@ few-masks : (b c : Bool) (w x y z : Raised) → length (cond b (w ∷ []) (cond 
 few-masks true c w x y z = omega arith
 few-masks false c w x y z = few-hidden c x y z
 
-pub few-events : (store : Contents) (command : Command) → length (events_of store command) ≤ 3
+pub few-events : (store : ObjectMap) (command : Command) → length (events_of store command) ≤ 3
 few-events store (commands.HideShow id state) = few-state (eqb state 1) (eqb state 0) (raise id events.Show) (raise id events.Hide)
 few-events store (commands.EnableDisable id state) = few-state (eqb state 1) (eqb state 0) (raise id events.Enable) (raise id events.Disable)
 few-events store (commands.ChangeActiveMask set mask) =

@@ -8,7 +8,7 @@ use Rattle.vt_can.specs.transport.Messages.{Message}
 use Rattle.vt_names.specs.Registry.{Set}
 use Rattle.vt_commands.specs.declared.command.Command.{Command}
 use Rattle.vt_commands.specs.Commands.{command_at}
-use Rattle.vt_stores.specs.Stores.{Contents}
+use Rattle.vt_stores.specs.Stores.{ObjectMap}
 use Rattle.vt_effects.specs.Effects.{effect}
 use Rattle.vt_machine.specs.Lives.{SetState}
 use Rattle.vt_machine.specs.Operating as operating
@@ -17,12 +17,12 @@ use Rattle.vt_server.specs.Choosing.{choosing, shown_now, events_of_change, rais
 use Rattle.vt_laws.specs.Headline.{Run, runs_of_effect, runs_of_command, runs_of_message, runs_of_action, runs_of_operator, runs_of_event, runs_at, runs_of_acts, runs_of_settling, runs_of_hearing, runs_of_operating, runs}
 use Rattle.vt_server.specs.Lapses.{at_time, lapsed}
 use Rattle.vt_server.specs.Operators.{action_on, is_busy}
-use Rattle.vt_server.specs.Parts.{Part, Act, Hears, Rebinds, Preloads, TpExpires, EtpExpires, SendingExpires, FallsSilent, Operates, Raises}
+use Rattle.vt_server.specs.Parts.{AddressView, Act, Hears, Rebinds, Preloads, TpExpires, EtpExpires, SendingExpires, FallsSilent, Operates, Raises}
 use Rattle.vt_server.specs.Sessions.{came}
-use Rattle.vt_server.specs.Steps.{Event, FrameAt, ActionAt, before, acts, acted, answer_to, is_lost_by, changes, heard_at_source, selecting, at_shown}
+use Rattle.vt_server.specs.Steps.{JudgedInput, FrameAt, ActionAt, before, acts, acted, answer_to, is_lost_by, changes, heard_at_source, selecting, at_shown}
 use Rattle.vt_server.specs.Terminals.{State, part, after_act, after_acts}
 use Rattle.vt_server.specs.Transfers.{Verdict}
-use Rattle.vt_node.specs.declared.bus.Notice.{Notice}
+use Rattle.vt_node.specs.declared.bus.FrameMeaning.{FrameMeaning}
 use Rattle.vt_server.proofs.ActsAt.{AllAt, at-changes}
 
 length-append : {A : Type 0} (xs ys : List A) → length (xs ++ ys) ≡ length xs + length ys
@@ -34,7 +34,7 @@ few-append xs ys m n first second = let all = length-append xs ys in omega (arit
 
 -- ---- one at each act
 
-effect-runs : (a : ℕ) (old : Contents) (command : Command) (r : Result Contents ℕ) → length (runs_of_effect a old command r) ≤ 1
+effect-runs : (a : ℕ) (old : ObjectMap) (command : Command) (r : Result ObjectMap ℕ) → length (runs_of_effect a old command r) ≤ 1
 effect-runs a old command (Ok middle) = omega arith
 effect-runs a old command (Err bits) = omega arith
 
@@ -48,7 +48,7 @@ message-runs a None o message = omega arith
 message-runs a (Some set) o None = omega arith
 message-runs a (Some set) o (Some bytes) = command-runs a o (command_at bytes)
 
-action-runs : (a : ℕ) (sending : Option (Timed Message)) (old : Contents) (o : Option operating.Action) → length (runs_of_action a sending old o) ≤ 1
+action-runs : (a : ℕ) (sending : Option (Timed Message)) (old : ObjectMap) (o : Option operating.Action) → length (runs_of_action a sending old o) ≤ 1
 action-runs a sending old None = omega arith
 action-runs a sending old (Some (operating.Refused refusal)) = omega arith
 action-runs a sending old (Some (operating.Acts message start raised)) = cases (is_busy message sending)
@@ -66,7 +66,7 @@ event-runs : (a : ℕ) (o : Option SetState) (event : ℕ) → length (runs_of_e
 event-runs a None event = omega arith
 event-runs a (Some state) event = omega arith
 
-act-few : (now a : ℕ) (p : Part) (h : Act) → length (runs_at now a p h) ≤ 1
+act-few : (now a : ℕ) (p : AddressView) (h : Act) → length (runs_at now a p h) ≤ 1
 act-few now a p (Hears n f verdict) = message-runs a p.set p.place.content.pool (came now p.terminal a p.place n f).message
 act-few now a p Rebinds = omega arith
 act-few now a p (Preloads contents) = omega arith
@@ -91,7 +91,7 @@ abbrev IsRebound : ℕ → Act → Type 0
 IsRebound a Rebinds = Unit {0}
 IsRebound a _ = ⊥
 
-rebound-runs : (now a : ℕ) (p : Part) (h : Act) → IsRebound a h → runs_at now a p h ≡ []
+rebound-runs : (now a : ℕ) (p : AddressView) (h : Act) → IsRebound a h → runs_at now a p h ≡ []
 rebound-runs now a p Rebinds is = refl
 rebound-runs now a p (Hears n f verdict) is = absurd is
 rebound-runs now a p (Preloads contents) is = absurd is
@@ -127,14 +127,14 @@ settling-few s =
     let most = change-few s.shown (shown_now s) in
     let few = acts-few (choosing s) events in omega (arith, most, few)
 
-heard-few : (own source : ℕ) (n : Notice) (f : Frame) (verdict : Verdict) → length (heard_at_source own source n f verdict) ≤ 1
+heard-few : (own source : ℕ) (n : FrameMeaning) (f : Frame) (verdict : Verdict) → length (heard_at_source own source n f verdict) ≤ 1
 heard-few own source n f verdict = cases (eqb source own)
   where
     cases : (b : Bool) → length {A = ℕ × Act} (cond b [] ((source, Hears n f verdict) ∷ [])) ≤ 1
     cases true = omega arith
     cases false = omega arith
 
-hearing-few : (s : State) (source : ℕ) (n : Notice) (f : Frame) (verdict : Verdict) → length (runs_of_hearing s source n f verdict) ≤ 3
+hearing-few : (s : State) (source : ℕ) (n : FrameMeaning) (f : Frame) (verdict : Verdict) → length (runs_of_hearing s source n f verdict) ≤ 3
 hearing-few s source n f verdict = cases (is_lost_by (answer_to s source n))
   where
     first : List Run
@@ -162,7 +162,7 @@ operating-few s hs one =
     let few = acts-few s hs in
     few-append (runs_of_acts s hs) (runs_of_settling (after_acts s hs)) 1 2 (omega (arith, few, one)) (settling-few (after_acts s hs))
 
-pub few-runs : (s : State) (e : Event) → length (runs s e) ≤ 3
+pub few-runs : (s : State) (e : JudgedInput) → length (runs s e) ≤ 3
 few-runs s (FrameAt time f verdict) = cases s.lost
   where
     all : List Run

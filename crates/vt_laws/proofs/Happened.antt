@@ -14,7 +14,7 @@ use Rattle.vt_server.specs.Parts.{Hears, Rebinds}
 use Rattle.vt_server.specs.Steps.{hear_claim, before, changes, heard_at_source, acts, answer_to, is_defended, defence, settled, sent_by_settling, acted, sent_by_frame, acting}
 use Rattle.vt_server.specs.Terminals.{State, ToAll, holder, after_acts, sent_by_acts}
 use Rattle.vt_server.specs.Transfers.{Verdict}
-use Rattle.vt_node.specs.declared.bus.Notice.{Notice}
+use Rattle.vt_node.specs.declared.bus.FrameMeaning.{FrameMeaning}
 use Rattle.vt_server.proofs.Puts.{acts-append, sent-append}
 use Rattle.vt_laws.proofs.Own.{bare, turns, turns_frames, part-acts, frames-sent_by}
 use Rattle.vt_server.proofs.Acts.{of}
@@ -31,7 +31,7 @@ notice-there a s f apart is =
 -- ---- one frame after what its time ended, for an address that isn't the terminal's own
 
 module _ (laws : Laws) (a : ℕ) (s : State) (f : Frame) (verdict : Verdict) (rising : IsRising s.claims.addresses) (apart : a ≢ s.claims.own) (has : s.lost ≡ false) where
-  abbrev m : Notice
+  abbrev m : FrameMeaning
   m = notice_of s.claims.own s.claims.name f
 
   abbrev source : ℕ

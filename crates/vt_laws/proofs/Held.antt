@@ -10,11 +10,11 @@ use Rattle.vt_server.specs.Choosing.{choosing, shown_now, events_of_change}
 use Rattle.vt_laws.specs.Happenings.{NameIsHeld, SetIsHeld, SetsHoldTheirAddress}
 use Rattle.vt_server.specs.Orderly.{IsOrderly}
 use Rattle.vt_server.specs.Lapses.{at_time, lapsed}
-use Rattle.vt_server.specs.Parts.{Part, Act, Rebinds, Operates, Preloads, unchanged, without_set, after_change, with_holder_name, after_claim_heard, after_master, after_member, outcome}
-use Rattle.vt_server.specs.Steps.{Event, FrameAt, ActionAt, step, before, changes, heard_at_source, answer_to, is_lost_by, settled, losing, acted, acting, no_step, step_frame, selecting, at_shown, step_action}
+use Rattle.vt_server.specs.Parts.{AddressView, Act, Rebinds, Operates, Preloads, unchanged, without_set, after_change, with_holder_name, after_claim_heard, after_master, after_member, outcome}
+use Rattle.vt_server.specs.Steps.{JudgedInput, FrameAt, ActionAt, step, before, changes, heard_at_source, answer_to, is_lost_by, settled, losing, acted, acting, no_step, step_frame, selecting, at_shown, step_action}
 use Rattle.vt_server.specs.Terminals.{State, holder, part, after_act, after_acts}
 use Rattle.vt_server.specs.Transfers.{Verdict}
-use Rattle.vt_node.specs.declared.bus.Notice.{Notice}
+use Rattle.vt_node.specs.declared.bus.FrameMeaning.{FrameMeaning}
 use Rattle.vt_server.proofs.Changes.{option-true, of-changes}
 use Rattle.vt_server.proofs.Keeping.{acts-keep, lapsed-keeps, step-keeps, preloading-keeps, orderly-kept, own-step, claims-lapsed}
 use Rattle.vt_laws.proofs.Own.{outcome-holds, bare, turns, part-act, part-act_other, part-acts}
@@ -31,11 +31,11 @@ named-held set None (Some h) e has = refl
 named-held set (Some n) None e has = subst (λ m. NameIsHeld m None) (sym e) has
 named-held set (Some n) (Some h) e has = subst (λ m. NameIsHeld m (Some h)) (sym e) has
 
-claim-held : (p : Part) (o : Option Set) → SetIsHeld p.set p.holder → SetIsHeld o p.holder → SetIsHeld (after_claim_heard p o).set p.holder
+claim-held : (p : AddressView) (o : Option Set) → SetIsHeld p.set p.holder → SetIsHeld o p.holder → SetIsHeld (after_claim_heard p o).set p.holder
 claim-held p None has its = has
 claim-held p (Some set) has its = named-held set set.name p.holder refl its
 
-master-held : (a : ℕ) (p : Part) (o : Option ℕ) (count : ℕ) → p.holder ≡ o → SetIsHeld p.set p.holder → SetIsHeld (after_master a p o count).set p.holder
+master-held : (a : ℕ) (p : AddressView) (o : Option ℕ) (count : ℕ) → p.holder ≡ o → SetIsHeld p.set p.holder → SetIsHeld (after_master a p o count).set p.holder
 master-held a p None count e has = has
 master-held a p (Some h) count e has = e
 
@@ -43,7 +43,7 @@ join-held : (b : Bool) (set : Set) (name : ℕ) (holder : Option ℕ) → NameIs
 join-held true set name holder has = has
 join-held false set name holder has = has
 
-member-held : (p : Part) (o : Option Set) (name : ℕ) → SetIsHeld p.set p.holder → SetIsHeld o p.holder → SetIsHeld (after_member p o name).set p.holder
+member-held : (p : AddressView) (o : Option Set) (name : ℕ) → SetIsHeld p.set p.holder → SetIsHeld o p.holder → SetIsHeld (after_member p o name).set p.holder
 member-held p None name has its = has
 member-held p (Some set) name has its = join-held (has_place set) set name p.holder its
 
@@ -53,12 +53,12 @@ same-name : (n h : Option ℕ) → (option_eq nat_eq n None || option_eq nat_eq 
 same-name None h e = tt
 same-name (Some n) h e = sym (option-true (Some n) h e)
 
-kept-held : (p : Part) (set : Set) (b : Bool) → (option_eq nat_eq set.name None || option_eq nat_eq set.name p.holder) ≡ b → p.set ≡ Some set
+kept-held : (p : AddressView) (set : Set) (b : Bool) → (option_eq nat_eq set.name None || option_eq nat_eq set.name p.holder) ≡ b → p.set ≡ Some set
     → SetIsHeld (cond b (unchanged p) (without_set p)).set p.holder
 kept-held p set true e is = subst (λ o. SetIsHeld o p.holder) (sym is) (same-name set.name p.holder e)
 kept-held p set false e is = tt
 
-rebound-held : (p : Part) (o : Option Set) → p.set ≡ o → SetIsHeld (after_change p o).set p.holder
+rebound-held : (p : AddressView) (o : Option Set) → p.set ≡ o → SetIsHeld (after_change p o).set p.holder
 rebound-held p None is = subst (λ o. SetIsHeld o p.holder) (sym is) tt
 rebound-held p (Some set) is = kept-held p set (option_eq nat_eq set.name None || option_eq nat_eq set.name p.holder) refl is
 
@@ -67,7 +67,7 @@ rebound-held p (Some set) is = kept-held p set (option_eq nat_eq set.name None |
 abbrev pub IsHeldAt : ℕ → State → Type 0
 IsHeldAt a s = SetIsHeld (set_at a s.sets) (holder s a)
 
-outcome-held : (now a : ℕ) (p : Part) (h : Act) → SetIsHeld p.set p.holder → SetIsHeld (outcome now a p h).set p.holder
+outcome-held : (now a : ℕ) (p : AddressView) (h : Act) → SetIsHeld p.set p.holder → SetIsHeld (outcome now a p h).set p.holder
 outcome-held now a p h has = outcome-holds (λ o. SetIsHeld o p.holder) now a p (record {
   none = tt;
   same = has;
@@ -82,8 +82,8 @@ pub act-held : (a : ℕ) (s : State) (b : ℕ) (h : Act) → IsHeldAt a s → Is
 act-held a s b h has =
     by_eq b a
     (λ is. subst (λ c. IsHeldAt a (after_act s c h)) (sym is)
-    (subst (λ (p : Part). SetIsHeld p.set p.holder) (sym (part-act a s h)) (outcome-held s.now a (part a s) h has)))
-    (λ ne. subst (λ (p : Part). SetIsHeld p.set p.holder) (sym (part-act_other a b s h (λ e. ne (sym e)))) has)
+    (subst (λ (p : AddressView). SetIsHeld p.set p.holder) (sym (part-act a s h)) (outcome-held s.now a (part a s) h has)))
+    (λ ne. subst (λ (p : AddressView). SetIsHeld p.set p.holder) (sym (part-act_other a b s h (λ e. ne (sym e)))) has)
 
 settled-held : (a : ℕ) (s : State) → IsHeldAt a s → IsHeldAt a (settled s)
 unfolding settled
@@ -92,10 +92,10 @@ settled-held a s has = acts-keep (IsHeldAt a) (act-held a) (choosing s) (events_
 -- ---- a claim, and what it changes
 
 module _ (laws : Laws) (a : ℕ) (s : State) (rising : IsRising s.claims.addresses) (has : IsHeldAt a s) where
-  changed-held : (source : ℕ) (n : Notice) → IsHeldAt a (after_acts (before s source n) (changes s source n))
+  changed-held : (source : ℕ) (n : FrameMeaning) → IsHeldAt a (after_acts (before s source n) (changes s source n))
   changed-held source n =
       let t = before s source n in
-      subst (λ (p : Part). SetIsHeld p.set p.holder)
+      subst (λ (p : AddressView). SetIsHeld p.set p.holder)
       (sym (part-acts laws a t (changes s source n) ∙ ap (turns a (bare a t)) (of-changes laws.holders s rising a source n)))
       (cases (option_eq nat_eq (holder s a) (holder t a)) refl)
     where
@@ -104,14 +104,14 @@ module _ (laws : Laws) (a : ℕ) (s : State) (rising : IsRising s.claims.address
       cases true same = subst (SetIsHeld (set_at a s.sets)) (option-true (holder s a) (holder (before s source n) a) same) has
       cases false other = rebound-held (bare a (before s source n)) (set_at a s.sets) refl
 
-  acted-held : (source : ℕ) (n : Notice) (f : Frame) (verdict : Verdict) → IsHeldAt a (acted s source n f verdict)
+  acted-held : (source : ℕ) (n : FrameMeaning) (f : Frame) (verdict : Verdict) → IsHeldAt a (acted s source n f verdict)
   acted-held source n f verdict =
       let t = before s source n in
       let last = heard_at_source s.claims.own source n f verdict in
       subst (IsHeldAt a) (sym (acts-append t (changes s source n) last))
       (acts-keep (IsHeldAt a) (act-held a) (after_acts t (changes s source n)) last (changed-held source n))
 
-step-held : Laws → (a : ℕ) (s : State) (e : Event) → IsOrderly s → IsHeldAt a s → IsHeldAt a (step s e).after
+step-held : Laws → (a : ℕ) (s : State) (e : JudgedInput) → IsOrderly s → IsHeldAt a s → IsHeldAt a (step s e).after
 step-held laws a s (FrameAt time f verdict) orderly has = cases s.lost
   where
     heard : (gone : Bool) → let u = lapsed (at_time s time) in
@@ -140,7 +140,7 @@ step-held laws a s (ActionAt action shown) orderly has = cases s.lost
     cases false =
         let u = selecting s action in
         let hs = at_shown s.shown (Operates action shown) in
-        let there : IsHeldAt a u = subst (λ (p : Part). SetIsHeld p.set p.holder) (sym (selecting-same (part a) (λ x o. refl) s action)) has in
+        let there : IsHeldAt a u = subst (λ (p : AddressView). SetIsHeld p.set p.holder) (sym (selecting-same (part a) (λ x o. refl) s action)) has in
         settled-held a (after_acts u hs) (acts-keep (IsHeldAt a) (act-held a) u hs there)
 
 -- ---- the law

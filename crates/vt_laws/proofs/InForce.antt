@@ -9,7 +9,7 @@ use Rattle.vt_can.specs.lines.Actions.{ActionValue, Press, Release, Select, Numb
 use Rattle.vt_can.specs.lines.Actions as actions
 use Rattle.vt_can.specs.transport.Sessions.{is_overdue}
 use Rattle.vt_names.specs.Registry.{Set}
-use Rattle.vt_stores.specs.Stores.{Contents, map_of}
+use Rattle.vt_stores.specs.Stores.{ObjectMap, map_of}
 use Rattle.vt_machine.specs.Lives.{SetState}
 use Rattle.vt_layout.specs.Drawings.{at_path, key_entries, mask_entries, origin}
 use Rattle.vt_node.specs.Bus.{notice_of}
@@ -17,15 +17,15 @@ use Rattle.vt_server.specs.Choosing.{choosing, shown_now, events_of_change, rais
 use Rattle.vt_server.specs.Findings.{IsJudged, IsFound, AreFound, ends_transfer}
 use Rattle.vt_laws.specs.Headline.{Pools, IsInForce, AreInForce, accepted_at, accepted_with, accepted_by_acts, accepted_in_hearing, accepted_after, accepted_after_all, Run, AllEnd, DrawsWhatIsThere, EventsKeep, Keeps, NeverSticks, runs_at, runs_of_acts, runs_of_settling, runs_of_hearing, runs_of_operating, runs}
 use Rattle.vt_server.specs.Lapses.{at_time, lapsed, silences, silent, tp_due, etp_due, sending_due, after_tp_timeouts, after_etp_timeouts, after_timeouts}
-use Rattle.vt_server.specs.Parts.{Part, Act, Hears, Rebinds, Preloads, TpExpires, EtpExpires, SendingExpires, FallsSilent, Operates, Raises, Outcome, outcome}
-use Rattle.vt_server.specs.Places.{empty, Place}
+use Rattle.vt_server.specs.Parts.{AddressView, Act, Hears, Rebinds, Preloads, TpExpires, EtpExpires, SendingExpires, FallsSilent, Operates, Raises, AddressOutcome, outcome}
+use Rattle.vt_server.specs.Places.{empty, AddressState}
 use Rattle.vt_server.specs.States.{TakesInputs}
-use Rattle.vt_server.specs.Steps.{Event, FrameAt, ActionAt, step, after_all, before, acts, acted, answer_to, is_lost_by, changes, heard_at_source, settled, losing, acting, hearing, no_step, step_frame, selecting, at_shown, step_action}
+use Rattle.vt_server.specs.Steps.{JudgedInput, FrameAt, ActionAt, step, after_all, before, acts, acted, answer_to, is_lost_by, changes, heard_at_source, settled, losing, acting, hearing, no_step, step_frame, selecting, at_shown, step_action}
 use Rattle.vt_server.specs.Terminals.{State, pool_of, part, put, after_act, after_acts}
 use Rattle.vt_node.specs.ByAddress.{with_at}
 use Rattle.vt_server.specs.Transfers.{Verdict}
-use Rattle.vt_node.specs.declared.bus.Notice.{Notice}
-use Rattle.vt_node.specs.declared.bus.Notice.TheVariants.{Claim, ClaimRequest, Master, Member, Message, Tp, Etp, Nothing}
+use Rattle.vt_node.specs.declared.bus.FrameMeaning.{FrameMeaning}
+use Rattle.vt_node.specs.declared.bus.FrameMeaning.TheVariants.{Claim, ClaimRequest, Master, Member, Message, Tp, Etp, Nothing}
 use Rattle.vt_server.specs.declared.input.Input.{Input}
 use Rattle.vt_server.specs.declared.output.Output.{Output}
 use Rattle.vt_server.proofs.ActsAt.{AllAt, at-append, at-below, at-changes, at-heard}
@@ -47,7 +47,7 @@ pub no-message : (o : Option Set) → ends_transfer o None ≡ true → ⊥
 no-message None e = cc
 no-message (Some set) e = cc
 
-plain-may : (now a : ℕ) (p : Part) (h : Act) → IsPlain a h → MayHappen now a p h
+plain-may : (now a : ℕ) (p : AddressView) (h : Act) → IsPlain a h → MayHappen now a p h
 plain-may now a p (Hears (Claim name) f verdict) plain = λ e. absurd (no-message p.set e)
 plain-may now a p (Hears ClaimRequest f verdict) plain = absurd plain
 plain-may now a p (Hears (Master count) f verdict) plain = absurd plain
@@ -65,11 +65,11 @@ plain-may now a p FallsSilent plain = tt
 plain-may now a p (Operates action shown) plain = tt
 plain-may now a p (Raises event) plain = plain
 
-no-end : (o : Option Set) (verdict : Verdict) (last : Option Contents) → accepted_with (ends_transfer o None) verdict last ≡ last
+no-end : (o : Option Set) (verdict : Verdict) (last : Option ObjectMap) → accepted_with (ends_transfer o None) verdict last ≡ last
 no-end None verdict last = refl
 no-end (Some set) verdict last = refl
 
-pub plain-accepts : (now a : ℕ) (p : Part) (h : Act) (last : Option Contents) → IsPlain a h → accepted_at now a p h last ≡ last
+pub plain-accepts : (now a : ℕ) (p : AddressView) (h : Act) (last : Option ObjectMap) → IsPlain a h → accepted_at now a p h last ≡ last
 plain-accepts now a p (Hears (Claim name) f verdict) last plain = no-end p.set verdict last
 plain-accepts now a p (Hears ClaimRequest f verdict) last plain = absurd plain
 plain-accepts now a p (Hears (Master count) f verdict) last plain = absurd plain
@@ -97,7 +97,7 @@ plain-stay pools s (h ∷ hs) plain q =
     ∙ stays-at pools h.0 x (plain-accepts s.now h.0 (part h.0 s) h.1 (pools h.0) plain.0) q
 
 at-each : (pools others : Pools) (s : State) → ((q : ℕ) → others q ≡ pools q) → AreInForce others s → AreInForce pools s
-at-each pools others s same is q = subst (λ (last : Option Contents). IsEach last (pool_of s q)) (same q) (is q)
+at-each pools others s same is q = subst (λ (last : Option ObjectMap). IsEach last (pool_of s q)) (same q) (is q)
 
 pub silences-plain : (sets : List Set) → AllAt IsPlain (map (λ set. (set.address, FallsSilent)) sets)
 silences-plain [] = tt
@@ -123,7 +123,7 @@ if-some None each = tt
 if-some (Some x) each = each x refl
 
 module _ (laws : Laws) where
-  put-keeps : (pools : Pools) (s : State) (a : ℕ) (o : Outcome) (x : Option Contents) → AreInForce pools s → IsEach x o.place.content.pool
+  put-keeps : (pools : Pools) (s : State) (a : ℕ) (o : AddressOutcome) (x : Option ObjectMap) → AreInForce pools s → IsEach x o.place.content.pool
       → AreInForce (with_at a x pools) (put a o s)
   put-keeps pools s a o x is each q = cases (eqb q a)
     where
@@ -187,7 +187,7 @@ module _ (laws : Laws) where
     run = in-time-at pools (accepted_by_acts s hs pools) (plain-stay pools s hs plain) (runs_of_acts s hs) (acts-run pools s hs plain is);
   }
 
-  one-happens : (pools : Pools) (s : State) (source : ℕ) (n : Notice) (f : Frame) (verdict : Verdict) → IsJudged s.now source (part source s) n f verdict → AreInForce pools s
+  one-happens : (pools : Pools) (s : State) (source : ℕ) (n : FrameMeaning) (f : Frame) (verdict : Verdict) → IsJudged s.now source (part source s) n f verdict → AreInForce pools s
       → Happens pools s (heard_at_source s.claims.own source n f verdict)
   one-happens pools s source n f verdict judged is = cases (eqb source s.claims.own)
     where
@@ -201,7 +201,7 @@ module _ (laws : Laws) where
             (heard-runs laws pools source s.now (part source s) n f verdict (is source)) tt;
       }
 
-  frame-happens : (pools : Pools) (s : State) (source : ℕ) (n : Notice) (f : Frame) (verdict : Verdict) → IsJudged s.now source (part source s) n f verdict → AreInForce pools s
+  frame-happens : (pools : Pools) (s : State) (source : ℕ) (n : FrameMeaning) (f : Frame) (verdict : Verdict) → IsJudged s.now source (part source s) n f verdict → AreInForce pools s
       → Happens pools (before s source n) (acts s source n f verdict)
   frame-happens pools s source (Claim name) f verdict judged is =
       plain-happen pools (before s source (Claim name)) (acts s source (Claim name) f verdict)
@@ -222,7 +222,7 @@ module _ (laws : Laws) where
     pub ends : AllInTime pools runs
     pub in_force : AreInForce pools after
 
-  hearing-promised : (pools : Pools) (old s : State) (source : ℕ) (n : Notice) (f : Frame) (verdict : Verdict)
+  hearing-promised : (pools : Pools) (old s : State) (source : ℕ) (n : FrameMeaning) (f : Frame) (verdict : Verdict)
       → IsJudged s.now source (part source s) n f verdict → AreInForce pools s
       → Promised (runs_of_hearing s source n f verdict) (accepted_in_hearing s source n f verdict pools) (hearing old s source n f verdict).after
   hearing-promised pools old s source n f verdict judged is = cases (is_lost_by (answer_to s source n))
@@ -255,13 +255,13 @@ module _ (laws : Laws) where
       cases true = is
       cases false = is
 
-  step-promised : (pools : Pools) (s : State) (e : Event) → IsFound s e → AreInForce pools s → Promised (runs s e) (accepted_after s e pools) (step s e).after
+  step-promised : (pools : Pools) (s : State) (e : JudgedInput) → IsFound s e → AreInForce pools s → Promised (runs s e) (accepted_after s e pools) (step s e).after
   step-promised pools s (FrameAt time f verdict) found is = cases s.lost found
     where
       t : State
       t = lapsed (at_time s time)
 
-      n : Notice
+      n : FrameMeaning
       n = notice_of s.claims.own s.claims.name f
 
       cases : (b : Bool) → (b ≡ false → IsJudged t.now (source_of f) (part (source_of f) t) n f verdict)
@@ -291,18 +291,18 @@ module _ (laws : Laws) where
 
   -- ---- lists of inputs
 
-  record AllPromised (pools : Pools) (s : State) (es : List Event) : Type 0 where
+  record AllPromised (pools : Pools) (s : State) (es : List JudgedInput) : Type 0 where
     pub ends : AllEnd pools s es
     pub in_force : AreInForce (accepted_after_all s es pools) (after_all s es)
 
-  all-promised : (pools : Pools) (s : State) (es : List Event) → AreFound s es → AreInForce pools s → AllPromised pools s es
+  all-promised : (pools : Pools) (s : State) (es : List JudgedInput) → AreFound s es → AreInForce pools s → AllPromised pools s es
   all-promised pools s [] found is = record { ends = tt; in_force = is }
   all-promised pools s (e ∷ es) found is =
       let first = step-promised pools s e found.0 is in
       let rest = all-promised (accepted_after s e pools) (step s e).after es found.1 first.in_force in
       record { ends = (record { each = first.ends; few = few-runs s e }, rest.ends); in_force = rest.in_force }
 
-  drawn-in-force : (last : Option Contents) (state : SetState) → IsInForce last state → DrawsWhatIsThere state.objects
+  drawn-in-force : (last : Option ObjectMap) (state : SetState) → IsInForce last state → DrawsWhatIsThere state.objects
   drawn-in-force last state is =
       let nameless = laws.nameless is.accepted state.objects is.verified.stored is.ready in record {
         never_sticks = λ mask. laws.drawings state.objects mask is.ready.sound;
@@ -313,14 +313,14 @@ module _ (laws : Laws) where
             (λ e there. laws.paths.of_keys state.objects mask path e is.ready.sound nameless there);
       }
 
-  each-drawn : (last : Option Contents) (o : Option SetState) → IsEach last o → IfSome o (λ state. DrawsWhatIsThere state.objects)
+  each-drawn : (last : Option ObjectMap) (o : Option SetState) → IsEach last o → IfSome o (λ state. DrawsWhatIsThere state.objects)
   each-drawn last None is = tt
   each-drawn last (Some state) is = drawn-in-force last state is
 
   none-yet : (s : State) → ((a : ℕ) → s.places a ≡ empty) → AreInForce (λ address. None) s
-  none-yet s first q = subst (λ (p : Place). IsEach None p.content.pool) (sym (first q)) tt
+  none-yet s first q = subst (λ (p : AddressState). IsEach None p.content.pool) (sym (first q)) tt
 
-  events-keep : (pools : Pools) (old : State) (events : List Event) → AreInForce pools old → AreFound old events → EventsKeep pools old events
+  events-keep : (pools : Pools) (old : State) (events : List JudgedInput) → AreInForce pools old → AreFound old events → EventsKeep pools old events
   events-keep pools old events is found =
       let promised = all-promised pools old events found is in
       let later : Pools = accepted_after_all old events pools in

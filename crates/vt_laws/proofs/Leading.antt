@@ -9,7 +9,7 @@ use Rattle.vt_commands.specs.declared.event.Event.{Event}
 use Rattle.vt_commands.specs.declared.event.Event.TheVariants as events
 use Rattle.vt_commands.specs.Commands.{command_at}
 use Rattle.vt_commands.specs.Events.{event_number, raise}
-use Rattle.vt_stores.specs.Stores.{Contents}
+use Rattle.vt_stores.specs.Stores.{ObjectMap}
 use Rattle.vt_verify.specs.Budgets.{budget}
 use Rattle.vt_verify.specs.Triggers.{listing}
 use Rattle.vt_effects.specs.Effects.{effect}
@@ -22,13 +22,13 @@ use Rattle.vt_server.specs.Findings.{ends_transfer}
 use Rattle.vt_server.specs.Handling.{handled, ends_pool, transferred, end_handled, asked, commanded, TRANSFER, END_OF_POOL}
 use Rattle.vt_node.specs.Messages.{technical_reply}
 use Rattle.vt_server.specs.Operators.{action_on, is_busy, message_frames, sending_after, ran}
-use Rattle.vt_server.specs.Parts.{Part, Act, Hears, Rebinds, Preloads, TpExpires, EtpExpires, SendingExpires, FallsSilent, Operates, Raises, outcome, after_action, after_change, after_claim_heard, after_master, after_member, after_message, after_operator, raised_on, refused_by, stays_under, unchanged, with_place, without_set}
-use Rattle.vt_server.specs.Places.{Content, heard_at, with_pool}
+use Rattle.vt_server.specs.Parts.{AddressView, Act, Hears, Rebinds, Preloads, TpExpires, EtpExpires, SendingExpires, FallsSilent, Operates, Raises, outcome, after_action, after_change, after_claim_heard, after_master, after_member, after_message, after_operator, raised_on, refused_by, stays_under, unchanged, with_place, without_set}
+use Rattle.vt_server.specs.Places.{SetPool, heard_at, with_pool}
 use Rattle.vt_server.specs.Sessions.{came}
 use Rattle.vt_server.specs.Transfers.{Verdict, Accepts, Faulty, Refuses, ended}
 use Rattle.vt_server.specs.declared.output.OperatorFault.TheVariants.{Busy}
-use Rattle.vt_node.specs.declared.bus.Notice.{Notice}
-use Rattle.vt_node.specs.declared.bus.Notice.TheVariants.{Claim, ClaimRequest, Master, Member, Message, Tp, Etp, Nothing}
+use Rattle.vt_node.specs.declared.bus.FrameMeaning.{FrameMeaning}
+use Rattle.vt_node.specs.declared.bus.FrameMeaning.TheVariants.{Claim, ClaimRequest, Master, Member, Message, Tp, Etp, Nothing}
 use Rattle.vt_laws.specs.Headline.{Run, accepted_at, accepted_with, runs_of_effect, runs_of_command, runs_of_message, runs_of_action, runs_of_operator, runs_of_event, runs_at}
 use Rattle.vt_laws.specs.RunsOfSteps.{Lead, left_by}
 use Rattle.vt_laws.proofs.NoCommands.{piece-none, end-none, asked-none}
@@ -54,8 +54,8 @@ follows-same None = tt
 follows-same (Some state) = refl
 
 -- runs one after the other, and more of them
-pub lead-append : (old mid new : Contents) (rs ss : List Run) → Lead old rs mid → Lead mid ss new → Lead old (rs ++ ss) new
-lead-append old mid new [] ss first second = subst (λ (x : Contents). Lead x ss new) first second
+pub lead-append : (old mid new : ObjectMap) (rs ss : List Run) → Lead old rs mid → Lead mid ss new → Lead old (rs ++ ss) new
+lead-append old mid new [] ss first second = subst (λ (x : ObjectMap). Lead x ss new) first second
 lead-append old mid new (run ∷ rs) ss first second = (first.0, lead-append (left_by run) mid new rs ss first.1 second)
 
 -- some runs, and then others
@@ -70,7 +70,7 @@ follows-then (Some old) (Some mid) (Some new) rs ss first second = lead-append o
 -- ---- commands
 
 -- what a command leaves is what its run leaves, and one that is refused leaves the objects
-done-leads : (a : ℕ) (state : SetState) (command : Command) (r : Result Contents ℕ)
+done-leads : (a : ℕ) (state : SetState) (command : Command) (r : Result ObjectMap ℕ)
     → Lead state.objects (runs_of_effect a state.objects command r) (after_done state.objects (events_of state.objects command) r)
 done-leads a state command (Ok middle) = (refl, refl)
 done-leads a state command (Err bits) = refl
@@ -85,7 +85,7 @@ unheard : (a : ℕ) (pool : Option SetState) (bytes : List ℕ) → command_at b
 unheard a pool bytes none = subst (λ (c : Option Command). Follows pool (runs_of_command a pool c) pool) (sym none) (no-command a pool)
 
 -- a command leaves of the pool what its run leaves, or deletes it
-commanded-follows : (a : ℕ) (content : Content) (o : Option Command) → Follows content.pool (runs_of_command a content.pool o) (commanded content o).content.pool
+commanded-follows : (a : ℕ) (content : SetPool) (o : Option Command) → Follows content.pool (runs_of_command a content.pool o) (commanded content o).content.pool
 commanded-follows a content None = no-command a content.pool
 commanded-follows a content (Some command) = cases (deletes command)
   where
@@ -101,21 +101,21 @@ commanded-follows a content (Some command) = cases (deletes command)
 -- ---- messages
 
 -- so does a message that is a command, or asks what the terminal is
-asked-follows : (a : ℕ) (content : Content) (function : ℕ) (bytes : List ℕ) (o : Option (List ℕ)) → technical_reply (function ∷ bytes) ≡ o
+asked-follows : (a : ℕ) (content : SetPool) (function : ℕ) (bytes : List ℕ) (o : Option (List ℕ)) → technical_reply (function ∷ bytes) ≡ o
     → Follows content.pool (runs_of_command a content.pool (command_at (function ∷ bytes))) (asked content (function ∷ bytes) o).content.pool
 asked-follows a content function bytes None is = commanded-follows a content (command_at (function ∷ bytes))
 asked-follows a content function bytes (Some reply) is = unheard a content.pool (function ∷ bytes) (asked-none function bytes reply is)
 
 -- the end of a transfer that brings no pool
-ended-follows : (a : ℕ) (content : Content) (verdict : Verdict) (bytes : List ℕ) → ((last : Option Contents) → accepted_with true verdict last ≡ last)
+ended-follows : (a : ℕ) (content : SetPool) (verdict : Verdict) (bytes : List ℕ) → ((last : Option ObjectMap) → accepted_with true verdict last ≡ last)
     → command_at bytes ≡ None → Follows content.pool (runs_of_command a content.pool (command_at bytes)) (ended content verdict).pool
 ended-follows a content (Accepts objects) bytes accepts none = let some : Some objects ≡ None = accepts None in absurd cc
 ended-follows a content (Faulty fault) bytes accepts none = unheard a content.pool bytes none
 ended-follows a content (Refuses refusal) bytes accepts none = unheard a content.pool bytes none
 
 -- so does every message that brings no pool
-handled-follows : (a : ℕ) (content : Content) (verdict : Verdict) (bytes : List ℕ)
-    → ((last : Option Contents) → accepted_with (ends_pool bytes) verdict last ≡ last)
+handled-follows : (a : ℕ) (content : SetPool) (verdict : Verdict) (bytes : List ℕ)
+    → ((last : Option ObjectMap) → accepted_with (ends_pool bytes) verdict last ≡ last)
     → Follows content.pool (runs_of_command a content.pool (command_at bytes)) (handled content verdict bytes).content.pool
 handled-follows a content verdict [] accepts = no-command a content.pool
 handled-follows a content verdict (function ∷ bytes) accepts = cases (eqb function TRANSFER) refl (eqb function END_OF_POOL) refl accepts
@@ -124,7 +124,7 @@ handled-follows a content verdict (function ∷ bytes) accepts = cases (eqb func
     all = function ∷ bytes
 
     cases : (b : Bool) → eqb function TRANSFER ≡ b → (c : Bool) → eqb function END_OF_POOL ≡ c
-        → ((last : Option Contents) → accepted_with c verdict last ≡ last)
+        → ((last : Option ObjectMap) → accepted_with c verdict last ≡ last)
         → Follows content.pool (runs_of_command a content.pool (command_at all))
         (cond b (transferred content bytes) (cond c (end_handled content verdict) (asked content all (technical_reply all)))).content.pool
     cases true piece c ends accepts = unheard a content.pool all (piece-none function bytes piece)
@@ -132,8 +132,8 @@ handled-follows a content verdict (function ∷ bytes) accepts = cases (eqb func
     cases false piece false ends accepts = asked-follows a content function bytes (technical_reply all) refl
 
 -- to a set, or to none
-message-follows : (a : ℕ) (p : Part) (verdict : Verdict) (o : Option Set) (message : Option (List ℕ))
-    → ((last : Option Contents) → accepted_with (ends_transfer o message) verdict last ≡ last)
+message-follows : (a : ℕ) (p : AddressView) (verdict : Verdict) (o : Option Set) (message : Option (List ℕ))
+    → ((last : Option ObjectMap) → accepted_with (ends_transfer o message) verdict last ≡ last)
     → Follows p.place.content.pool (runs_of_message a o p.place.content.pool message) (after_message a p verdict o message).place.content.pool
 message-follows a p verdict (Some set) (Some bytes) accepts = handled-follows a p.place.content verdict bytes accepts
 message-follows a p verdict (Some set) None accepts = follows-same p.place.content.pool
@@ -145,8 +145,8 @@ silent-follows a None pool = follows-same pool
 silent-follows a (Some set) pool = follows-same pool
 
 -- so does a frame from the address
-pub heard-follows : (now a : ℕ) (p : Part) (n : Notice) (f : Frame) (verdict : Verdict)
-    → ((last : Option Contents) → accepted_at now a p (Hears n f verdict) last ≡ last)
+pub heard-follows : (now a : ℕ) (p : AddressView) (n : FrameMeaning) (f : Frame) (verdict : Verdict)
+    → ((last : Option ObjectMap) → accepted_at now a p (Hears n f verdict) last ≡ last)
     → Follows p.place.content.pool (runs_at now a p (Hears n f verdict)) (outcome now a p (Hears n f verdict)).place.content.pool
 heard-follows now a p (Claim name) f verdict accepts = cases p.set
   where
@@ -182,7 +182,7 @@ stays-there : (state : SetState) (pool : Option SetState) → pool ≡ Some stat
 stays-there state pool is = subst (Follows (Some state) []) (sym is) refl
 
 -- an action leaves of the pool what its run leaves, or is refused
-action-follows : (now a : ℕ) (p : Part) (state : SetState) (o : Option operating.Action) → p.place.content.pool ≡ Some state
+action-follows : (now a : ℕ) (p : AddressView) (state : SetState) (o : Option operating.Action) → p.place.content.pool ≡ Some state
     → Follows (Some state) (runs_of_action a p.place.sending state.objects o) (after_action now a p o).place.content.pool
 action-follows now a p state None is = stays-there state p.place.content.pool is
 action-follows now a p state (Some (operating.Refused refusal)) is = stays-there state p.place.content.pool is
@@ -195,7 +195,7 @@ action-follows now a p state (Some (operating.Acts message start raised)) is = c
     cases false = (refl, refl)
 
 -- so does the operator, with a pool or without
-operator-follows : (now a : ℕ) (p : Part) (action : ActionValue) (shown : Bool) (o : Option SetState) → p.place.content.pool ≡ o
+operator-follows : (now a : ℕ) (p : AddressView) (action : ActionValue) (shown : Bool) (o : Option SetState) → p.place.content.pool ≡ o
     → Follows o (runs_of_operator a p.place.sending o (λ state. action_on state shown action)) (after_operator now a p action shown o).place.content.pool
 operator-follows now a p action shown None is = subst (Follows None []) (sym is) tt
 operator-follows now a p action shown (Some state) is = action-follows now a p state (action_on state shown action) is
@@ -222,7 +222,7 @@ event-follows a event (inr one) (Some state) =
 -- ---- an act
 
 -- another holder begins no run, and may close the set
-changed-follows : (p : Part) (o : Option Set) → Follows p.place.content.pool [] (after_change p o).place.content.pool
+changed-follows : (p : AddressView) (o : Option Set) → Follows p.place.content.pool [] (after_change p o).place.content.pool
 changed-follows p None = follows-same p.place.content.pool
 changed-follows p (Some set) = cases (stays_under set.name p.holder)
   where
@@ -231,12 +231,12 @@ changed-follows p (Some set) = cases (stays_under set.name p.holder)
     cases false = follows-none p.place.content.pool []
 
 -- an act that accepts no pool, and raises the events of being shown alone
-abbrev pub MayFollow : ℕ → ℕ → Part → Act → Type 0
+abbrev pub MayFollow : ℕ → ℕ → AddressView → Act → Type 0
 MayFollow now a p (Raises event) = (event ≡ 2) ⊎ (event ≡ 1)
-MayFollow now a p act = (last : Option Contents) → accepted_at now a p act last ≡ last
+MayFollow now a p act = (last : Option ObjectMap) → accepted_at now a p act last ≡ last
 
 -- an act leaves of the pool what its runs leave
-pub act-follows : (now a : ℕ) (p : Part) (h : Act) → MayFollow now a p h
+pub act-follows : (now a : ℕ) (p : AddressView) (h : Act) → MayFollow now a p h
     → Follows p.place.content.pool (runs_at now a p h) (outcome now a p h).place.content.pool
 act-follows now a p (Hears n f verdict) may = heard-follows now a p n f verdict may
 act-follows now a p Rebinds may = changed-follows p p.set

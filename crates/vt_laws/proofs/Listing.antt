@@ -8,12 +8,12 @@ use Rattle.vt_names.specs.Claims.{Claimed, IsRising, OtherHoldersStay, address_o
 use Rattle.vt_names.specs.Registry.{AreApart, Set, set_at, with_set, without}
 use Rattle.vt_laws.specs.Happenings.{NameIsHeld, SetIsHeld}
 use Rattle.vt_server.specs.Parts.{Act, Hears, Rebinds, unchanged, without_set, with_holder_name, after_change, after_claim_heard}
-use Rattle.vt_server.specs.Places.{Place, heard_at}
+use Rattle.vt_server.specs.Places.{AddressState, heard_at}
 use Rattle.vt_laws.specs.SetLists.{stays, named_at}
 use Rattle.vt_server.specs.Steps.{before, changed, changed_left, left_holder, left_by, changes_by, heard_at_source, acts}
 use Rattle.vt_server.specs.Terminals.{State, holder, part, after_act, after_acts, with_set_at}
 use Rattle.vt_server.specs.Transfers.{Verdict}
-use Rattle.vt_node.specs.declared.bus.Notice.TheVariants.{Claim}
+use Rattle.vt_node.specs.declared.bus.FrameMeaning.TheVariants.{Claim}
 use Rattle.vt_server.proofs.Changes.{option-true, claims-acts}
 use Rattle.vt_server.proofs.Keeping.{none-filter, apart-filter}
 use Rattle.vt_laws.proofs.Own.{named-address}
@@ -169,7 +169,7 @@ module _ (u : State) (a : ℕ) (apart : AreApart u.sets) where
       cases true e = stays-all was (set_at a u.sets) refl held (option-true was (holder u a) e)
       cases false e = ap (λ (s : State). s.sets) (act-is u a Rebinds) ∙ rebound-is (set_at a u.sets) refl
 
-  bound-is : (place : Place) (o : Option Set) → set_at a u.sets ≡ o → with_set_at a (after_claim_heard (record (part a u) { place = place }) o).set u.sets ≡ map (named_at u a) u.sets
+  bound-is : (place : AddressState) (o : Option Set) → set_at a u.sets ≡ o → with_set_at a (after_claim_heard (record (part a u) { place = place }) o).set u.sets ≡ map (named_at u a) u.sets
   bound-is place None e = sets-same a u.sets (set_at a u.sets) refl ∙ sym (map-none a (λ x. with_holder_name x x.name (holder u a)) u.sets e)
   bound-is place (Some x) e = sym (map-some a (λ x. with_holder_name x x.name (holder u a)) u.sets x (λ y. named-address y y.name (holder u a)) e apart)
 

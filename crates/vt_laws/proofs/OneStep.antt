@@ -14,13 +14,13 @@ use Rattle.vt_server.specs.Findings.{IsJudged, IsSeen, IsFound, AreFound, IsEven
 use Rattle.vt_server.specs.Lapses.{at_time, lapsed}
 use Rattle.vt_server.specs.Operators.{action_on, object_of}
 use Rattle.vt_server.specs.Outputs.{outputs_of}
-use Rattle.vt_server.specs.Parts.{Part, Act, Hears, Operates, Outcome, after_action, after_operator, outcome}
+use Rattle.vt_server.specs.Parts.{AddressView, Act, Hears, Operates, AddressOutcome, after_action, after_operator, outcome}
 use Rattle.vt_server.specs.States.{TakesInput, TakesInputs}
-use Rattle.vt_server.specs.Steps.{Event, FrameAt, ActionAt, Step, step, after_all, sent_by_all, before, changes, heard_at_source, acts, answer_to, is_lost_by, defence, settled, sent_by_settling, losing, acting, hearing, behind_lapses, no_step, step_frame, has_no_set, no_set, selecting, at_shown, step_action}
+use Rattle.vt_server.specs.Steps.{JudgedInput, FrameAt, ActionAt, Step, step, after_all, sent_by_all, before, changes, heard_at_source, acts, answer_to, is_lost_by, defence, settled, sent_by_settling, losing, acting, hearing, behind_lapses, no_step, step_frame, has_no_set, no_set, selecting, at_shown, step_action}
 use Rattle.vt_server.specs.Terminals.{State, Sent, part, pool_at, put, to_address, after_acts, sent_by_acts}
 use Rattle.vt_server.specs.Transfers.{Verdict}
-use Rattle.vt_node.specs.declared.bus.Notice.{Notice}
-use Rattle.vt_node.specs.declared.bus.Notice.TheVariants.{Claim, ClaimRequest, Master, Member, Message, Tp, Etp, Nothing}
+use Rattle.vt_node.specs.declared.bus.FrameMeaning.{FrameMeaning}
+use Rattle.vt_node.specs.declared.bus.FrameMeaning.TheVariants.{Claim, ClaimRequest, Master, Member, Message, Tp, Etp, Nothing}
 use Rattle.vt_server.specs.declared.input.Input.{Input}
 use Rattle.vt_server.specs.declared.input.Input.TheVariants as inputs
 use Rattle.vt_server.specs.declared.output.Output.{Output}
@@ -39,7 +39,7 @@ same-alike s hs = record { after = refl; sent = refl }
 
 one-alike : (s : State) (a : ℕ) (h k : Act) → outcome s.now a (part a s) h ≡ outcome s.now a (part a s) k → AreAlike s ((a, h) ∷ []) ((a, k) ∷ [])
 one-alike s a h k same = record {
-  after = act-is s a h ∙ ap (λ (o : Outcome). put a o s) same ∙ sym (act-is s a k);
+  after = act-is s a h ∙ ap (λ (o : AddressOutcome). put a o s) same ∙ sym (act-is s a k);
   sent = ap (λ (l : List Sent). l ++ []) (sent_by_one-is s a h ∙ ap (to_address a) same ∙ sym (sent_by_one-is s a k));
 }
 
@@ -64,7 +64,7 @@ action-one state (Number id n) b d seen too = ap (λ (x : Bool). action_on state
 action-one state (Text id text) b d seen too = ap (λ (x : Bool). action_on state x (Text id text)) (same_from_decides b d seen too)
 action-one state (actions.Set a) b d seen too = refl
 
-pub operator-one : (now a : ℕ) (p : Part) (action : ActionValue) (b d : Bool) (o : Option SetState) → IsSeenIn o (object_of action) b → IsSeenIn o (object_of action) d
+pub operator-one : (now a : ℕ) (p : AddressView) (action : ActionValue) (b d : Bool) (o : Option SetState) → IsSeenIn o (object_of action) b → IsSeenIn o (object_of action) d
     → after_operator now a p action b o ≡ after_operator now a p action d o
 operator-one now a p action b d None seen too = refl
 operator-one now a p action b d (Some state) seen too = ap (after_action now a p) (action-one state action b d seen too)
@@ -100,7 +100,7 @@ frame-is time at f heard v same alike = ap₂ (λ (t : ℕ) (g : Frame). FrameAt
 module _ (judging : Judging) where
   -- ---- a frame
 
-  heard-alike : (s : State) (own source : ℕ) (n : Notice) (f : Frame) (v w : Verdict)
+  heard-alike : (s : State) (own source : ℕ) (n : FrameMeaning) (f : Frame) (v w : Verdict)
       → outcome s.now source (part source s) (Hears n f v) ≡ outcome s.now source (part source s) (Hears n f w)
       → AreAlike s (heard_at_source own source n f v) (heard_at_source own source n f w)
   heard-alike s own source n f v w same = cases (eqb source own)
@@ -109,12 +109,12 @@ module _ (judging : Judging) where
       cases true = same-alike s []
       cases false = one-alike s source (Hears n f v) (Hears n f w) same
 
-  one-heard : (s : State) (source : ℕ) (n : Notice) (f : Frame) (v w : Verdict) → IsJudged s.now source (part source s) n f v → IsJudged s.now source (part source s) n f w
+  one-heard : (s : State) (source : ℕ) (n : FrameMeaning) (f : Frame) (v w : Verdict) → IsJudged s.now source (part source s) n f v → IsJudged s.now source (part source s) n f w
       → AreAlike s (heard_at_source s.claims.own source n f v) (heard_at_source s.claims.own source n f w)
   one-heard s source n f v w judged too = heard-alike s s.claims.own source n f v w (heard-one judging s.now source (part source s) n f v w judged too)
 
   -- of a claim no verdict is looked at
-  acts-alike : (s : State) (source : ℕ) (n : Notice) (f : Frame) (v w : Verdict) → IsJudged s.now source (part source s) n f v → IsJudged s.now source (part source s) n f w
+  acts-alike : (s : State) (source : ℕ) (n : FrameMeaning) (f : Frame) (v w : Verdict) → IsJudged s.now source (part source s) n f v → IsJudged s.now source (part source s) n f w
       → AreAlike (before s source n) (acts s source n f v) (acts s source n f w)
   acts-alike s source (Claim name) f v w judged too =
       let t = before s source (Claim name) in
@@ -129,7 +129,7 @@ module _ (judging : Judging) where
   acts-alike s source Etp f v w judged too = one-heard s source Etp f v w judged too
   acts-alike s source Nothing f v w judged too = one-heard s source Nothing f v w judged too
 
-  hearing-one : (old s : State) (source : ℕ) (n : Notice) (f : Frame) (v w : Verdict) → IsJudged s.now source (part source s) n f v → IsJudged s.now source (part source s) n f w
+  hearing-one : (old s : State) (source : ℕ) (n : FrameMeaning) (f : Frame) (v w : Verdict) → IsJudged s.now source (part source s) n f v → IsJudged s.now source (part source s) n f w
       → hearing old s source n f v ≡ hearing old s source n f w
   hearing-one old s source n f v w judged too = cases (is_lost_by (answer_to s source n))
     where
@@ -151,7 +151,7 @@ module _ (judging : Judging) where
       t : State
       t = lapsed (at_time s time)
 
-      n : Notice
+      n : FrameMeaning
       n = notice_of s.claims.own s.claims.name f
 
       Is : Verdict → Type 0
@@ -169,7 +169,7 @@ module _ (judging : Judging) where
       cases true seen alike = refl
       cases false seen alike = action-steps-one s action b d (seen refl) (alike refl)
 
-  event-one : (s : State) (input : Input) (e f : Event) → IsEventOf input e → IsEventOf input f → IsFound s e → IsFound s f → step s e ≡ step s f
+  event-one : (s : State) (input : Input) (e f : JudgedInput) → IsEventOf input e → IsEventOf input f → IsFound s e → IsFound s f → step s e ≡ step s f
   event-one s (inputs.Frame time frame) (FrameAt at heard v) (FrameAt when other w) is alike found too =
       let first = frame-is time at frame heard v is.0 is.1 in
       let second = frame-is time when frame other w alike.0 alike.1 in
@@ -185,11 +185,11 @@ module _ (judging : Judging) where
 
   -- ---- inputs one after the other
 
-  record AllAlike (s : State) (es fs : List Event) : Type 0 where
+  record AllAlike (s : State) (es fs : List JudgedInput) : Type 0 where
     pub after : after_all s es ≡ after_all s fs
     pub sent : sent_by_all s es ≡ sent_by_all s fs
 
-  events-one : (s : State) (inputs : List Input) (es fs : List Event) → AreEventsOf inputs es → AreEventsOf inputs fs → AreFound s es → AreFound s fs → AllAlike s es fs
+  events-one : (s : State) (inputs : List Input) (es fs : List JudgedInput) → AreEventsOf inputs es → AreEventsOf inputs fs → AreFound s es → AreFound s fs → AllAlike s es fs
   events-one s [] [] [] are too found alike = record { after = refl; sent = refl }
   events-one s [] [] (f ∷ fs) are too found alike = absurd too
   events-one s [] (e ∷ es) fs are too found alike = absurd are

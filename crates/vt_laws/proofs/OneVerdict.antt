@@ -2,7 +2,7 @@
 use Rattle.std.proofs.Common.{◌≡◌, ℕ, Bool, true, false, cond, eqb, List, [], ◌∷◌, Option, Some, None, refl, sym, ap, ap₂, subst, ◌∙◌}
 use Rattle.vt_can.specs.declared.frames.frame.Frame.{Frame}
 use Rattle.vt_names.specs.Registry.{Set}
-use Rattle.vt_stores.specs.Stores.{Contents, map_of}
+use Rattle.vt_stores.specs.Stores.{ObjectMap, map_of}
 use Rattle.vt_pool.specs.Pools.{Entry, ReadingsAreOne, is_of_type}
 use Rattle.vt_records.specs.declared.fault.PoolFault.{PoolFault}
 use Rattle.vt_records.specs.declared.fault.PoolFault.TheVariants as faults
@@ -13,12 +13,12 @@ use Rattle.vt_verify.specs.declared.refusal.Refusal.TheVariants as refusals
 use Rattle.vt_server.specs.Findings.{IsJudged, ends_transfer}
 use Rattle.vt_server.specs.Handling.{Handled, TRANSFER, END_OF_POOL, handled, transferred, end_handled, asked, ends_pool}
 use Rattle.vt_node.specs.Messages.{technical_reply}
-use Rattle.vt_server.specs.Parts.{Part, Hears, answered, behind, after_message, outcome}
-use Rattle.vt_server.specs.Places.{Content, heard_at}
+use Rattle.vt_server.specs.Parts.{AddressView, Hears, answered, behind, after_message, outcome}
+use Rattle.vt_server.specs.Places.{SetPool, heard_at}
 use Rattle.vt_server.specs.Sessions.{came}
 use Rattle.vt_server.specs.Transfers.{Verdict, Accepts, Faulty, Refuses, IsPool, IsFaulty, IsVerdict, merged, ended, end_reply, refused_pool, fault_code, refusal_reply}
-use Rattle.vt_node.specs.declared.bus.Notice.{Notice}
-use Rattle.vt_node.specs.declared.bus.Notice.TheVariants.{Claim, ClaimRequest, Master, Member, Message, Tp, Etp, Nothing}
+use Rattle.vt_node.specs.declared.bus.FrameMeaning.{FrameMeaning}
+use Rattle.vt_node.specs.declared.bus.FrameMeaning.TheVariants.{Claim, ClaimRequest, Master, Member, Message, Tp, Etp, Nothing}
 
 -- what is known of pools and their verification
 pub record Judging : Type 0 where
@@ -27,7 +27,7 @@ pub record Judging : Type 0 where
   pub accepted : RefusalsAreTrue
 
 -- two verdicts leave the same, and have one reply
-record AreAlike (content : Content) (v w : Verdict) : Type 0 where
+record AreAlike (content : SetPool) (v w : Verdict) : Type 0 where
   pub leave : ended content v ≡ ended content w
   pub reply : end_reply v ≡ end_reply w
 
@@ -56,14 +56,14 @@ module _ (judging : Judging) where
   pool-one bytes p q is other =
       judging.readings.pools is.records other.records p q is.whole other.whole (sym is.spelled ∙ other.spelled) is.in_force other.in_force
 
-  pool-no-fault : {P : Type 0} (content : Content) (p : List Entry) (fault : PoolFault) → IsPool content.transfer p → IsFaulty content fault → P
+  pool-no-fault : {P : Type 0} (content : SetPool) (p : List Entry) (fault : PoolFault) → IsPool content.transfer p → IsFaulty content fault → P
   pool-no-fault content p fault is faulty = absurd (faulty.named (judging.readings.faults content.transfer is.records fault is.whole is.spelled faulty.faulty))
 
-  verdicts-alike : (content : Content) (v w : Verdict) → IsVerdict content v → IsVerdict content w → AreAlike content v w
+  verdicts-alike : (content : SetPool) (v w : Verdict) → IsVerdict content v → IsVerdict content w → AreAlike content v w
   verdicts-alike content (Accepts a) (Accepts b) x y =
       let same : x.pool ≡ y.pool = pool-one content.transfer x.pool y.pool x.read y.read in
       let objects : a ≡ b = x.objects_are ∙ ap (λ (p : List Entry). map_of (merged content.pool p)) same ∙ sym y.objects_are in
-      record { leave = ap (λ (o : Contents). ended content (Accepts o)) objects; reply = refl }
+      record { leave = ap (λ (o : ObjectMap). ended content (Accepts o)) objects; reply = refl }
   verdicts-alike content (Accepts a) (Faulty fault) x y = pool-no-fault content x.pool fault x.read y
   verdicts-alike content (Accepts a) (Refuses refusal) x y =
       let same : x.pool ≡ y.pool = pool-one content.transfer x.pool y.pool x.read y.read in
@@ -88,10 +88,10 @@ module _ (judging : Judging) where
 
   -- ---- the message that ends a transfer
 
-  abbrev answered_by : Content → List ℕ → Handled
+  abbrev answered_by : SetPool → List ℕ → Handled
   answered_by content reply = record { content = content; reply = Some reply }
 
-  handled-one : (content : Content) (v w : Verdict) (bytes : List ℕ) → (ends_pool bytes ≡ true → IsVerdict content v) → (ends_pool bytes ≡ true → IsVerdict content w)
+  handled-one : (content : SetPool) (v w : Verdict) (bytes : List ℕ) → (ends_pool bytes ≡ true → IsVerdict content v) → (ends_pool bytes ≡ true → IsVerdict content w)
       → handled content v bytes ≡ handled content w bytes
   handled-one content v w [] right too = refl
   handled-one content v w (function ∷ bytes) right too = cases (eqb function TRANSFER) (eqb function END_OF_POOL) right too
@@ -108,7 +108,7 @@ module _ (judging : Judging) where
           ap₂ answered_by alike.leave alike.reply
       cases false false right too = refl
 
-  message-one : (a : ℕ) (p : Part) (v w : Verdict) (o : Option Set) (message : Option (List ℕ)) → (ends_transfer o message ≡ true → IsVerdict p.place.content v)
+  message-one : (a : ℕ) (p : AddressView) (v w : Verdict) (o : Option Set) (message : Option (List ℕ)) → (ends_transfer o message ≡ true → IsVerdict p.place.content v)
       → (ends_transfer o message ≡ true → IsVerdict p.place.content w) → after_message a p v o message ≡ after_message a p w o message
   message-one a p v w (Some set) (Some bytes) right too = ap (answered a p) (handled-one p.place.content v w bytes right too)
   message-one a p v w (Some set) None right too = refl
@@ -116,7 +116,7 @@ module _ (judging : Judging) where
 
   -- ---- what an address makes of a frame
 
-  pub heard-one : (now a : ℕ) (p : Part) (n : Notice) (f : Frame) (v w : Verdict) → IsJudged now a p n f v → IsJudged now a p n f w
+  pub heard-one : (now a : ℕ) (p : AddressView) (n : FrameMeaning) (f : Frame) (v w : Verdict) → IsJudged now a p n f v → IsJudged now a p n f w
       → outcome now a p (Hears n f v) ≡ outcome now a p (Hears n f w)
   heard-one now a p (Claim name) f v w judged too = refl
   heard-one now a p (Master count) f v w judged too = refl

@@ -5,8 +5,8 @@ use Rattle.vt_can.specs.transport.Sessions.{each_below, is_overdue}
 use Rattle.vt_names.specs.Registry.{AreApart, Set, set_at}
 use Rattle.vt_server.specs.Lapses.{silences, tp_due, etp_due, sending_due, after_tp_timeouts, after_etp_timeouts, after_timeouts}
 use Rattle.vt_node.specs.Watches.{is_silent}
-use Rattle.vt_server.specs.Parts.{Part, Act, TpExpires, EtpExpires, SendingExpires, FallsSilent, outcome}
-use Rattle.vt_server.specs.Places.{Place}
+use Rattle.vt_server.specs.Parts.{AddressView, Act, TpExpires, EtpExpires, SendingExpires, FallsSilent, outcome}
+use Rattle.vt_server.specs.Places.{AddressState}
 use Rattle.vt_server.specs.Terminals.{State, part, after_act, after_acts}
 use Rattle.vt_server.proofs.Puts.{sets-same, act-is, beside}
 use Rattle.vt_node.proofs.ByAddress.{at-other}
@@ -16,10 +16,10 @@ use Rattle.vt_names.proofs.Holding.{by_eq, none-some}
 
 -- ---- what acts leave of places and of sets
 
-abbrev pub KeepsPlaces : {X : Type 0} → (Place → X) → Act → Type 0
-KeepsPlaces read h = (now b : ℕ) (p : Part) → read (outcome now b p h).place ≡ read p.place
+abbrev pub KeepsPlaces : {X : Type 0} → (AddressState → X) → Act → Type 0
+KeepsPlaces read h = (now b : ℕ) (p : AddressView) → read (outcome now b p h).place ≡ read p.place
 
-pub places-kept : {X : Type 0} (read : Place → X) (a : ℕ) (s : State) (hs : List (ℕ × Act)) → AllActs (KeepsPlaces read) hs → read ((after_acts s hs).places a) ≡ read (s.places a)
+pub places-kept : {X : Type 0} (read : AddressState → X) (a : ℕ) (s : State) (hs : List (ℕ × Act)) → AllActs (KeepsPlaces read) hs → read ((after_acts s hs).places a) ≡ read (s.places a)
 places-kept read a s [] keeps = refl
 places-kept read a s (h ∷ hs) keeps =
     let after = outcome s.now h.0 (part h.0 s) h.1 in
@@ -30,7 +30,7 @@ places-kept read a s (h ∷ hs) keeps =
     (λ ne. ap read (at-other h.0 a s.places after.place ne))
 
 abbrev pub KeepsSets : Act → Type 0
-KeepsSets h = (now b : ℕ) (p : Part) → (outcome now b p h).set ≡ p.set
+KeepsSets h = (now b : ℕ) (p : AddressView) → (outcome now b p h).set ≡ p.set
 
 pub sets-kept : (s : State) (hs : List (ℕ × Act)) → AllActs KeepsSets hs → (after_acts s hs).sets ≡ s.sets
 sets-kept s [] keeps = refl
@@ -139,7 +139,7 @@ module _ (s : State) where
       ∙ sets-kept first (etp_due first) (all-below KeepsSets (λ a. is_overdue first.now (first.places a).etp) EtpExpires 256 (λ now b p. refl))
       ∙ sets-kept s (tp_due s) (all-below KeepsSets (λ a. is_overdue s.now (s.places a).tp) TpExpires 256 (λ now b p. refl))
 
-  module _ {X : Type 0} (read : Place → X) (a : ℕ) where
+  module _ {X : Type 0} (read : AddressState → X) (a : ℕ) where
     places-first : KeepsPlaces read TpExpires → read (first.places a) ≡ read (s.places a)
     places-first keeps = places-kept read a s (tp_due s) (all-below (KeepsPlaces read) (λ b. is_overdue s.now (s.places b).tp) TpExpires 256 keeps)
 
@@ -160,14 +160,14 @@ module _ (s : State) where
     pub of-etp : of a (etp_due first) ≡ so (is_overdue s.now (s.places a).etp) EtpExpires
     of-etp =
         of-below a 256 (λ b. is_overdue first.now (first.places b).etp) EtpExpires small
-        ∙ (λ i. so (is_overdue (now-first i) (places-first (λ (x : Place). x.etp) a (λ now b p. refl) i)) EtpExpires)
+        ∙ (λ i. so (is_overdue (now-first i) (places-first (λ (x : AddressState). x.etp) a (λ now b p. refl) i)) EtpExpires)
 
     pub of-sending : of a (sending_due second) ≡ so (is_overdue s.now (s.places a).sending) SendingExpires
     of-sending =
         of-below a 256 (λ b. is_overdue second.now (second.places b).sending) SendingExpires small
-        ∙ (λ i. so (is_overdue (now-second i) (places-second (λ (x : Place). x.sending) a (λ now b p. refl) (λ now b p. refl) i)) SendingExpires)
+        ∙ (λ i. so (is_overdue (now-second i) (places-second (λ (x : AddressState). x.sending) a (λ now b p. refl) (λ now b p. refl) i)) SendingExpires)
 
   pub of-silences : (a : ℕ) → AreApart s.sets → of a (silences third) ≡ so (is_some (set_at a s.sets) && is_silent s.now (s.places a).heard) FallsSilent
   of-silences a apart =
       of-silent a (λ b. is_silent third.now (third.places b).heard) third.sets (subst AreApart (sym sets-third) apart)
-      ∙ (λ i. so (is_some (set_at a (sets-third i)) && is_silent (now-third i) (places-third (λ (x : Place). x.heard) a (λ now b p. refl) (λ now b p. refl) (λ now b p. refl) i)) FallsSilent)
+      ∙ (λ i. so (is_some (set_at a (sets-third i)) && is_silent (now-third i) (places-third (λ (x : AddressState). x.heard) a (λ now b p. refl) (λ now b p. refl) (λ now b p. refl) i)) FallsSilent)

@@ -8,13 +8,13 @@ use Rattle.vt_names.specs.Registry.{Set, set_at, with_set, without, has_place, j
 use Rattle.vt_can.specs.lines.Actions.{ActionValue}
 use Rattle.vt_laws.specs.Responses.{response_of, frame_to, frames_to}
 use Rattle.vt_server.specs.Operators.{action_on, is_busy}
-use Rattle.vt_server.specs.Parts.{Part, Outcome, Act, Hears, Rebinds, Preloads, TpExpires, EtpExpires, SendingExpires, FallsSilent, Operates, Raises, unchanged, without_set, outcome, after_change, with_holder_name, after_claim_heard, after_master, after_member, after_message, after_action, after_operator, untimed_part}
-use Rattle.vt_server.specs.Places.{Place, heard_at}
+use Rattle.vt_server.specs.Parts.{AddressView, AddressOutcome, Act, Hears, Rebinds, Preloads, TpExpires, EtpExpires, SendingExpires, FallsSilent, Operates, Raises, unchanged, without_set, outcome, after_change, with_holder_name, after_claim_heard, after_master, after_member, after_message, after_action, after_operator, untimed_part}
+use Rattle.vt_server.specs.Places.{AddressState, heard_at}
 use Rattle.vt_server.specs.Sessions.{came}
 use Rattle.vt_server.specs.Terminals.{State, Sent, ToOne, part, after_act, after_acts, sent_by_act, sent_by_acts, to_address, refusal, with_set_at}
 use Rattle.vt_server.specs.Transfers.{Verdict}
-use Rattle.vt_node.specs.declared.bus.Notice.{Notice}
-use Rattle.vt_node.specs.declared.bus.Notice.TheVariants.{Claim, ClaimRequest, Master, Member, Message, Tp, Etp, Nothing}
+use Rattle.vt_node.specs.declared.bus.FrameMeaning.{FrameMeaning}
+use Rattle.vt_node.specs.declared.bus.FrameMeaning.TheVariants.{Claim, ClaimRequest, Master, Member, Message, Tp, Etp, Nothing}
 use Rattle.vt_server.specs.declared.output.OperatorFault.{OperatorFault}
 use Rattle.vt_server.proofs.Acts.{of}
 use Rattle.vt_server.proofs.Puts.{act-is, sent_by_one-is}
@@ -27,37 +27,37 @@ use Rattle.vt_names.proofs.Holding.{by_eq}
 
 -- ---- which set an act leaves
 
-pub message-set : (a : ℕ) (p : Part) (verdict : Verdict) (o : Option Set) (bytes : Option (List ℕ)) → (after_message a p verdict o bytes).set ≡ p.set
+pub message-set : (a : ℕ) (p : AddressView) (verdict : Verdict) (o : Option Set) (bytes : Option (List ℕ)) → (after_message a p verdict o bytes).set ≡ p.set
 message-set a p verdict None bytes = refl
 message-set a p verdict (Some set) None = refl
 message-set a p verdict (Some set) (Some bytes) = refl
 
-either-set : (b : Bool) (x y : Outcome) (set : Option Set) → x.set ≡ set → y.set ≡ set → (cond b x y).set ≡ set
+either-set : (b : Bool) (x y : AddressOutcome) (set : Option Set) → x.set ≡ set → y.set ≡ set → (cond b x y).set ≡ set
 either-set true x y set first second = first
 either-set false x y set first second = second
 
-action-set : (now a : ℕ) (p : Part) (o : Option operating.Action) → (after_action now a p o).set ≡ p.set
+action-set : (now a : ℕ) (p : AddressView) (o : Option operating.Action) → (after_action now a p o).set ≡ p.set
 action-set now a p None = refl
 action-set now a p (Some (operating.Refused refusal)) = refl
 action-set now a p (Some (operating.Acts message start raised)) = either-set (is_busy message p.place.sending) _ _ p.set refl refl
 
-pub operator-set : (now a : ℕ) (p : Part) (action : ActionValue) (shown : Bool) (o : Option SetState) → (after_operator now a p action shown o).set ≡ p.set
+pub operator-set : (now a : ℕ) (p : AddressView) (action : ActionValue) (shown : Bool) (o : Option SetState) → (after_operator now a p action shown o).set ≡ p.set
 operator-set now a p action shown None = refl
 operator-set now a p action shown (Some state) = action-set now a p (action_on state shown action)
 
 -- what holds of the sets that claims, registration, a change of the holder and a preload leave
-pub record HoldsOfSets (Q : Option Set → Type 0) (a : ℕ) (p : Part) : Type 0 where
+pub record HoldsOfSets (Q : Option Set → Type 0) (a : ℕ) (p : AddressView) : Type 0 where
   pub none : Q None
   pub same : Q p.set
-  pub claim : (place : Place) → Q (after_claim_heard (record p { place = place }) p.set).set
-  pub master : (place : Place) (count : ℕ) → Q (after_master a (record p { place = place }) p.holder count).set
-  pub member : (place : Place) (name : ℕ) → Q (after_member (record p { place = place }) p.set name).set
+  pub claim : (place : AddressState) → Q (after_claim_heard (record p { place = place }) p.set).set
+  pub master : (place : AddressState) (count : ℕ) → Q (after_master a (record p { place = place }) p.holder count).set
+  pub member : (place : AddressState) (name : ℕ) → Q (after_member (record p { place = place }) p.set name).set
   pub rebound : Q (after_change p p.set).set
   pub preloaded : Q (Some (preloaded a))
 
 -- holds of that after any act
-module _ (Q : Option Set → Type 0) (now a : ℕ) (p : Part) (holds : HoldsOfSets Q a p) where
-  came-holds : (n : Notice) (frame : Frame) (verdict : Verdict) → let c = came now p.terminal a (heard_at now p.place) n frame in
+module _ (Q : Option Set → Type 0) (now a : ℕ) (p : AddressView) (holds : HoldsOfSets Q a p) where
+  came-holds : (n : FrameMeaning) (frame : Frame) (verdict : Verdict) → let c = came now p.terminal a (heard_at now p.place) n frame in
       Q (after_message a (record p { place = c.place }) verdict p.set c.message).set
   came-holds n frame verdict =
       let c = came now p.terminal a (heard_at now p.place) n frame in
@@ -94,11 +94,11 @@ part-address a s = cases (set_at a s.sets) refl
     cases None e = tt
     cases (Some x) e = set_at-address a x s.sets e
 
-kept-address : (a : ℕ) (p : Part) (b : Bool) → HasAddress a p.set → HasAddress a (cond b (unchanged p) (without_set p)).set
+kept-address : (a : ℕ) (p : AddressView) (b : Bool) → HasAddress a p.set → HasAddress a (cond b (unchanged p) (without_set p)).set
 kept-address a p true has = has
 kept-address a p false has = tt
 
-rebound-address : (a : ℕ) (p : Part) (o : Option Set) → HasAddress a p.set → HasAddress a (after_change p o).set
+rebound-address : (a : ℕ) (p : AddressView) (o : Option Set) → HasAddress a p.set → HasAddress a (after_change p o).set
 rebound-address a p None has = has
 rebound-address a p (Some set) has = kept-address a p (option_eq nat_eq set.name None || option_eq nat_eq set.name p.holder) has
 
@@ -108,11 +108,11 @@ named-address set None (Some h) = refl
 named-address set (Some n) None = refl
 named-address set (Some n) (Some h) = refl
 
-claim-address : (a : ℕ) (p : Part) (o : Option Set) → HasAddress a p.set → HasAddress a o → HasAddress a (after_claim_heard p o).set
+claim-address : (a : ℕ) (p : AddressView) (o : Option Set) → HasAddress a p.set → HasAddress a o → HasAddress a (after_claim_heard p o).set
 claim-address a p None has its = has
 claim-address a p (Some set) has its = named-address set set.name p.holder ∙ its
 
-master-address : (a : ℕ) (p : Part) (o : Option ℕ) (count : ℕ) → HasAddress a p.set → HasAddress a (after_master a p o count).set
+master-address : (a : ℕ) (p : AddressView) (o : Option ℕ) (count : ℕ) → HasAddress a p.set → HasAddress a (after_master a p o count).set
 master-address a p None count has = has
 master-address a p (Some h) count has = refl
 
@@ -120,11 +120,11 @@ join-address : (b : Bool) (set : Set) (name : ℕ) → (cond b (joined set name)
 join-address true set name = refl
 join-address false set name = refl
 
-member-address : (a : ℕ) (p : Part) (o : Option Set) (name : ℕ) → HasAddress a p.set → HasAddress a o → HasAddress a (after_member p o name).set
+member-address : (a : ℕ) (p : AddressView) (o : Option Set) (name : ℕ) → HasAddress a p.set → HasAddress a o → HasAddress a (after_member p o name).set
 member-address a p None name has its = has
 member-address a p (Some set) name has its = join-address (has_place set) set name ∙ its
 
-pub outcome-address : (now a : ℕ) (p : Part) (h : Act) → HasAddress a p.set → HasAddress a (outcome now a p h).set
+pub outcome-address : (now a : ℕ) (p : AddressView) (h : Act) → HasAddress a p.set → HasAddress a (outcome now a p h).set
 outcome-address now a p h has = outcome-holds (HasAddress a) now a p (record {
   none = tt;
   same = has;
@@ -176,13 +176,13 @@ part-act a s h =
     })
 
 -- the part without times, by what happens on a part without times
-abbrev pub bare : ℕ → State → Part
+abbrev pub bare : ℕ → State → AddressView
 bare a s = untimed_part (part a s)
 
 pub bare-act : (laws : Laws) (a : ℕ) (s : State) (h : Act) → bare a (after_act s a h) ≡ (response_of (bare a s) (outcome 0 a (bare a s) h)).part
 bare-act laws a s h =
     ap untimed_part (part-act a s h)
-    ∙ ap (λ (o : Outcome). record (part a s) { set = o.set; place = o.place }) (outcome-timeless laws s.now a (part a s) h)
+    ∙ ap (λ (o : AddressOutcome). record (part a s) { set = o.set; place = o.place }) (outcome-timeless laws s.now a (part a s) h)
 
 pub part-act_other : (a b : ℕ) (s : State) (h : Act) → a ≢ b → part a (after_act s b h) ≡ part a s
 part-act_other a b s h ne =
@@ -217,23 +217,23 @@ frames-refusal : (a : ℕ) (o : Option OperatorFault) → frames_to a (refusal o
 frames-refusal a None = refl
 frames-refusal a (Some fault) = refl
 
-frames-there : (a : ℕ) (after : Outcome) → frames_to a (to_address a after) ≡ after.frames
+frames-there : (a : ℕ) (after : AddressOutcome) → frames_to a (to_address a after) ≡ after.frames
 frames-there a after =
     frames-append a (map (ToOne a) after.frames) (refusal after.refused)
     ∙ (λ i. frames-own a after.frames i ++ frames-refusal a after.refused i) ∙ append-nil after.frames
 
-frames-elsewhere : (a b : ℕ) (after : Outcome) → a ≢ b → frames_to a (to_address b after) ≡ []
+frames-elsewhere : (a b : ℕ) (after : AddressOutcome) → a ≢ b → frames_to a (to_address b after) ≡ []
 frames-elsewhere a b after ne =
     frames-append a (map (ToOne b) after.frames) (refusal after.refused)
     ∙ (λ i. frames-other a b after.frames ne i ++ frames-refusal a after.refused i)
 
 -- ---- what happens there among all that happens
 
-abbrev pub turns : ℕ → Part → List Act → Part
+abbrev pub turns : ℕ → AddressView → List Act → AddressView
 turns a p [] = p
 turns a p (h ∷ hs) = turns a (response_of p (outcome 0 a p h)).part hs
 
-abbrev pub turns_frames : ℕ → Part → List Act → List Frame
+abbrev pub turns_frames : ℕ → AddressView → List Act → List Frame
 turns_frames a p [] = []
 turns_frames a p (h ∷ hs) = (outcome 0 a p h).frames ++ turns_frames a (response_of p (outcome 0 a p h)).part hs
 
@@ -261,7 +261,7 @@ module _ (laws : Laws) where
       (λ i. frames_to a (sent_by_act s (is i) h.1) ++ frames_to a (sent_by_acts (after_act s h.0 h.1) hs))
       ∙ ap (λ l. l ++ frames_to a (sent_by_acts (after_act s h.0 h.1) hs))
       (ap (frames_to a) (sent_by_one-is s a h.1) ∙ frames-there a (outcome s.now a (part a s) h.1)
-      ∙ ap (λ (o : Outcome). o.frames) (outcome-timeless laws s.now a (part a s) h.1))
+      ∙ ap (λ (o : AddressOutcome). o.frames) (outcome-timeless laws s.now a (part a s) h.1))
       ∙ ap (λ l. (outcome 0 a (bare a s) h.1).frames ++ l)
       (rest ∙ ap (λ p. turns_frames a p (of a hs)) (ap (λ b. bare a (after_act s b h.1)) is ∙ bare-act laws a s h.1))
       ∙ sym (ap (λ b. turns_frames a (bare a s) (cond b (h.1 ∷ of a hs) (of a hs))) (eq-eqb h.0 a is)))

@@ -8,18 +8,18 @@ use Rattle.vt_machine.specs.Lives.{SetState}
 use Rattle.vt_machine.specs.Operating as operating
 use Rattle.vt_names.specs.Registry.{Set}
 use Rattle.vt_node.specs.Bus.{notice_of}
-use Rattle.vt_node.specs.declared.bus.Notice.{Notice}
-use Rattle.vt_node.specs.declared.bus.Notice.TheVariants.{Claim, ClaimRequest, Master, Member, Message, Tp, Etp, Nothing}
+use Rattle.vt_node.specs.declared.bus.FrameMeaning.{FrameMeaning}
+use Rattle.vt_node.specs.declared.bus.FrameMeaning.TheVariants.{Claim, ClaimRequest, Master, Member, Message, Tp, Etp, Nothing}
 use Rattle.vt_server.specs.Choosing.{selected_now, shown_now, choosing, raised_at, events_of_change, ACTIVATE, DEACTIVATE}
 use Rattle.vt_server.specs.Lapses.{at_time, lapsed}
 use Rattle.vt_server.specs.Operators.{action_on, is_busy}
-use Rattle.vt_server.specs.Parts.{Part, Outcome, Act, Hears, Rebinds, Preloads, TpExpires, EtpExpires, SendingExpires, FallsSilent, Operates, Raises, outcome, stays_under, after_action, after_change, after_claim_heard, after_master, after_member, after_message, after_operator, raised_on}
-use Rattle.vt_server.specs.Places.{Place, empty, heard_at}
+use Rattle.vt_server.specs.Parts.{AddressView, AddressOutcome, Act, Hears, Rebinds, Preloads, TpExpires, EtpExpires, SendingExpires, FallsSilent, Operates, Raises, outcome, stays_under, after_action, after_change, after_claim_heard, after_master, after_member, after_message, after_operator, raised_on}
+use Rattle.vt_server.specs.Places.{AddressState, empty, heard_at}
 use Rattle.vt_server.specs.Sessions.{came}
-use Rattle.vt_server.specs.Steps.{Event, FrameAt, ActionAt, step, acted, answer_to, is_lost_by, settled, losing, acting, no_step, step_frame, selecting, at_shown, step_action, preloading}
+use Rattle.vt_server.specs.Steps.{JudgedInput, FrameAt, ActionAt, step, acted, answer_to, is_lost_by, settled, losing, acting, no_step, step_frame, selecting, at_shown, step_action, preloading}
 use Rattle.vt_server.specs.Terminals.{State, pool_of, pool_at, part, after_act, after_acts}
 use Rattle.vt_server.specs.Transfers.{Verdict}
-use Rattle.vt_stores.specs.Stores.{Contents}
+use Rattle.vt_stores.specs.Stores.{ObjectMap}
 use Rattle.vt_laws.specs.ShownSets.{HasPool, IsChosen, IsSelected, PoolsAreOfSets, ShownAreChosen}
 use Rattle.vt_names.proofs.Holding.{by_eq, none-some}
 use Rattle.vt_server.proofs.Changes.{shown-acts}
@@ -33,10 +33,10 @@ use Rattle.vt_laws.proofs.Own.{part-act, part-act_other}
 abbrev IsBacked : Option Set → Option SetState → Type 0
 IsBacked set pool = is_some pool ≡ true → is_some set ≡ true
 
-abbrev PartIsBacked : Part → Type 0
+abbrev PartIsBacked : AddressView → Type 0
 PartIsBacked p = IsBacked p.set p.place.content.pool
 
-abbrev LeavesBacked : Outcome → Type 0
+abbrev LeavesBacked : AddressOutcome → Type 0
 LeavesBacked after = IsBacked after.set after.place.content.pool
 
 none-backed : (set : Option Set) → IsBacked set None
@@ -45,19 +45,19 @@ none-backed set has = absurd cc
 some-backed : (set : Set) (pool : Option SetState) → IsBacked (Some set) pool
 some-backed set pool has = refl
 
-either-backed : (b : Bool) (x y : Outcome) → LeavesBacked x → LeavesBacked y → LeavesBacked (cond b x y)
+either-backed : (b : Bool) (x y : AddressOutcome) → LeavesBacked x → LeavesBacked y → LeavesBacked (cond b x y)
 either-backed true x y first second = first
 either-backed false x y first second = second
 
 -- ---- messages
 
-message-backed : (a : ℕ) (p : Part) (verdict : Verdict) (o : Option Set) (message : Option (List ℕ)) → p.set ≡ o → PartIsBacked p
+message-backed : (a : ℕ) (p : AddressView) (verdict : Verdict) (o : Option Set) (message : Option (List ℕ)) → p.set ≡ o → PartIsBacked p
     → LeavesBacked (after_message a p verdict o message)
 message-backed a p verdict (Some set) (Some bytes) is backed = λ has. ap (λ (x : Option Set). is_some x) is
 message-backed a p verdict (Some set) None is backed = backed
 message-backed a p verdict None message is backed = backed
 
-heard-backed : (now a : ℕ) (p : Part) (n : Notice) (f : Frame) (verdict : Verdict) → PartIsBacked p → LeavesBacked (outcome now a p (Hears n f verdict))
+heard-backed : (now a : ℕ) (p : AddressView) (n : FrameMeaning) (f : Frame) (verdict : Verdict) → PartIsBacked p → LeavesBacked (outcome now a p (Hears n f verdict))
 heard-backed now a p (Claim name) f verdict backed = cases p.set
   where
     cases : (o : Option Set) → LeavesBacked (after_claim_heard (record p { place = heard_at now p.place }) o)
@@ -84,12 +84,12 @@ heard-backed now a p Etp f verdict backed =
 
 -- ---- the operator, and events of the Working Set
 
-action-backed : (now a : ℕ) (p : Part) (o : Option operating.Action) → is_some p.set ≡ true → LeavesBacked (after_action now a p o)
+action-backed : (now a : ℕ) (p : AddressView) (o : Option operating.Action) → is_some p.set ≡ true → LeavesBacked (after_action now a p o)
 action-backed now a p None has = λ pool. has
 action-backed now a p (Some (operating.Refused refusal)) has = λ pool. has
 action-backed now a p (Some (operating.Acts message start raised)) has = either-backed (is_busy message p.place.sending) _ _ (λ pool. has) (λ pool. has)
 
-operator-backed : (now a : ℕ) (p : Part) (action : ActionValue) (shown : Bool) (o : Option SetState) → p.place.content.pool ≡ o → PartIsBacked p
+operator-backed : (now a : ℕ) (p : AddressView) (action : ActionValue) (shown : Bool) (o : Option SetState) → p.place.content.pool ≡ o → PartIsBacked p
     → LeavesBacked (after_operator now a p action shown o)
 operator-backed now a p action shown None is backed = backed
 operator-backed now a p action shown (Some state) is backed =
@@ -99,13 +99,13 @@ some-mapped : {X Y : Type 0} (f : X → Y) (o : Option X) → is_some (option_ma
 some-mapped f None = refl
 some-mapped f (Some x) = refl
 
-changed-backed : (p : Part) (o : Option Set) → PartIsBacked p → LeavesBacked (after_change p o)
+changed-backed : (p : AddressView) (o : Option Set) → PartIsBacked p → LeavesBacked (after_change p o)
 changed-backed p None backed = backed
 changed-backed p (Some set) backed = either-backed (stays_under set.name p.holder) _ _ backed (none-backed None)
 
 -- ---- every act, at any address
 
-outcome-backed : (now a : ℕ) (p : Part) (h : Act) → PartIsBacked p → LeavesBacked (outcome now a p h)
+outcome-backed : (now a : ℕ) (p : AddressView) (h : Act) → PartIsBacked p → LeavesBacked (outcome now a p h)
 outcome-backed now a p (Hears n f verdict) backed = heard-backed now a p n f verdict backed
 outcome-backed now a p Rebinds backed = changed-backed p p.set backed
 outcome-backed now a p (Preloads contents) backed = λ has. refl
@@ -160,8 +160,8 @@ raise-leaves a s b event =
     by_eq b a
     (λ is.
     ap (λ c. is_some (pool_of (after_act s c (Raises event)) a)) is
-    ∙ ap (λ (p : Part). is_some p.place.content.pool) (part-act a s (Raises event)) ∙ some-mapped (λ state. raised_on state event) (pool_of s a))
-    (λ ne. ap (λ (p : Part). is_some p.place.content.pool) (part-act_other a b s (Raises event) (λ e. ne (sym e))))
+    ∙ ap (λ (p : AddressView). is_some p.place.content.pool) (part-act a s (Raises event)) ∙ some-mapped (λ state. raised_on state event) (pool_of s a))
+    (λ ne. ap (λ (p : AddressView). is_some p.place.content.pool) (part-act_other a b s (Raises event) (λ e. ne (sym e))))
 
 raised-leaves : (a : ℕ) (s : State) (o : Option ℕ) (event : ℕ) → is_some (pool_of (after_acts s (raised_at o event)) a) ≡ is_some (pool_of s a)
 raised-leaves a s None event = refl
@@ -201,13 +201,13 @@ losing-there s = record { shown = λ a e. cases a s.shown (is_some (pool_at s s.
     cases a o true has e = ap (λ (q : Option ℕ). is_some (pool_at s q)) (sym e) ∙ has
     cases a o false none e = none-some e
 
-step-there : (s : State) (e : Event) → AreThere s → AreThere (step s e).after
+step-there : (s : State) (e : JudgedInput) → AreThere s → AreThere (step s e).after
 step-there s (FrameAt time f verdict) are = cases s.lost
   where
     u : State
     u = lapsed (at_time s time)
 
-    n : Notice
+    n : FrameMeaning
     n = notice_of s.claims.own s.claims.name f
 
     heard : (b : Bool) → AreThere (cond b (losing u) (acting s u (source_of f) n f verdict)).after
@@ -227,12 +227,12 @@ step-there s (ActionAt action shown) are = cases s.lost
 
 none-first : (s : State) → ((a : ℕ) → s.places a ≡ empty) → s.selected ≡ None → s.shown ≡ None → PoolsAreOfSets s
 none-first s places selected shown = record {
-  registered = λ a has. let no : false ≡ true = ap (λ (p : Place). is_some p.content.pool) (sym (places a)) ∙ has in absurd cc;
+  registered = λ a has. let no : false ≡ true = ap (λ (p : AddressState). is_some p.content.pool) (sym (places a)) ∙ has in absurd cc;
   shown = λ a e. none-some (sym shown ∙ e);
   selected = λ a has e. none-some (sym selected ∙ e);
 }
 
-preloaded : (a : ℕ) (s : State) (contents : Contents) → PoolsAreOfSets s → PoolsAreOfSets (preloading s a contents)
+preloaded : (a : ℕ) (s : State) (contents : ObjectMap) → PoolsAreOfSets s → PoolsAreOfSets (preloading s a contents)
 preloaded a s contents are =
     let t = after_act s a (Preloads contents) in
     record {
@@ -241,7 +241,7 @@ preloaded a s contents are =
       selected = λ b still e. selected-has t b e;
     }
 
-kept : (s : State) (e : Event) → PoolsAreOfSets s → PoolsAreOfSets (step s e).after
+kept : (s : State) (e : JudgedInput) → PoolsAreOfSets s → PoolsAreOfSets (step s e).after
 kept s e are =
     let after : AreThere (step s e).after = step-there s e (record { shown = are.shown; selected = are.selected }) in
     record {

@@ -13,7 +13,7 @@ use Rattle.vt_can.specs.transport.Sessions.{each_below, is_overdue}
 use Rattle.vt_names.specs.Registry.{Set}
 use Rattle.vt_commands.specs.declared.command.Command.{Command}
 use Rattle.vt_commands.specs.Commands.{command_at}
-use Rattle.vt_stores.specs.Stores.{Contents}
+use Rattle.vt_stores.specs.Stores.{ObjectMap}
 use Rattle.vt_effects.specs.Effects.{effect}
 use Rattle.vt_machine.specs.Lives.{SetState}
 use Rattle.vt_machine.specs.Operating as operating
@@ -22,14 +22,14 @@ use Rattle.vt_node.specs.ByAddress.{with_at}
 use Rattle.vt_server.specs.Choosing.{choosing, shown_now, events_of_change}
 use Rattle.vt_server.specs.Lapses.{at_time, lapsed, silences, silent, after_tp_timeouts, after_etp_timeouts, after_timeouts}
 use Rattle.vt_server.specs.Operators.{action_on, is_busy}
-use Rattle.vt_server.specs.Parts.{Part, Act, Hears, Rebinds, Preloads, TpExpires, EtpExpires, SendingExpires, FallsSilent, Operates, Raises, Outcome, outcome}
-use Rattle.vt_server.specs.Places.{Place}
+use Rattle.vt_server.specs.Parts.{AddressView, Act, Hears, Rebinds, Preloads, TpExpires, EtpExpires, SendingExpires, FallsSilent, Operates, Raises, AddressOutcome, outcome}
+use Rattle.vt_server.specs.Places.{AddressState}
 use Rattle.vt_server.specs.Sessions.{came}
-use Rattle.vt_server.specs.Steps.{Event, FrameAt, ActionAt, step, before, acts, acted, answer_to, is_lost_by, changes, heard_at_source, settled, losing, acting, hearing, no_step, step_frame, selecting, at_shown, step_action}
+use Rattle.vt_server.specs.Steps.{JudgedInput, FrameAt, ActionAt, step, before, acts, acted, answer_to, is_lost_by, changes, heard_at_source, settled, losing, acting, hearing, no_step, step_frame, selecting, at_shown, step_action}
 use Rattle.vt_server.specs.Terminals.{State, pool_of, part, put, after_act, after_acts}
 use Rattle.vt_server.specs.Transfers.{Verdict}
-use Rattle.vt_node.specs.declared.bus.Notice.{Notice}
-use Rattle.vt_node.specs.declared.bus.Notice.TheVariants.{Claim, ClaimRequest, Master, Member, Message, Tp, Etp, Nothing}
+use Rattle.vt_node.specs.declared.bus.FrameMeaning.{FrameMeaning}
+use Rattle.vt_node.specs.declared.bus.FrameMeaning.TheVariants.{Claim, ClaimRequest, Master, Member, Message, Tp, Etp, Nothing}
 use Rattle.vt_laws.specs.Headline.{Pools, Run, accepted_after, accepted_at, accepted_by_acts, accepted_in_hearing, runs_of_effect, runs_of_command, runs_of_message, runs_of_action, runs_of_operator, runs_of_event, runs_at, runs_of_acts, runs_of_settling, runs_of_hearing, runs_of_operating, runs}
 use Rattle.vt_laws.specs.RunsOfSteps.{Lead, RunsAreOfSteps, objects_in, runs_there}
 use Rattle.vt_server.proofs.ActsAt.{AllAt, at-append, at-below, at-changes, at-heard}
@@ -48,7 +48,7 @@ abbrev AreAt : ℕ → List Run → Type 0
 AreAt a rs = AllByRecursion (λ run. run.address ≡ a) rs
 
 -- the run of a command that is done is there, and so on to any act
-effect-at : (a : ℕ) (old : Contents) (command : Command) (r : Result Contents ℕ) → AreAt a (runs_of_effect a old command r)
+effect-at : (a : ℕ) (old : ObjectMap) (command : Command) (r : Result ObjectMap ℕ) → AreAt a (runs_of_effect a old command r)
 effect-at a old command (Ok middle) = (refl, tt)
 effect-at a old command (Err bits) = tt
 
@@ -62,7 +62,7 @@ message-at a None pool message = tt
 message-at a (Some set) pool None = tt
 message-at a (Some set) pool (Some bytes) = command-at a pool (command_at bytes)
 
-action-at : (a : ℕ) (sending : Option (Timed transport.Message)) (old : Contents) (o : Option operating.Action) → AreAt a (runs_of_action a sending old o)
+action-at : (a : ℕ) (sending : Option (Timed transport.Message)) (old : ObjectMap) (o : Option operating.Action) → AreAt a (runs_of_action a sending old o)
 action-at a sending old None = tt
 action-at a sending old (Some (operating.Refused refusal)) = tt
 action-at a sending old (Some (operating.Acts message start raised)) = cases (is_busy message sending)
@@ -81,7 +81,7 @@ event-at a None event = tt
 event-at a (Some state) event = (refl, tt)
 
 -- the runs of an act are at its address
-runs-at : (now a : ℕ) (p : Part) (h : Act) → AreAt a (runs_at now a p h)
+runs-at : (now a : ℕ) (p : AddressView) (h : Act) → AreAt a (runs_at now a p h)
 runs-at now a p (Hears n f verdict) = message-at a p.set p.place.content.pool (came now p.terminal a p.place n f).message
 runs-at now a p Rebinds = tt
 runs-at now a p (Preloads contents) = tt
@@ -106,7 +106,7 @@ none-there a q (run ∷ rs) other at =
 -- ---- an act, and each address
 
 -- what is written at an address leaves the pools of the others
-put-follows : (s : State) (a q : ℕ) (o : Outcome) (rs : List Run) → AreAt a rs → (q ≡ a → Follows (pool_of s a) rs o.place.content.pool)
+put-follows : (s : State) (a q : ℕ) (o : AddressOutcome) (rs : List Run) → AreAt a rs → (q ≡ a → Follows (pool_of s a) rs o.place.content.pool)
     → Follows (pool_of s q) (runs_there q rs) (pool_of (put a o s) q)
 put-follows s a q o rs at follows = by_eq q a here elsewhere
   where
@@ -114,12 +114,12 @@ put-follows s a q o rs at follows = by_eq q a here elsewhere
     here same =
         subst (λ (r : ℕ). Follows (pool_of s r) (runs_there r rs) (pool_of (put a o s) r)) (sym same)
         (subst (λ (l : List Run). Follows (pool_of s a) l (pool_of (put a o s) a)) (sym (all-there a rs at))
-        (subst (λ (p : Place). Follows (pool_of s a) rs p.content.pool) (sym (at-own a s.places o.place)) (follows same)))
+        (subst (λ (p : AddressState). Follows (pool_of s a) rs p.content.pool) (sym (at-own a s.places o.place)) (follows same)))
 
     elsewhere : q ≢ a → Follows (pool_of s q) (runs_there q rs) (pool_of (put a o s) q)
     elsewhere other =
         subst (λ (l : List Run). Follows (pool_of s q) l (pool_of (put a o s) q)) (sym (none-there a q rs other at))
-        (subst (λ (p : Place). Follows (pool_of s q) [] p.content.pool) (sym (at-other a q s.places o.place other)) (follows-same (pool_of s q)))
+        (subst (λ (p : AddressState). Follows (pool_of s q) [] p.content.pool) (sym (at-other a q s.places o.place other)) (follows-same (pool_of s q)))
 
 -- so an act leaves of each pool what its runs there leave
 one-follows : (s : State) (a : ℕ) (h : Act) (q : ℕ) → (q ≡ a → MayFollow s.now a (part a s) h)
@@ -131,7 +131,7 @@ one-follows s a h q may =
     (put-follows s a q o rs (runs-at s.now a (part a s) h) (λ same. act-follows s.now a (part a s) h (may same)))
 
 -- an act that may happen in every state accepts no pool
-plain-may : (now a : ℕ) (p : Part) (h : Act) → IsPlain a h → MayFollow now a p h
+plain-may : (now a : ℕ) (p : AddressView) (h : Act) → IsPlain a h → MayFollow now a p h
 plain-may now a p (Hears n f verdict) plain = λ last. plain-accepts now a p (Hears n f verdict) last plain
 plain-may now a p Rebinds plain = λ last. refl
 plain-may now a p (Preloads contents) plain = absurd plain
@@ -161,7 +161,7 @@ acts-follow s (h ∷ hs) q plain =
 
 -- an act that begins no run
 abbrev BeginsNone : ℕ → Act → Type 0
-BeginsNone a h = (now : ℕ) (p : Part) → runs_at now a p h ≡ []
+BeginsNone a h = (now : ℕ) (p : AddressView) → runs_at now a p h ≡ []
 
 -- acts of which none begins a run have none
 none-begun : (s : State) (hs : List (ℕ × Act)) → AllAt BeginsNone hs → runs_of_acts s hs ≡ []
@@ -209,32 +209,32 @@ unfolding settled
 settling-follows s q = acts-follow (choosing s) (events_of_change s.shown (shown_now s)) q (change-plain s.shown (shown_now s))
 
 -- what is written at an address leaves the pools of the others
-put-holds : (pools : Pools) (s : State) (a q : ℕ) (o : Outcome) (x : Option Contents) (rs : List Run) → AreAt a rs → Holds (pools q) [] (pool_of s q)
+put-holds : (pools : Pools) (s : State) (a q : ℕ) (o : AddressOutcome) (x : Option ObjectMap) (rs : List Run) → AreAt a rs → Holds (pools q) [] (pool_of s q)
     → Holds x rs o.place.content.pool → Holds (with_at a x pools q) (runs_there q rs) (pool_of (put a o s) q)
 put-holds pools s a q o x rs at there here = by_eq q a mine other
   where
     mine : q ≡ a → Holds (with_at a x pools q) (runs_there q rs) (pool_of (put a o s) q)
     mine same =
         subst (λ (r : ℕ). Holds (with_at a x pools r) (runs_there r rs) (pool_of (put a o s) r)) (sym same)
-        (subst (λ (y : Option Contents). Holds y (runs_there a rs) (pool_of (put a o s) a)) (sym (at-own a pools x))
+        (subst (λ (y : Option ObjectMap). Holds y (runs_there a rs) (pool_of (put a o s) a)) (sym (at-own a pools x))
         (subst (λ (l : List Run). Holds x l (pool_of (put a o s) a)) (sym (all-there a rs at))
-        (subst (λ (p : Place). Holds x rs p.content.pool) (sym (at-own a s.places o.place)) here)))
+        (subst (λ (p : AddressState). Holds x rs p.content.pool) (sym (at-own a s.places o.place)) here)))
 
     other : q ≢ a → Holds (with_at a x pools q) (runs_there q rs) (pool_of (put a o s) q)
     other not =
-        subst (λ (y : Option Contents). Holds y (runs_there q rs) (pool_of (put a o s) q)) (sym (at-other a q pools x not))
+        subst (λ (y : Option ObjectMap). Holds y (runs_there q rs) (pool_of (put a o s) q)) (sym (at-other a q pools x not))
         (subst (λ (l : List Run). Holds (pools q) l (pool_of (put a o s) q)) (sym (none-there a q rs not at))
-        (subst (λ (p : Place). Holds (pools q) [] p.content.pool) (sym (at-other a q s.places o.place not)) there))
+        (subst (λ (p : AddressState). Holds (pools q) [] p.content.pool) (sym (at-other a q s.places o.place not)) there))
 
 -- runs, and then more
-more-hold : (last : Option Contents) (x z : Option SetState) (q : ℕ) (rs ss : List Run) → Holds last (runs_there q rs) x → Follows x (runs_there q ss) z
+more-hold : (last : Option ObjectMap) (x z : Option SetState) (q : ℕ) (rs ss : List Run) → Holds last (runs_there q rs) x → Follows x (runs_there q ss) z
     → Holds last (runs_there q (rs ++ ss)) z
 more-hold last x z q rs ss first second =
     subst (λ (l : List Run). Holds last l z) (sym (filter-append (λ (run : Run). eqb run.address q) rs ss))
     (holds-then last x z (runs_there q rs) (runs_there q ss) first second)
 
 -- a frame at its source, which is not the terminal
-one-heard : (pools : Pools) (s : State) (source : ℕ) (n : Notice) (f : Frame) (verdict : Verdict) (q : ℕ) → ((r : ℕ) → Holds (pools r) [] (pool_of s r))
+one-heard : (pools : Pools) (s : State) (source : ℕ) (n : FrameMeaning) (f : Frame) (verdict : Verdict) (q : ℕ) → ((r : ℕ) → Holds (pools r) [] (pool_of s r))
     → Holds (accepted_by_acts s (heard_at_source s.claims.own source n f verdict) pools q)
     (runs_there q (runs_of_acts s (heard_at_source s.claims.own source n f verdict)))
     (pool_of (after_acts s (heard_at_source s.claims.own source n f verdict)) q)
@@ -243,10 +243,10 @@ one-heard pools s source n f verdict q is = cases (eqb source s.claims.own)
     h : Act
     h = Hears n f verdict
 
-    p : Part
+    p : AddressView
     p = part source s
 
-    x : Option Contents
+    x : Option ObjectMap
     x = accepted_at s.now source p h (pools source)
 
     own : Holds (with_at source x pools q) (runs_there q (runs_at s.now source p h)) (pool_of (after_act s source h) q)
@@ -263,7 +263,7 @@ one-heard pools s source n f verdict q is = cases (eqb source s.claims.own)
         more-hold (with_at source x pools q) (pool_of t q) (pool_of t q) q (runs_at s.now source p h) [] own (follows-same (pool_of t q))
 
 -- all that a frame makes happen
-frame-holds : (pools : Pools) (s : State) (source : ℕ) (n : Notice) (f : Frame) (verdict : Verdict) (q : ℕ) → ((r : ℕ) → Holds (pools r) [] (pool_of s r))
+frame-holds : (pools : Pools) (s : State) (source : ℕ) (n : FrameMeaning) (f : Frame) (verdict : Verdict) (q : ℕ) → ((r : ℕ) → Holds (pools r) [] (pool_of s r))
     → Holds (accepted_by_acts (before s source n) (acts s source n f verdict) pools q)
     (runs_there q (runs_of_acts (before s source n) (acts s source n f verdict))) (pool_of (acted s source n f verdict) q)
 frame-holds pools s source (Claim name) f verdict q is =
@@ -272,7 +272,7 @@ frame-holds pools s source (Claim name) f verdict q is =
     let plain : AllAt IsPlain hs =
     at-append IsPlain (changes s source (Claim name)) (heard_at_source s.claims.own source (Claim name) f verdict)
     (at-changes IsPlain (λ a. tt) s source (Claim name)) (at-heard IsPlain s.claims.own source (Claim name) f verdict tt) in
-    subst (λ (y : Option Contents). Holds y (runs_there q (runs_of_acts b hs)) (pool_of (after_acts b hs) q)) (sym (plain-stay pools b hs plain q))
+    subst (λ (y : Option ObjectMap). Holds y (runs_there q (runs_of_acts b hs)) (pool_of (after_acts b hs) q)) (sym (plain-stay pools b hs plain q))
     (holds-then (pools q) (pool_of s q) (pool_of (after_acts b hs) q) [] (runs_there q (runs_of_acts b hs)) (is q) (acts-follow b hs q plain))
 frame-holds pools s source ClaimRequest f verdict q is = one-heard pools s source ClaimRequest f verdict q is
 frame-holds pools s source (Master count) f verdict q is = one-heard pools s source (Master count) f verdict q is
@@ -283,7 +283,7 @@ frame-holds pools s source Etp f verdict q is = one-heard pools s source Etp f v
 frame-holds pools s source Nothing f verdict q is = one-heard pools s source Nothing f verdict q is
 
 -- a frame, by which the address is lost or not
-hearing-holds : (pools : Pools) (old s : State) (source : ℕ) (n : Notice) (f : Frame) (verdict : Verdict) (q : ℕ)
+hearing-holds : (pools : Pools) (old s : State) (source : ℕ) (n : FrameMeaning) (f : Frame) (verdict : Verdict) (q : ℕ)
     → ((r : ℕ) → Holds (pools r) [] (pool_of s r))
     → Holds (accepted_in_hearing s source n f verdict pools q) (runs_there q (runs_of_hearing s source n f verdict)) (pool_of (hearing old s source n f verdict).after q)
 hearing-holds pools old s source n f verdict q is = cases (is_lost_by (answer_to s source n))
@@ -341,13 +341,13 @@ operating-follows s action shown q = cases s.lost
     cases false = subst (λ (pool : Option SetState). Follows pool (runs_there q (runs_of_operating u hs)) (pool_of (settled t) q)) (selecting-same s action q) operated
 
 -- a step leaves of each pool what its runs there leave, of the one that was accepted last
-step-holds : (s : State) (e : Event) (q : ℕ) → Holds (accepted_after s e (objects_in s) q) (runs_there q (runs s e)) (pool_of (step s e).after q)
+step-holds : (s : State) (e : JudgedInput) (q : ℕ) → Holds (accepted_after s e (objects_in s) q) (runs_there q (runs s e)) (pool_of (step s e).after q)
 step-holds s (FrameAt time f verdict) q = cases s.lost
   where
     t : State
     t = lapsed (at_time s time)
 
-    n : Notice
+    n : FrameMeaning
     n = notice_of s.claims.own s.claims.name f
 
     there : (r : ℕ) → Holds (objects_in s r) [] (pool_of t r)
@@ -362,7 +362,7 @@ step-holds s (ActionAt action shown) q =
     (holds-there (pool_of s q)) (operating-follows s action shown q)
 
 -- in the words of the law
-in-law : (last : Option Contents) (rs : List Run) (pool : Option SetState) → Holds last rs pool → IfSome pool (λ new. IsSomeAnd last (λ old. Lead old rs new.objects))
+in-law : (last : Option ObjectMap) (rs : List Run) (pool : Option SetState) → Holds last rs pool → IfSome pool (λ new. IsSomeAnd last (λ old. Lead old rs new.objects))
 in-law last rs None holds = tt
 in-law None rs (Some new) holds = absurd holds
 in-law (Some old) rs (Some new) holds = holds

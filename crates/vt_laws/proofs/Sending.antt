@@ -9,15 +9,15 @@ use Rattle.vt_can.specs.transport.Sessions.{is_overdue}
 use Rattle.vt_names.specs.Claims.{Claimed}
 use Rattle.vt_names.specs.Registry.{Set}
 use Rattle.vt_node.specs.Bus.{notice_of}
-use Rattle.vt_server.specs.Choosing.{choosing, shown_now, events_of_change, display, status, same_display, Display, status_frame}
+use Rattle.vt_server.specs.Choosing.{choosing, shown_now, events_of_change, display, status, same_display, ShownMasks, status_frame}
 use Rattle.vt_server.specs.Lapses.{at_time, lapsed, sent_by_lapses, tp_due, etp_due, sending_due, after_tp_timeouts, after_etp_timeouts}
 use Rattle.vt_node.specs.Messages.{claim_from}
-use Rattle.vt_server.specs.Parts.{Part, Act, Hears, Rebinds, Preloads, TpExpires, EtpExpires, SendingExpires, FallsSilent, Operates, Raises, unchanged, without_set, after_change, outcome}
+use Rattle.vt_server.specs.Parts.{AddressView, Act, Hears, Rebinds, Preloads, TpExpires, EtpExpires, SendingExpires, FallsSilent, Operates, Raises, unchanged, without_set, after_change, outcome}
 use Rattle.vt_laws.specs.Sending.{IsToOne, IsToAll, AreAddressed, HasAddresses}
-use Rattle.vt_server.specs.Steps.{Event, FrameAt, ActionAt, step, before, changes, heard_at_source, acts, answer_to, is_lost_by, is_defended, defence, settled, sent_by_settling, losing, acting, no_step, step_frame, has_no_set, selecting, at_shown, no_set, step_action}
+use Rattle.vt_server.specs.Steps.{JudgedInput, FrameAt, ActionAt, step, before, changes, heard_at_source, acts, answer_to, is_lost_by, is_defended, defence, settled, sent_by_settling, losing, acting, no_step, step_frame, has_no_set, selecting, at_shown, no_set, step_action}
 use Rattle.vt_server.specs.Terminals.{State, Sent, ToOne, ToAll, part, after_act, after_acts, sent_by_act, sent_by_acts, to_address, refusal}
 use Rattle.vt_server.specs.Transfers.{Verdict}
-use Rattle.vt_node.specs.declared.bus.Notice.{Notice}
+use Rattle.vt_node.specs.declared.bus.FrameMeaning.{FrameMeaning}
 use Rattle.vt_server.specs.declared.output.OperatorFault.{OperatorFault}
 use Rattle.vt_server.proofs.Changes.{own-before}
 use Rattle.vt_server.proofs.Keeping.{claims-lapsed}
@@ -78,7 +78,7 @@ Fits a FallsSilent = Unit {0}
 Fits a (Raises event) = Unit {0}
 Fits a _ = a < 2 ^ 8
 
-change-sends : (own a : ℕ) (p : Part) (o : Option Set) → AreAddressed own (to_address a (after_change p o))
+change-sends : (own a : ℕ) (p : AddressView) (o : Option Set) → AreAddressed own (to_address a (after_change p o))
 change-sends own a p None = tt
 change-sends own a p (Some set) = cases (option_eq nat_eq set.name None || option_eq nat_eq set.name p.holder)
   where
@@ -142,7 +142,7 @@ module _ (law : PartsAreIdentifiers) where
     defence-sends true name = (own-claim name, tt)
     defence-sends false name = tt
 
-    status-sends : (was now : Display) → AreAddressed own (status own was now)
+    status-sends : (was now : ShownMasks) → AreAddressed own (status own was now)
     status-sends was now = cases (same_display was now)
       where
         cases : (b : Bool) → AreAddressed own (cond b [] (ToAll (status_frame own now) ∷ []))
@@ -158,10 +158,10 @@ module _ (law : PartsAreIdentifiers) where
 
     -- ---- a frame
 
-    own-before-is : (s : State) (source : ℕ) (n : Notice) → s.claims.own ≡ own → (before s source n).claims.own ≡ own
+    own-before-is : (s : State) (source : ℕ) (n : FrameMeaning) → s.claims.own ≡ own → (before s source n).claims.own ≡ own
     own-before-is s source n is = own-before s source n ∙ is
 
-    acting-sends : (old s : State) (f : Frame) (n : Notice) (verdict : Verdict) → s.claims.own ≡ own → AreAddressed own (acting old s (source_of f) n f verdict).sent
+    acting-sends : (old s : State) (f : Frame) (n : FrameMeaning) (verdict : Verdict) → s.claims.own ≡ own → AreAddressed own (acting old s (source_of f) n f verdict).sent
     acting-sends old s f n verdict is =
         let source = source_of f in
         let t = before s source n in
@@ -183,7 +183,7 @@ module _ (law : PartsAreIdentifiers) where
         addressed-append own (sent_by_lapses t) _ (lapses-send t is)
         (by-loss n (ap (λ (c : Claimed). c.own) (claims-lapsed t) ∙ is) (is_lost_by (answer_to u (source_of f) n)))
       where
-        by-loss : (n : Notice) → let u = lapsed (at_time s time) in
+        by-loss : (n : FrameMeaning) → let u = lapsed (at_time s time) in
             u.claims.own ≡ own → (b : Bool) → AreAddressed own (cond b (losing u) (acting s u (source_of f) n f verdict)).sent
         by-loss n u-is true = (cannot-claim (lapsed (at_time s time)).claims.name, tt)
         by-loss n u-is false = acting-sends s (lapsed (at_time s time)) f n verdict u-is
@@ -208,7 +208,7 @@ module _ (law : PartsAreIdentifiers) where
         (acts-send u hs u-is (shown-fits s.shown action shown fits)))
         (settling-sends s (after_acts u hs) (own-acts u hs u-is))
 
-  pub step-sends : (s : State) (e : Event) → HasAddresses s → AreAddressed s.claims.own (step s e).sent
+  pub step-sends : (s : State) (e : JudgedInput) → HasAddresses s → AreAddressed s.claims.own (step s e).sent
   step-sends s (FrameAt time f verdict) fits = cases s.lost
     where
       cases : (b : Bool) → AreAddressed s.claims.own (cond b (no_step s) (step_frame s time f verdict)).sent

@@ -12,15 +12,15 @@ use Rattle.vt_laws.specs.Happenings.{loses, SetIsHeld}
 use Rattle.vt_server.specs.Orderly.{IsOrderly}
 use Rattle.vt_server.specs.Lapses.{at_time, lapsed, silent, after_timeouts}
 use Rattle.vt_node.specs.Watches.{is_silent}
-use Rattle.vt_server.specs.Parts.{Part, Act, Hears, Preloads, FallsSilent, Operates, after_master, after_member, after_message, outcome}
-use Rattle.vt_server.specs.Places.{Place, heard_at}
+use Rattle.vt_server.specs.Parts.{AddressView, Act, Hears, Preloads, FallsSilent, Operates, after_master, after_member, after_message, outcome}
+use Rattle.vt_server.specs.Places.{AddressState, heard_at}
 use Rattle.vt_server.specs.Sessions.{came}
 use Rattle.vt_laws.specs.SetLists.{heard_sets, named_at, stays, IsSettled, SetsAfterSteps, sets_after, sets_by}
-use Rattle.vt_server.specs.Steps.{Event, FrameAt, ActionAt, step, before, heard_at_source, acts, answer_to, is_lost_by, settled, losing, acted, acting, hearing, no_step, step_frame, selecting, at_shown, step_action}
+use Rattle.vt_server.specs.Steps.{JudgedInput, FrameAt, ActionAt, step, before, heard_at_source, acts, answer_to, is_lost_by, settled, losing, acted, acting, hearing, no_step, step_frame, selecting, at_shown, step_action}
 use Rattle.vt_server.specs.Terminals.{State, holder, part, after_act, after_acts, with_set_at}
 use Rattle.vt_server.specs.Transfers.{Verdict}
-use Rattle.vt_node.specs.declared.bus.Notice.{Notice}
-use Rattle.vt_node.specs.declared.bus.Notice.TheVariants.{Claim, ClaimRequest, Master, Member, Message, Tp, Etp, Nothing}
+use Rattle.vt_node.specs.declared.bus.FrameMeaning.{FrameMeaning}
+use Rattle.vt_node.specs.declared.bus.FrameMeaning.TheVariants.{Claim, ClaimRequest, Master, Member, Message, Tp, Etp, Nothing}
 use Rattle.vt_server.proofs.ActsAt.{AllAt, at-change, at-heard}
 use Rattle.vt_server.proofs.Changes.{claims-acts}
 use Rattle.vt_laws.proofs.Held.{IsHeldAt, act-held, none-held, held}
@@ -74,7 +74,7 @@ lapsed-list s time apart =
     falls-list (filter (silent u) u.sets) u
     ∙ gone-filter (silent u) u.sets (subst AreApart (sym (sets-third t)) apart)
     ∙ (λ i. filter
-    (λ set. not (is_silent (now-third t i) (places-third t (λ (x : Place). x.heard) set.address (λ now b p. refl) (λ now b p. refl) (λ now b p. refl) i)))
+    (λ set. not (is_silent (now-third t i) (places-third t (λ (x : AddressState). x.heard) set.address (λ now b p. refl) (λ now b p. refl) (λ now b p. refl) i)))
     (sets-third t i))
 
 -- ---- what keeps the list
@@ -93,8 +93,8 @@ pub settled-claims : (s : State) → (settled s).claims ≡ s.claims
 unfolding settled
 settled-claims s = claims-acts (choosing s) (events_of_change s.shown (shown_now s))
 
-came-kept : (n : Notice) (f : Frame) (verdict : Verdict)
-    → ((now a : ℕ) (p : Part) → let c = came now p.terminal a (heard_at now p.place) n f in (outcome now a p (Hears n f verdict)).set ≡ (after_message a (record p { place = c.place }) verdict p.set c.message).set)
+came-kept : (n : FrameMeaning) (f : Frame) (verdict : Verdict)
+    → ((now a : ℕ) (p : AddressView) → let c = came now p.terminal a (heard_at now p.place) n f in (outcome now a p (Hears n f verdict)).set ≡ (after_message a (record p { place = c.place }) verdict p.set c.message).set)
     → KeepsSets (Hears n f verdict)
 came-kept n f verdict is now a p =
     let c = came now p.terminal a (heard_at now p.place) n f in
@@ -102,12 +102,12 @@ came-kept n f verdict is now a p =
 
 -- ---- what a frame from the terminal's own address may say
 
-abbrev IsHeeded : Notice → Type 0
+abbrev IsHeeded : FrameMeaning → Type 0
 IsHeeded (Claim name) = Unit {0}
 IsHeeded Nothing = Unit {0}
 IsHeeded _ = ⊥
 
-echo-heeded : (name : ℕ) (n : Notice) → IsHeeded (unless_echo name n)
+echo-heeded : (name : ℕ) (n : FrameMeaning) → IsHeeded (unless_echo name n)
 echo-heeded name (Claim other) = cases (eqb other name)
   where
     cases : (b : Bool) → IsHeeded (cond b Nothing (Claim other))
@@ -127,12 +127,12 @@ own-heeded own name f is =
 
 -- ---- a frame
 
-master-list : (s : State) (a count : ℕ) (place : Place) (o : Option ℕ)
+master-list : (s : State) (a count : ℕ) (place : AddressState) (o : Option ℕ)
     → with_set_at a (after_master a (record (part a s) { place = place }) o count).set s.sets ≡ registering a o count s.sets
 master-list s a count place None = sets-same a s.sets (set_at a s.sets) refl
 master-list s a count place (Some h) = refl
 
-member-list : (s : State) (a name : ℕ) (place : Place) (o : Option Set) → set_at a s.sets ≡ o
+member-list : (s : State) (a name : ℕ) (place : AddressState) (o : Option Set) → set_at a s.sets ≡ o
     → with_set_at a (after_member (record (part a s) { place = place }) o name).set s.sets ≡ joining o name s.sets
 member-list s a name place None e = sets-same a s.sets (set_at a s.sets) refl
 member-list s a name place (Some set) e = cases (has_place set)
@@ -146,19 +146,19 @@ module _ (law : OtherHoldersStay) (s : State) (orderly : IsOrderly s) (is : IsSe
   everywhere a = by_eq a s.claims.own (λ h. none-held (set_at a s.sets) (holder s a) (ap (λ b. set_at b s.sets) h ∙ is.elsewhere)) (is.held a)
 
   -- a frame that its source alone looks at
-  one-list : (source : ℕ) (n : Notice) (f : Frame) (verdict : Verdict) (sets : List Set) → (source ≡ s.claims.own → IsHeeded n) → (IsHeeded n → ⊥)
+  one-list : (source : ℕ) (n : FrameMeaning) (f : Frame) (verdict : Verdict) (sets : List Set) → (source ≡ s.claims.own → IsHeeded n) → (IsHeeded n → ⊥)
       → (after_act s source (Hears n f verdict)).sets ≡ sets → (after_acts s (heard_at_source s.claims.own source n f verdict)).sets ≡ sets
   one-list source n f verdict sets heeded not-heeded these =
       by_eq source s.claims.own
       (λ h. absurd (not-heeded (heeded h)))
       (λ ne. ap (λ b. (after_acts s (cond b [] ((source, Hears n f verdict) ∷ []))).sets) (ne_eqb source s.claims.own ne) ∙ these)
 
-  kept-list : (source : ℕ) (n : Notice) (f : Frame) (verdict : Verdict) → KeepsSets (Hears n f verdict) → (after_acts s (heard_at_source s.claims.own source n f verdict)).sets ≡ s.sets
+  kept-list : (source : ℕ) (n : FrameMeaning) (f : Frame) (verdict : Verdict) → KeepsSets (Hears n f verdict) → (after_acts s (heard_at_source s.claims.own source n f verdict)).sets ≡ s.sets
   kept-list source n f verdict keeps =
       let hs = heard_at_source s.claims.own source n f verdict in
       sets-kept s hs (all-sets KeepsSets hs (at-heard (λ a h. KeepsSets h) s.claims.own source n f verdict keeps))
 
-  acts-list : (source : ℕ) (n : Notice) (f : Frame) (verdict : Verdict) → (source ≡ s.claims.own → IsHeeded n)
+  acts-list : (source : ℕ) (n : FrameMeaning) (f : Frame) (verdict : Verdict) → (source ≡ s.claims.own → IsHeeded n)
       → (acted s source n f verdict).sets ≡ sets_after (before s source n) source n s.sets
   acts-list source (Claim name) f verdict heeded = claim-closes law s orderly.rising source name orderly.apart is.elsewhere everywhere f verdict
   acts-list source ClaimRequest f verdict heeded = kept-list source ClaimRequest f verdict (came-kept ClaimRequest f verdict (λ now a p. refl))
@@ -175,7 +175,7 @@ module _ (law : OtherHoldersStay) (s : State) (orderly : IsOrderly s) (is : IsSe
 
 -- ---- the holders are all that counts of the state after it
 
-answer-same : (s u : State) (source : ℕ) (n : Notice) → u.claims ≡ s.claims → answer_to u source n ≡ answer_to s source n
+answer-same : (s u : State) (source : ℕ) (n : FrameMeaning) → u.claims ≡ s.claims → answer_to u source n ≡ answer_to s source n
 answer-same s u source (Claim name) same = ap (λ (c : Claimed). answer c source name) same
 answer-same s u source ClaimRequest same = refl
 answer-same s u source (Master count) same = refl
@@ -185,7 +185,7 @@ answer-same s u source Tp same = refl
 answer-same s u source Etp same = refl
 answer-same s u source Nothing same = refl
 
-after-same : (t u : State) (source : ℕ) (n : Notice) (sets : List Set) → u.claims ≡ t.claims → sets_after u source n sets ≡ sets_after t source n sets
+after-same : (t u : State) (source : ℕ) (n : FrameMeaning) (sets : List Set) → u.claims ≡ t.claims → sets_after u source n sets ≡ sets_after t source n sets
 after-same t u source (Claim name) sets same = ap (λ (c : Claimed). map (named_at (record t { claims = c }) source) (filter (stays (record t { claims = c })) sets)) same
 after-same t u source ClaimRequest sets same = refl
 after-same t u source (Master count) sets same = ap (λ (c : Claimed). registering source (holder_of c.addresses source) count sets) same
@@ -233,7 +233,7 @@ module _ (laws : Laws) (s : State) (orderly : IsOrderly s) (is : IsSettled s) wh
         cases m acting-list (is_lost_by (answer_to u source m))
         ∙ ap (λ a. cond (is_lost_by a) (heard_sets s time) (sets_after (hearing s u source m f verdict).after source m (heard_sets s time))) (answer-same s u source m u-claims)
       where
-        cases : (m : Notice) → (settled (acted u (source_of f) m f verdict)).sets ≡ sets_after (settled (acted u (source_of f) m f verdict)) (source_of f) m (heard_sets s time)
+        cases : (m : FrameMeaning) → (settled (acted u (source_of f) m f verdict)).sets ≡ sets_after (settled (acted u (source_of f) m f verdict)) (source_of f) m (heard_sets s time)
             → (b : Bool) → let after = (cond b (losing u) (acting s u (source_of f) m f verdict)).after in
             after.sets ≡ cond b (heard_sets s time) (sets_after after (source_of f) m (heard_sets s time))
         cases m listed true = u-list
@@ -251,7 +251,7 @@ module _ (laws : Laws) (s : State) (orderly : IsOrderly s) (is : IsSettled s) wh
       all-shown None = tt
       all-shown (Some a) = (λ now b p. operator-set now b p action shown p.place.content.pool, tt)
 
-  step-list : (e : Event) → (step s e).after.sets ≡ sets_by s (step s e).after e
+  step-list : (e : JudgedInput) → (step s e).after.sets ≡ sets_by s (step s e).after e
   step-list (FrameAt time f verdict) = cases s.lost
     where
       cases : (b : Bool) → let m = notice_of s.claims.own s.claims.name f in let after = (cond b (no_step s) (step_frame s time f verdict)).after in
@@ -281,7 +281,7 @@ none-registering : (q source : ℕ) (o : Option ℕ) (count : ℕ) (sets : List 
 none-registering q source None count sets ne none = none
 none-registering q source (Some h) count sets ne none = at-with_other q (mastered source h count) sets ne ∙ none
 
-none-after : (q : ℕ) (t : State) (source : ℕ) (n : Notice) (sets : List Set) → source ≢ q → set_at q sets ≡ None → set_at q (sets_after t source n sets) ≡ None
+none-after : (q : ℕ) (t : State) (source : ℕ) (n : FrameMeaning) (sets : List Set) → source ≢ q → set_at q sets ≡ None → set_at q (sets_after t source n sets) ≡ None
 none-after q t source (Claim name) sets ne none = none-closed q t source sets none
 none-after q t source ClaimRequest sets ne none = none
 none-after q t source (Master count) sets ne none = none-registering q source (holder t source) count sets ne none
@@ -296,7 +296,7 @@ none-claim : (b : Bool) (q : ℕ) (t : State) (source name : ℕ) (sets : List S
 none-claim true q t source name sets none = none
 none-claim false q t source name sets none = none-closed q t source sets none
 
-none-echo : (q : ℕ) (t : State) (source name : ℕ) (n : Notice) (sets : List Set) → set_at q sets ≡ None
+none-echo : (q : ℕ) (t : State) (source name : ℕ) (n : FrameMeaning) (sets : List Set) → set_at q sets ≡ None
     → set_at q (sets_after t source (unless_echo name n) sets) ≡ None
 none-echo q t source name (Claim other) sets none = none-claim (eqb other name) q t source other sets none
 none-echo q t source name ClaimRequest sets none = none
@@ -310,14 +310,14 @@ none-echo q t source name Nothing sets none = none
 none-notice : (own name : ℕ) (t : State) (f : Frame) (sets : List Set) → set_at own sets ≡ None
     → set_at own (sets_after t (source_of f) (notice_of own name f) sets) ≡ None
 none-notice own name t f sets none =
-    let there : Bool → Notice = λ b. cond b (unless_echo name (frame_notice own f)) (frame_notice own f) in
+    let there : Bool → FrameMeaning = λ b. cond b (unless_echo name (frame_notice own f)) (frame_notice own f) in
     by_eq (source_of f) own
     (λ is. ap (λ b. set_at own (sets_after t (source_of f) (there b) sets)) (eq-eqb (source_of f) own is)
     ∙ none-echo own t (source_of f) name (frame_notice own f) sets none)
     (λ ne. ap (λ b. set_at own (sets_after t (source_of f) (there b) sets)) (ne_eqb (source_of f) own ne)
     ∙ none-after own t (source_of f) (frame_notice own f) sets ne none)
 
-none-by : (s t : State) (e : Event) → set_at s.claims.own s.sets ≡ None → set_at s.claims.own (sets_by s t e) ≡ None
+none-by : (s t : State) (e : JudgedInput) → set_at s.claims.own s.sets ≡ None → set_at s.claims.own (sets_by s t e) ≡ None
 none-by s t (FrameAt time f verdict) none =
     let sets = heard_sets s time in
     let still = none-filter s.claims.own (λ set. not (silent (at_time s time) set)) s.sets none in

@@ -4,7 +4,7 @@ use Rattle.std.proofs.lemmas.List.Sums.{sum_by-cons}
 use Rattle.std.specs.Prelude.{sum_by}
 use Rattle.std.specs.List.{AllByRecursion}
 use Rattle.vt_stores.specs.Shapes.{Shape}
-use Rattle.vt_stores.specs.Stores.{Contents}
+use Rattle.vt_stores.specs.Stores.{ObjectMap}
 use Rattle.vt_effects.specs.Soundness.{shape_in}
 use Rattle.vt_macros.specs.Machines.{End, Ended, run_of, total_budget}
 use Rattle.vt_macros.specs.Runs.{PoolsAreReady}
@@ -13,7 +13,7 @@ use Rattle.vt_laws.specs.Headline.{NeverSticks, Pools, Run, EndsInTime, accepted
 use Rattle.vt_laws.proofs.Ending.{AllInTime}
 
 -- a run that ends uses no more steps than it begins with
-used-within : (most : ℕ) (end : End) (new : Contents) (left : ℕ) → end ≡ Ended new left → used most end ≤ most
+used-within : (most : ℕ) (end : End) (new : ObjectMap) (left : ℕ) → end ≡ Ended new left → used most end ≤ most
 used-within most end new left is = subst (λ (e : End). used most e ≤ most) (sym is) (below most left)
   where
     below : (n m : ℕ) → n - m ≤ n
@@ -21,13 +21,13 @@ used-within most end new left is = subst (λ (e : End). used most e ≤ most) (s
 
 module _ (never : NeverSticks) (ready : PoolsAreReady) where
   -- and it begins with the budgets that the pool's report prints
-  begins-with : (last : Option Contents) (run : Run) → EndsInTime last run → total_budget (shape_in run.objects) run.raised ≡ printed last run.raised
+  begins-with : (last : Option ObjectMap) (run : Run) → EndsInTime last run → total_budget (shape_in run.objects) run.raised ≡ printed last run.raised
   begins-with last run ends =
       let pool = ready ends.accepted ends.verified.stored ends.verified.acceptable in
       ap (λ (shape : Shape). total_budget shape run.raised) (ends.ready.shape ∙ sym pool.shape)
-      ∙ sym (ap (λ (o : Option Contents). printed o run.raised) ends.is_last)
+      ∙ sym (ap (λ (o : Option ObjectMap). printed o run.raised) ends.is_last)
 
-  run-within : (last : Option Contents) (run : Run) → EndsInTime last run → steps_of run ≤ printed last run.raised
+  run-within : (last : Option ObjectMap) (run : Run) → EndsInTime last run → steps_of run ≤ printed last run.raised
   run-within last run ends =
       subst (λ (n : ℕ). steps_of run ≤ n) (begins-with last run ends)
       (used-within (total_budget (shape_in run.objects) run.raised) (run_of run.objects run.raised) ends.ends.new ends.ends.left ends.ends.ended)

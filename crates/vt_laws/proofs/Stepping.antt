@@ -5,15 +5,15 @@ use Rattle.vt_can.specs.frames.Frame.{source_of}
 use Rattle.vt_can.specs.lines.Actions.{ActionValue, Press, Release, Select, Number, Text}
 use Rattle.vt_can.specs.lines.Actions as actions
 use Rattle.vt_names.specs.Claims.{Claimed, IsRising}
-use Rattle.vt_stores.specs.Stores.{Contents}
+use Rattle.vt_stores.specs.Stores.{ObjectMap}
 use Rattle.vt_node.specs.Bus.{notice_of}
 use Rattle.vt_server.specs.Choosing.{shown_now}
 use Rattle.vt_laws.specs.Happenings.{Happening, Lost, Operated, Preloaded, with_holder, response, part_after_all, frames_of_all, own_part, if_so, is_at, loses, events_at, lapses, heard_happenings, after_frame, after_action_at, frame_happenings, happenings, happenings_all, EachTakesItsOwn}
 use Rattle.vt_laws.specs.Responses.{Response, frames_to}
 use Rattle.vt_server.specs.Orderly.{IsOrderly, IsOther}
 use Rattle.vt_server.specs.Lapses.{at_time, lapsed, sent_by_lapses}
-use Rattle.vt_server.specs.Parts.{Part, Act, Operates, Preloads, untimed_part}
-use Rattle.vt_server.specs.Steps.{Event, FrameAt, ActionAt, step, after_all, sent_by_all, settled, sent_by_settling, losing, acting, hearing, no_step, step_frame, has_no_set, selecting, at_shown, no_set, step_action, preloading}
+use Rattle.vt_server.specs.Parts.{AddressView, Act, Operates, Preloads, untimed_part}
+use Rattle.vt_server.specs.Steps.{JudgedInput, FrameAt, ActionAt, step, after_all, sent_by_all, settled, sent_by_settling, losing, acting, hearing, no_step, step_frame, has_no_set, selecting, at_shown, no_set, step_action, preloading}
 use Rattle.vt_server.specs.Terminals.{State, Sent, holder, pool_of, part, after_acts, sent_by_acts}
 use Rattle.vt_server.specs.Transfers.{Verdict}
 use Rattle.vt_server.proofs.Changes.{shown-acts}
@@ -32,14 +32,14 @@ own-bare a s has = ap (λ b. untimed_part (with_holder (part a s) (cond b None (
 
 -- From a part of an address, a state and what was sent are what the address makes of happenings, also where the
 -- terminal lost its address.
-pub record Ends (a : ℕ) (p : Part) (sent : List Sent) (t : State) (hs : List Happening) : Type 0 where
+pub record Ends (a : ℕ) (p : AddressView) (sent : List Sent) (t : State) (hs : List Happening) : Type 0 where
   pub part : own_part a t ≡ part_after_all a p hs
   pub frames : frames_to a sent ≡ frames_of_all a p hs
 
-takes-ends : (a : ℕ) (p : Part) (sent : List Sent) (t : State) (hs : List Happening) → Takes a p sent t hs → Ends a p sent t hs
+takes-ends : (a : ℕ) (p : AddressView) (sent : List Sent) (t : State) (hs : List Happening) → Takes a p sent t hs → Ends a p sent t hs
 takes-ends a p sent t hs taken = record { part = own-bare a t taken.has ∙ taken.part; frames = taken.frames }
 
-then-ends : (a : ℕ) (p : Part) (xs ys : List Sent) (t u : State) (hs ks : List Happening) → Takes a p xs t hs → Ends a (bare a t) ys u ks → Ends a p (xs ++ ys) u (hs ++ ks)
+then-ends : (a : ℕ) (p : AddressView) (xs ys : List Sent) (t u : State) (hs ks : List Happening) → Takes a p xs t hs → Ends a (bare a t) ys u ks → Ends a p (xs ++ ys) u (hs ++ ks)
 then-ends a p xs ys t u hs ks before next = record {
   part = next.part ∙ ap (λ q. part_after_all a q ks) before.part ∙ sym (responses-append a p hs ks);
   frames =
@@ -124,7 +124,7 @@ action-takes laws a s action shown has =
 
 -- ---- every step
 
-pub step-ends : Laws → (a : ℕ) (s : State) (e : Event) → IsOrderly s → IsOther a s → Ends a (own_part a s) (step s e).sent (step s e).after (happenings a s e)
+pub step-ends : Laws → (a : ℕ) (s : State) (e : JudgedInput) → IsOrderly s → IsOther a s → Ends a (own_part a s) (step s e).sent (step s e).after (happenings a s e)
 step-ends laws a s (FrameAt time f verdict) orderly other = cases s.lost refl
   where
     cases : (b : Bool) → s.lost ≡ b → let step = cond b (no_step s) (step_frame s time f verdict) in
@@ -143,7 +143,7 @@ step-ends laws a s (ActionAt action shown) orderly other = cases s.lost refl
         (if_so (is_at a s.shown) (Operated action shown) ++ events_at a s.shown (shown_now (after_action_at s action shown))))
         (sym (own-bare a s has)) (takes-ends a (bare a s) _ _ _ (action-takes laws a s action shown has))
 
-preloaded-own : Laws → (a : ℕ) (s : State) (contents : Contents) → s.lost ≡ false
+preloaded-own : Laws → (a : ℕ) (s : State) (contents : ObjectMap) → s.lost ≡ false
     → own_part a (preloading s a contents) ≡ part_after_all a (own_part a s) (Preloaded contents ∷ [])
 preloaded-own laws a s contents has =
     own-bare a (preloading s a contents) (beside-act (λ (t : State). t.lost) (λ b o t. refl) s a (Preloads contents) ∙ has)
@@ -156,23 +156,23 @@ each laws = record {
   frames_after = λ a s e orderly other. (step-ends laws a s e orderly other).frames;
   quiet = λ a s e orderly other none. (step-ends laws a s e orderly other).part ∙ ap (part_after_all a (own_part a s)) none;
   preloaded = preloaded-own laws;
-  preloaded_elsewhere = λ a b s contents ne. ap (λ (p : Part). untimed_part (with_holder p (cond p.lost None p.holder))) (part-act_other b a s (Preloads contents) ne);
+  preloaded_elsewhere = λ a b s contents ne. ap (λ (p : AddressView). untimed_part (with_holder p (cond p.lost None p.holder))) (part-act_other b a s (Preloads contents) ne);
 }
 
 -- ---- runs
 
 module _ (laws : Laws) where
-  pub orderly-step : (s : State) (e : Event) → IsOrderly s → IsOrderly (step s e).after
+  pub orderly-step : (s : State) (e : JudgedInput) → IsOrderly s → IsOrderly (step s e).after
   orderly-step s e orderly = step-keeps IsOrderly (orderly-kept laws.holders) s e orderly
 
-  pub part-all : (a : ℕ) (s : State) (xs : List Event) → IsOrderly s → IsOther a s → own_part a (after_all s xs) ≡ part_after_all a (own_part a s) (happenings_all a s xs)
+  pub part-all : (a : ℕ) (s : State) (xs : List JudgedInput) → IsOrderly s → IsOther a s → own_part a (after_all s xs) ≡ part_after_all a (own_part a s) (happenings_all a s xs)
   part-all a s [] orderly other = refl
   part-all a s (e ∷ xs) orderly other =
       part-all a (step s e).after xs (orderly-step s e orderly) (other-step a s e other)
       ∙ ap (λ p. part_after_all a p (happenings_all a (step s e).after xs)) (step-ends laws a s e orderly other).part
       ∙ sym (responses-append a (own_part a s) (happenings a s e) (happenings_all a (step s e).after xs))
 
-  pub frames-all : (a : ℕ) (s : State) (xs : List Event) → IsOrderly s → IsOther a s → frames_to a (sent_by_all s xs) ≡ frames_of_all a (own_part a s) (happenings_all a s xs)
+  pub frames-all : (a : ℕ) (s : State) (xs : List JudgedInput) → IsOrderly s → IsOther a s → frames_to a (sent_by_all s xs) ≡ frames_of_all a (own_part a s) (happenings_all a s xs)
   frames-all a s [] orderly other = refl
   frames-all a s (e ∷ xs) orderly other =
       let later = happenings_all a (step s e).after xs in

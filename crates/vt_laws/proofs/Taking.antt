@@ -3,12 +3,12 @@ use Rattle.std.proofs.Common.{◌≡◌, ◌<◌, ℕ, Bool, true, false, cond, 
 use Rattle.std.specs.Option.{option_eq}
 use Rattle.vt_can.specs.transport.Sessions.{is_overdue}
 use Rattle.vt_names.specs.Registry.{AreApart, set_at}
-use Rattle.vt_server.specs.Choosing.{choosing, shown_now, raised_at, events_of_change, display, status, same_display, Display, status_frame, ACTIVATE, DEACTIVATE}
+use Rattle.vt_server.specs.Choosing.{choosing, shown_now, raised_at, events_of_change, display, status, same_display, ShownMasks, status_frame, ACTIVATE, DEACTIVATE}
 use Rattle.vt_laws.specs.Happenings.{Happening, TpExpired, EtpExpired, SendingExpired, FellSilent, EventRaised, by_act, response, response_while, part_after_all, frames_of_all, if_so, is_at, lapses, events_at}
 use Rattle.vt_laws.specs.Responses.{Response, without_effect, frames_to}
 use Rattle.vt_server.specs.Lapses.{silences, tp_due, etp_due, sending_due, after_tp_timeouts, after_etp_timeouts, after_timeouts, lapsed, sent_by_lapses}
 use Rattle.vt_node.specs.Watches.{is_silent}
-use Rattle.vt_server.specs.Parts.{Part, Act, TpExpires, EtpExpires, SendingExpires, FallsSilent, Raises}
+use Rattle.vt_server.specs.Parts.{AddressView, Act, TpExpires, EtpExpires, SendingExpires, FallsSilent, Raises}
 use Rattle.vt_server.specs.Steps.{settled, sent_by_settling}
 use Rattle.vt_server.specs.Terminals.{State, Sent, ToAll, after_acts, sent_by_acts}
 use Rattle.vt_server.proofs.Puts.{acts-append, sent-append, beside}
@@ -19,26 +19,26 @@ use Rattle.vt_laws.proofs.Timeless.{Laws}
 
 -- ---- happenings while the terminal has its address, and after one another
 
-pub response-has : (a : ℕ) (p : Part) (h : Happening) → p.lost ≡ false → response a p h ≡ response_while a p h
+pub response-has : (a : ℕ) (p : AddressView) (h : Happening) → p.lost ≡ false → response a p h ≡ response_while a p h
 response-has a p h has = ap (λ b. cond b (without_effect p) (response_while a p h)) has
 
-pub responses-append : (a : ℕ) (p : Part) (xs ys : List Happening) → part_after_all a p (xs ++ ys) ≡ part_after_all a (part_after_all a p xs) ys
+pub responses-append : (a : ℕ) (p : AddressView) (xs ys : List Happening) → part_after_all a p (xs ++ ys) ≡ part_after_all a (part_after_all a p xs) ys
 responses-append a p [] ys = refl
 responses-append a p (x ∷ xs) ys = responses-append a (response a p x).part xs ys
 
-pub frames-responses : (a : ℕ) (p : Part) (xs ys : List Happening) → frames_of_all a p (xs ++ ys) ≡ frames_of_all a p xs ++ frames_of_all a (part_after_all a p xs) ys
+pub frames-responses : (a : ℕ) (p : AddressView) (xs ys : List Happening) → frames_of_all a p (xs ++ ys) ≡ frames_of_all a p xs ++ frames_of_all a (part_after_all a p xs) ys
 frames-responses a p [] ys = refl
 frames-responses a p (x ∷ xs) ys =
     ap (λ l. (response a p x).frames ++ l) (frames-responses a (response a p x).part xs ys)
     ∙ sym (append_assoc (response a p x).frames (frames_of_all a (response a p x).part xs) (frames_of_all a (part_after_all a (response a p x).part xs) ys))
 
 -- From a part of an address, what was sent and the state that is left are what the address makes of happenings.
-pub record Takes (a : ℕ) (p : Part) (sent : List Sent) (t : State) (hs : List Happening) : Type 0 where
+pub record Takes (a : ℕ) (p : AddressView) (sent : List Sent) (t : State) (hs : List Happening) : Type 0 where
   pub has : t.lost ≡ false
   pub part : bare a t ≡ part_after_all a p hs
   pub frames : frames_to a sent ≡ frames_of_all a p hs
 
-pub then-takes : (a : ℕ) (p : Part) (xs ys : List Sent) (t u : State) (hs ks : List Happening) → Takes a p xs t hs → Takes a (bare a t) ys u ks → Takes a p (xs ++ ys) u (hs ++ ks)
+pub then-takes : (a : ℕ) (p : AddressView) (xs ys : List Sent) (t u : State) (hs ks : List Happening) → Takes a p xs t hs → Takes a (bare a t) ys u ks → Takes a p (xs ++ ys) u (hs ++ ks)
 then-takes a p xs ys t u hs ks before next = record {
   has = next.has;
   part = next.part ∙ ap (λ q. part_after_all a q ks) before.part ∙ sym (responses-append a p hs ks);
@@ -48,14 +48,14 @@ then-takes a p xs ys t u hs ks before next = record {
 }
 
 -- what goes to all, or nowhere, goes to no address
-pub takes-beside : (a : ℕ) (p : Part) (xs ys : List Sent) (t : State) (hs : List Happening) → frames_to a xs ≡ [] → Takes a p ys t hs → Takes a p (xs ++ ys) t hs
+pub takes-beside : (a : ℕ) (p : AddressView) (xs ys : List Sent) (t : State) (hs : List Happening) → frames_to a xs ≡ [] → Takes a p ys t hs → Takes a p (xs ++ ys) t hs
 takes-beside a p xs ys t hs none taken = record {
   has = taken.has;
   part = taken.part;
   frames = frames-append a xs ys ∙ ap (λ l. l ++ frames_to a ys) none ∙ taken.frames;
 }
 
-pub takes-before : (a : ℕ) (p : Part) (xs ys : List Sent) (t : State) (hs : List Happening) → frames_to a ys ≡ [] → Takes a p xs t hs → Takes a p (xs ++ ys) t hs
+pub takes-before : (a : ℕ) (p : AddressView) (xs ys : List Sent) (t : State) (hs : List Happening) → frames_to a ys ≡ [] → Takes a p xs t hs → Takes a p (xs ++ ys) t hs
 takes-before a p xs ys t hs none taken = record {
   has = taken.has;
   part = taken.part;
@@ -134,7 +134,7 @@ of-raised : (a : ℕ) (o : Option ℕ) (event : ℕ) → of a (raised_at o event
 of-raised a None event = refl
 of-raised a (Some b) event = refl
 
-frames-status : (a own : ℕ) (was now : Display) → frames_to a (status own was now) ≡ []
+frames-status : (a own : ℕ) (was now : ShownMasks) → frames_to a (status own was now) ≡ []
 frames-status a own was now = cases (same_display was now)
   where
     cases : (b : Bool) → frames_to a (cond b [] (ToAll (status_frame own now) ∷ [])) ≡ []

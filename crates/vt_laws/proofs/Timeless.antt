@@ -22,13 +22,13 @@ use Rattle.vt_names.specs.Claims.{OtherHoldersStay}
 use Rattle.vt_names.specs.Registry.{Set}
 use Rattle.vt_server.specs.Handling.{handled}
 use Rattle.vt_server.specs.Operators.{action_on, fault_of, is_long, is_busy, message_frames, sending_after, ran}
-use Rattle.vt_server.specs.Parts.{Part, Outcome, Act, Hears, Rebinds, Preloads, TpExpires, EtpExpires, SendingExpires, FallsSilent, Operates, Raises, unchanged, without_set, answered, after_change, after_claim_heard, after_master, after_member, after_message, behind, after_came, after_notice, refused_by, with_place, after_action, after_operator, outcome, untimed_part, untimed_outcome}
-use Rattle.vt_server.specs.Places.{Place, no_content, with_content, with_pool, heard_at, untimed_place}
+use Rattle.vt_server.specs.Parts.{AddressView, AddressOutcome, Act, Hears, Rebinds, Preloads, TpExpires, EtpExpires, SendingExpires, FallsSilent, Operates, Raises, unchanged, without_set, answered, after_change, after_claim_heard, after_master, after_member, after_message, behind, after_came, after_notice, refused_by, with_place, after_action, after_operator, outcome, untimed_part, untimed_outcome}
+use Rattle.vt_server.specs.Places.{AddressState, no_content, with_content, with_pool, heard_at, untimed_place}
 use Rattle.vt_node.specs.Receiving.{Taken, taken, taken_of}
 use Rattle.vt_server.specs.Sessions.{Came, came, message_to_terminal, timeout_of, sending_timeout}
 use Rattle.vt_server.specs.Transfers.{Verdict}
-use Rattle.vt_node.specs.declared.bus.Notice.{Notice}
-use Rattle.vt_node.specs.declared.bus.Notice.TheVariants.{Claim, ClaimRequest, Master, Member, Message, Tp, Etp, Nothing}
+use Rattle.vt_node.specs.declared.bus.FrameMeaning.{FrameMeaning}
+use Rattle.vt_node.specs.declared.bus.FrameMeaning.TheVariants.{Claim, ClaimRequest, Master, Member, Message, Tp, Etp, Nothing}
 use Rattle.vt_server.specs.declared.output.OperatorFault.TheVariants.{Busy}
 
 -- what the crates below promise of holders and of times
@@ -42,7 +42,7 @@ untimed-twice : {S : Type 0} (o : Option (Timed S)) → untimed_session o ≡ un
 untimed-twice None = refl
 untimed-twice (Some timed) = refl
 
-pub place-twice : (place : Place) → untimed_place place ≡ untimed_place (untimed_place place)
+pub place-twice : (place : AddressState) → untimed_place place ≡ untimed_place (untimed_place place)
 place-twice place = λ i. record place {
   tp = untimed-twice place.tp i;
   etp = untimed-twice place.etp i;
@@ -52,15 +52,15 @@ place-twice place = λ i. record place {
 
 -- ---- claims, registration and messages, at two places that are alike without times
 
-module _ (p : Part) (x : Place) (alike : untimed_place p.place ≡ untimed_place x) where
-  abbrev q : Part
+module _ (p : AddressView) (x : AddressState) (alike : untimed_place p.place ≡ untimed_place x) where
+  abbrev q : AddressView
   q = record p { place = x }
 
   kept-timeless : (set : Option Set) → untimed_outcome (record (unchanged p) { set = set }) ≡ untimed_outcome (record (unchanged q) { set = set })
-  kept-timeless set = ap (λ (u : Place). record (unchanged p) { set = set; place = u }) alike
+  kept-timeless set = ap (λ (u : AddressState). record (unchanged p) { set = set; place = u }) alike
 
   closed-timeless : untimed_outcome (without_set p) ≡ untimed_outcome (without_set q)
-  closed-timeless = ap (λ (u : Place). record (without_set p) { place = with_content u no_content }) alike
+  closed-timeless = ap (λ (u : AddressState). record (without_set p) { place = with_content u no_content }) alike
 
   claim-timeless : (o : Option Set) → untimed_outcome (after_claim_heard p o) ≡ untimed_outcome (after_claim_heard q o)
   claim-timeless None = kept-timeless p.set
@@ -87,7 +87,7 @@ module _ (p : Part) (x : Place) (alike : untimed_place p.place ≡ untimed_place
   message-timeless a verdict None bytes = kept-timeless p.set
   message-timeless a verdict (Some set) None = kept-timeless p.set
   message-timeless a verdict (Some set) (Some bytes) =
-      ap (λ (u : Place). answered a (record p { place = u }) (handled u.content verdict bytes)) alike
+      ap (λ (u : AddressState). answered a (record p { place = u }) (handled u.content verdict bytes)) alike
 
 -- ---- sessions
 
@@ -117,7 +117,7 @@ abbrev untimed_came : Came → Came
 untimed_came c = record c { place = untimed_place c.place }
 
 module _ (laws : Laws) where
-  pub came-timeless : (now own a : ℕ) (place : Place) (n : Notice) (frame : Frame)
+  pub came-timeless : (now own a : ℕ) (place : AddressState) (n : FrameMeaning) (frame : Frame)
       → untimed_came (came now own a place n frame) ≡ untimed_came (came 0 own a (untimed_place place) n frame)
   came-timeless now own a place (Claim name) frame = λ i. record { place = place-twice place i; frames = []; message = None }
   came-timeless now own a place ClaimRequest frame = λ i. record { place = place-twice place i; frames = []; message = None }
@@ -142,21 +142,21 @@ module _ (laws : Laws) where
   came-timeless now own a place Nothing frame = λ i. record { place = place-twice place i; frames = []; message = None }
 
   -- what came, apart from times, decides what comes of it
-  came-outcome : (a : ℕ) (p : Part) (verdict : Verdict) (c : Came) → untimed_outcome (after_came a p verdict c) ≡ untimed_outcome (after_came a p verdict (untimed_came c))
+  came-outcome : (a : ℕ) (p : AddressView) (verdict : Verdict) (c : Came) → untimed_outcome (after_came a p verdict c) ≡ untimed_outcome (after_came a p verdict (untimed_came c))
   came-outcome a p verdict c =
       ap (behind c.frames) (message-timeless (record p { place = c.place }) (untimed_place c.place) (place-twice c.place) a verdict p.set c.message)
 
-  carried-timeless : (now a : ℕ) (p : Part) (x : Place) → untimed_place p.place ≡ untimed_place x → (n : Notice) (frame : Frame) (verdict : Verdict)
+  carried-timeless : (now a : ℕ) (p : AddressView) (x : AddressState) → untimed_place p.place ≡ untimed_place x → (n : FrameMeaning) (frame : Frame) (verdict : Verdict)
       → untimed_outcome (after_came a p verdict (came now p.terminal a p.place n frame)) ≡ untimed_outcome (after_came a p verdict (came 0 p.terminal a x n frame))
   carried-timeless now a p x alike n frame verdict =
       came-outcome a p verdict (came now p.terminal a p.place n frame)
       ∙ ap (λ c. untimed_outcome (after_came a p verdict c))
       (came-timeless now p.terminal a p.place n frame
-      ∙ ap (λ (u : Place). untimed_came (came 0 p.terminal a u n frame)) alike
+      ∙ ap (λ (u : AddressState). untimed_came (came 0 p.terminal a u n frame)) alike
       ∙ sym (came-timeless 0 p.terminal a x n frame))
       ∙ sym (came-outcome a p verdict (came 0 p.terminal a x n frame))
 
-  notice-timeless : (now a : ℕ) (p : Part) (x : Place) → untimed_place p.place ≡ untimed_place x → (n : Notice) (frame : Frame) (verdict : Verdict)
+  notice-timeless : (now a : ℕ) (p : AddressView) (x : AddressState) → untimed_place p.place ≡ untimed_place x → (n : FrameMeaning) (frame : Frame) (verdict : Verdict)
       → untimed_outcome (after_notice now a p n frame verdict) ≡ untimed_outcome (after_notice 0 a (record p { place = x }) n frame verdict)
   notice-timeless now a p x alike (Claim name) frame verdict = claim-timeless p x alike p.set
   notice-timeless now a p x alike ClaimRequest frame verdict = carried-timeless now a p x alike ClaimRequest frame verdict
@@ -182,14 +182,14 @@ sent-timeless now bytes o = cases (is_long bytes)
     cases true = refl
     cases false = untimed-twice o
 
-either-timeless : (b : Bool) (x y x' y' : Outcome) → untimed_outcome x ≡ untimed_outcome x' → untimed_outcome y ≡ untimed_outcome y'
+either-timeless : (b : Bool) (x y x' y' : AddressOutcome) → untimed_outcome x ≡ untimed_outcome x' → untimed_outcome y ≡ untimed_outcome y'
     → untimed_outcome (cond b x y) ≡ untimed_outcome (cond b x' y')
 either-timeless true x y x' y' first second = first
 either-timeless false x y x' y' first second = second
 
-action-timeless : (now a : ℕ) (p : Part) (o : Option operating.Action) → untimed_outcome (after_action now a p o) ≡ untimed_outcome (after_action 0 a (untimed_part p) o)
+action-timeless : (now a : ℕ) (p : AddressView) (o : Option operating.Action) → untimed_outcome (after_action now a p o) ≡ untimed_outcome (after_action 0 a (untimed_part p) o)
 action-timeless now a p None = kept-timeless p (untimed_place p.place) (place-twice p.place) p.set
-action-timeless now a p (Some (operating.Refused refusal)) = ap (λ (u : Place). record (refused_by p (fault_of refusal)) { place = u }) (place-twice p.place)
+action-timeless now a p (Some (operating.Refused refusal)) = ap (λ (u : AddressState). record (refused_by p (fault_of refusal)) { place = u }) (place-twice p.place)
 action-timeless now a p (Some (operating.Acts message start raised)) =
     let q = untimed_part p in
     let pool = Some (ran start raised) in
@@ -197,18 +197,18 @@ action-timeless now a p (Some (operating.Acts message start raised)) =
     let acted = with_place p (record (with_pool p.place pool) { sending = sending_after now message p.place.sending }) frames in
     let then-acted = with_place q (record (with_pool q.place pool) { sending = sending_after 0 message q.place.sending }) frames in
     either-timeless (is_busy message p.place.sending) (refused_by p Busy) acted (refused_by q Busy) then-acted
-    (ap (λ (u : Place). record (refused_by p Busy) { place = u }) (place-twice p.place))
+    (ap (λ (u : AddressState). record (refused_by p Busy) { place = u }) (place-twice p.place))
     (λ i. record acted { place = record (with_pool (place-twice p.place i) pool) { sending = sent-timeless now message p.place.sending i } })
     ∙ ap (λ b. untimed_outcome (cond (is_long message && b) (refused_by q Busy) then-acted)) (busy-timeless p.place.sending)
 
-operator-timeless : (now a : ℕ) (p : Part) (action : ActionValue) (shown : Bool) (o : Option SetState)
+operator-timeless : (now a : ℕ) (p : AddressView) (action : ActionValue) (shown : Bool) (o : Option SetState)
     → untimed_outcome (after_operator now a p action shown o) ≡ untimed_outcome (after_operator 0 a (untimed_part p) action shown o)
 operator-timeless now a p action shown None = kept-timeless p (untimed_place p.place) (place-twice p.place) p.set
 operator-timeless now a p action shown (Some state) = action-timeless now a p (action_on state shown action)
 
 -- ---- whatever happens
 
-pub outcome-timeless : (laws : Laws) (now a : ℕ) (p : Part) (h : Act) → untimed_outcome (outcome now a p h) ≡ untimed_outcome (outcome 0 a (untimed_part p) h)
+pub outcome-timeless : (laws : Laws) (now a : ℕ) (p : AddressView) (h : Act) → untimed_outcome (outcome now a p h) ≡ untimed_outcome (outcome 0 a (untimed_part p) h)
 outcome-timeless laws now a p (Hears n frame verdict) =
     notice-timeless laws now a (record p { place = heard_at now p.place }) (heard_at 0 (untimed_place p.place)) (place-twice p.place) n frame verdict
 outcome-timeless laws now a p Rebinds = change-timeless p (untimed_place p.place) (place-twice p.place) p.set

@@ -14,7 +14,7 @@ use Rattle.vt_commands.specs.declared.event.Event.TheVariants as events
 use Rattle.vt_commands.specs.declared.raising.Raised.{Raised}
 use Rattle.vt_commands.specs.Commands.{command_at}
 use Rattle.vt_commands.specs.Events.{event_number, raise}
-use Rattle.vt_stores.specs.Stores.{Contents, Objects, map_of}
+use Rattle.vt_stores.specs.Stores.{ObjectMap, Objects, map_of}
 use Rattle.vt_verify.specs.Budgets.{budget}
 use Rattle.vt_verify.specs.Rules.{IsVerified, working_sets}
 use Rattle.vt_stores.specs.Shapes.{Shape, shape_of}
@@ -39,12 +39,12 @@ use Rattle.vt_server.specs.Handling.{handled, ends_pool, transferred, end_handle
 use Rattle.vt_laws.specs.Headline.{IsInForce, EndsInTime, accepted_at, accepted_by, accepted_with}
 use Rattle.vt_node.specs.Messages.{technical_reply}
 use Rattle.vt_server.specs.Operators.{action_on, is_busy}
-use Rattle.vt_server.specs.Parts.{Part, Act, Hears, Rebinds, Preloads, TpExpires, EtpExpires, SendingExpires, FallsSilent, Operates, Raises, Outcome, outcome, after_action, after_change, after_claim_heard, after_master, after_member, after_message, after_operator, raised_on, stays_under}
-use Rattle.vt_server.specs.Places.{Content, heard_at}
+use Rattle.vt_server.specs.Parts.{AddressView, Act, Hears, Rebinds, Preloads, TpExpires, EtpExpires, SendingExpires, FallsSilent, Operates, Raises, AddressOutcome, outcome, after_action, after_change, after_claim_heard, after_master, after_member, after_message, after_operator, raised_on, stays_under}
+use Rattle.vt_server.specs.Places.{SetPool, heard_at}
 use Rattle.vt_server.specs.Sessions.{came}
 use Rattle.vt_server.specs.Transfers.{Verdict, Accepts, Faulty, Refuses, IsVerdict, ended, merged, with_objects_of}
-use Rattle.vt_node.specs.declared.bus.Notice.{Notice}
-use Rattle.vt_node.specs.declared.bus.Notice.TheVariants.{Claim, ClaimRequest, Master, Member, Message, Tp, Etp, Nothing}
+use Rattle.vt_node.specs.declared.bus.FrameMeaning.{FrameMeaning}
+use Rattle.vt_node.specs.declared.bus.FrameMeaning.TheVariants.{Claim, ClaimRequest, Master, Member, Message, Tp, Etp, Nothing}
 use Rattle.vt_laws.proofs.FewRaised.{few-selected, few-entered}
 
 -- what the crates below promise
@@ -61,10 +61,10 @@ pub record Laws : Type 0 where
   pub finds : DrawingsFindAll
   pub paths : PathsAreChained
 
-abbrev pub IsEach : Option Contents → Option SetState → Type 0
+abbrev pub IsEach : Option ObjectMap → Option SetState → Type 0
 IsEach last pool = IfSome pool (IsInForce last)
 
-either-each : (last : Option Contents) (b : Bool) (x y : Outcome) → IsEach last x.place.content.pool → IsEach last y.place.content.pool → IsEach last (cond b x y).place.content.pool
+either-each : (last : Option ObjectMap) (b : Bool) (x y : AddressOutcome) → IsEach last x.place.content.pool → IsEach last y.place.content.pool → IsEach last (cond b x y).place.content.pool
 either-each last true x y first second = first
 either-each last false x y first second = second
 
@@ -73,24 +73,24 @@ not-both n first second = let a = eqb-true n TRANSFER first in let b = eqb-true 
 
 -- what may happen while pools are in force: a transfer that ends is judged rightly, what is preloaded was accepted, and the
 -- events that are raised are those of being shown
-abbrev pub MayHappen : ℕ → ℕ → Part → Act → Type 0
+abbrev pub MayHappen : ℕ → ℕ → AddressView → Act → Type 0
 MayHappen now a p (Hears n f verdict) = IsJudged now a p n f verdict
 MayHappen now a p (Raises event) = (event ≡ 2) ⊎ (event ≡ 1)
 MayHappen now a p (Preloads contents) = (pool : Objects) × IsVerified pool × (contents ≡ map_of pool)
 MayHappen now a p _ = Unit {0}
 
 -- the run of a macro's commands is that of the list of one event
-pub one-run : (store : Contents) (b : ℕ) (cs : List Command) → store_of (run b store cs) ≡ store_of (run (0 + b) store (cs ++ []))
+pub one-run : (store : ObjectMap) (b : ℕ) (cs : List Command) → store_of (run b store cs) ≡ store_of (run (0 + b) store (cs ++ []))
 one-run store b cs = ap (λ (n : ℕ). store_of (run n store cs)) (plus-zero b) ∙ ap (λ (l : List Command). store_of (run (0 + b) store l)) (sym (append-nil cs))
   where
     plus-zero : (n : ℕ) → n ≡ 0 + n
     plus-zero n = omega arith
 
-module _ (laws : Laws) (last : Option Contents) where
+module _ (laws : Laws) (last : Option ObjectMap) where
   -- ---- runs
 
   -- a run of few events on the pool that was accepted last
-  pub run-ends : (a : ℕ) (before : Contents) (pool : Objects) (store : Contents) (raised : List Raised) → last ≡ Some (map_of pool) → IsVerified pool → IsReady pool store
+  pub run-ends : (a : ℕ) (before : ObjectMap) (pool : Objects) (store : ObjectMap) (raised : List Raised) → last ≡ Some (map_of pool) → IsVerified pool → IsReady pool store
       → length raised ≤ 3 → EndsInTime last (record { address = a; before = before; objects = store; raised = raised })
   run-ends a before pool store raised is-last verified ready few =
       let ends : Ends store (total_budget (shape_of pool) raised) (run_of store raised) =
@@ -106,36 +106,36 @@ module _ (laws : Laws) (last : Option Contents) where
         few = few;
       }
 
-  left-ready : (pool : Objects) (store : Contents) (steps : ℕ) (end : End) → IsReady pool store → Ends store steps end → IsReady pool (store_of end)
+  left-ready : (pool : Objects) (store : ObjectMap) (steps : ℕ) (end : End) → IsReady pool store → Ends store steps end → IsReady pool (store_of end)
   left-ready pool store steps end ready ends = subst (λ (e : End). IsReady pool (store_of e)) (sym ends.ended) (record {
     working_set = ends.working_set;
     sound = ends.sound;
     shape = ends.shape ∙ ready.shape;
   })
 
-  ran-ready : (pool : Objects) (store : Contents) (raised : List Raised) → IsVerified pool → IsReady pool store → IsReady pool (store_of (run_of store raised))
+  ran-ready : (pool : Objects) (store : ObjectMap) (raised : List Raised) → IsVerified pool → IsReady pool store → IsReady pool (store_of (run_of store raised))
   ran-ready pool store raised verified ready =
       left-ready pool store (total_budget (shape_in store) raised) (run_of store raised) ready
       (laws.runs pool store raised verified.acceptable verified.totals ready.shape ready.sound)
 
-  moved-ready : (pool : Objects) (old new : Contents) → shape_in new ≡ shape_in old → IsSound new → IsReady pool old → IsReady pool new
+  moved-ready : (pool : Objects) (old new : ObjectMap) → shape_in new ≡ shape_in old → IsSound new → IsReady pool old → IsReady pool new
   moved-ready pool old new shape sound ready = record {
     working_set = ap working_sets shape ∙ ready.working_set;
     sound = sound;
     shape = shape ∙ ready.shape;
   }
 
-  with-ready : (state : SetState) (objects : Contents) (is : IsInForce last state) → IsReady is.accepted objects → IsInForce last (with_objects state objects)
+  with-ready : (state : SetState) (objects : ObjectMap) (is : IsInForce last state) → IsReady is.accepted objects → IsInForce last (with_objects state objects)
   with-ready state objects is ready = record { accepted = is.accepted; is_last = is.is_last; verified = is.verified; ready = ready }
 
   -- ---- commands
 
-  pub middle-ready : (pool : Objects) (old : Contents) (command : Command) (middle : Contents) → effect old command ≡ Ok middle → IsReady pool old → IsReady pool middle
+  pub middle-ready : (pool : Objects) (old : ObjectMap) (command : Command) (middle : ObjectMap) → effect old command ≡ Ok middle → IsReady pool old → IsReady pool middle
   middle-ready pool old command middle done ready =
       let is : after old command ≡ middle = ap (left old) done in
       moved-ready pool old middle (ap shape_in (sym is) ∙ laws.shapes old command) (subst IsSound is (laws.order old command ready.sound)) ready
 
-  done-in-force : (state : SetState) (command : Command) → IsInForce last state → (r : Result Contents ℕ) → effect state.objects command ≡ r
+  done-in-force : (state : SetState) (command : Command) → IsInForce last state → (r : Result ObjectMap ℕ) → effect state.objects command ≡ r
       → IsInForce last (with_objects state (after_done state.objects (events_of state.objects command) r))
   done-in-force state command is (Ok middle) done =
       let ready = middle-ready is.accepted state.objects command middle done is.ready in
@@ -146,7 +146,7 @@ module _ (laws : Laws) (last : Option Contents) where
   each-done command None is = tt
   each-done command (Some state) is = done-in-force state command is (effect state.objects command) refl
 
-  command-keeps : (command : Command) (content : Content) → IsEach last content.pool → IsEach last (content_after command content).pool
+  command-keeps : (command : Command) (content : SetPool) → IsEach last content.pool → IsEach last (content_after command content).pool
   command-keeps command content is = cases (deletes command)
     where
       cases : (b : Bool) → IsEach last (cond b (record { pool = None; transfer = [] }) (record content { pool = option_map (state_after command) content.pool })).pool
@@ -155,7 +155,7 @@ module _ (laws : Laws) (last : Option Contents) where
 
   -- ---- messages
 
-  ended-keeps : (content : Content) (verdict : Verdict) → IsEach last content.pool → IsVerdict content verdict
+  ended-keeps : (content : SetPool) (verdict : Verdict) → IsEach last content.pool → IsVerdict content verdict
       → IsEach (accepted_by verdict last) (ended content verdict).pool
   ended-keeps content (Accepts objects) is right = cases content.pool
     where
@@ -169,15 +169,15 @@ module _ (laws : Laws) (last : Option Contents) where
   ended-keeps content (Faulty fault) is right = is
   ended-keeps content (Refuses refusal) is right = is
 
-  commanded-keeps : (content : Content) (o : Option Command) → IsEach last content.pool → IsEach last (commanded content o).content.pool
+  commanded-keeps : (content : SetPool) (o : Option Command) → IsEach last content.pool → IsEach last (commanded content o).content.pool
   commanded-keeps content None is = is
   commanded-keeps content (Some command) is = command-keeps command content is
 
-  asked-keeps : (content : Content) (bytes : List ℕ) (o : Option (List ℕ)) → IsEach last content.pool → IsEach last (asked content bytes o).content.pool
+  asked-keeps : (content : SetPool) (bytes : List ℕ) (o : Option (List ℕ)) → IsEach last content.pool → IsEach last (asked content bytes o).content.pool
   asked-keeps content bytes None is = commanded-keeps content (command_at bytes) is
   asked-keeps content bytes (Some reply) is = is
 
-  handled-keeps : (content : Content) (verdict : Verdict) (bytes : List ℕ) → IsEach last content.pool → (ends_pool bytes ≡ true → IsVerdict content verdict)
+  handled-keeps : (content : SetPool) (verdict : Verdict) (bytes : List ℕ) → IsEach last content.pool → (ends_pool bytes ≡ true → IsVerdict content verdict)
       → IsEach (accepted_with (ends_pool bytes) verdict last) (handled content verdict bytes).content.pool
   handled-keeps content verdict [] is right = is
   handled-keeps content verdict (function ∷ bytes) is right = cases (eqb function TRANSFER) refl (eqb function END_OF_POOL) refl right
@@ -192,7 +192,7 @@ module _ (laws : Laws) (last : Option Contents) where
       cases false first true second right = ended-keeps content verdict is (right refl)
       cases false first false second right = asked-keeps content all (technical_reply all) is
 
-  message-keeps : (a : ℕ) (p : Part) (verdict : Verdict) (o : Option Set) (message : Option (List ℕ)) → IsEach last p.place.content.pool
+  message-keeps : (a : ℕ) (p : AddressView) (verdict : Verdict) (o : Option Set) (message : Option (List ℕ)) → IsEach last p.place.content.pool
       → (ends_transfer o message ≡ true → IsVerdict p.place.content verdict)
       → IsEach (accepted_with (ends_transfer o message) verdict last) (after_message a p verdict o message).place.content.pool
   message-keeps a p verdict (Some set) (Some bytes) is right = handled-keeps p.place.content verdict bytes is right
@@ -203,7 +203,7 @@ module _ (laws : Laws) (last : Option Contents) where
   unended None verdict pool is = is
   unended (Some set) verdict pool is = is
 
-  heard-keeps : (now a : ℕ) (p : Part) (n : Notice) (f : Frame) (verdict : Verdict) → IsJudged now a p n f verdict → IsEach last p.place.content.pool
+  heard-keeps : (now a : ℕ) (p : AddressView) (n : FrameMeaning) (f : Frame) (verdict : Verdict) → IsJudged now a p n f verdict → IsEach last p.place.content.pool
       → IsEach (accepted_at now a p (Hears n f verdict) last) (outcome now a p (Hears n f verdict)).place.content.pool
   heard-keeps now a p (Claim name) f verdict judged is = unended p.set verdict (outcome now a p (Hears (Claim name) f verdict)).place.content.pool (cases p.set)
     where
@@ -267,7 +267,7 @@ module _ (laws : Laws) (last : Option Contents) where
       cases (Some false) = tt
       cases (Some true) = (same-objects state (operating.selecting state id) refl is, few-selected id state.input)
 
-  put-in-force : (state : SetState) (new : Contents) → shape_in new ≡ shape_in state.objects → IsSound new → IsInForce last state → IsInForce last (with_objects state new)
+  put-in-force : (state : SetState) (new : ObjectMap) → shape_in new ≡ shape_in state.objects → IsSound new → IsInForce last state → IsInForce last (with_objects state new)
   put-in-force state new shape sound is = with-ready state new is (moved-ready is.accepted state.objects new shape sound is.ready)
 
   number-in-force : (state : SetState) (id n : ℕ) → IsInForce last state → (r : Result ℕ OperatorRefusal) → ActsInForce (Some (number_entered state id n r))
@@ -296,14 +296,14 @@ module _ (laws : Laws) (last : Option Contents) where
   action-in-force state true (Text id text) is = text-in-force state id text is (text_place state.objects id text (finite.get state.objects id))
   action-in-force state shown (actions.Set address) is = tt
 
-  acted-keeps : (now a : ℕ) (p : Part) (o : Option operating.Action) → IsEach last p.place.content.pool → ActsInForce o → IsEach last (after_action now a p o).place.content.pool
+  acted-keeps : (now a : ℕ) (p : AddressView) (o : Option operating.Action) → IsEach last p.place.content.pool → ActsInForce o → IsEach last (after_action now a p o).place.content.pool
   acted-keeps now a p None is acts = is
   acted-keeps now a p (Some (operating.Refused refusal)) is acts = is
   acted-keeps now a p (Some (operating.Acts message start raised)) is acts =
       either-each last (is_busy message p.place.sending) _ _ is
       (with-ready start (store_of (run_of start.objects raised)) acts.0 (ran-ready acts.0.accepted start.objects raised acts.0.verified acts.0.ready))
 
-  operator-keeps : (now a : ℕ) (p : Part) (action : ActionValue) (shown : Bool) (o : Option SetState) → IsEach last p.place.content.pool → IsEach last o
+  operator-keeps : (now a : ℕ) (p : AddressView) (action : ActionValue) (shown : Bool) (o : Option SetState) → IsEach last p.place.content.pool → IsEach last o
       → IsEach last (after_operator now a p action shown o).place.content.pool
   operator-keeps now a p action shown None is each = is
   operator-keeps now a p action shown (Some state) is each = acted-keeps now a p (action_on state shown action) is (action-in-force state shown action each)
@@ -329,11 +329,11 @@ module _ (laws : Laws) (last : Option Contents) where
 
   -- ---- what happens at an address
 
-  changed-keeps : (p : Part) (o : Option Set) → IsEach last p.place.content.pool → IsEach last (after_change p o).place.content.pool
+  changed-keeps : (p : AddressView) (o : Option Set) → IsEach last p.place.content.pool → IsEach last (after_change p o).place.content.pool
   changed-keeps p None is = is
   changed-keeps p (Some set) is = either-each last (stays_under set.name p.holder) _ _ is tt
 
-  pub act-keeps : (now a : ℕ) (p : Part) (h : Act) → MayHappen now a p h → IsEach last p.place.content.pool
+  pub act-keeps : (now a : ℕ) (p : AddressView) (h : Act) → MayHappen now a p h → IsEach last p.place.content.pool
       → IsEach (accepted_at now a p h last) (outcome now a p h).place.content.pool
   act-keeps now a p (Hears n f verdict) may is = heard-keeps now a p n f verdict may is
   act-keeps now a p Rebinds may is = changed-keeps p p.set is

@@ -2,7 +2,7 @@
 use Rattle.std.specs.Prelude.{◌≡◌, List}
 use Rattle.vt_server.specs.Findings.{IsEventOf, IsFound}
 use Rattle.vt_server.specs.States.{TakesInput, TakesInputs}
-use Rattle.vt_server.specs.Steps.{Event, step}
+use Rattle.vt_server.specs.Steps.{JudgedInput, step}
 use Rattle.vt_server.specs.Terminals.{State}
 use Rattle.vt_server.specs.declared.input.Input.{Input}
 use Rattle.vt_server.specs.declared.output.Output.{Output}
@@ -10,7 +10,7 @@ use Rattle.vt_server.specs.declared.output.Output.{Output}
 -- Two events of an input with right findings make one step of it. So a terminal that takes an input from a state is in one
 -- state after it, and has sent the same; and so too for inputs one after the other.
 pub record StepsAreOne : Type 0 where
-  pub events : (s : State) (input : Input) (e f : Event) → IsEventOf input e → IsEventOf input f → IsFound s e → IsFound s f → step s e ≡ step s f
+  pub events : (s : State) (input : Input) (e f : JudgedInput) → IsEventOf input e → IsEventOf input f → IsFound s e → IsFound s f → step s e ≡ step s f
   pub input : (old : State) (input : Input) (new other : State) (before after later : List Output) → TakesInput old input new before after
       → TakesInput old input other before later → (new ≡ other) × (after ≡ later)
   pub inputs : (old : State) (inputs : List Input) (new other : State) (before after later : List Output) → TakesInputs old inputs new before after

@@ -3,23 +3,23 @@ use Rattle.std.specs.Prelude.{◌≡◌, ℕ, ◌==◌, ◌&&◌, Bool, false, n
 use Rattle.vt_can.specs.frames.Frame.{source_of}
 use Rattle.vt_names.specs.Claims.{Claim, IsHolder}
 use Rattle.vt_node.specs.Bus.{notice_of}
-use Rattle.vt_server.specs.Steps.{Event, FrameAt, ActionAt, after_all}
+use Rattle.vt_server.specs.Steps.{JudgedInput, FrameAt, ActionAt, after_all}
 use Rattle.vt_server.specs.Terminals.{State, holder}
-use Rattle.vt_node.specs.declared.bus.Notice.{Notice}
-use Rattle.vt_node.specs.declared.bus.Notice.TheVariants as notices
+use Rattle.vt_node.specs.declared.bus.FrameMeaning.{FrameMeaning}
+use Rattle.vt_node.specs.declared.bus.FrameMeaning.TheVariants as notices
 
-abbrev pub claim_of : ℕ → Notice → List Claim
+abbrev pub claim_of : ℕ → FrameMeaning → List Claim
 claim_of source (notices.Claim name) = record { address = source; name = name } ∷ []
 claim_of source _ = []
 
 -- a lower NAME claims the own address
-abbrev pub takes_address : ℕ → ℕ → ℕ → Notice → Bool
+abbrev pub takes_address : ℕ → ℕ → ℕ → FrameMeaning → Bool
 takes_address own name source (notices.Claim other) = (source == own) && nat_lt other name
 takes_address own name source _ = false
 
 -- The claims that a terminal hears, the latest first, after those before: all up to the one by which it loses its
 -- own address. Echoes are none.
-abbrev pub claims_heard : ℕ → ℕ → List Claim → List Event → List Claim
+abbrev pub claims_heard : ℕ → ℕ → List Claim → List JudgedInput → List Claim
 claims_heard own name before [] = before
 claims_heard own name before (FrameAt time frame verdict ∷ events) =
     if takes_address own name (source_of frame) (notice_of own name frame) then before
@@ -29,6 +29,6 @@ claims_heard own name before (ActionAt action shown ∷ events) = claims_heard o
 -- The holder of each address after a run is the least NAME among those whose last claim in it was of the address.
 abbrev pub HoldersOfRuns : Type 0
 HoldersOfRuns =
-    (own name : ℕ) (s : State) (events : List Event) (address : ℕ)
+    (own name : ℕ) (s : State) (events : List JudgedInput) (address : ℕ)
     → s.claims ≡ record { own = own; name = name; addresses = [] } → s.lost ≡ false
     → IsHolder (claims_heard own name [] events) address (holder (after_all s events) address)

@@ -1,12 +1,12 @@
 -- What an input costs, as one number (docs/PROFILE.md, "Costs and budgets", "Steps").
 use Rattle.std.specs.Prelude.{◌≤◌, ◌+◌, ◌-◌, ℕ, List, sum_by, Option, Some, None}
 use Rattle.std.specs.List.{AllByRecursion}
-use Rattle.vt_stores.specs.Stores.{Contents}
+use Rattle.vt_stores.specs.Stores.{ObjectMap}
 use Rattle.vt_effects.specs.Soundness.{shape_in}
 use Rattle.vt_macros.specs.Machines.{End, Ended, Sticks, run_of, total_budget}
 use Rattle.vt_commands.specs.declared.raising.Raised.{Raised}
 use Rattle.vt_server.specs.Findings.{IsFound}
-use Rattle.vt_server.specs.Steps.{Event}
+use Rattle.vt_server.specs.Steps.{JudgedInput}
 use Rattle.vt_server.specs.Terminals.{State}
 use Rattle.vt_laws.specs.Headline.{Pools, AreInForce, Run, accepted_after, runs}
 
@@ -20,7 +20,7 @@ abbrev pub steps_of : Run → ℕ
 steps_of run = used (total_budget (shape_in run.objects) run.raised) (run_of run.objects run.raised)
 
 -- what the report of the pool prints for events, added up
-abbrev pub printed : Option Contents → List Raised → ℕ
+abbrev pub printed : Option ObjectMap → List Raised → ℕ
 printed None raised = 0
 printed (Some pool) raised = total_budget (shape_in pool) raised
 
@@ -29,18 +29,18 @@ abbrev pub budget_of : Pools → Run → ℕ
 budget_of pools run = printed (pools run.address) run.raised
 
 -- the steps that the macros of an input take; its command takes one more (vt_machine, `Lives`: `IsDone`)
-abbrev pub steps_in : State → Event → ℕ
+abbrev pub steps_in : State → JudgedInput → ℕ
 steps_in s e = sum_by steps_of (runs s e)
 
 -- what they may take: the budgets of the events that the input's command or action raises, and of those by which another set is shown
-abbrev pub cost_of : Pools → State → Event → ℕ
+abbrev pub cost_of : Pools → State → JudgedInput → ℕ
 cost_of pools s e = sum_by (budget_of pools) (runs s e)
 
 -- No run takes more steps than its budgets, so none sticks; and no input takes more than the sum of them, by the pools that were
 -- accepted last at each address, in its course too.
-pub record IsWithinCosts (pools : Pools) (s : State) (e : Event) : Type 0 where
+pub record IsWithinCosts (pools : Pools) (s : State) (e : JudgedInput) : Type 0 where
   pub each : AllByRecursion (λ run. steps_of run ≤ budget_of pools run) (runs s e)
   pub whole : steps_in s e ≤ cost_of pools s e
 
 abbrev pub CostsAreWithin : Type 0
-CostsAreWithin = (pools : Pools) (s : State) (e : Event) → AreInForce pools s → IsFound s e → IsWithinCosts (accepted_after s e pools) s e
+CostsAreWithin = (pools : Pools) (s : State) (e : JudgedInput) → AreInForce pools s → IsFound s e → IsWithinCosts (accepted_after s e pools) s e

@@ -8,16 +8,16 @@ use Rattle.vt_can.specs.lines.Actions.{ActionValue}
 use Rattle.vt_can.specs.transport.Sessions.{is_overdue}
 use Rattle.vt_names.specs.Claims.{Claimed, holder_of}
 use Rattle.vt_names.specs.Registry.{Set, set_at}
-use Rattle.vt_stores.specs.Stores.{Contents}
+use Rattle.vt_stores.specs.Stores.{ObjectMap}
 use Rattle.vt_node.specs.Bus.{notice_of, frame_notice}
 use Rattle.vt_server.specs.Choosing.{shown_now, ACTIVATE, DEACTIVATE}
 use Rattle.vt_server.specs.Findings.{AreFound}
 use Rattle.vt_server.specs.Lapses.{at_time, lapsed}
 use Rattle.vt_node.specs.Watches.{is_silent}
 use Rattle.vt_server.specs.Orderly.{IsOrderly, IsOther}
-use Rattle.vt_server.specs.Parts.{Part, Act, Hears, Rebinds, Preloads, TpExpires, EtpExpires, SendingExpires, FallsSilent, Operates, Raises, outcome, untimed_part}
+use Rattle.vt_server.specs.Parts.{AddressView, Act, Hears, Rebinds, Preloads, TpExpires, EtpExpires, SendingExpires, FallsSilent, Operates, Raises, outcome, untimed_part}
 use Rattle.vt_laws.specs.Responses.{Response, without_effect, response_of, frames_to}
-use Rattle.vt_server.specs.Steps.{Event, FrameAt, ActionAt, step, after_all, sent_by_all, acted, selecting, at_shown, hear_claim, answer_to, is_lost_by, preloading}
+use Rattle.vt_server.specs.Steps.{JudgedInput, FrameAt, ActionAt, step, after_all, sent_by_all, acted, selecting, at_shown, hear_claim, answer_to, is_lost_by, preloading}
 use Rattle.vt_server.specs.Terminals.{State, holder, part, after_acts}
 use Rattle.vt_server.specs.Transfers.{Verdict}
 
@@ -35,19 +35,19 @@ pub data Happening : Type 0 where
   FrameHeard : Frame → Verdict → Happening
   Operated : ActionValue → Bool → Happening
   EventRaised : ℕ → Happening
-  Preloaded : Contents → Happening
+  Preloaded : ObjectMap → Happening
 
 -- ---- what the address makes of it, by its own part alone
 
-abbrev pub with_holder : Part → Option ℕ → Part
+abbrev pub with_holder : AddressView → Option ℕ → AddressView
 with_holder p name = record p { holder = name }
 
 -- An act at the address; no time is looked at.
-abbrev pub by_act : ℕ → Part → Act → Response
+abbrev pub by_act : ℕ → AddressView → Act → Response
 by_act address p act = response_of p (outcome 0 address p act)
 
 -- while the terminal has its own address; the loss takes the holder out of the part
-abbrev pub response_while : ℕ → Part → Happening → Response
+abbrev pub response_while : ℕ → AddressView → Happening → Response
 response_while address p TpExpired = by_act address p TpExpires
 response_while address p EtpExpired = by_act address p EtpExpires
 response_while address p SendingExpired = by_act address p SendingExpires
@@ -60,19 +60,19 @@ response_while address p (EventRaised event) = by_act address p (Raises event)
 response_while address p (Preloaded contents) = by_act address p (Preloads contents)
 
 -- After the loss nothing has effect.
-abbrev pub response : ℕ → Part → Happening → Response
+abbrev pub response : ℕ → AddressView → Happening → Response
 response address p happening = if p.lost then without_effect p else response_while address p happening
 
-abbrev pub part_after_all : ℕ → Part → List Happening → Part
+abbrev pub part_after_all : ℕ → AddressView → List Happening → AddressView
 part_after_all address p [] = p
 part_after_all address p (h ∷ happenings) = part_after_all address (response address p h).part happenings
 
-abbrev pub frames_of_all : ℕ → Part → List Happening → List Frame
+abbrev pub frames_of_all : ℕ → AddressView → List Happening → List Frame
 frames_of_all address p [] = []
 frames_of_all address p (h ∷ happenings) = (response address p h).frames ++ frames_of_all address (response address p h).part happenings
 
 -- The part of an address in a state, without times. It has a holder while the terminal has its own address.
-abbrev pub own_part : ℕ → State → Part
+abbrev pub own_part : ℕ → State → AddressView
 own_part address s = untimed_part (with_holder (part address s) (if s.lost then None else holder s address))
 
 -- ---- the happenings of an address, which is not the terminal's own
@@ -127,14 +127,14 @@ frame_happenings address s frame verdict =
     if loses s frame then Lost ∷ []
     else heard_happenings address s frame verdict ++ events_at address s.shown (shown_now (after_frame s frame verdict))
 
-abbrev pub happenings : ℕ → State → Event → List Happening
+abbrev pub happenings : ℕ → State → JudgedInput → List Happening
 happenings address s (FrameAt time frame verdict) =
     if s.lost then [] else lapses address (at_time s time) ++ frame_happenings address (lapsed (at_time s time)) frame verdict
 happenings address s (ActionAt action shown) =
     if s.lost then []
     else if_so (is_at address s.shown) (Operated action shown) ++ events_at address s.shown (shown_now (after_action_at s action shown))
 
-abbrev pub happenings_all : ℕ → State → List Event → List Happening
+abbrev pub happenings_all : ℕ → State → List JudgedInput → List Happening
 happenings_all address s [] = []
 happenings_all address s (e ∷ events) = happenings address s e ++ happenings_all address (step s e).after events
 
@@ -142,17 +142,17 @@ happenings_all address s (e ∷ events) = happenings address s e ++ happenings_a
 
 pub record EachTakesItsOwn : Type 0 where
   -- a step, and what it leaves at an address, with the frames to it
-  pub part_after : (address : ℕ) (s : State) (e : Event) → IsOrderly s → IsOther address s
+  pub part_after : (address : ℕ) (s : State) (e : JudgedInput) → IsOrderly s → IsOther address s
       → own_part address (step s e).after ≡ part_after_all address (own_part address s) (happenings address s e)
-  pub frames_after : (address : ℕ) (s : State) (e : Event) → IsOrderly s → IsOther address s
+  pub frames_after : (address : ℕ) (s : State) (e : JudgedInput) → IsOrderly s → IsOther address s
       → frames_to address (step s e).sent ≡ frames_of_all address (own_part address s) (happenings address s e)
   -- an input that makes nothing happen there leaves it as it was
-  pub quiet : (address : ℕ) (s : State) (e : Event) → IsOrderly s → IsOther address s → happenings address s e ≡ []
+  pub quiet : (address : ℕ) (s : State) (e : JudgedInput) → IsOrderly s → IsOther address s → happenings address s e ≡ []
       → own_part address (step s e).after ≡ own_part address s
   -- a pool that is preloaded, at its address and elsewhere
-  pub preloaded : (address : ℕ) (s : State) (contents : Contents) → s.lost ≡ false
+  pub preloaded : (address : ℕ) (s : State) (contents : ObjectMap) → s.lost ≡ false
       → own_part address (preloading s address contents) ≡ part_after_all address (own_part address s) (Preloaded contents ∷ [])
-  pub preloaded_elsewhere : (address other : ℕ) (s : State) (contents : Contents) → other ≢ address
+  pub preloaded_elsewhere : (address other : ℕ) (s : State) (contents : ObjectMap) → other ≢ address
       → own_part other (preloading s address contents) ≡ own_part other s
 
 -- ---- The happenings of an address decide, whatever else is heard.
@@ -165,16 +165,16 @@ AreAlike (Operated action shown) (Operated other seen) = action ≡ other
 AreAlike h k = h ≡ k
 
 -- what two runs leave at an address, and send it
-pub record IsSameAt (address : ℕ) (s t : State) (xs ys : List Event) : Type 0 where
+pub record IsSameAt (address : ℕ) (s t : State) (xs ys : List JudgedInput) : Type 0 where
   pub part : own_part address (after_all s xs) ≡ own_part address (after_all t ys)
   pub frames : frames_to address (sent_by_all s xs) ≡ frames_to address (sent_by_all t ys)
 
 -- Two runs with the same happenings of an address, from the same part of it, leave the same part and send it the same frames,
 -- whatever else they hear: with the same findings of pools, and with any that are right.
 pub record OwnHappeningsDecide : Type 0 where
-  pub same : (address : ℕ) (s t : State) (xs ys : List Event) → IsOrderly s → IsOrderly t → IsOther address s → IsOther address t
+  pub same : (address : ℕ) (s t : State) (xs ys : List JudgedInput) → IsOrderly s → IsOrderly t → IsOther address s → IsOther address t
       → own_part address s ≡ own_part address t → happenings_all address s xs ≡ happenings_all address t ys → IsSameAt address s t xs ys
-  pub alike : (address : ℕ) (s t : State) (xs ys : List Event) → IsOrderly s → IsOrderly t → IsOther address s → IsOther address t
+  pub alike : (address : ℕ) (s t : State) (xs ys : List JudgedInput) → IsOrderly s → IsOrderly t → IsOther address s → IsOther address t
       → AreFound s xs → AreFound t ys
       → own_part address s ≡ own_part address t → AllZip AreAlike (happenings_all address s xs) (happenings_all address t ys) → IsSameAt address s t xs ys
 
@@ -193,7 +193,7 @@ SetsAreHeld s = (address : ℕ) → address ≢ s.claims.own → SetIsHeld (set_
 
 pub record SetsHoldTheirAddress : Type 0 where
   pub first : (s : State) → s.sets ≡ [] → SetsAreHeld s
-  pub preloaded : (address : ℕ) (s : State) (contents : Contents) → SetsAreHeld s → SetsAreHeld (preloading s address contents)
-  pub kept : (s : State) (e : Event) → IsOrderly s → SetsAreHeld s → SetsAreHeld (step s e).after
-  pub orderly : (s : State) (e : Event) → IsOrderly s → IsOrderly (step s e).after
-  pub orderly_preloaded : (address : ℕ) (s : State) (contents : Contents) → IsOrderly s → IsOrderly (preloading s address contents)
+  pub preloaded : (address : ℕ) (s : State) (contents : ObjectMap) → SetsAreHeld s → SetsAreHeld (preloading s address contents)
+  pub kept : (s : State) (e : JudgedInput) → IsOrderly s → SetsAreHeld s → SetsAreHeld (step s e).after
+  pub orderly : (s : State) (e : JudgedInput) → IsOrderly s → IsOrderly (step s e).after
+  pub orderly_preloaded : (address : ℕ) (s : State) (contents : ObjectMap) → IsOrderly s → IsOrderly (preloading s address contents)

@@ -13,7 +13,7 @@ use Rattle.vt_commands.specs.declared.event.Event as objects
 use Rattle.vt_commands.specs.declared.raising.Raised.{Raised}
 use Rattle.vt_commands.specs.Commands.{command_at}
 use Rattle.vt_commands.specs.Events.{event_at, raise}
-use Rattle.vt_stores.specs.Stores.{Contents, Objects, map_of}
+use Rattle.vt_stores.specs.Stores.{ObjectMap, Objects, map_of}
 use Rattle.vt_verify.specs.Rules.{IsVerified}
 use Rattle.vt_stores.specs.Shapes.{shape_of}
 use Rattle.vt_effects.specs.Effects.{effect}
@@ -29,15 +29,15 @@ use Rattle.vt_server.specs.Choosing.{choosing, shown_now, events_of_change}
 use Rattle.vt_server.specs.Findings.{AreFound, ends_transfer}
 use Rattle.vt_server.specs.Lapses.{at_time, lapsed}
 use Rattle.vt_server.specs.Operators.{action_on, is_busy}
-use Rattle.vt_server.specs.Parts.{Part, Act, Hears, Preloads, Operates, Raises}
+use Rattle.vt_server.specs.Parts.{AddressView, Act, Hears, Preloads, Operates, Raises}
 use Rattle.vt_server.specs.Places.{empty}
 use Rattle.vt_server.specs.Sessions.{came}
 use Rattle.vt_server.specs.States.{TakesInputs}
-use Rattle.vt_server.specs.Steps.{Event, FrameAt, ActionAt, step, after_all, before, acts, acted, answer_to, is_lost_by, selecting, at_shown, preloading}
+use Rattle.vt_server.specs.Steps.{JudgedInput, FrameAt, ActionAt, step, after_all, before, acts, acted, answer_to, is_lost_by, selecting, at_shown, preloading}
 use Rattle.vt_server.specs.Terminals.{State, pool_of, part, after_act, after_acts}
 use Rattle.vt_node.specs.ByAddress.{with_at}
 use Rattle.vt_server.specs.Transfers.{Verdict, Accepts}
-use Rattle.vt_node.specs.declared.bus.Notice.{Notice}
+use Rattle.vt_node.specs.declared.bus.FrameMeaning.{FrameMeaning}
 use Rattle.vt_server.specs.declared.input.Input.{Input}
 use Rattle.vt_server.specs.declared.output.Output.{Output}
 
@@ -45,11 +45,11 @@ use Rattle.vt_server.specs.declared.output.Output.{Output}
 
 -- what was accepted last at each address: a pool that was preloaded or uploaded, or an update with the objects that it left
 abbrev pub Pools : Type 0
-Pools = ℕ → Option Contents
+Pools = ℕ → Option ObjectMap
 
 -- The objects come from the pool that was accepted last: the same IDs, kinds, macro entries and macro bytes, one working set,
 -- and references and chains in order.
-pub record IsInForce (last : Option Contents) (state : SetState) : Type 0 where
+pub record IsInForce (last : Option ObjectMap) (state : SetState) : Type 0 where
   pub accepted : Objects
   pub is_last : last ≡ Some (map_of accepted)
   pub verified : IsVerified accepted
@@ -60,15 +60,15 @@ AreInForce pools s = (address : ℕ) → IfSome (pool_of s address) (IsInForce (
 
 -- ---- which pools are accepted in the course of an input
 
-abbrev pub accepted_by : Verdict → Option Contents → Option Contents
+abbrev pub accepted_by : Verdict → Option ObjectMap → Option ObjectMap
 accepted_by (Accepts objects) last = Some objects
 accepted_by _ last = last
 
-abbrev pub accepted_with : Bool → Verdict → Option Contents → Option Contents
+abbrev pub accepted_with : Bool → Verdict → Option ObjectMap → Option ObjectMap
 accepted_with ends verdict last = if ends then accepted_by verdict last else last
 
 -- the end of a transfer whose pool is accepted, and a pool that is preloaded
-abbrev pub accepted_at : ℕ → ℕ → Part → Act → Option Contents → Option Contents
+abbrev pub accepted_at : ℕ → ℕ → AddressView → Act → Option ObjectMap → Option ObjectMap
 accepted_at now address p (Hears notice frame verdict) last =
     accepted_with (ends_transfer p.set (came now p.terminal address p.place notice frame).message) verdict last
 accepted_at now address p (Preloads contents) last = Some contents
@@ -79,19 +79,19 @@ accepted_by_acts s [] pools = pools
 accepted_by_acts s (h ∷ acts) pools =
     accepted_by_acts (after_act s h.0 h.1) acts (with_at h.0 (accepted_at s.now h.0 (part h.0 s) h.1 (pools h.0)) pools)
 
-abbrev pub accepted_in_hearing : State → ℕ → Notice → Frame → Verdict → Pools → Pools
+abbrev pub accepted_in_hearing : State → ℕ → FrameMeaning → Frame → Verdict → Pools → Pools
 accepted_in_hearing s source notice frame verdict pools =
     if is_lost_by (answer_to s source notice) then pools
     else accepted_by_acts (before s source notice) (acts s source notice frame verdict) pools
 
 -- An action of the operator brings no pool, and nor does a frame after the loss of the address.
-abbrev pub accepted_after : State → Event → Pools → Pools
+abbrev pub accepted_after : State → JudgedInput → Pools → Pools
 accepted_after s (FrameAt time frame verdict) pools =
     if s.lost then pools
     else accepted_in_hearing (lapsed (at_time s time)) (source_of frame) (notice_of s.claims.own s.claims.name frame) frame verdict pools
 accepted_after s (ActionAt action shown) pools = pools
 
-abbrev pub accepted_after_all : State → List Event → Pools → Pools
+abbrev pub accepted_after_all : State → List JudgedInput → Pools → Pools
 accepted_after_all s [] pools = pools
 accepted_after_all s (e ∷ events) pools = accepted_after_all (step s e).after events (accepted_after s e pools)
 
@@ -101,12 +101,12 @@ accepted_after_all s (e ∷ events) pools = accepted_after_all (step s e).after 
 -- an event of the Working Set, and the events that are raised on these.
 pub record Run : Type 0 where
   pub address : ℕ
-  pub before : Contents
-  pub objects : Contents
+  pub before : ObjectMap
+  pub objects : ObjectMap
   pub raised : List Raised
 
 -- A command that is done raises its events on the objects that it leaves.
-abbrev pub runs_of_effect : ℕ → Contents → Command → Result Contents ℕ → List Run
+abbrev pub runs_of_effect : ℕ → ObjectMap → Command → Result ObjectMap ℕ → List Run
 runs_of_effect address old command (Ok middle) = record { address = address; before = old; objects = middle; raised = events_of old command } ∷ []
 runs_of_effect address old command (Err bits) = []
 
@@ -120,7 +120,7 @@ runs_of_message address (Some set) pool (Some bytes) = runs_of_command address p
 runs_of_message address _ pool _ = []
 
 -- An action makes its own change first. One that is refused makes none, as one whose message is long while another is sent.
-abbrev pub runs_of_action : ℕ → Option (Timed Message) → Contents → Option operating.Action → List Run
+abbrev pub runs_of_action : ℕ → Option (Timed Message) → ObjectMap → Option operating.Action → List Run
 runs_of_action address sending old (Some (operating.Acts message start raised)) =
     if is_busy message sending then []
     else record { address = address; before = old; objects = start.objects; raised = raised } ∷ []
@@ -144,7 +144,7 @@ runs_of_event address (Some state) event = record {
   raised = named (working_set_in state.objects) (event_at event);
 } ∷ []
 
-abbrev pub runs_at : ℕ → ℕ → Part → Act → List Run
+abbrev pub runs_at : ℕ → ℕ → AddressView → Act → List Run
 runs_at now address p (Hears notice frame verdict) = runs_of_message address p.set p.place.content.pool (came now p.terminal address p.place notice frame).message
 runs_at now address p (Operates action shown) = runs_of_operator address p.place.sending p.place.content.pool (λ state. action_on state shown action)
 runs_at now address p (Raises event) = runs_of_event address p.place.content.pool event
@@ -158,7 +158,7 @@ runs_of_acts s (h ∷ acts) = runs_at s.now h.0 (part h.0 s) h.1 ++ runs_of_acts
 abbrev pub runs_of_settling : State → List Run
 runs_of_settling s = runs_of_acts (choosing s) (events_of_change s.shown (shown_now s))
 
-abbrev pub runs_of_hearing : State → ℕ → Notice → Frame → Verdict → List Run
+abbrev pub runs_of_hearing : State → ℕ → FrameMeaning → Frame → Verdict → List Run
 runs_of_hearing s source notice frame verdict =
     if is_lost_by (answer_to s source notice) then []
     else runs_of_acts (before s source notice) (acts s source notice frame verdict) ++ runs_of_settling (acted s source notice frame verdict)
@@ -167,7 +167,7 @@ abbrev pub runs_of_operating : State → List (ℕ × Act) → List Run
 runs_of_operating s happens = runs_of_acts s happens ++ runs_of_settling (after_acts s happens)
 
 -- those of a command or an action, and those of the events that another set is shown
-abbrev pub runs : State → Event → List Run
+abbrev pub runs : State → JudgedInput → List Run
 runs s (FrameAt time frame verdict) =
     if s.lost then [] else runs_of_hearing (lapsed (at_time s time)) (source_of frame) (notice_of s.claims.own s.claims.name frame) frame verdict
 runs s (ActionAt action shown) =
@@ -178,7 +178,7 @@ runs s (ActionAt action shown) =
 -- A run on the objects of the pool that was accepted last at its address ends, and does not stick: each command finds the objects
 -- that it names, of kinds that they may have, and the steps are at most the budgets that the pool's report prints for the events,
 -- of which there are few. The events run in turn, and each of them ends within its own budget.
-pub record EndsInTime (last : Option Contents) (run : Run) : Type 0 where
+pub record EndsInTime (last : Option ObjectMap) (run : Run) : Type 0 where
   pub accepted : Objects
   pub is_last : last ≡ Some (map_of accepted)
   pub verified : IsVerified accepted
@@ -189,17 +189,17 @@ pub record EndsInTime (last : Option Contents) (run : Run) : Type 0 where
 
 -- So the whole cost of an input is one for its command, the budgets of what that raises, and those of the two events by which
 -- another set is shown. A pool that is accepted in its course is the last one for the runs at its address.
-pub record RunsEnd (pools : Pools) (s : State) (e : Event) : Type 0 where
+pub record RunsEnd (pools : Pools) (s : State) (e : JudgedInput) : Type 0 where
   pub each : AllByRecursion (λ run. EndsInTime (pools run.address) run) (runs s e)
   pub few : length (runs s e) ≤ 3
 
-abbrev pub AllEnd : Pools → State → List Event → Type 0
+abbrev pub AllEnd : Pools → State → List JudgedInput → Type 0
 AllEnd pools s [] = Unit {0}
 AllEnd pools s (e ∷ events) = RunsEnd (accepted_after s e pools) s e × AllEnd (accepted_after s e pools) (step s e).after events
 
 -- No drawing of the objects sticks: each reference that is shown leads to an object of a kind that may stand there, or is NULL
 -- where it may be, and all that a drawing looks up is there. On the way to each element stand few objects.
-pub record DrawsWhatIsThere (store : Contents) : Type 0 where
+pub record DrawsWhatIsThere (store : ObjectMap) : Type 0 where
   pub never_sticks : (mask : ℕ) → Sticks store mask → ⊥
   pub finds_all : (mask : ℕ) → FindsAll store mask
   pub in_mask : (mask : ℕ) (path : List ℕ) → IfSome (at_path store (mask_entries store mask) origin path)
@@ -209,7 +209,7 @@ pub record DrawsWhatIsThere (store : Contents) : Type 0 where
 
 -- The runs of events end in time, and what these leave are pools in force, each of which is the one that was accepted last, and
 -- whose drawings do not stick.
-pub record EventsKeep (pools : Pools) (old : State) (events : List Event) : Type 0 where
+pub record EventsKeep (pools : Pools) (old : State) (events : List JudgedInput) : Type 0 where
   pub runs_end : AllEnd pools old events
   pub in_force : AreInForce (accepted_after_all old events pools) (after_all old events)
   pub drawn : (address : ℕ) → IfSome (pool_of (after_all old events) address) (λ state. DrawsWhatIsThere state.objects)
@@ -225,6 +225,6 @@ pub record NeverSticks : Type 0 where
   pub first : (s : State) → ((address : ℕ) → s.places address ≡ empty) → AreInForce (λ address. None) s
   pub preloaded : (pools : Pools) (s : State) (address : ℕ) (pool : Objects) → IsVerified pool → AreInForce pools s
       → AreInForce (with_at address (Some (map_of pool)) pools) (preloading s address (map_of pool))
-  pub events : (pools : Pools) (old : State) (events : List Event) → AreInForce pools old → AreFound old events → EventsKeep pools old events
+  pub events : (pools : Pools) (old : State) (events : List JudgedInput) → AreInForce pools old → AreFound old events → EventsKeep pools old events
   pub inputs : (pools : Pools) (old : State) (inputs : List Input) (new : State) (sent_before sent_after : List Output) → AreInForce pools old
       → TakesInputs old inputs new sent_before sent_after → Keeps pools old inputs new sent_before sent_after

@@ -6,23 +6,23 @@ use Rattle.vt_can.specs.lines.Actions.{ActionValue}
 use Rattle.vt_commands.specs.declared.command.Command.{Command}
 use Rattle.vt_commands.specs.declared.event.Event as objects
 use Rattle.vt_commands.specs.Events.{raise}
-use Rattle.vt_stores.specs.Stores.{Contents}
+use Rattle.vt_stores.specs.Stores.{ObjectMap}
 use Rattle.vt_effects.specs.Effects.{effect}
 use Rattle.vt_macros.specs.Machines.{events_of, run_of}
 use Rattle.vt_machine.specs.Lives.{SetState, working_set_in}
 use Rattle.vt_machine.specs.Operating.{Acts}
 use Rattle.vt_server.specs.Commands.{store_of}
 use Rattle.vt_server.specs.Operators.{action_on}
-use Rattle.vt_server.specs.Steps.{Event, step}
+use Rattle.vt_server.specs.Steps.{JudgedInput, step}
 use Rattle.vt_server.specs.Terminals.{State, pool_of}
 use Rattle.vt_laws.specs.Headline.{Pools, Run, accepted_after, runs}
 
 -- the objects that the machine leaves
-abbrev pub left_by : Run → Contents
+abbrev pub left_by : Run → ObjectMap
 left_by run = store_of (run_of run.objects run.raised)
 
 -- Runs one after the other: the first from the objects before, and each from those that the one before it leaves.
-abbrev pub Lead : Contents → List Run → Contents → Type 0
+abbrev pub Lead : ObjectMap → List Run → ObjectMap → Type 0
 Lead old [] new = new ≡ old
 Lead old (run ∷ runs) new = (run.before ≡ old) × Lead (left_by run) runs new
 
@@ -43,6 +43,6 @@ objects_in s address = option_map (λ state. state.objects) (pool_of s address)
 -- Each run begins as a run may. And the objects of a set after an input are those that the runs there leave, from those before, or
 -- from those of the pool that was accepted there in its course: no run is left out, and nothing but these changes an object.
 pub record RunsAreOfSteps : Type 0 where
-  pub begun : (s : State) (e : Event) → AllByRecursion IsBegun (runs s e)
-  pub lead : (s : State) (e : Event) (address : ℕ) → IfSome (pool_of (step s e).after address)
+  pub begun : (s : State) (e : JudgedInput) → AllByRecursion IsBegun (runs s e)
+  pub lead : (s : State) (e : JudgedInput) (address : ℕ) → IfSome (pool_of (step s e).after address)
       (λ new. IsSomeAnd (accepted_after s e (objects_in s) address) (λ old. Lead old (runs_there address (runs s e)) new.objects))

@@ -3,7 +3,7 @@ use Rattle.std.specs.Prelude.{◌≡◌, ◌<◌, ◌≤◌, ◌^◌, ◌⊎◌,
 use Rattle.vt_can.specs.declared.frames.frame.Frame.{Frame}
 use Rattle.vt_can.specs.Assigned.{ADDRESS_CLAIMED, ETP_CM, GLOBAL_ADDRESS, NULL_ADDRESS, TP_CM, TP_DT, VT_TO_ECU}
 use Rattle.vt_can.specs.frames.Identifier.{parts_of, addressed}
-use Rattle.vt_server.specs.Steps.{Event, FrameAt, ActionAt, step}
+use Rattle.vt_server.specs.Steps.{JudgedInput, FrameAt, ActionAt, step}
 use Rattle.vt_server.specs.Terminals.{State, Sent, ToOne, ToAll, Refused}
 
 -- to one address: a message, with priority 5; what manages its sessions, by either protocol, or a packet of a message
@@ -36,10 +36,10 @@ pub record HasAddresses (s : State) : Type 0 where
   pub shown : IfSome s.shown (λ address. address < 2 ^ 8)
 
 -- Byte 1 of a frame, which in a CTS counts packets, is a byte.
-abbrev pub HasByte : Event → Type 0
+abbrev pub HasByte : JudgedInput → Type 0
 HasByte (FrameAt time frame verdict) = slice_index frame.bytes.items 1 < 2 ^ 8
 HasByte (ActionAt action shown) = Unit {0}
 
 pub record SentAreAddressed : Type 0 where
-  pub each : (s : State) (e : Event) → HasAddresses s → AreAddressed s.claims.own (step s e).sent
-  pub few : (s : State) (e : Event) → HasByte e → length (step s e).sent ≤ 1024
+  pub each : (s : State) (e : JudgedInput) → HasAddresses s → AreAddressed s.claims.own (step s e).sent
+  pub few : (s : State) (e : JudgedInput) → HasByte e → length (step s e).sent ≤ 1024

@@ -2,16 +2,16 @@
 use Rattle.std.specs.Prelude.{◌≡◌, ◌≢◌, ℕ, ◌==◌, Bool, not, if◌then◌else◌, List, [], map, filter, None}
 use Rattle.vt_can.specs.frames.Frame.{source_of}
 use Rattle.vt_names.specs.Registry.{Set, set_at, registering, joining}
-use Rattle.vt_stores.specs.Stores.{Contents}
+use Rattle.vt_stores.specs.Stores.{ObjectMap}
 use Rattle.vt_node.specs.Bus.{notice_of}
 use Rattle.vt_laws.specs.Happenings.{loses, SetsAreHeld}
 use Rattle.vt_server.specs.Orderly.{IsOrderly}
 use Rattle.vt_server.specs.Lapses.{at_time, silent}
 use Rattle.vt_server.specs.Parts.{stays_under, with_holder_name}
-use Rattle.vt_server.specs.Steps.{Event, FrameAt, ActionAt, step, preloading}
+use Rattle.vt_server.specs.Steps.{JudgedInput, FrameAt, ActionAt, step, preloading}
 use Rattle.vt_server.specs.Terminals.{State, holder}
-use Rattle.vt_node.specs.declared.bus.Notice.{Notice}
-use Rattle.vt_node.specs.declared.bus.Notice.TheVariants.{Claim, Master, Member}
+use Rattle.vt_node.specs.declared.bus.FrameMeaning.{FrameMeaning}
+use Rattle.vt_node.specs.declared.bus.FrameMeaning.TheVariants.{Claim, Master, Member}
 
 -- the sets that are not silent by the time of a frame, in their order
 abbrev pub heard_sets : State → ℕ → List Set
@@ -28,7 +28,7 @@ named_at s address set = if set.address == address then with_holder_name set set
 -- By what a frame says, and by the holders after it. A claim closes each set with a NAME that isn't its address's
 -- holder, the others keep their order, and a set of its source without a NAME takes the holder's. A master message
 -- registers, a member message adds, and nothing else changes the list.
-abbrev pub sets_after : State → ℕ → Notice → List Set → List Set
+abbrev pub sets_after : State → ℕ → FrameMeaning → List Set → List Set
 sets_after t source (Claim name) sets = map (named_at t source) (filter (stays t) sets)
 sets_after t source (Master count) sets = registering source (holder t source) count sets
 sets_after t source (Member name) sets = joining (set_at source sets) name sets
@@ -36,7 +36,7 @@ sets_after t source _ sets = sets
 
 -- With the frame by which the address is lost only the silent sets go, and after it none does. An action of the operator
 -- changes no set.
-abbrev pub sets_by : State → State → Event → List Set
+abbrev pub sets_by : State → State → JudgedInput → List Set
 sets_by s t (FrameAt time frame verdict) =
     if s.lost then s.sets else if loses s frame then heard_sets s time
     else sets_after t (source_of frame) (notice_of s.claims.own s.claims.name frame) (heard_sets s time)
@@ -50,9 +50,9 @@ pub record IsSettled (s : State) : Type 0 where
   pub held : SetsAreHeld s
 
 pub record SetsAfterSteps : Type 0 where
-  pub listed : (s : State) (e : Event) → IsOrderly s → IsSettled s → (step s e).after.sets ≡ sets_by s (step s e).after e
+  pub listed : (s : State) (e : JudgedInput) → IsOrderly s → IsSettled s → (step s e).after.sets ≡ sets_by s (step s e).after e
   -- before the first input, after a preload at another address than the terminal's, and after every input
   pub first : (s : State) → s.sets ≡ [] → IsSettled s
-  pub preloaded : (address : ℕ) (s : State) (contents : Contents) → address ≢ s.claims.own → IsSettled s
+  pub preloaded : (address : ℕ) (s : State) (contents : ObjectMap) → address ≢ s.claims.own → IsSettled s
       → IsSettled (preloading s address contents)
-  pub settled : (s : State) (e : Event) → IsOrderly s → IsSettled s → IsSettled (step s e).after
+  pub settled : (s : State) (e : JudgedInput) → IsOrderly s → IsSettled s → IsSettled (step s e).after

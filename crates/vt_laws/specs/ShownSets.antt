@@ -5,12 +5,12 @@ use Rattle.vt_kinds.specs.declared.masks.AlarmMask.{AlarmMask}
 use Rattle.vt_kinds.specs.declared.object.Object.TheVariants as objects
 use Rattle.vt_machine.specs.Lives.{SetState, active_in}
 use Rattle.vt_names.specs.Registry.{Set, set_at}
-use Rattle.vt_stores.specs.Stores.{Contents}
+use Rattle.vt_stores.specs.Stores.{ObjectMap}
 use Rattle.vt_server.specs.Choosing.{selected_now, shown_now}
 use Rattle.vt_server.specs.Orderly.{IsOrderly}
 use Rattle.vt_server.specs.Places.{empty}
 use Rattle.vt_server.specs.Parts.{Preloads}
-use Rattle.vt_server.specs.Steps.{Event, step, settled, preloading}
+use Rattle.vt_server.specs.Steps.{JudgedInput, step, settled, preloading}
 use Rattle.vt_server.specs.Terminals.{State, pool_of, after_act}
 
 -- ---- which set is selected, and which is shown
@@ -80,9 +80,9 @@ pub record ShownAreChosen : Type 0 where
   pub shown : (s : State) (address : ℕ) → (shown_now s ≡ Some address) ↔ IsChosen s address
   pub none : (s : State) (address : ℕ) → PoolsAreOfSets s → shown_now s ≡ None → HasPool s address → ⊥
   pub settled_shows : (s : State) → (settled s).shown ≡ shown_now s
-  pub preloading_shows : (s : State) (address : ℕ) (contents : Contents)
+  pub preloading_shows : (s : State) (address : ℕ) (contents : ObjectMap)
       → (preloading s address contents).shown ≡ shown_now (after_act s address (Preloads contents))
   -- before the first input, after a preload and after every input
   pub first : (s : State) → ((address : ℕ) → s.places address ≡ empty) → s.selected ≡ None → s.shown ≡ None → PoolsAreOfSets s
-  pub preloaded : (address : ℕ) (s : State) (contents : Contents) → IsOrderly s → PoolsAreOfSets s → PoolsAreOfSets (preloading s address contents)
-  pub kept : (s : State) (e : Event) → IsOrderly s → PoolsAreOfSets s → PoolsAreOfSets (step s e).after
+  pub preloaded : (address : ℕ) (s : State) (contents : ObjectMap) → IsOrderly s → PoolsAreOfSets s → PoolsAreOfSets (preloading s address contents)
+  pub kept : (s : State) (e : JudgedInput) → IsOrderly s → PoolsAreOfSets s → PoolsAreOfSets (step s e).after

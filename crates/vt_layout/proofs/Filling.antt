@@ -6,7 +6,7 @@ use Rattle.std.specs.Prelude.{nat_lt, codes}
 use Rattle.std.specs.List.{flat_map}
 use Rattle.std.specs.FinMap as finite
 use Rattle.vt_kinds.specs.declared.entries.Child.{Child}
-use Rattle.vt_stores.specs.Stores.{Contents}
+use Rattle.vt_stores.specs.Stores.{ObjectMap}
 use Rattle.vt_verify.specs.Rules.{working_sets}
 use Rattle.vt_machine.specs.Lives.{IsActive}
 use Rattle.vt_effects.specs.Soundness.{shape_in}
@@ -32,7 +32,7 @@ map_append : {A B : Type 0} (f : A → B) (xs ys : List A) → map f (xs ++ ys) 
 map_append f [] ys = refl
 map_append f (x ∷ xs) ys = ap (λ zs. f x ∷ zs) (map_append f xs ys)
 
-pub elements_append : (store : Contents) (xs ys : List Element) (sheet : Sheet) → with_elements store (xs ++ ys) sheet ≡ with_elements store ys (with_elements store xs sheet)
+pub elements_append : (store : ObjectMap) (xs ys : List Element) (sheet : Sheet) → with_elements store (xs ++ ys) sheet ≡ with_elements store ys (with_elements store xs sheet)
 elements_append store xs ys sheet =
     ap (λ lines. with_lines lines sheet) (map_append (line store) xs ys) ∙ lines_append (map (line store) xs) (map (line store) ys) sheet
 
@@ -102,17 +102,17 @@ page_text t lines = room_left 0 2000 refl t lines
 
 -- ---- the drawing of a store in order
 
-walk_is_all : (store : Contents) (entries : List Child) → ((path : List ℕ) (e : Element) → at_path store entries origin path ≡ Some e → length path ≤ 32) → AreAll store entries (all_placed 32 store entries origin)
+walk_is_all : (store : ObjectMap) (entries : List Child) → ((path : List ℕ) (e : Element) → at_path store entries origin path ≡ Some e → length path ≤ 32) → AreAll store entries (all_placed 32 store entries origin)
 walk_is_all store entries short = record {
   in_order = walk_in_order 32 store entries origin;
   are = λ p. (placed_at 32 store entries origin p, λ leads. all_met 32 store entries origin p.path p.element leads (short p.path p.element leads));
 }
 
 -- the walk through a mask and its soft keys
-abbrev pub whole : Contents → ℕ → List Placed
+abbrev pub whole : ObjectMap → ℕ → List Placed
 whole store mask = all_placed 32 store (mask_entries store mask) origin ++ all_placed 32 store (key_entries store mask) origin
 
-pub whole_drawing : (store : Contents) (mask : ℕ) → IsSound store → finite.get store 65535 ≡ None → IsDrawing store mask (whole store mask)
+pub whole_drawing : (store : ObjectMap) (mask : ℕ) → IsSound store → finite.get store 65535 ≡ None → IsDrawing store mask (whole store mask)
 whole_drawing store mask sound null = record {
   in_mask = all_placed 32 store (mask_entries store mask) origin;
   of_keys = all_placed 32 store (key_entries store mask) origin;
@@ -122,17 +122,17 @@ whole_drawing store mask sound null = record {
 }
 
 -- its lines are those of the walk
-lines_of : (store : Contents) (ps : List Placed) → map (λ p. line store p.element) ps ≡ map (line store) (bare ps)
+lines_of : (store : ObjectMap) (ps : List Placed) → map (λ p. line store p.element) ps ≡ map (line store) (bare ps)
 lines_of store [] = refl
 lines_of store (p ∷ ps) = ap (λ lines. line store p.element ∷ lines) (lines_of store ps)
 
-whole_bare : (store : Contents) (mask : ℕ) → bare (whole store mask) ≡ drawing store mask
+whole_bare : (store : ObjectMap) (mask : ℕ) → bare (whole store mask) ≡ drawing store mask
 whole_bare store mask =
     map_append (λ p. p.element) (all_placed 32 store (mask_entries store mask) origin) (all_placed 32 store (key_entries store mask) origin)
     ∙ ap (λ es. es ++ bare (all_placed 32 store (key_entries store mask) origin)) (bare_all 32 store (mask_entries store mask) origin)
     ∙ ap (λ es. elements 32 store (mask_entries store mask) origin ++ es) (bare_all 32 store (key_entries store mask) origin)
 
-pub screen_is : (address : ℕ) (store : Contents) (mask : ℕ) (text : List ℕ) → IsSound store → finite.get store 65535 ≡ None → IsActive store mask
+pub screen_is : (address : ℕ) (store : ObjectMap) (mask : ℕ) (text : List ℕ) → IsSound store → finite.get store 65535 ≡ None → IsActive store mask
     → text ≡ heading address mask ++ cut (map (line store) (drawing store mask)) → IsScreen address store text
 screen_is address store mask text sound null active is = record {
   mask = mask;
@@ -144,7 +144,7 @@ screen_is address store mask text sound null active is = record {
 
 -- ---- one screen
 
-screens_once : (address : ℕ) (store : Contents) (one other : List ℕ) → working_sets (shape_in store) ≡ 1 → IsScreen address store one → IsScreen address store other → one ≡ other
+screens_once : (address : ℕ) (store : ObjectMap) (one other : List ℕ) → working_sets (shape_in store) ≡ 1 → IsScreen address store one → IsScreen address store other → one ≡ other
 screens_once address store one other sets first second =
     let mask = masks_are_one store first.mask second.mask sets first.active second.active in
     first.is

@@ -17,7 +17,7 @@ use Rattle.vt_kinds.specs.declared.slot.Slot.{Slot}
 use Rattle.vt_kinds.specs.declared.variables.ObjectPointer.{ObjectPointer}
 use Rattle.vt_kinds.specs.Records.{Seen, kind_of}
 use Rattle.vt_kinds.specs.References.{allowed, may_be_null, is_member, is_pointer, slot, listed, children_of}
-use Rattle.vt_stores.specs.Stores.{Contents}
+use Rattle.vt_stores.specs.Stores.{ObjectMap}
 use Rattle.vt_effects.specs.Changes.{is_one_of}
 use Rattle.vt_effects.specs.Effects.{kind_in, pointer_value, allows}
 use Rattle.vt_effects.specs.Soundness.{IsSound, value_fits, is_in_order}
@@ -32,13 +32,13 @@ use Rattle.vt_layout.specs.LookUps.IsFound.{Null, NullPointer, StandsFor}
 use Rattle.vt_layout.proofs.Reaching.{names_of, names_of_keys}
 
 -- a slot that is in order
-abbrev IsRight : Contents → Slot → Type 0
+abbrev IsRight : ObjectMap → Slot → Type 0
 IsRight store s = IsTrue (is_in_order store s)
 
 -- ---- one slot
 
 -- It has NULL, where NULL may stand, or names an object of an allowed kind, and the value of a pointer fits.
-slot_case : (P : Type 0) (store : Contents) (s : Slot) → IsRight store s → (eqb s.id 65535 ≡ true → s.null ≡ true → P)
+slot_case : (P : Type 0) (store : ObjectMap) (s : Slot) → IsRight store s → (eqb s.id 65535 ≡ true → s.null ≡ true → P)
     → (eqb s.id 65535 ≡ false → IsTrue (is_one_of s.kinds (kind_in store s.id)) → IsTrue (value_fits store s (pointer_value (finite.get store s.id))) → P) → P
 slot_case P store s right null there = by (eqb s.id 65535) refl right
   where
@@ -55,7 +55,7 @@ not_pointer kinds.ObjectPointer is = absurd cc
 not_pointer _ is = refl
 
 -- what stands behind a pointer: NULL, or an object of an allowed kind that is no pointer
-value_found : (store : Contents) (s : Slot) (p : ObjectPointer) → finite.get store s.id ≡ Some (objects.ObjectPointer p) → IsTrue (allows store s p.value)
+value_found : (store : ObjectMap) (s : Slot) (p : ObjectPointer) → finite.get store s.id ≡ Some (objects.ObjectPointer p) → IsTrue (allows store s p.value)
     → IsRight store (slot kinds.ObjectPointer places.Value p.value) → IsFound store s.kinds s.null s.id
 value_found store s p at fits right =
     slot_case (IsFound store s.kinds s.null s.id) store (slot kinds.ObjectPointer places.Value p.value) right
@@ -70,7 +70,7 @@ value_found store s p at fits right =
         StandsFor p.value (kind_of o) (ap (behind store s.id) at ∙ ap (option_map (λ value. p.value)) is) (ap (option_map kind_of) is) fits (not_pointer (kind_of o) other)
 
 -- what a slot names
-slot_found : (store : Contents) (s : Slot) → IsSound store → IsRight store s → IsFound store s.kinds s.null s.id
+slot_found : (store : ObjectMap) (s : Slot) → IsSound store → IsRight store s → IsFound store s.kinds s.null s.id
 slot_found store s sound right =
     slot_case (IsFound store s.kinds s.null s.id) store s right (λ is null. Null (eqb-true s.id 65535 is) null) (λ other. named (finite.get store s.id) refl)
   where
@@ -83,7 +83,7 @@ slot_found store s sound right =
 -- ---- lists of names
 
 -- each name of a list of slots
-listed_found : (store : Contents) (kind : Kind) (place : ℕ → Place) (may_stand : Kinds) (null : Bool) (index : ℕ) (names : List ℕ) → IsSound store
+listed_found : (store : ObjectMap) (kind : Kind) (place : ℕ → Place) (may_stand : Kinds) (null : Bool) (index : ℕ) (names : List ℕ) → IsSound store
     → ((i : ℕ) → allowed kind (place i) ≡ may_stand) → ((i : ℕ) → may_be_null (place i) ≡ null) → AllByRecursion (IsRight store) (listed kind place index names)
     → AllByRecursion (IsFound store may_stand null) names
 listed_found store kind place may_stand null index [] sound are nulls right = tt
@@ -94,7 +94,7 @@ listed_found store kind place may_stand null index (name ∷ names) sound are nu
 )
 
 -- each child
-children_found : (store : Contents) (kind : Kind) (may_stand : Kinds) (children : List Child) → IsSound store → ((i : ℕ) → allowed kind (places.Child i) ≡ may_stand)
+children_found : (store : ObjectMap) (kind : Kind) (may_stand : Kinds) (children : List Child) → IsSound store → ((i : ℕ) → allowed kind (places.Child i) ≡ may_stand)
     → AllByRecursion (IsRight store) (children_of kind children) → AllByRecursion (IsFound store may_stand false) (ids_in children)
 children_found store kind may_stand children sound are right = listed_found store kind places.Child may_stand false 0 (ids_in children) sound are (λ i. refl) right
 
@@ -109,7 +109,7 @@ item_all P items (Some index) all = at items index all
     at (item ∷ items) (suc index) all = at items index all.1
 
 -- each name that an object draws
-names_found : (store : Contents) (id : ℕ) (o : Option Seen) → IsSound store → finite.get store id ≡ o
+names_found : (store : ObjectMap) (id : ℕ) (o : Option Seen) → IsSound store → finite.get store id ≡ o
     → AllByRecursion (IsFound store (kinds_listed (option_map kind_of o)) (null_listed (option_map kind_of o))) (drawn_in store o)
 names_found store id None sound at = tt
 names_found store id (Some (objects.WorkingSet o)) sound at =
@@ -133,7 +133,7 @@ names_found store id (Some (objects.InputList o)) sound at =
 names_found store id (Some _) sound at = tt
 
 -- each key of a soft key mask
-keys_found : (store : Contents) (id : ℕ) (o : Option Seen) → IsSound store → finite.get store id ≡ o → AllByRecursion (IsFound store sets.Keys true) (keys_of o)
+keys_found : (store : ObjectMap) (id : ℕ) (o : Option Seen) → IsSound store → finite.get store id ≡ o → AllByRecursion (IsFound store sets.Keys true) (keys_of o)
 keys_found store id (Some (objects.SoftKeyMask o)) sound at =
     listed_found store kinds.SoftKeyMask places.Key sets.Keys true 0 o.keys sound (λ i. refl) (λ i. refl) (sound.slots id (objects.SoftKeyMask o) at)
 keys_found store id _ sound at = tt
@@ -144,14 +144,14 @@ by_names P [] all = tt
 by_names P (entry ∷ entries) all = (all.0, by_names P entries all.1)
 
 -- each entry that is drawn within an object
-entries_found : (store : Contents) (id : ℕ) → IsSound store → AreFoundIn store id
+entries_found : (store : ObjectMap) (id : ℕ) → IsSound store → AreFoundIn store id
 entries_found store id sound =
     let is_found : ℕ → Type 0 = IsFound store (kinds_listed (kind_in store id)) (null_listed (kind_in store id)) in
     by_names is_found (entries_in store (finite.get store id))
     (subst (AllByRecursion is_found) (sym (names_of store (finite.get store id))) (names_found store id (finite.get store id) sound refl))
 
 -- each entry of the soft key mask of a mask
-key_entries_found : (store : Contents) (mask : ℕ) → IsSound store → AllByRecursion (λ entry. IsFound store sets.Keys true entry.id) (key_entries store mask)
+key_entries_found : (store : ObjectMap) (mask : ℕ) → IsSound store → AllByRecursion (λ entry. IsFound store sets.Keys true entry.id) (key_entries store mask)
 key_entries_found store mask sound =
     let id = soft_key_mask_of (finite.get store mask) in
     by_names (IsFound store sets.Keys true) (key_entries store mask)
@@ -160,7 +160,7 @@ key_entries_found store mask sound =
 -- ---- masks
 
 -- the active mask of a working set
-mask_found : (store : Contents) (id mask : ℕ) (o : Option Seen) → IsSound store → finite.get store id ≡ o → option_map kind_of o ≡ Some kinds.WorkingSet → mask_of o ≡ mask
+mask_found : (store : ObjectMap) (id mask : ℕ) (o : Option Seen) → IsSound store → finite.get store id ≡ o → option_map kind_of o ≡ Some kinds.WorkingSet → mask_of o ≡ mask
     → (mask ≡ 65535) ⊎ IsTrue (is_one_of sets.Masks (kind_in store mask))
 mask_found store id mask (Some (objects.WorkingSet o)) sound at kind is =
     subst (λ (k : ℕ). (k ≡ 65535) ⊎ IsTrue (is_one_of sets.Masks (kind_in store k))) is
@@ -169,7 +169,7 @@ mask_found store id mask (Some (objects.WorkingSet o)) sound at kind is =
 mask_found store id mask _ sound at kind is = absurd cc
 
 -- what a slot for a soft key mask names
-keys_or_null : (store : Contents) (s : Slot) → s.kinds ≡ sets.SoftKeyMasks → IsRight store s → (s.id ≡ 65535) ⊎ (kind_in store s.id ≡ Some kinds.SoftKeyMask)
+keys_or_null : (store : ObjectMap) (s : Slot) → s.kinds ≡ sets.SoftKeyMasks → IsRight store s → (s.id ≡ 65535) ⊎ (kind_in store s.id ≡ Some kinds.SoftKeyMask)
 keys_or_null store s are right =
     slot_case ((s.id ≡ 65535) ⊎ (kind_in store s.id ≡ Some kinds.SoftKeyMask)) store s right (λ same null. inl (eqb-true s.id 65535 same))
     (λ other there fits. inr (only (kind_in store s.id) (subst (λ (k : Kinds). IsTrue (is_one_of k (kind_in store s.id))) are there)))
@@ -179,7 +179,7 @@ keys_or_null store s are right =
     only _ is = absurd cc
 
 -- the soft key mask of a mask
-keys_mask_found : (store : Contents) (mask : ℕ) (o : Option Seen) → IsSound store → finite.get store mask ≡ o
+keys_mask_found : (store : ObjectMap) (mask : ℕ) (o : Option Seen) → IsSound store → finite.get store mask ≡ o
     → (soft_key_mask_of o ≡ 65535) ⊎ (kind_in store (soft_key_mask_of o) ≡ Some kinds.SoftKeyMask)
 keys_mask_found store mask (Some (objects.DataMask o)) sound at =
     keys_or_null store (slot kinds.DataMask places.SoftKeyMask o.soft_key_mask) refl (sound.slots mask (objects.DataMask o) at).0
@@ -191,7 +191,7 @@ keys_mask_found store mask _ sound at = inl refl
 
 -- the own value where a slot has NULL, and otherwise that of the variable that it names
 has_value : {A : Type 0} (read : Option Seen → Option A) (variables : Kinds) → ((o : Option Seen) → IsTrue (is_one_of variables (option_map kind_of o)) → (v : A) × (read o ≡ Some v))
-    → (store : Contents) (s : Slot) (own : A) → s.kinds ≡ variables → IsRight store s → (v : A) × (cond (eqb s.id 65535) (Some own) (read (finite.get store s.id)) ≡ Some v)
+    → (store : ObjectMap) (s : Slot) (own : A) → s.kinds ≡ variables → IsRight store s → (v : A) × (cond (eqb s.id 65535) (Some own) (read (finite.get store s.id)) ≡ Some v)
 has_value {A} read variables reads store s own are right =
     slot_case ((v : A) × (cond (eqb s.id 65535) (Some own) (read (finite.get store s.id)) ≡ Some v)) store s right
     (λ same null. (own, shown true same))
@@ -202,7 +202,7 @@ has_value {A} read variables reads store s own are right =
     shown b is = ap (λ (c : Bool). cond c (Some own) (read (finite.get store s.id))) is
 
 -- the number that a slot for a number variable leads to
-has_number : (store : Contents) (s : Slot) (own : ℕ) → s.kinds ≡ sets.NumberVariables → IsRight store s → HasNumber store s.id own
+has_number : (store : ObjectMap) (s : Slot) (own : ℕ) → s.kinds ≡ sets.NumberVariables → IsRight store s → HasNumber store s.id own
 has_number = has_value number_in sets.NumberVariables reads
   where
     reads : (o : Option Seen) → IsTrue (is_one_of sets.NumberVariables (option_map kind_of o)) → (n : ℕ) × (number_in o ≡ Some n)
@@ -210,7 +210,7 @@ has_number = has_value number_in sets.NumberVariables reads
     reads _ is = absurd cc
 
 -- the text that a slot for a string variable leads to
-has_text : (store : Contents) (s : Slot) (own : List ℕ) → s.kinds ≡ sets.StringVariables → IsRight store s → HasText store s.id own
+has_text : (store : ObjectMap) (s : Slot) (own : List ℕ) → s.kinds ≡ sets.StringVariables → IsRight store s → HasText store s.id own
 has_text = has_value text_in sets.StringVariables reads
   where
     reads : (o : Option Seen) → IsTrue (is_one_of sets.StringVariables (option_map kind_of o)) → (text : List ℕ) × (text_in o ≡ Some text)
@@ -218,7 +218,7 @@ has_text = has_value text_in sets.StringVariables reads
     reads _ is = absurd cc
 
 -- the values of an element that is there
-values_there : (store : Contents) (id : ℕ) (o : Option Seen) → IsSound store → finite.get store id ≡ o → IsTrue (is_element o) → HasValues store o
+values_there : (store : ObjectMap) (id : ℕ) (o : Option Seen) → IsSound store → finite.get store id ≡ o → IsTrue (is_element o) → HasValues store o
 values_there store id None sound at is = absurd cc
 values_there store id (Some (objects.InputBoolean o)) sound at is =
     has_number store (slot kinds.InputBoolean places.Variable o.variable) o.value refl (sound.slots id (objects.InputBoolean o) at).1.0

@@ -4,7 +4,7 @@ use Rattle.std.specs.Prelude.{Contains}
 use Rattle.std.specs.List.{AllByRecursion}
 use Rattle.std.specs.FinMap as finite
 use Rattle.vt_kinds.specs.declared.entries.Child.{Child}
-use Rattle.vt_stores.specs.Stores.{Contents}
+use Rattle.vt_stores.specs.Stores.{ObjectMap}
 use Rattle.vt_chains.proofs.Elements.{Contains-nil, Contains-head, Contains-tail, cons_case}
 use Rattle.vt_shown.specs.Showing.{stands_for}
 use Rattle.vt_layout.specs.declared.element.Element.{Element}
@@ -61,11 +61,11 @@ same_elements (p ∷ ps) (q ∷ qs) one two left right =
     ap (λ (r : Placed). r ∷ ps) same
     ∙ ap (λ (rs : List Placed). q ∷ rs) (same_elements ps qs one.1 two.1 (rest_has p q ps qs one same left) (rest_has q p qs ps two (sym same) right))
 
-pub drawn_once : (store : Contents) (entries : List Child) (one other : List Placed) → AreAll store entries one → AreAll store entries other → one ≡ other
+pub drawn_once : (store : ObjectMap) (entries : List Child) (one other : List Placed) → AreAll store entries one → AreAll store entries other → one ≡ other
 drawn_once store entries one other first second =
     same_elements one other first.in_order second.in_order (λ r h. (second.are r).1 ((first.are r).0 h)) (λ r h. (first.are r).1 ((second.are r).0 h))
 
-pub drawings_once : (store : Contents) (mask : ℕ) (one other : List Placed) → IsDrawing store mask one → IsDrawing store mask other → one ≡ other
+pub drawings_once : (store : ObjectMap) (mask : ℕ) (one other : List Placed) → IsDrawing store mask one → IsDrawing store mask other → one ≡ other
 drawings_once store mask one other first second =
     first.parts
     ∙ ap (λ (ps : List Placed). ps ++ first.of_keys) (drawn_once store (mask_entries store mask) first.in_mask second.in_mask first.mask_drawn second.mask_drawn)
@@ -128,13 +128,13 @@ pub record GoesInOrder (inner : Places) : Type 0 where
   pub in_order : (entries : List Child) (from : Position) → IsInOrder (inner entries from)
   pub some : (entries : List Child) (from : Position) → StartFrom 0 (inner entries from)
 
-with_in_order : (inner : Places) (store : Contents) → GoesInOrder inner → (place : ℕ) (e : Option Element) → IsInOrder (placed_with inner store place e)
+with_in_order : (inner : Places) (store : ObjectMap) → GoesInOrder inner → (place : ℕ) (e : Option Element) → IsInOrder (placed_with inner store place e)
 with_in_order inner store goes place None = tt
 with_in_order inner store goes place (Some e) =
     let within = entries_in store (finite.get store e.id) in
     (place_first place (inner within e.at) (goes.some within e.at), under_in_order place (inner within e.at) (goes.in_order within e.at))
 
-with_starts : (inner : Places) (store : Contents) (place : ℕ) (e : Option Element) → StartAt place (placed_with inner store place e)
+with_starts : (inner : Places) (store : ObjectMap) (place : ℕ) (e : Option Element) → StartAt place (placed_with inner store place e)
 with_starts inner store place None = tt
 with_starts inner store place (Some e) = (([], refl), under_starts place (inner (entries_in store (finite.get store e.id)) e.at))
 
@@ -142,7 +142,7 @@ at_from : (place least : ℕ) (ps : List Placed) → least ≤ place → StartAt
 at_from place least ps le at = all_more (λ p. (rest : List ℕ) × (p.path ≡ place ∷ rest)) (λ p. StartsFrom least p.path) ps
     (λ p starts. subst (StartsFrom least) (sym starts.1) le) at
 
-from_starts : (inner : Places) (store : Contents) (least place : ℕ) (entries : List Child) (from : Position) → least ≤ place → StartFrom least (placed_from inner store place entries from)
+from_starts : (inner : Places) (store : ObjectMap) (least place : ℕ) (entries : List Child) (from : Position) → least ≤ place → StartFrom least (placed_from inner store place entries from)
 from_starts inner store least place [] from le = tt
 from_starts inner store least place (entry ∷ entries) from le =
     let first = element store place (shifted from entry) (stands_for store entry.id) in
@@ -150,7 +150,7 @@ from_starts inner store least place (entry ∷ entries) from le =
     (at_from place least (placed_with inner store place first) le (with_starts inner store place first))
     (from_starts inner store least (suc place) entries from (omega (arith, le)))
 
-from_in_order : (inner : Places) (store : Contents) → GoesInOrder inner → (place : ℕ) (entries : List Child) (from : Position) → IsInOrder (placed_from inner store place entries from)
+from_in_order : (inner : Places) (store : ObjectMap) → GoesInOrder inner → (place : ℕ) (entries : List Child) (from : Position) → IsInOrder (placed_from inner store place entries from)
 from_in_order inner store goes place [] from = tt
 from_in_order inner store goes place (entry ∷ entries) from =
     let first = element store place (shifted from entry) (stands_for store entry.id) in
@@ -158,7 +158,7 @@ from_in_order inner store goes place (entry ∷ entries) from =
     (with_in_order inner store goes place first) (with_starts inner store place first) (from_in_order inner store goes (suc place) entries from)
     (from_starts inner store (suc place) (suc place) entries from (omega arith))
 
-pub goes_in_order : (depth : ℕ) (store : Contents) → GoesInOrder (all_placed depth store)
+pub goes_in_order : (depth : ℕ) (store : ObjectMap) → GoesInOrder (all_placed depth store)
 goes_in_order zero store = record { in_order = λ entries from. tt; some = λ entries from. tt }
 goes_in_order (suc depth) store =
     let inner = all_placed depth store in
@@ -168,5 +168,5 @@ goes_in_order (suc depth) store =
       some = λ entries from. from_starts inner store 0 0 entries from (omega arith);
     }
 
-pub walk_in_order : (depth : ℕ) (store : Contents) (entries : List Child) (from : Position) → IsInOrder (all_placed depth store entries from)
+pub walk_in_order : (depth : ℕ) (store : ObjectMap) (entries : List Child) (from : Position) → IsInOrder (all_placed depth store entries from)
 walk_in_order depth store = (goes_in_order depth store).in_order

@@ -6,7 +6,7 @@ use Rattle.std.specs.FinMap as finite
 use Rattle.vt_kinds.specs.declared.entries.Child.{Child}
 use Rattle.vt_kinds.specs.declared.object.Object.TheVariants as objects
 use Rattle.vt_kinds.specs.Records.{Seen}
-use Rattle.vt_stores.specs.Stores.{Contents}
+use Rattle.vt_stores.specs.Stores.{ObjectMap}
 use Rattle.vt_chains.proofs.Elements.{Contains-nil, Contains-head, Contains-tail, cons_case}
 use Rattle.vt_shown.specs.Showing.{stands_for, is_element, ids_in, drawn_in, soft_keys, IsNamed, IsShown}
 use Rattle.vt_shown.specs.Showing.IsShown.{InMask, AmongKeys, Within}
@@ -23,7 +23,7 @@ ids_unmoved [] = refl
 ids_unmoved (id ∷ ids) = ap (λ more. id ∷ more) (ids_unmoved ids)
 
 -- what an object draws, by its entries
-pub names_of : (store : Contents) (o : Option Seen) → ids_in (entries_in store o) ≡ drawn_in store o
+pub names_of : (store : ObjectMap) (o : Option Seen) → ids_in (entries_in store o) ≡ drawn_in store o
 names_of store None = refl
 names_of store (Some (objects.Container o)) = by (eqb o.hidden 0)
   where
@@ -33,7 +33,7 @@ names_of store (Some (objects.Container o)) = by (eqb o.hidden 0)
 names_of store (Some (objects.InputList o)) = ids_unmoved _
 names_of store (Some _) = refl
 
-pub names_of_keys : (store : Contents) (mask : ℕ) → ids_in (key_entries store mask) ≡ soft_keys store mask
+pub names_of_keys : (store : ObjectMap) (mask : ℕ) → ids_in (key_entries store mask) ≡ soft_keys store mask
 names_of_keys store mask = ids_unmoved (soft_keys store mask)
 
 -- the entry of a name
@@ -53,13 +53,13 @@ name_of (first ∷ entries) (suc place) entry is = Contains-tail first.id entry.
 -- ---- what is shown is met
 
 -- some path from entries leads to the object
-record IsMetFrom (store : Contents) (entries : List Child) (id : ℕ) : Type 0 where
+record IsMetFrom (store : ObjectMap) (entries : List Child) (id : ℕ) : Type 0 where
   path : List ℕ
   to : Element
   leads : at_path store entries origin path ≡ Some to
   is : to.id ≡ id
 
-element_is : (store : Contents) (place id : ℕ) (at : Position) → IsTrue (is_element (finite.get store id)) → element store place at (Some id) ≡ Some (record { place = place; id = id; at = at })
+element_is : (store : ObjectMap) (place id : ℕ) (at : Position) → IsTrue (is_element (finite.get store id)) → element store place at (Some id) ≡ Some (record { place = place; id = id; at = at })
 element_is store place id at is = by (record { place = place; id = id; at = at }) (is_element (finite.get store id)) is
   where
     by : (e : Element) (b : Bool) → IsTrue b → cond b (Some e) None ≡ Some e
@@ -67,26 +67,26 @@ element_is store place id at is = by (record { place = place; id = id; at = at }
     by e false is = absurd cc
 
 -- an entry that stands for an element
-entered_is : (store : Contents) (entries : List Child) (from : Position) (place id : ℕ) (entry : Child) → slice_get entries place ≡ Some entry → stands_for store entry.id ≡ Some id
+entered_is : (store : ObjectMap) (entries : List Child) (from : Position) (place id : ℕ) (entry : Child) → slice_get entries place ≡ Some entry → stands_for store entry.id ≡ Some id
     → IsTrue (is_element (finite.get store id)) → entered store from place (slice_get entries place) ≡ Some (record { place = place; id = id; at = shifted from entry })
 entered_is store entries from place id entry there stands is =
     ap (entered store from place) there ∙ ap (element store place (shifted from entry)) stands ∙ element_is store place id (shifted from entry) is
 
 -- what an entry names is met
-named_met : (P : Type 0) (store : Contents) (entries : List Child) (from : Position) (id : ℕ) → IsNamed store (ids_in entries) id
+named_met : (P : Type 0) (store : ObjectMap) (entries : List Child) (from : Position) (id : ℕ) → IsNamed store (ids_in entries) id
     → ((place : ℕ) (at : Position) → entered store from place (slice_get entries place) ≡ Some (record { place = place; id = id; at = at }) → P) → P
 named_met P store entries from id named then =
     entry_of P entries named.name named.among
     (λ place entry there is. then place (shifted from entry)
     (entered_is store entries from place id entry there (ap (stands_for store) is ∙ named.stands) named.element))
 
-met_first : (store : Contents) (entries : List Child) (id : ℕ) → IsNamed store (ids_in entries) id → IsMetFrom store entries id
+met_first : (store : ObjectMap) (entries : List Child) (id : ℕ) → IsNamed store (ids_in entries) id → IsMetFrom store entries id
 met_first store entries id named =
     named_met (IsMetFrom store entries id) store entries origin id named
     (λ place at is. record { path = place ∷ []; to = record { place = place; id = id; at = at }; leads = ap (along store []) is; is = refl })
 
 -- one place more
-along_more : (store : Contents) (path : List ℕ) (place : ℕ) (o : Option Element) (e : Element) → along store path o ≡ Some e
+along_more : (store : ObjectMap) (path : List ℕ) (place : ℕ) (o : Option Element) (e : Element) → along store path o ≡ Some e
     → along store (path ++ place ∷ []) o ≡ entered store e.at place (slice_get (entries_in store (finite.get store e.id)) place)
 along_more store path place None e leads = absurd cc
 along_more store [] place (Some o) e leads =
@@ -99,12 +99,12 @@ along_more store [] place (Some o) e leads =
 along_more store (q ∷ path) place (Some o) e leads =
     along_more store path place (entered store o.at q (slice_get (entries_in store (finite.get store o.id)) q)) e leads
 
-path_more : (store : Contents) (entries : List Child) (path : List ℕ) (place : ℕ) (e : Element) → at_path store entries origin path ≡ Some e
+path_more : (store : ObjectMap) (entries : List Child) (path : List ℕ) (place : ℕ) (e : Element) → at_path store entries origin path ≡ Some e
     → at_path store entries origin (path ++ place ∷ []) ≡ entered store e.at place (slice_get (entries_in store (finite.get store e.id)) place)
 path_more store entries [] place e leads = absurd cc
 path_more store entries (q ∷ path) place e leads = along_more store path place (entered store origin q (slice_get entries q)) e leads
 
-met_within : (store : Contents) (entries : List Child) (id other : ℕ) → IsMetFrom store entries id → IsNamed store (drawn_in store (finite.get store id)) other → IsMetFrom store entries other
+met_within : (store : ObjectMap) (entries : List Child) (id other : ℕ) → IsMetFrom store entries id → IsNamed store (drawn_in store (finite.get store id)) other → IsMetFrom store entries other
 met_within store entries id other met named =
     let within = entries_in store (finite.get store met.to.id) in
     named_met (IsMetFrom store entries other) store within met.to.at other
@@ -117,7 +117,7 @@ met_within store entries id other met named =
       is = refl;
     })
 
-shown_met : (store : Contents) (mask id : ℕ) → IsShown store mask id → IsMetFrom store (mask_entries store mask) id ⊎ IsMetFrom store (key_entries store mask) id
+shown_met : (store : ObjectMap) (mask id : ℕ) → IsShown store mask id → IsMetFrom store (mask_entries store mask) id ⊎ IsMetFrom store (key_entries store mask) id
 shown_met store mask id (InMask _ named) =
     inl (met_first store (mask_entries store mask) id (subst (λ (names : List ℕ). IsNamed store names id) (sym (names_of store (finite.get store mask))) named))
 shown_met store mask id (AmongKeys _ named) =
@@ -131,7 +131,7 @@ shown_met store mask other (Within id _ shown named) =
 -- ---- what is met is shown
 
 -- what an entry at a place stands for
-pub entered_entry : (P : Type 0) (store : Contents) (entries : List Child) (from : Position) (place : ℕ) (e : Element) → entered store from place (slice_get entries place) ≡ Some e
+pub entered_entry : (P : Type 0) (store : ObjectMap) (entries : List Child) (from : Position) (place : ℕ) (e : Element) → entered store from place (slice_get entries place) ≡ Some e
     → ((entry : Child) → slice_get entries place ≡ Some entry → stands_for store entry.id ≡ Some e.id → IsTrue (is_element (finite.get store e.id)) → P) → P
 entered_entry P store entries from place e is then = by (slice_get entries place) refl is
   where
@@ -151,13 +151,13 @@ entered_entry P store entries from place e is then = by (slice_get entries place
     by (Some entry) there same = by_entry entry there (stands_for store entry.id) refl same
 
 -- it is named
-entered_named : (P : Type 0) (store : Contents) (entries : List Child) (from : Position) (place : ℕ) (e : Element) → entered store from place (slice_get entries place) ≡ Some e
+entered_named : (P : Type 0) (store : ObjectMap) (entries : List Child) (from : Position) (place : ℕ) (e : Element) → entered store from place (slice_get entries place) ≡ Some e
     → (IsNamed store (ids_in entries) e.id → P) → P
 entered_named P store entries from place e is so =
     entered_entry P store entries from place e is
     (λ entry there stands shows. so (record { name = entry.id; among = name_of entries place entry there; stands = stands; element = shows }))
 
-along_shown : (store : Contents) (mask : ℕ) (path : List ℕ) (o : Option Element) (e : Element) → ((first : Element) → o ≡ Some first → IsShown store mask first.id)
+along_shown : (store : ObjectMap) (mask : ℕ) (path : List ℕ) (o : Option Element) (e : Element) → ((first : Element) → o ≡ Some first → IsShown store mask first.id)
     → along store path o ≡ Some e → IsShown store mask e.id
 along_shown store mask path None e first leads = absurd cc
 along_shown store mask [] (Some o) e first leads = subst (λ (k : Element). IsShown store mask k.id) (same_Some o e leads) (first o refl)
@@ -169,17 +169,17 @@ along_shown store mask (place ∷ path) (Some o) e first leads =
     (subst (λ (names : List ℕ). IsNamed store names next.id) (names_of store (finite.get store o.id)) named)))
     leads
 
-path_shown : (store : Contents) (mask : ℕ) (entries : List Child) (path : List ℕ) (e : Element) → ((id : ℕ) → IsNamed store (ids_in entries) id → IsShown store mask id)
+path_shown : (store : ObjectMap) (mask : ℕ) (entries : List Child) (path : List ℕ) (e : Element) → ((id : ℕ) → IsNamed store (ids_in entries) id → IsShown store mask id)
     → at_path store entries origin path ≡ Some e → IsShown store mask e.id
 path_shown store mask entries [] e names leads = absurd cc
 path_shown store mask entries (place ∷ path) e names leads =
     along_shown store mask path (entered store origin place (slice_get entries place)) e
     (λ first is. entered_named (IsShown store mask first.id) store entries origin place first is (names first.id)) leads
 
-in_mask : (store : Contents) (mask : ℕ) (id : ℕ) → IsNamed store (ids_in (mask_entries store mask)) id → IsShown store mask id
+in_mask : (store : ObjectMap) (mask : ℕ) (id : ℕ) → IsNamed store (ids_in (mask_entries store mask)) id → IsShown store mask id
 in_mask store mask id named = InMask id (subst (λ (names : List ℕ). IsNamed store names id) (names_of store (finite.get store mask)) named)
 
-among_keys : (store : Contents) (mask : ℕ) (id : ℕ) → IsNamed store (ids_in (key_entries store mask)) id → IsShown store mask id
+among_keys : (store : ObjectMap) (mask : ℕ) (id : ℕ) → IsNamed store (ids_in (key_entries store mask)) id → IsShown store mask id
 among_keys store mask id named = AmongKeys id (subst (λ (names : List ℕ). IsNamed store names id) (names_of_keys store mask) named)
 
 -- ---- both
@@ -187,10 +187,10 @@ among_keys store mask id named = AmongKeys id (subst (λ (names : List ℕ). IsN
 abbrev IsDrawn : List Placed → ℕ → Type 0
 IsDrawn drawing id = (p : Placed) × Contains drawing p × (p.element.id ≡ id)
 
-met_drawn : (store : Contents) (entries : List Child) (drawn : List Placed) (id : ℕ) → AreAll store entries drawn → IsMetFrom store entries id → IsDrawn drawn id
+met_drawn : (store : ObjectMap) (entries : List Child) (drawn : List Placed) (id : ℕ) → AreAll store entries drawn → IsMetFrom store entries id → IsDrawn drawn id
 met_drawn store entries drawn id all met = (placed met.path met.to, (all.are (placed met.path met.to)).1 met.leads, met.is)
 
-pub shown_drawn : (store : Contents) (mask : ℕ) (drawing : List Placed) → IsDrawing store mask drawing → (id : ℕ) → IsShown store mask id → IsDrawn drawing id
+pub shown_drawn : (store : ObjectMap) (mask : ℕ) (drawing : List Placed) → IsDrawing store mask drawing → (id : ℕ) → IsShown store mask id → IsDrawn drawing id
 shown_drawn store mask drawing is id shown =
     subst (λ (ps : List Placed). IsDrawn ps id) (sym is.parts)
     (elim (shown_met store mask id shown) as (λ _. IsDrawn (is.in_mask ++ is.of_keys) id) [
@@ -198,7 +198,7 @@ shown_drawn store mask drawing is id shown =
       | inr met ↦ let one = met_drawn store (key_entries store mask) is.of_keys id is.keys_drawn met in (one.0, Contains-append_right is.in_mask is.of_keys one.0 one.1, one.2)
     ])
 
-pub drawn_shown : (store : Contents) (mask : ℕ) (drawing : List Placed) → IsDrawing store mask drawing → (id : ℕ) → IsDrawn drawing id → IsShown store mask id
+pub drawn_shown : (store : ObjectMap) (mask : ℕ) (drawing : List Placed) → IsDrawing store mask drawing → (id : ℕ) → IsDrawn drawing id → IsShown store mask id
 drawn_shown store mask drawing is id drawn =
     let p = drawn.0 in
     subst (IsShown store mask) drawn.2

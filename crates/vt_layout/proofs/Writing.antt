@@ -16,7 +16,7 @@ use Rattle.vt_kinds.specs.declared.input_fields.InputList.{InputList}
 use Rattle.vt_kinds.specs.declared.object.Object.{Object}
 use Rattle.vt_kinds.specs.declared.object.Object.TheVariants as objects
 use Rattle.vt_kinds.specs.Records.{Seen, seen}
-use Rattle.vt_stores.specs.Stores.{Contents}
+use Rattle.vt_stores.specs.Stores.{ObjectMap}
 use Rattle.vt_machine.specs.Lives.{IsActive}
 use Rattle.vt_shown.specs.Showing.{stands_for, keys_of, soft_key_mask_of}
 use Rattle.vt_effects.specs.Soundness.{IsSound}
@@ -30,14 +30,14 @@ use Rattle.vt_layout.specs.Walks.{Draws, with_drawn, each_from, elements, drawin
 use Rattle.vt_layout.proofs.Filling.{elements_append, full_stays, longer, next_line, last_line, page_text, screen_is}
 
 -- what an entry at a place draws
-abbrev of_entry : Draws → Contents → ℕ → Position → Child → List Element
+abbrev of_entry : Draws → ObjectMap → ℕ → Position → Child → List Element
 of_entry draws store place from entry = with_drawn draws store (element store place (shifted from entry) (stands_for store entry.id))
 
 -- drawn from a place on, the page becomes the one that is looked for
-abbrev pub Becomes : Draws → Contents → List Child → Position → ℕ → Sheet → Sheet → Type 0
+abbrev pub Becomes : Draws → ObjectMap → List Child → Position → ℕ → Sheet → Sheet → Type 0
 Becomes draws store entries from place now goal = with_elements store (each_from draws store place (drop place entries) from) now ≡ goal
 
-pub becomes_next : (draws : Draws) (store : Contents) (entries : List Child) (from : Position) (place : ℕ) (entry default : Child) (now new goal : Sheet) → place < length entries
+pub becomes_next : (draws : Draws) (store : ObjectMap) (entries : List Child) (from : Position) (place : ℕ) (entry default : Child) (now new goal : Sheet) → place < length entries
     → get_or entries place default ≡ entry → Becomes draws store entries from place now goal
     → new ≡ with_elements store (of_entry draws store place from entry) now → Becomes draws store entries from (place + 1) new goal
 becomes_next draws store entries from place entry default now new goal lt is becomes drawn =
@@ -51,36 +51,36 @@ becomes_next draws store entries from place entry default now new goal lt is bec
     ∙ ap (λ (es : List Child). with_elements store (each_from draws store place es from) now) (sym (drop_more entries place default lt))
     ∙ becomes
 
-pub becomes_end : (draws : Draws) (store : Contents) (entries : List Child) (from : Position) (place : ℕ) (now goal : Sheet) → length entries ≤ place
+pub becomes_end : (draws : Draws) (store : ObjectMap) (entries : List Child) (from : Position) (place : ℕ) (now goal : Sheet) → length entries ≤ place
     → Becomes draws store entries from place now goal → now ≡ goal
 becomes_end draws store entries from place now goal le becomes =
     ap (λ (es : List Child). with_elements store (each_from draws store place es from) now) (sym (drop_all place entries le)) ∙ becomes
 
 -- a level of the walk
-pub level : (depth least : ℕ) (store : Contents) (entries : List Child) (from : Position) → depth ≡ suc least → elements depth store entries from ≡ each_from (elements least store) store 0 entries from
+pub level : (depth least : ℕ) (store : ObjectMap) (entries : List Child) (from : Position) → depth ≡ suc least → elements depth store entries from ≡ each_from (elements least store) store 0 entries from
 unfolding elements
 level depth least store entries from is = ap (λ (n : ℕ). elements n store entries from) is
 
-pub no_level : (depth : ℕ) (store : Contents) (entries : List Child) (from : Position) → depth ≡ 0 → elements depth store entries from ≡ []
+pub no_level : (depth : ℕ) (store : ObjectMap) (entries : List Child) (from : Position) → depth ≡ 0 → elements depth store entries from ≡ []
 unfolding elements
 no_level depth store entries from is = ap (λ (n : ℕ). elements n store entries from) is
 
 -- nothing more is drawn on a full page
-pub full_page : (store : Contents) (elements : List Element) (page : Sheet) → page.count ≡ 2001 → page ≡ with_elements store elements page
+pub full_page : (store : ObjectMap) (elements : List Element) (page : Sheet) → page.count ≡ 2001 → page ≡ with_elements store elements page
 full_page store elements page is = sym (full_stays (map (line store) elements) page is)
 
-none_met : (depth : ℕ) (store : Contents) (from : Position) → elements depth store [] from ≡ []
+none_met : (depth : ℕ) (store : ObjectMap) (from : Position) → elements depth store [] from ≡ []
 unfolding elements
 none_met zero store from = refl
 none_met (suc depth) store from = refl
 
 -- what draws nothing leaves the page
-pub none_drawn : (depth : ℕ) (store : Contents) (entries : List Child) (from : Position) (page : Sheet) → entries ≡ [] → page ≡ with_elements store (elements depth store entries from) page
+pub none_drawn : (depth : ℕ) (store : ObjectMap) (entries : List Child) (from : Position) (page : Sheet) → entries ≡ [] → page ≡ with_elements store (elements depth store entries from) page
 none_drawn depth store entries from page is =
     ap (λ (es : List Element). with_elements store es page) (sym (none_met depth store from))
     ∙ ap (λ (cs : List Child). with_elements store (elements depth store cs from) page) (sym is)
 
-pub none_within : {B : Type 0} (store : Contents) (o : Object B) → ((w : WorkingSet) → o ≡ objects.WorkingSet w → ⊥) → ((w : DataMask) → o ≡ objects.DataMask w → ⊥)
+pub none_within : {B : Type 0} (store : ObjectMap) (o : Object B) → ((w : WorkingSet) → o ≡ objects.WorkingSet w → ⊥) → ((w : DataMask) → o ≡ objects.DataMask w → ⊥)
     → ((w : AlarmMask) → o ≡ objects.AlarmMask w → ⊥) → ((w : Container) → o ≡ objects.Container w → ⊥) → ((w : Key) → o ≡ objects.Key w → ⊥)
     → ((w : Button) → o ≡ objects.Button w → ⊥) → ((w : InputList) → o ≡ objects.InputList w → ⊥) → entries_in store (Some (seen o)) ≡ []
 none_within store (objects.WorkingSet w) not _ _ _ _ _ _ = absurd (not w refl)
@@ -132,17 +132,17 @@ quoted_whole new old mid all i n few before end last =
 
 -- ---- a mask
 
-pub no_mask : (store : Contents) (mask : ℕ) (page : Sheet) → None ≡ finite.get store mask → finite.get store 65535 ≡ None → page ≡ with_elements store (drawing store mask) page
+pub no_mask : (store : ObjectMap) (mask : ℕ) (page : Sheet) → None ≡ finite.get store mask → finite.get store 65535 ≡ None → page ≡ with_elements store (drawing store mask) page
 no_mask store mask page none null =
     ap (λ (es : List Element). with_elements store es page) (sym (ap₂ (λ one two. one ++ two) (none_met 32 store origin) (none_met 32 store origin)))
     ∙ ap (λ (keys : Option Seen). with_elements store (elements 32 store [] origin ++ elements 32 store (map unmoved (keys_of keys)) origin) page) (sym null)
     ∙ ap (λ (o : Option Seen). with_elements store (elements 32 store (entries_in store o) origin ++ elements 32 store (map unmoved (keys_of (finite.get store (soft_key_mask_of o)))) origin) page) none
 
-pub no_keys : (store : Contents) (id : ℕ) (page : Sheet) → None ≡ finite.get store id → page ≡ with_elements store (elements 32 store (map unmoved (keys_of (finite.get store id))) origin) page
+pub no_keys : (store : ObjectMap) (id : ℕ) (page : Sheet) → None ≡ finite.get store id → page ≡ with_elements store (elements 32 store (map unmoved (keys_of (finite.get store id))) origin) page
 no_keys store id page none =
     none_drawn 32 store (map unmoved (keys_of (finite.get store id))) origin page (ap (λ (o : Option Seen). map unmoved (keys_of o)) (sym none))
 
-pub mask_drawn : (store : Contents) (mask keys : ℕ) (o : Seen) (old mid new : Sheet) → Some o ≡ finite.get store mask → keys ≡ soft_key_mask_of (Some o)
+pub mask_drawn : (store : ObjectMap) (mask keys : ℕ) (o : Seen) (old mid new : Sheet) → Some o ≡ finite.get store mask → keys ≡ soft_key_mask_of (Some o)
     → mid ≡ with_elements store (elements 32 store (entries_in store (Some o)) origin) old
     → new ≡ with_elements store (elements 32 store (map unmoved (keys_of (finite.get store keys))) origin) mid → new ≡ with_elements store (drawing store mask) old
 mask_drawn store mask keys o old mid new there is first second =
@@ -154,20 +154,20 @@ mask_drawn store mask keys o old mid new there is first second =
 
 -- ---- a screen
 
-pub screen_text : (store : Contents) (address mask : ℕ) (first text : List ℕ) (page drawn : Sheet) → text ≡ finished drawn → drawn ≡ with_elements store (drawing store mask) page
+pub screen_text : (store : ObjectMap) (address mask : ℕ) (first text : List ℕ) (page drawn : Sheet) → text ≡ finished drawn → drawn ≡ with_elements store (drawing store mask) page
     → page ≡ record { text = first; count = 0 } → first ≡ heading address mask → text ≡ heading address mask ++ cut (map (line store) (drawing store mask))
 screen_text store address mask first text page drawn last lines start head =
     last ∙ ap finished (lines ∙ ap (with_elements store (drawing store mask)) start)
     ∙ page_text first (map (line store) (drawing store mask))
     ∙ ap (λ t. t ++ cut (map (line store) (drawing store mask))) head
 
-pub gains : (address : ℕ) (store : Contents) (mask : ℕ) (old new text : List ℕ) → IsSound store → finite.get store 65535 ≡ None → IsActive store mask
+pub gains : (address : ℕ) (store : ObjectMap) (mask : ℕ) (old new text : List ℕ) → IsSound store → finite.get store 65535 ≡ None → IsActive store mask
     → text ≡ heading address mask ++ cut (map (line store) (drawing store mask)) → new ≡ old ++ text → GainsScreen address store old new
 gains address store mask old new text sound null active is gained = record { text = text; is_screen = screen_is address store mask text sound null active is; gained = gained }
 
 -- ---- keys
 
-pub keys_next : (store : Contents) (keys : List ℕ) (place key default : ℕ) (now new goal : Sheet) → place < length keys → get_or keys place default ≡ key
+pub keys_next : (store : ObjectMap) (keys : List ℕ) (place key default : ℕ) (now new goal : Sheet) → place < length keys → get_or keys place default ≡ key
     → Becomes (elements 31 store) store (map unmoved keys) origin place now goal
     → new ≡ with_elements store (with_drawn (elements 31 store) store (element store place origin (stands_for store key))) now
     → Becomes (elements 31 store) store (map unmoved keys) origin (place + 1) new goal

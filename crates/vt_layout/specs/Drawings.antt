@@ -8,7 +8,7 @@ use Rattle.vt_kinds.specs.declared.object.Object.TheVariants as objects
 use Rattle.vt_kinds.specs.declared.slot.Slot.{Slot}
 use Rattle.vt_kinds.specs.Records.{Seen}
 use Rattle.vt_kinds.specs.References.{slots_of}
-use Rattle.vt_stores.specs.Stores.{Contents}
+use Rattle.vt_stores.specs.Stores.{ObjectMap}
 use Rattle.vt_chains.specs.Depths.{inclusions_of}
 use Rattle.vt_chains.specs.Inclusions.{IsChain}
 use Rattle.vt_chains.specs.Limits.{terminal}
@@ -33,7 +33,7 @@ unmoved id = record { id = id; x = pos 0; y = pos 0 }
 
 -- what an object draws within it: its children, and of an input list the item of its index, which is one entry; a hidden
 -- container is not entered
-abbrev pub entries_in : Contents → Option Seen → List Child
+abbrev pub entries_in : ObjectMap → Option Seen → List Child
 entries_in store (Some (objects.WorkingSet o)) = o.children
 entries_in store (Some (objects.DataMask o)) = o.children
 entries_in store (Some (objects.AlarmMask o)) = o.children
@@ -44,32 +44,32 @@ entries_in store (Some (objects.InputList o)) = map unmoved (item_of o.items (nu
 entries_in store _ = []
 
 -- the entries of a mask, and of its soft key mask
-abbrev pub mask_entries : Contents → ℕ → List Child
+abbrev pub mask_entries : ObjectMap → ℕ → List Child
 mask_entries store mask = entries_in store (finite.get store mask)
 
-abbrev pub key_entries : Contents → ℕ → List Child
+abbrev pub key_entries : ObjectMap → ℕ → List Child
 key_entries store mask = map unmoved (soft_keys store mask)
 
 -- ---- paths
 
 -- the element that an ID stands for: NULL, a pointer and a hidden container are none
-abbrev pub element : Contents → ℕ → Position → Option ℕ → Option Element
+abbrev pub element : ObjectMap → ℕ → Position → Option ℕ → Option Element
 element store place at None = None
 element store place at (Some id) = if is_element (finite.get store id) then Some (record { place = place; id = id; at = at }) else None
 
 -- the element of an entry at a place, a pointer standing for its value
-abbrev pub entered : Contents → Position → ℕ → Option Child → Option Element
+abbrev pub entered : ObjectMap → Position → ℕ → Option Child → Option Element
 entered store from place None = None
 entered store from place (Some entry) = element store place (shifted from entry) (stands_for store entry.id)
 
 -- the element to which places lead, each in what the element before it draws
-abbrev pub along : Contents → List ℕ → Option Element → Option Element
+abbrev pub along : ObjectMap → List ℕ → Option Element → Option Element
 along store path None = None
 along store [] (Some e) = Some e
 along store (place ∷ path) (Some e) = along store path (entered store e.at place (slice_get (entries_in store (finite.get store e.id)) place))
 
 -- the element at a path from a list of entries: a place in it, then places in the elements that are reached
-abbrev pub at_path : Contents → List Child → Position → List ℕ → Option Element
+abbrev pub at_path : ObjectMap → List Child → Position → List ℕ → Option Element
 at_path store entries from [] = None
 at_path store entries from (place ∷ path) = along store path (entered store from place (slice_get entries place))
 
@@ -92,12 +92,12 @@ IsInOrder [] = Unit {0}
 IsInOrder (p ∷ ps) = AllByRecursion (λ q. IsBefore p.path q.path) ps × IsInOrder ps
 
 -- the elements at all paths from a list of entries, in lexicographic order
-pub record AreAll (store : Contents) (entries : List Child) (drawn : List Placed) : Type 0 where
+pub record AreAll (store : ObjectMap) (entries : List Child) (drawn : List Placed) : Type 0 where
   pub in_order : IsInOrder drawn
   pub are : (p : Placed) → Contains drawn p ↔ (at_path store entries origin p.path ≡ Some p.element)
 
 -- The drawing of a mask: its own, and then that of its soft key mask.
-pub record IsDrawing (store : Contents) (mask : ℕ) (drawing : List Placed) : Type 0 where
+pub record IsDrawing (store : ObjectMap) (mask : ℕ) (drawing : List Placed) : Type 0 where
   pub in_mask : List Placed
   pub of_keys : List Placed
   pub parts : drawing ≡ in_mask ++ of_keys
@@ -108,27 +108,27 @@ pub record IsDrawing (store : Contents) (mask : ℕ) (drawing : List Placed) : T
 
 -- A mask has one drawing, in a store that is in order and has nothing under NULL.
 pub record DrawingsAreOne : Type 0 where
-  pub there : (store : Contents) (mask : ℕ) → IsSound store → finite.get store 0xFFFF ≡ None → (drawing : List Placed) × IsDrawing store mask drawing
-  pub one : (store : Contents) (mask : ℕ) (one other : List Placed) → IsDrawing store mask one → IsDrawing store mask other → one ≡ other
+  pub there : (store : ObjectMap) (mask : ℕ) → IsSound store → finite.get store 0xFFFF ≡ None → (drawing : List Placed) × IsDrawing store mask drawing
+  pub one : (store : ObjectMap) (mask : ℕ) (one other : List Placed) → IsDrawing store mask one → IsDrawing store mask other → one ≡ other
 
 -- To be shown is to be an element of the drawing, however long.
 abbrev pub ShownAreDrawn : Type 0
-ShownAreDrawn = (store : Contents) (mask : ℕ) (drawing : List Placed) → IsDrawing store mask drawing
+ShownAreDrawn = (store : ObjectMap) (mask : ℕ) (drawing : List Placed) → IsDrawing store mask drawing
     → (id : ℕ) → IsShown store mask id ↔ ((p : Placed) × Contains drawing p × (p.element.id ≡ id))
 
 -- a name in a list that is drawn
-abbrev pub IsListed : Contents → ℕ → ℕ → Type 0
+abbrev pub IsListed : ObjectMap → ℕ → ℕ → Type 0
 IsListed store mask name =
     Contains (drawn_in store (finite.get store mask)) name ⊎ Contains (soft_keys store mask) name
     ⊎ ((id : ℕ) × IsShown store mask id × Contains (drawn_in store (finite.get store id)) name)
 
 -- what a drawing meets: the working set, the mask, its soft key mask, what their lists and those of elements name, and the elements
-abbrev pub IsMet : Contents → ℕ → ℕ → Type 0
+abbrev pub IsMet : ObjectMap → ℕ → ℕ → Type 0
 IsMet store mask id =
     (kind_in store id ≡ Some kinds.WorkingSet) ⊎ (id ≡ mask) ⊎ (id ≡ soft_key_mask_of (finite.get store mask)) ⊎ IsListed store mask id ⊎ IsShown store mask id
 
 -- It sticks at a reference that is not in order: to no object, or to one of a kind that may not stand there, through a pointer too.
-pub record Sticks (store : Contents) (mask : ℕ) : Type 0 where
+pub record Sticks (store : ObjectMap) (mask : ℕ) : Type 0 where
   pub id : ℕ
   pub met : IsMet store mask id
   pub object : Seen
@@ -139,7 +139,7 @@ pub record Sticks (store : Contents) (mask : ℕ) : Type 0 where
 
 -- No drawing of a store in order sticks.
 abbrev pub DrawingsNeverStick : Type 0
-DrawingsNeverStick = (store : Contents) (mask : ℕ) → IsSound store → Sticks store mask → ⊥
+DrawingsNeverStick = (store : ObjectMap) (mask : ℕ) → IsSound store → Sticks store mask → ⊥
 
 -- ---- the inclusions on a path
 
@@ -148,12 +148,12 @@ abbrev pub led_through : ℕ → Option Seen → List ℕ
 led_through name (Some (objects.ObjectPointer o)) = name ∷ o.value ∷ []
 led_through name _ = name ∷ []
 
-abbrev pub through : Contents → Option Child → List ℕ
+abbrev pub through : ObjectMap → Option Child → List ℕ
 through store None = []
 through store (Some entry) = led_through entry.id (finite.get store entry.id)
 
 -- the IDs that places lead through below an element
-abbrev pub passed_below : Contents → List ℕ → Option Element → List ℕ
+abbrev pub passed_below : ObjectMap → List ℕ → Option Element → List ℕ
 passed_below store path None = []
 passed_below store [] (Some e) = []
 passed_below store (place ∷ path) (Some e) =
@@ -161,21 +161,21 @@ passed_below store (place ∷ path) (Some e) =
     ++ passed_below store path (entered store e.at place (slice_get (entries_in store (finite.get store e.id)) place))
 
 -- the IDs that a path leads through from a list of entries
-abbrev pub passed : Contents → List Child → List ℕ → List ℕ
+abbrev pub passed : ObjectMap → List Child → List ℕ → List ℕ
 passed store entries [] = []
 passed store entries (place ∷ path) =
     through store (slice_get entries place) ++ passed_below store path (entered store origin place (slice_get entries place))
 
 -- Each includes the next, from an object to another, with no more inclusions than the terminal allows.
-pub record IsChained (store : Contents) (from : ℕ) (passed : List ℕ) (to : ℕ) : Type 0 where
+pub record IsChained (store : ObjectMap) (from : ℕ) (passed : List ℕ) (to : ℕ) : Type 0 where
   pub is : IsChain (inclusions_of store) (from ∷ passed)
   pub last : slice_get (from ∷ passed) (length passed) ≡ Some to
   pub short : length passed ≤ terminal.inclusions
 
 -- A path to an element of a store in order goes along a chain of inclusions, from the mask or its soft key mask.
 pub record PathsAreChained : Type 0 where
-  pub in_mask : (store : Contents) (mask : ℕ) (path : List ℕ) (e : Element) → IsSound store → finite.get store 0xFFFF ≡ None
+  pub in_mask : (store : ObjectMap) (mask : ℕ) (path : List ℕ) (e : Element) → IsSound store → finite.get store 0xFFFF ≡ None
       → at_path store (mask_entries store mask) origin path ≡ Some e → IsChained store mask (passed store (mask_entries store mask) path) e.id
-  pub of_keys : (store : Contents) (mask : ℕ) (path : List ℕ) (e : Element) → IsSound store → finite.get store 0xFFFF ≡ None
+  pub of_keys : (store : ObjectMap) (mask : ℕ) (path : List ℕ) (e : Element) → IsSound store → finite.get store 0xFFFF ≡ None
       → at_path store (key_entries store mask) origin path ≡ Some e
       → IsChained store (soft_key_mask_of (finite.get store mask)) (passed store (key_entries store mask) path) e.id

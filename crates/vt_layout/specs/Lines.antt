@@ -8,7 +8,7 @@ use Rattle.vt_kinds.specs.declared.object.Object.TheVariants as objects
 use Rattle.vt_objects.specs.Decimals.{shown_text}
 use Rattle.vt_kinds.specs.Records.{Seen}
 use Rattle.vt_kinds.specs.Scales.{scale_places}
-use Rattle.vt_stores.specs.Stores.{Contents}
+use Rattle.vt_stores.specs.Stores.{ObjectMap}
 use Rattle.vt_machine.specs.Operating.{is_enabled}
 use Rattle.vt_shown.specs.Showing.{number_shown}
 use Rattle.vt_layout.specs.declared.element.Element.{Element}
@@ -64,7 +64,7 @@ text_in (Some (objects.StringVariable o)) = Some o.text
 text_in _ = None
 
 -- the text that an object shows: that of its variable, if it has one
-abbrev pub text_shown : Contents → ℕ → List ℕ → Option (List ℕ)
+abbrev pub text_shown : ObjectMap → ℕ → List ℕ → Option (List ℕ)
 text_shown store variable own = if variable == 0xFFFF then Some own else text_in (finite.get store variable)
 
 -- an input that is disabled
@@ -74,7 +74,7 @@ switched _ = []
 
 -- ---- the line of each kind, without `off`; what is no element has none
 
-abbrev pub described : Contents → Element → Option Seen → List ℕ
+abbrev pub described : ObjectMap → Element → Option Seen → List ℕ
 described store e (Some (objects.WorkingSet o)) = standing (codes "workset") e
 described store e (Some (objects.Container o)) = standing (codes "container") e ++ sized o.width o.height
 described store e (Some (objects.Key o)) = codes "key " ++ (decimal e.id ++ (numbered e.place ++ coded o.key_code))
@@ -102,8 +102,8 @@ described store e (Some (objects.Picture o)) = standing (codes "picture") e ++ n
 described store e _ = []
 
 -- the line of an element, with its end
-abbrev pub line_of : Contents → Element → Option Seen → List ℕ
+abbrev pub line_of : ObjectMap → Element → Option Seen → List ℕ
 line_of store e o = described store e o ++ (switched (is_enabled o) ++ codes "\n")
 
-abbrev pub line : Contents → Element → List ℕ
+abbrev pub line : ObjectMap → Element → List ℕ
 line store e = line_of store e (finite.get store e.id)

@@ -10,7 +10,7 @@ use Rattle.vt_kinds.specs.declared.kinds.Kinds.TheVariants as sets
 use Rattle.vt_kinds.specs.declared.object.Object.TheVariants as objects
 use Rattle.vt_kinds.specs.Records.{Seen}
 use Rattle.vt_kinds.specs.References.{is_member, is_pointer}
-use Rattle.vt_stores.specs.Stores.{Contents}
+use Rattle.vt_stores.specs.Stores.{ObjectMap}
 use Rattle.vt_effects.specs.Changes.{is_one_of}
 use Rattle.vt_effects.specs.Effects.{kind_in, pointer_value}
 use Rattle.vt_effects.specs.Soundness.{IsSound}
@@ -32,14 +32,14 @@ null_listed (Some kinds.InputList) = true
 null_listed _ = false
 
 -- A name stands for an object of these kinds, which is no pointer; or it is NULL, where NULL may stand, or a pointer with NULL.
-pub data IsFound (store : Contents) (allowed : Kinds) (null : Bool) (name : ℕ) : Type 0 where
+pub data IsFound (store : ObjectMap) (allowed : Kinds) (null : Bool) (name : ℕ) : Type 0 where
   Null : name ≡ 0xFFFF → null ≡ true → IsFound store allowed null name
   NullPointer : pointer_value (finite.get store name) ≡ Some 0xFFFF → IsFound store allowed null name
   StandsFor : (id : ℕ) (kind : Kind) → stands_for store name ≡ Some id → kind_in store id ≡ Some kind
       → is_member allowed kind ≡ true → is_pointer kind ≡ false → IsFound store allowed null name
 
 -- each name that is drawn within an object
-abbrev pub AreFoundIn : Contents → ℕ → Type 0
+abbrev pub AreFoundIn : ObjectMap → ℕ → Type 0
 AreFoundIn store id =
     AllByRecursion (λ entry. IsFound store (kinds_listed (kind_in store id)) (null_listed (kind_in store id)) entry.id)
     (entries_in store (finite.get store id))
@@ -47,14 +47,14 @@ AreFoundIn store id =
 -- ---- values
 
 -- the number or the text that a line shows is there
-abbrev pub HasNumber : Contents → ℕ → ℕ → Type 0
+abbrev pub HasNumber : ObjectMap → ℕ → ℕ → Type 0
 HasNumber store variable own = (n : ℕ) × (number_shown store variable own ≡ Some n)
 
-abbrev pub HasText : Contents → ℕ → List ℕ → Type 0
+abbrev pub HasText : ObjectMap → ℕ → List ℕ → Type 0
 HasText store variable own = (text : List ℕ) × (text_shown store variable own ≡ Some text)
 
 -- The element is there, with each value of its line. The lines of all other kinds have none.
-abbrev pub HasValues : Contents → Option Seen → Type 0
+abbrev pub HasValues : ObjectMap → Option Seen → Type 0
 HasValues store None = ⊥
 HasValues store (Some (objects.InputBoolean o)) = HasNumber store o.variable o.value
 HasValues store (Some (objects.InputString o)) = HasText store o.variable o.text
@@ -70,7 +70,7 @@ HasValues store (Some o) = Unit {0}
 -- ---- the look-ups of a drawing
 
 -- All that the drawing of a mask looks up is there, and is of a kind that may be drawn there.
-pub record FindsAll (store : Contents) (mask : ℕ) : Type 0 where
+pub record FindsAll (store : ObjectMap) (mask : ℕ) : Type 0 where
   pub active : IsActive store mask → (mask ≡ 0xFFFF) ⊎ IsTrue (is_one_of sets.Masks (kind_in store mask))
   pub in_mask : AreFoundIn store mask
   pub soft_key_mask : (soft_key_mask_of (finite.get store mask) ≡ 0xFFFF) ⊎ (kind_in store (soft_key_mask_of (finite.get store mask)) ≡ Some kinds.SoftKeyMask)
@@ -80,4 +80,4 @@ pub record FindsAll (store : Contents) (mask : ℕ) : Type 0 where
 
 -- So it is in a store that is in order.
 abbrev pub DrawingsFindAll : Type 0
-DrawingsFindAll = (store : Contents) (mask : ℕ) → IsSound store → FindsAll store mask
+DrawingsFindAll = (store : ObjectMap) (mask : ℕ) → IsSound store → FindsAll store mask

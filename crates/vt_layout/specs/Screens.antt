@@ -4,7 +4,7 @@ use Rattle.std.specs.Fmt.{decimal}
 use Rattle.std.specs.List.{flat_map}
 use Rattle.std.specs.FinMap as finite
 use Rattle.hex.specs.Hex.{encode_upper}
-use Rattle.vt_stores.specs.Stores.{Contents}
+use Rattle.vt_stores.specs.Stores.{ObjectMap}
 use Rattle.vt_verify.specs.Rules.{working_sets}
 use Rattle.vt_machine.specs.Lives.{IsActive}
 use Rattle.vt_effects.specs.Soundness.{shape_in}
@@ -28,7 +28,7 @@ abbrev pub heading : ℕ → ℕ → List ℕ
 heading address mask = codes "screen " ++ (encode_upper (address ∷ []) ++ (codes " mask " ++ (mask_name mask ++ codes "\n")))
 
 -- The text is that of the drawing of the active mask.
-pub record IsScreen (address : ℕ) (store : Contents) (text : List ℕ) : Type 0 where
+pub record IsScreen (address : ℕ) (store : ObjectMap) (text : List ℕ) : Type 0 where
   pub mask : ℕ
   pub active : IsActive store mask
   pub drawing : List Placed
@@ -36,14 +36,14 @@ pub record IsScreen (address : ℕ) (store : Contents) (text : List ℕ) : Type 
   pub is : text ≡ heading address mask ++ cut (map (λ p. line store p.element) drawing)
 
 -- A vector has gained the screen.
-pub record GainsScreen (address : ℕ) (store : Contents) (old new : List ℕ) : Type 0 where
+pub record GainsScreen (address : ℕ) (store : ObjectMap) (old new : List ℕ) : Type 0 where
   pub text : List ℕ
   pub is_screen : IsScreen address store text
   pub gained : new ≡ old ++ text
 
 -- A working set has one screen, in a store that is in order and has nothing under NULL.
 pub record ScreensAreOne : Type 0 where
-  pub there : (address : ℕ) (store : Contents) (mask : ℕ) → IsSound store → finite.get store 0xFFFF ≡ None → IsActive store mask
+  pub there : (address : ℕ) (store : ObjectMap) (mask : ℕ) → IsSound store → finite.get store 0xFFFF ≡ None → IsActive store mask
       → (text : List ℕ) × IsScreen address store text
-  pub one : (address : ℕ) (store : Contents) (one other : List ℕ) → working_sets (shape_in store) ≡ 1
+  pub one : (address : ℕ) (store : ObjectMap) (one other : List ℕ) → working_sets (shape_in store) ≡ 1
       → IsScreen address store one → IsScreen address store other → one ≡ other

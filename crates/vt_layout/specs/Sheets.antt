@@ -1,6 +1,6 @@
 -- The lines of a screen, while they are written.
 use Rattle.std.specs.Prelude.{◌≤◌, ◌+◌, ◌*◌, ◌^◌, ℕ, suc, nat_abs, nat_lt, ◌==◌, if◌then◌else◌, List, [], ◌∷◌, ◌++◌, map, codes}
-use Rattle.vt_stores.specs.Stores.{Contents}
+use Rattle.vt_stores.specs.Stores.{ObjectMap}
 use Rattle.vt_layout.specs.declared.element.Element.{Element}
 use Rattle.vt_layout.specs.declared.element.Position.{Position}
 use Rattle.vt_layout.specs.Lines.{line}
@@ -23,7 +23,7 @@ with_lines [] sheet = sheet
 with_lines (line ∷ lines) sheet = with_lines lines (with_line line sheet)
 
 -- the lines of elements are written
-abbrev pub with_elements : Contents → List Element → Sheet → Sheet
+abbrev pub with_elements : ObjectMap → List Element → Sheet → Sheet
 with_elements store elements sheet = with_lines (map (line store) elements) sheet
 
 -- the whole text

@@ -2,7 +2,7 @@
 use Rattle.std.specs.Prelude.{ℕ, zero, suc, List, [], ◌∷◌, ◌++◌, Option, Some, None}
 use Rattle.std.specs.FinMap as finite
 use Rattle.vt_kinds.specs.declared.entries.Child.{Child}
-use Rattle.vt_stores.specs.Stores.{Contents}
+use Rattle.vt_stores.specs.Stores.{ObjectMap}
 use Rattle.vt_chains.specs.Limits.{terminal}
 use Rattle.vt_shown.specs.Showing.{stands_for}
 use Rattle.vt_layout.specs.declared.element.Element.{Element}
@@ -14,21 +14,21 @@ abbrev pub Draws : Type 0
 Draws = List Child → Position → List Element
 
 -- an element, and what it draws
-abbrev pub with_drawn : Draws → Contents → Option Element → List Element
+abbrev pub with_drawn : Draws → ObjectMap → Option Element → List Element
 with_drawn draws store None = []
 with_drawn draws store (Some e) = e ∷ draws (entries_in store (finite.get store e.id)) e.at
 
 -- entries that stand from a place on
-abbrev pub each_from : Draws → Contents → ℕ → List Child → Position → List Element
+abbrev pub each_from : Draws → ObjectMap → ℕ → List Child → Position → List Element
 each_from draws store place [] from = []
 each_from draws store place (entry ∷ entries) from =
     with_drawn draws store (element store place (shifted from entry) (stands_for store entry.id)) ++ each_from draws store (suc place) entries from
 
-unfoldable pub elements : ℕ → Contents → Draws
+unfoldable pub elements : ℕ → ObjectMap → Draws
 elements zero store entries from = []
 elements (suc depth) store entries from = each_from (elements depth store) store 0 entries from
 
 -- those of a mask and of its soft key mask
-abbrev pub drawing : Contents → ℕ → List Element
+abbrev pub drawing : ObjectMap → ℕ → List Element
 drawing store mask =
     elements terminal.inclusions store (mask_entries store mask) origin ++ elements terminal.inclusions store (key_entries store mask) origin

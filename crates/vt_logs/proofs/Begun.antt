@@ -7,10 +7,10 @@ use Rattle.std.specs.Io.KnownBytes.{Appends, Keeps}
 use Rattle.std.proofs.KnownBytes.{Appends-trans}
 use Rattle.vt_can.specs.lines.Line.{Reads}
 use Rattle.vt_logs.specs.Lines.{lines_of}
-use Rattle.vt_logs.specs.Taken.{Follows, Scene, TakesReading}
-use Rattle.vt_logs.specs.Texts.{Reading}
+use Rattle.vt_logs.specs.Taken.{Follows, ReplayState, TakesReading}
+use Rattle.vt_logs.specs.Texts.{LineReading}
 use Rattle.vt_logs.specs.Begun.{Begins, BreaksOff, LeavesLines, Stops}
-use Rattle.vt_logs.specs.Progress.{Stand, Takes, HasNoNewline, TakesBytes, Writes}
+use Rattle.vt_logs.specs.Progress.{ReplayPoint, Takes, HasNoNewline, TakesBytes, Writes}
 use Rattle.vt_logs.proofs.Taking.{takes_none, takes_more, lines_of-line, HasNoNewline-append}
 use Rattle.vt_logs.proofs.Midway.{IsMidway}
 use Rattle.vt_server.specs.Terminals.{State}
@@ -43,7 +43,7 @@ begins_more a b text more p = record {
 -- ---- where not all lines are taken
 
 -- none is
-pub stops_none : (a : Stand) (lines : List (List ℕ)) (held : Option (List ℕ)) → Keeps a.held held → Stops a lines a.scene.state held
+pub stops_none : (a : ReplayPoint) (lines : List (List ℕ)) (held : Option (List ℕ)) → Keeps a.held held → Stops a lines a.scene.state held
 stops_none a lines held keeps = record {
   front = [];
   back = lines;
@@ -55,14 +55,14 @@ stops_none a lines held keeps = record {
   written = keeps-appends a.held held keeps;
 }
 
-leaves_one : (s : Scene) (n : ℕ) (line : List ℕ) (r : Reading) (t : State) (text : List ℕ) → Reads line r → length line ≤ 4096
+leaves_one : (s : ReplayState) (n : ℕ) (line : List ℕ) (r : LineReading) (t : State) (text : List ℕ) → Reads line r → length line ≤ 4096
     → BreaksOff s.state (Follows s.state r) (TakesReading s n r) t text → LeavesLines s n (line ∷ []) t text
 leaves_one s n line r t text reads short (inl none) = inl none
 leaves_one s n line r t text reads short (inr part) =
     inr (record { line = line; after = []; reading = r; next = refl; read = reads; short = short; part = part })
 
 -- a line that is not taken, or in part
-pub stops_one : (a : Stand) (t : State) (line : List ℕ) (r : Reading) (held : Option (List ℕ)) → Reads line r → length line ≤ 4096
+pub stops_one : (a : ReplayPoint) (t : State) (line : List ℕ) (r : LineReading) (held : Option (List ℕ)) → Reads line r → length line ≤ 4096
     → Writes (BreaksOff a.scene.state (Follows a.scene.state r) (TakesReading a.scene (a.counts.lines + 1) r) t) a.held held → Stops a (line ∷ []) t held
 stops_one a t line r held reads short off = record {
   front = [];
@@ -75,7 +75,7 @@ stops_one a t line r held reads short off = record {
   written = off.written;
 }
 
-leaves_more : (s : Scene) (n : ℕ) (lines more : List (List ℕ)) (t : State) (text : List ℕ) → LeavesLines s n lines t text → LeavesLines s n (lines ++ more) t text
+leaves_more : (s : ReplayState) (n : ℕ) (lines more : List (List ℕ)) (t : State) (text : List ℕ) → LeavesLines s n lines t text → LeavesLines s n (lines ++ more) t text
 leaves_more s n lines more t text (inl none) = inl none
 leaves_more s n lines more t text (inr p) =
     inr (record {
@@ -88,7 +88,7 @@ leaves_more s n lines more t text (inr p) =
       part = p.part;
     })
 
-stops_more : (a : Stand) (t : State) (lines more : List (List ℕ)) (held : Option (List ℕ)) → Stops a lines t held → Stops a (lines ++ more) t held
+stops_more : (a : ReplayPoint) (t : State) (lines more : List (List ℕ)) (held : Option (List ℕ)) → Stops a lines t held → Stops a (lines ++ more) t held
 stops_more a t lines more held p = record {
   front = p.front;
   back = p.back ++ more;
@@ -100,7 +100,7 @@ stops_more a t lines more held p = record {
   written = p.written;
 }
 
-stops_later : (a b : Stand) (t : State) (done lines : List (List ℕ)) (held : Option (List ℕ)) → Takes a done b → Stops b lines t held → Stops a (done ++ lines) t held
+stops_later : (a b : ReplayPoint) (t : State) (done lines : List (List ℕ)) (held : Option (List ℕ)) → Takes a done b → Stops b lines t held → Stops a (done ++ lines) t held
 stops_later a b t done lines held takes p = record {
   front = done ++ p.front;
   back = p.back;
@@ -112,7 +112,7 @@ stops_later a b t done lines held takes p = record {
   written = p.written;
 }
 
-pub later_bytes : (a b : Stand) (t : State) (held : Option (List ℕ)) (before bytes pending : List ℕ) → TakesBytes a before bytes b pending → (rest : List ℕ) → Stops b (lines_of (pending ++ rest)) t held
+pub later_bytes : (a b : ReplayPoint) (t : State) (held : Option (List ℕ)) (before bytes pending : List ℕ) → TakesBytes a before bytes b pending → (rest : List ℕ) → Stops b (lines_of (pending ++ rest)) t held
     → Stops a (lines_of (before ++ bytes ++ rest)) t held
 later_bytes a b t held before bytes pending taken rest later =
     subst (λ (ls : List (List ℕ)). Stops a ls t held) (sym (taken.split rest)) (stops_later a b t taken.lines (lines_of (pending ++ rest)) held taken.takes later)
@@ -120,7 +120,7 @@ later_bytes a b t held before bytes pending taken rest later =
 -- ---- in a chunk
 
 -- its next line is not taken to its end
-pub midway_stops : (a b : Stand) (t : State) (held : Option (List ℕ)) (before chunk pending rest line after : List ℕ) → IsMidway a before chunk b pending rest → HasNoNewline line → rest ≡ line ++ 10 ∷ after
+pub midway_stops : (a b : ReplayPoint) (t : State) (held : Option (List ℕ)) (before chunk pending rest line after : List ℕ) → IsMidway a before chunk b pending rest → HasNoNewline line → rest ≡ line ++ 10 ∷ after
     → Stops b ((pending ++ line) ∷ []) t held → (r : List ℕ) → Stops a (lines_of (before ++ chunk ++ r)) t held
 midway_stops a b t held before chunk pending rest line after mid lacks cut one r =
     let cut_here : lines_of (pending ++ (line ++ 10 ∷ (after ++ r))) ≡ (pending ++ line) ∷ lines_of (after ++ r) =
@@ -133,7 +133,7 @@ midway_stops a b t held before chunk pending rest line after mid lacks cut one r
     subst (λ (text : List ℕ). Stops a (lines_of text) t held) (sym joined) all
 
 -- its rest is not kept
-pub midway_stop : (a b : Stand) (held : Option (List ℕ)) (before chunk pending rest : List ℕ) → IsMidway a before chunk b pending rest → Keeps b.held held → (r : List ℕ)
+pub midway_stop : (a b : ReplayPoint) (held : Option (List ℕ)) (before chunk pending rest : List ℕ) → IsMidway a before chunk b pending rest → Keeps b.held held → (r : List ℕ)
     → Stops a (lines_of (before ++ chunk ++ r)) b.scene.state held
 midway_stop a b held before chunk pending rest mid keeps r =
     let all = later_bytes a b b.scene.state held before mid.front pending mid.taken (rest ++ r) (stops_none b (lines_of (pending ++ (rest ++ r))) held keeps) in

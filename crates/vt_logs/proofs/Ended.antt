@@ -8,7 +8,7 @@ use Rattle.vt_can.specs.lines.Line.{Reads}
 use Rattle.vt_logs.specs.declared.counts.Counts.{Counts}
 use Rattle.vt_logs.specs.Begun.{Begins, MayBegin, LeavesLines, Stops, HasStopped}
 use Rattle.vt_logs.specs.Lines.{lines_of}
-use Rattle.vt_logs.specs.Progress.{Stand, Takes, TakesBytes}
+use Rattle.vt_logs.specs.Progress.{ReplayPoint, Takes, TakesBytes}
 use Rattle.vt_logs.specs.Taken.{TakesReadings}
 use Rattle.vt_logs.specs.Texts.{no_counts, counts_text, with_lines}
 use Rattle.vt_logs.proofs.Begun.{stops_none, later_bytes}
@@ -30,13 +30,13 @@ begun_none given s old new keeps = begun_first given s old new (inl keeps)
 -- ---- after it
 
 -- the number of the next line
-next_place : (a b : Stand) (lines : List (List ℕ)) (takes : Takes a lines b) → a.counts ≡ no_counts → b.counts.lines + 1 ≡ length lines + 1
+next_place : (a b : ReplayPoint) (lines : List (List ℕ)) (takes : Takes a lines b) → a.counts ≡ no_counts → b.counts.lines + 1 ≡ length lines + 1
 next_place a b lines takes none =
     let zero : a.counts.lines ≡ 0 = ap (λ (k : Counts). k.lines) none in
     omega (arith, takes-lines a b lines takes, length-zip Reads lines takes.readings takes.read, zero)
 
 -- where not all lines are taken
-stopped : (a : Stand) (t : State) (old held : Option (List ℕ)) (input : List ℕ) → a.counts ≡ no_counts → IsScreenOf a.scene.state a.scene.screen → Appends old a.held a.scene.screen
+stopped : (a : ReplayPoint) (t : State) (old held : Option (List ℕ)) (input : List ℕ) → a.counts ≡ no_counts → IsScreenOf a.scene.state a.scene.screen → Appends old a.held a.scene.screen
     → Stops a (lines_of input) t held → HasStopped a.scene.state input t old held
 stopped a t old held input none drawn first stops =
     let to = stops.to in
@@ -62,7 +62,7 @@ stopped a t old held input none drawn first stops =
     })
 
 -- nothing more is read
-pub way_stop : (a b : Stand) (given left old held : Option (List ℕ)) (pending : List ℕ) (reads : ℕ) → a.counts ≡ no_counts → IsScreenOf a.scene.state a.scene.screen
+pub way_stop : (a b : ReplayPoint) (given left old held : Option (List ℕ)) (pending : List ℕ) (reads : ℕ) → a.counts ≡ no_counts → IsScreenOf a.scene.state a.scene.screen
     → Appends old a.held a.scene.screen → IsUnderWay a given left b pending reads → Keeps b.held held
     → IfSome given (λ input. HasStopped a.scene.state input b.scene.state old held)
 way_stop a b given left old held pending reads none drawn first way keeps =
@@ -71,7 +71,7 @@ way_stop a b given left old held pending reads none drawn first way keeps =
     (later_bytes a b b.scene.state held [] way.input pending way.taken rest (stops_none b (lines_of (pending ++ rest)) held keeps)))
 
 -- a chunk is not taken to its end
-pub way_stops : (a b : Stand) (t : State) (given left after old held : Option (List ℕ)) (pending chunk : List ℕ) (reads : ℕ) → a.counts ≡ no_counts → IsScreenOf a.scene.state a.scene.screen
+pub way_stops : (a b : ReplayPoint) (t : State) (given left after old held : Option (List ℕ)) (pending chunk : List ℕ) (reads : ℕ) → a.counts ≡ no_counts → IsScreenOf a.scene.state a.scene.screen
     → Appends old a.held a.scene.screen → IsUnderWay a given left b pending reads → Consumes left after chunk
     → ((rest : List ℕ) → Stops b (lines_of (pending ++ chunk ++ rest)) t held) → IfSome given (λ input. HasStopped a.scene.state input t old held)
 way_stops a b t given left after old held pending chunk reads none drawn first way consumed stops =
@@ -82,7 +82,7 @@ way_stops a b t given left after old held pending chunk reads none drawn first w
     (stopped a t old held (way.input ++ (chunk ++ rest)) none drawn first (later_bytes a b t held [] way.input pending way.taken (chunk ++ rest) here)))
 
 -- the reader is at its end, and what is pending is not taken to its end
-pub way_last : (a b : Stand) (t : State) (given left after old held : Option (List ℕ)) (pending chunk : List ℕ) (reads : ℕ) → a.counts ≡ no_counts → IsScreenOf a.scene.state a.scene.screen
+pub way_last : (a b : ReplayPoint) (t : State) (given left after old held : Option (List ℕ)) (pending chunk : List ℕ) (reads : ℕ) → a.counts ≡ no_counts → IsScreenOf a.scene.state a.scene.screen
     → Appends old a.held a.scene.screen → IsUnderWay a given left b pending reads → Consumes left after chunk → chunk ≡ [] → IsAtEnd after
     → Stops b (lines_of pending) t held → IfSome given (λ input. HasStopped a.scene.state input t old held)
 way_last a b t given left after old held pending chunk reads none drawn first way consumed empty end stops =
@@ -93,7 +93,7 @@ way_last a b t given left after old held pending chunk reads none drawn first wa
     (subst (λ (c : List ℕ). P (way.input ++ c)) (sym empty) all)
 
 -- all lines are taken, and the counts are begun
-counting : (a b c : Stand) (old held : Option (List ℕ)) (pending input : List ℕ) → a.counts ≡ no_counts → IsScreenOf a.scene.state a.scene.screen → Appends old a.held a.scene.screen
+counting : (a b c : ReplayPoint) (old held : Option (List ℕ)) (pending input : List ℕ) → a.counts ≡ no_counts → IsScreenOf a.scene.state a.scene.screen → Appends old a.held a.scene.screen
     → TakesBytes a [] input b pending → Takes b (lines_of pending) c → Begins c.held held (counts_text c.counts) → HasStopped a.scene.state input c.scene.state old held
 counting a b c old held pending input none drawn first taken last counted =
     let all = takes_more a b c taken.lines (lines_of pending) taken.takes last in
@@ -119,7 +119,7 @@ counting a b c old held pending input none drawn first taken last counted =
           (Appends-trans old a.held c.held a.scene.screen all.printed first all.text) counted.written;
     })
 
-pub way_counts : (a b c : Stand) (given left after old held : Option (List ℕ)) (pending chunk : List ℕ) (reads : ℕ) → a.counts ≡ no_counts → IsScreenOf a.scene.state a.scene.screen
+pub way_counts : (a b c : ReplayPoint) (given left after old held : Option (List ℕ)) (pending chunk : List ℕ) (reads : ℕ) → a.counts ≡ no_counts → IsScreenOf a.scene.state a.scene.screen
     → Appends old a.held a.scene.screen → IsUnderWay a given left b pending reads → Consumes left after chunk → chunk ≡ [] → IsAtEnd after
     → Takes b (lines_of pending) c → Begins c.held held (counts_text c.counts) → IfSome given (λ input. HasStopped a.scene.state input c.scene.state old held)
 way_counts a b c given left after old held pending chunk reads none drawn first way consumed empty end last counted =

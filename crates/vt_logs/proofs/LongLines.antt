@@ -7,7 +7,7 @@ use Rattle.std.proofs.KnownBytes.{Appends-trans, Consumes-trans}
 use Rattle.vt_logs.specs.declared.counts.Counts.{Counts}
 use Rattle.vt_logs.specs.Begun.{StopsAtLong, HasStoppedAtLong}
 use Rattle.vt_logs.specs.Lines.{lines_of}
-use Rattle.vt_logs.specs.Progress.{Stand, HasNoNewline, TakesBytes}
+use Rattle.vt_logs.specs.Progress.{ReplayPoint, HasNoNewline, TakesBytes}
 use Rattle.vt_logs.specs.Taken.{TakesReadings}
 use Rattle.vt_logs.specs.Texts.{no_counts}
 use Rattle.vt_logs.proofs.Taking.{no_newline, no_later, HasNoNewline-append, takes_none, takes_more}
@@ -39,7 +39,7 @@ begins_with (x ∷ y ∷ ys) rest lacks some =
     }
 
 -- the first line is too long, and nothing is taken
-long_first : (a : Stand) (t : State) (held : Option (List ℕ)) (pending : List ℕ) → HasNoNewline pending → 4096 < length pending → t ≡ a.scene.state → held ≡ a.held
+long_first : (a : ReplayPoint) (t : State) (held : Option (List ℕ)) (pending : List ℕ) → HasNoNewline pending → 4096 < length pending → t ≡ a.scene.state → held ≡ a.held
     → (rest : List ℕ) → StopsAtLong a (lines_of (pending ++ rest)) t held
 long_first a t held pending lacks long same_state same_held rest =
     let first = begins_with pending rest lacks (omega arith) in
@@ -52,7 +52,7 @@ long_first a t held pending lacks long same_state same_held rest =
     }
 
 -- the lines before are taken too
-long_later : (a b : Stand) (t : State) (held : Option (List ℕ)) (before bytes pending : List ℕ) → TakesBytes a before bytes b pending
+long_later : (a b : ReplayPoint) (t : State) (held : Option (List ℕ)) (before bytes pending : List ℕ) → TakesBytes a before bytes b pending
     → (rest : List ℕ) → StopsAtLong b (lines_of (pending ++ rest)) t held → StopsAtLong a (lines_of (before ++ bytes ++ rest)) t held
 long_later a b t held before bytes pending taken rest later = record {
   long = record {
@@ -69,7 +69,7 @@ long_later a b t held before bytes pending taken rest later = record {
 }
 
 -- a part of a line in the middle of a chunk
-pub midway_long : (a b : Stand) (t : State) (held : Option (List ℕ)) (before chunk pending rest part tail : List ℕ) → IsMidway a before chunk b pending rest
+pub midway_long : (a b : ReplayPoint) (t : State) (held : Option (List ℕ)) (before chunk pending rest part tail : List ℕ) → IsMidway a before chunk b pending rest
     → rest ≡ part ++ tail → HasNoNewline part → 4096 < length (pending ++ part) → t ≡ b.scene.state → held ≡ b.held
     → (r : List ℕ) → StopsAtLong a (lines_of (before ++ chunk ++ r)) t held
 midway_long a b t held before chunk pending rest part tail mid cut lacks long same_state same_held r =
@@ -88,7 +88,7 @@ begun (Some xs) (Some ys) bytes P consumed all = subst P (sym consumed) (all ys)
 
 -- ---- in the whole log
 
-stopped_at_long : (a : Stand) (t : State) (old held : Option (List ℕ)) (input : List ℕ) → a.counts ≡ no_counts → IsScreenOf a.scene.state a.scene.screen
+stopped_at_long : (a : ReplayPoint) (t : State) (old held : Option (List ℕ)) (input : List ℕ) → a.counts ≡ no_counts → IsScreenOf a.scene.state a.scene.screen
     → Appends old a.held a.scene.screen → StopsAtLong a (lines_of input) t held → HasStoppedAtLong a.scene.state input t old held
 stopped_at_long a t old held input none drawn first stops =
     let takes = stops.takes in record {
@@ -108,7 +108,7 @@ stopped_at_long a t old held input none drawn first stops =
     }
 
 -- a chunk with a part of a line that is too long, after those before it
-pub way_long : (a b : Stand) (t : State) (given left after old held : Option (List ℕ)) (pending chunk : List ℕ) (reads : ℕ) → a.counts ≡ no_counts
+pub way_long : (a b : ReplayPoint) (t : State) (given left after old held : Option (List ℕ)) (pending chunk : List ℕ) (reads : ℕ) → a.counts ≡ no_counts
     → IsScreenOf a.scene.state a.scene.screen → Appends old a.held a.scene.screen → IsUnderWay a given left b pending reads → Consumes left after chunk
     → ((rest : List ℕ) → StopsAtLong b (lines_of (pending ++ chunk ++ rest)) t held) → IfSome given (λ input. HasStoppedAtLong a.scene.state input t old held)
 way_long a b t given left after old held pending chunk reads none drawn first way consumed long =
@@ -120,7 +120,7 @@ way_long a b t given left after old held pending chunk reads none drawn first wa
     (stopped_at_long a t old held (way.input ++ (chunk ++ rest)) none drawn first (long_later a b t held [] way.input pending way.taken (chunk ++ rest) here)))
 
 -- the same of what is pending at the end
-pub end_long : (a b : Stand) (t : State) (given left old held : Option (List ℕ)) (pending : List ℕ) (reads : ℕ) → a.counts ≡ no_counts
+pub end_long : (a b : ReplayPoint) (t : State) (given left old held : Option (List ℕ)) (pending : List ℕ) (reads : ℕ) → a.counts ≡ no_counts
     → IsScreenOf a.scene.state a.scene.screen → Appends old a.held a.scene.screen → IsUnderWay a given left b pending reads → 4096 < length pending
     → t ≡ b.scene.state → held ≡ b.held → IfSome given (λ input. HasStoppedAtLong a.scene.state input t old held)
 end_long a b t given left old held pending reads none drawn first way long same_state same_held =

@@ -8,34 +8,34 @@ use Rattle.std.proofs.KnownBytes.{Appends-kept, Appends-trans, Consumes-nil, Con
 use Rattle.vt_can.specs.lines.Line.{Reads}
 use Rattle.vt_logs.specs.declared.counts.Counts.{Counts}
 use Rattle.vt_logs.specs.Lines.{lines_of}
-use Rattle.vt_logs.specs.Taken.{Scene, TakesReadings}
+use Rattle.vt_logs.specs.Taken.{ReplayState, TakesReadings}
 use Rattle.vt_logs.specs.Texts.{no_counts, with_lines, counts_text}
 use Rattle.vt_logs.specs.Replays.{IsReplay}
-use Rattle.vt_logs.specs.Progress.{AtMost, Stand, Takes, HasNoNewline, TakesBytes}
+use Rattle.vt_logs.specs.Progress.{AtMost, ReplayPoint, Takes, HasNoNewline, TakesBytes}
 use Rattle.vt_logs.proofs.Taking.{bytes_none, bytes_kept, bytes_line, bytes_more, bytes-AtMost, lines_of-last, HasNoNewline-append, AtMost-more, takes_drawn, takes_more}
 use Rattle.vt_server.specs.Screens.{IsScreenOf}
 
 -- ---- between two lines of a chunk
 
 -- the front of a chunk is taken
-pub record IsMidway (from : Stand) (before chunk : List ℕ) (to : Stand) (pending rest : List ℕ) : Type 0 where
+pub record IsMidway (from : ReplayPoint) (before chunk : List ℕ) (to : ReplayPoint) (pending rest : List ℕ) : Type 0 where
   pub front : List ℕ
   pub parts : chunk ≡ front ++ rest
   pub taken : TakesBytes from before front to pending
   pub whole : HasNoNewline pending
 
-pub midway_start : (a : Stand) (before chunk : List ℕ) → HasNoNewline before → IsMidway a before chunk a before chunk
+pub midway_start : (a : ReplayPoint) (before chunk : List ℕ) → HasNoNewline before → IsMidway a before chunk a before chunk
 midway_start a before chunk whole = record { front = []; parts = refl; taken = bytes_none a before; whole = whole }
 
-pub midway_few : (a b : Stand) (before chunk pending rest : List ℕ) → IsMidway a before chunk b pending rest → AtMost (2 ^ 61) a.counts → length chunk ≤ 65536 → AtMost (2 ^ 62) b.counts
+pub midway_few : (a b : ReplayPoint) (before chunk pending rest : List ℕ) → IsMidway a before chunk b pending rest → AtMost (2 ^ 61) a.counts → length chunk ≤ 65536 → AtMost (2 ^ 62) b.counts
 midway_few a b before chunk pending rest mid few short =
     let front : length mid.front ≤ 65536 = omega (arith, ap length mid.parts, length-append mid.front rest) in
     AtMost-more (2 ^ 61 + 65536) (2 ^ 62) b.counts (omega arith) (bytes-AtMost (2 ^ 61) 65536 a b before mid.front pending mid.taken few front)
 
-pub midway_drawn : (a b : Stand) (before chunk pending rest : List ℕ) → IsMidway a before chunk b pending rest → IsScreenOf a.scene.state a.scene.screen → IsScreenOf b.scene.state b.scene.screen
+pub midway_drawn : (a b : ReplayPoint) (before chunk pending rest : List ℕ) → IsMidway a before chunk b pending rest → IsScreenOf a.scene.state a.scene.screen → IsScreenOf b.scene.state b.scene.screen
 midway_drawn a b before chunk pending rest mid drawn = takes_drawn a b mid.taken.lines mid.taken.takes drawn
 
-pub midway_line : (a b c : Stand) (before chunk pending rest line after left : List ℕ) → IsMidway a before chunk b pending rest → HasNoNewline line → rest ≡ line ++ 10 ∷ after
+pub midway_line : (a b c : ReplayPoint) (before chunk pending rest line after left : List ℕ) → IsMidway a before chunk b pending rest → HasNoNewline line → rest ≡ line ++ 10 ∷ after
     → Takes b ((pending ++ line) ∷ []) c → left ≡ [] → IsMidway a before chunk c left after
 midway_line a b c before chunk pending rest line after left mid lacks cut one none =
     let done = bytes_line a b c before mid.front pending line mid.taken (HasNoNewline-append pending line mid.whole lacks) one in
@@ -46,7 +46,7 @@ midway_line a b c before chunk pending rest line after left mid lacks cut one no
       whole = subst HasNoNewline (sym none) (λ k d lt. absurd (omega arith));
     }
 
-pub midway_end : (a b : Stand) (before chunk pending rest left : List ℕ) → IsMidway a before chunk b pending rest → HasNoNewline rest → left ≡ pending ++ rest
+pub midway_end : (a b : ReplayPoint) (before chunk pending rest left : List ℕ) → IsMidway a before chunk b pending rest → HasNoNewline rest → left ≡ pending ++ rest
     → TakesBytes a before chunk b left × HasNoNewline left
 midway_end a b before chunk pending rest left mid lacks kept = (
   subst (λ (t : List ℕ). TakesBytes a before chunk b t) (sym kept)
@@ -57,17 +57,17 @@ midway_end a b before chunk pending rest left mid lacks kept = (
 -- ---- between two chunks
 
 -- the reader gave these bytes, and they are taken
-pub record IsUnderWay (start : Stand) (given left : Option (List ℕ)) (now : Stand) (pending : List ℕ) (reads : ℕ) : Type 0 where
+pub record IsUnderWay (start : ReplayPoint) (given left : Option (List ℕ)) (now : ReplayPoint) (pending : List ℕ) (reads : ℕ) : Type 0 where
   pub input : List ℕ
   pub consumed : Consumes given left input
   pub taken : TakesBytes start [] input now pending
   pub whole : HasNoNewline pending
   pub few : AtMost (reads * 65536) now.counts
 
-pub way_start : (s : Scene) (held given : Option (List ℕ)) (counts : Counts) (pending : List ℕ) → counts ≡ no_counts → pending ≡ []
+pub way_start : (s : ReplayState) (held given : Option (List ℕ)) (counts : Counts) (pending : List ℕ) → counts ≡ no_counts → pending ≡ []
     → IsUnderWay (record { scene = s; counts = no_counts; held = held }) given given (record { scene = s; counts = counts; held = held }) pending 0
 way_start s held given counts pending none empty =
-    let start : Stand = record { scene = s; counts = no_counts; held = held } in
+    let start : ReplayPoint = record { scene = s; counts = no_counts; held = held } in
     let begun : IsUnderWay start given given start [] 0 = record {
       input = [];
       consumed = Consumes-nil given;
@@ -78,12 +78,12 @@ way_start s held given counts pending none empty =
     subst (λ (c : Counts). IsUnderWay start given given (record { scene = s; counts = c; held = held }) pending 0) (sym none)
     (subst (λ (p : List ℕ). IsUnderWay start given given start p 0) (sym empty) begun)
 
-pub way_drawn : (a b : Stand) (given left : Option (List ℕ)) (pending : List ℕ) (reads : ℕ) → IsUnderWay a given left b pending reads
+pub way_drawn : (a b : ReplayPoint) (given left : Option (List ℕ)) (pending : List ℕ) (reads : ℕ) → IsUnderWay a given left b pending reads
     → IsScreenOf a.scene.state a.scene.screen → IsScreenOf b.scene.state b.scene.screen
 way_drawn a b given left pending reads way drawn = takes_drawn a b way.taken.lines way.taken.takes drawn
 
 -- what was printed is written out
-pub way_flushed : (a : Stand) (s : Scene) (counts : Counts) (held written given left : Option (List ℕ)) (pending : List ℕ) (reads : ℕ)
+pub way_flushed : (a : ReplayPoint) (s : ReplayState) (counts : Counts) (held written given left : Option (List ℕ)) (pending : List ℕ) (reads : ℕ)
     → IsUnderWay a given left (record { scene = s; counts = counts; held = held }) pending reads → Keeps held written
     → IsUnderWay a given left (record { scene = s; counts = counts; held = written }) pending reads
 way_flushed a s counts held written given left pending reads way keeps =
@@ -108,7 +108,7 @@ way_flushed a s counts held written given left pending reads way keeps =
       few = way.few;
     }
 
-pub way_more : (a b c : Stand) (given left after : Option (List ℕ)) (pending kept chunk : List ℕ) (reads : ℕ) → IsUnderWay a given left b pending reads → Consumes left after chunk → length chunk ≤ 65536
+pub way_more : (a b c : ReplayPoint) (given left after : Option (List ℕ)) (pending kept chunk : List ℕ) (reads : ℕ) → IsUnderWay a given left b pending reads → Consumes left after chunk → length chunk ≤ 65536
     → TakesBytes b pending chunk c kept → HasNoNewline kept → IsUnderWay a given after c kept (reads + 1)
 way_more a b c given left after pending kept chunk reads way consumed short taken whole = record {
   input = way.input ++ chunk;
@@ -129,7 +129,7 @@ pub last_line : (pending : List ℕ) → HasNoNewline pending → false ≡ eqb 
 last_line pending lacks some = ap (λ (t : List ℕ). t ∷ []) (append-nil pending) ∙ sym (lines_of-last pending lacks (above_zero (length pending) some))
 
 -- all that the reader gave is replayed, after the first screen
-pub replayed : (a b c : Stand) (pending input : List ℕ) → a.counts ≡ no_counts → IsScreenOf a.scene.state a.scene.screen → TakesBytes a [] input b pending → Takes b (lines_of pending) c
+pub replayed : (a b c : ReplayPoint) (pending input : List ℕ) → a.counts ≡ no_counts → IsScreenOf a.scene.state a.scene.screen → TakesBytes a [] input b pending → Takes b (lines_of pending) c
     → (text : List ℕ) × Appends a.held c.held text × ((last : List ℕ) → last ≡ counts_text c.counts → IsReplay a.scene.state input (a.scene.screen ++ text ++ last) c.counts c.scene.state)
 replayed a b c pending input none drawn taken at_end =
     let all = takes_more a b c taken.lines (lines_of pending) taken.takes at_end in
@@ -155,7 +155,7 @@ replayed a b c pending input none drawn taken at_end =
     )
 
 -- the reader is at its end, the last line is taken, and the counts are written, after the first screen
-pub way_end : (a b c : Stand) (given left after old written : Option (List ℕ)) (pending chunk : List ℕ) (reads : ℕ) → a.counts ≡ no_counts → IsScreenOf a.scene.state a.scene.screen
+pub way_end : (a b c : ReplayPoint) (given left after old written : Option (List ℕ)) (pending chunk : List ℕ) (reads : ℕ) → a.counts ≡ no_counts → IsScreenOf a.scene.state a.scene.screen
     → Appends old a.held a.scene.screen → IsUnderWay a given left b pending reads
     → Consumes left after chunk → chunk ≡ [] → IsAtEnd after → Takes b (lines_of pending) c → Appends c.held written (counts_text c.counts)
     → IfSome given (λ input. (text : List ℕ) × Appends old written text × IsReplay a.scene.state input text c.counts c.scene.state)

@@ -9,7 +9,7 @@ use Rattle.vt_can.specs.lines.Actions.{ActionValue}
 use Rattle.vt_can.specs.lines.Readings.{FrameAt, OperatorAction}
 use Rattle.vt_logs.specs.Begun.{Begins, BreaksOff, IsFrontOfPrint}
 use Rattle.vt_logs.specs.Progress.{Writes}
-use Rattle.vt_logs.specs.Taken.{Scene, Follows, FollowsEvent, IsEventOfLine, TakesInputLine, TakesReading, input_line}
+use Rattle.vt_logs.specs.Taken.{ReplayState, Follows, FollowsInput, IsInputOfLine, TakesInputLine, TakesReading, input_line}
 use Rattle.vt_logs.specs.Texts.{fault_text, new_screen, output_text}
 use Rattle.vt_logs.proofs.Begun.{begins_later, begins_more}
 use Rattle.vt_server.specs.Findings.{IsEventOf}
@@ -17,7 +17,7 @@ use Rattle.vt_server.specs.Outputs.{outputs_of}
 use Rattle.vt_server.specs.Screens.{IsScreenOf}
 use Rattle.vt_server.specs.States.{TakesInput}
 use Rattle.vt_server.specs.Steps as steps
-use Rattle.vt_server.specs.Steps.{Event, step}
+use Rattle.vt_server.specs.Steps.{JudgedInput, step}
 use Rattle.vt_server.specs.Terminals.{State}
 use Rattle.vt_server.specs.declared.input.Input.{Input}
 use Rattle.vt_server.specs.declared.input.Input.TheVariants as inputs
@@ -25,14 +25,14 @@ use Rattle.vt_server.specs.declared.output.Output.{Output}
 
 -- ---- inputs
 
-event_of_line : (input : Input) (event : Event) → IsEventOf input event → IsEventOfLine (input_line input) event
+event_of_line : (input : Input) (event : JudgedInput) → IsEventOf input event → IsInputOfLine (input_line input) event
 event_of_line (inputs.Frame time frame) (steps.FrameAt at heard verdict) is = is
 event_of_line (inputs.Frame time frame) (steps.ActionAt action shown) is = absurd is
 event_of_line (inputs.Operator action) (steps.FrameAt at heard verdict) is = absurd is
 event_of_line (inputs.Operator action) (steps.ActionAt action_taken shown) is = is
 
 -- The terminal took it: this is what its line prints.
-pub input_prints : (a b : Scene) (input : Input) (before after : List Output) → before ≡ [] → TakesInput a.state input b.state before after → IsScreenOf b.state b.screen
+pub input_prints : (a b : ReplayState) (input : Input) (before after : List Output) → before ≡ [] → TakesInput a.state input b.state before after → IsScreenOf b.state b.screen
     → TakesInputLine a (input_line input) b (flat_map output_text after ++ new_screen a.screen b.screen)
 input_prints a b input before after none taken drawn =
     let sends : after ≡ outputs_of (step a.state taken.event).sent =
@@ -48,7 +48,7 @@ input_prints a b input before after none taken drawn =
     }
 
 -- What it sent was written, and its screen, where that is new.
-pub input_taken : (a b : Scene) (input : Input) (after : List Output) (old mid new : Option (List ℕ))
+pub input_taken : (a b : ReplayState) (input : Input) (after : List Output) (old mid new : Option (List ℕ))
     → TakesInputLine a (input_line input) b (flat_map output_text after ++ new_screen a.screen b.screen) → Appends old mid (flat_map output_text after)
     → Appends mid new (new_screen a.screen b.screen) → Writes (TakesInputLine a (input_line input) b) old new
 input_taken a b input after old mid new prints sent shown = record {
@@ -60,13 +60,13 @@ input_taken a b input after old mid new prints sent shown = record {
 -- ---- where that is not done, or not written whole
 
 -- The terminal did not take it.
-pub input_refused : (a : Scene) (t : State) (input : Input) (held : Option (List ℕ)) → t ≡ a.state
-    → Writes (BreaksOff a.state (FollowsEvent a.state (input_line input)) (TakesInputLine a (input_line input)) t) held held
+pub input_refused : (a : ReplayState) (t : State) (input : Input) (held : Option (List ℕ)) → t ≡ a.state
+    → Writes (BreaksOff a.state (FollowsInput a.state (input_line input)) (TakesInputLine a (input_line input)) t) held held
 input_refused a t input held same = record { text = []; text_is = inl (same, refl); written = Appends-nil held }
 
 -- The terminal took it, and nothing is printed.
-pub input_unprinted : (a : Scene) (t : State) (input : Input) (before after : List Output) (held : Option (List ℕ)) → TakesInput a.state input t before after
-    → Writes (BreaksOff a.state (FollowsEvent a.state (input_line input)) (TakesInputLine a (input_line input)) t) held held
+pub input_unprinted : (a : ReplayState) (t : State) (input : Input) (before after : List Output) (held : Option (List ℕ)) → TakesInput a.state input t before after
+    → Writes (BreaksOff a.state (FollowsInput a.state (input_line input)) (TakesInputLine a (input_line input)) t) held held
 input_unprinted a t input before after held taken = record {
   text = [];
   text_is = inr (record {
@@ -77,8 +77,8 @@ input_unprinted a t input before after held taken = record {
 }
 
 -- The terminal took it, and what it prints is begun.
-input_begun : (a b : Scene) (input : Input) (text : List ℕ) (old new : Option (List ℕ)) → TakesInputLine a (input_line input) b text → Begins old new text
-    → Writes (BreaksOff a.state (FollowsEvent a.state (input_line input)) (TakesInputLine a (input_line input)) b.state) old new
+input_begun : (a b : ReplayState) (input : Input) (text : List ℕ) (old new : Option (List ℕ)) → TakesInputLine a (input_line input) b text → Begins old new text
+    → Writes (BreaksOff a.state (FollowsInput a.state (input_line input)) (TakesInputLine a (input_line input)) b.state) old new
 input_begun a b input text old new prints begun = record {
   text = begun.front;
   text_is = inr (record {
@@ -88,25 +88,25 @@ input_begun a b input text old new prints begun = record {
   written = begun.written;
 }
 
-pub sent_begun : (a b : Scene) (input : Input) (after : List Output) (old new : Option (List ℕ))
+pub sent_begun : (a b : ReplayState) (input : Input) (after : List Output) (old new : Option (List ℕ))
     → TakesInputLine a (input_line input) b (flat_map output_text after ++ new_screen a.screen b.screen) → Begins old new (flat_map output_text after)
-    → Writes (BreaksOff a.state (FollowsEvent a.state (input_line input)) (TakesInputLine a (input_line input)) b.state) old new
+    → Writes (BreaksOff a.state (FollowsInput a.state (input_line input)) (TakesInputLine a (input_line input)) b.state) old new
 sent_begun a b input after old new prints sent =
     input_begun a b input (flat_map output_text after ++ new_screen a.screen b.screen) old new prints
     (begins_more old new (flat_map output_text after) (new_screen a.screen b.screen) sent)
 
-pub shown_begun : (a b : Scene) (input : Input) (after : List Output) (old mid new : Option (List ℕ))
+pub shown_begun : (a b : ReplayState) (input : Input) (after : List Output) (old mid new : Option (List ℕ))
     → TakesInputLine a (input_line input) b (flat_map output_text after ++ new_screen a.screen b.screen) → new_screen a.screen b.screen ≡ b.screen
     → Appends old mid (flat_map output_text after) → Begins mid new b.screen
-    → Writes (BreaksOff a.state (FollowsEvent a.state (input_line input)) (TakesInputLine a (input_line input)) b.state) old new
+    → Writes (BreaksOff a.state (FollowsInput a.state (input_line input)) (TakesInputLine a (input_line input)) b.state) old new
 shown_begun a b input after old mid new prints is_new sent shown =
     input_begun a b input (flat_map output_text after ++ new_screen a.screen b.screen) old new prints
     (begins_later old mid new (flat_map output_text after) (new_screen a.screen b.screen) sent (subst (Begins mid new) (sym is_new) shown))
 
 -- ---- where a line says it
 
-breaks_as : (Does Follow : State → Type 0) (Takes Read : Scene → List ℕ → Type 0) (from now : State) (text : List ℕ) → ((t : State) → Does t → Follow t)
-    → ((to : Scene) (print : List ℕ) → Takes to print → Read to print) → BreaksOff from Does Takes now text → BreaksOff from Follow Read now text
+breaks_as : (Does Follow : State → Type 0) (Takes Read : ReplayState → List ℕ → Type 0) (from now : State) (text : List ℕ) → ((t : State) → Does t → Follow t)
+    → ((to : ReplayState) (print : List ℕ) → Takes to print → Read to print) → BreaksOff from Does Takes now text → BreaksOff from Follow Read now text
 breaks_as Does Follow Takes Read from now text does takes (inl none) = inl none
 breaks_as Does Follow Takes Read from now text does takes (inr part) = inr (record { done = does now part.done; printed = front part.printed })
   where
@@ -114,29 +114,29 @@ breaks_as Does Follow Takes Read from now text does takes (inr part) = inr (reco
     front (inl none) = inl none
     front (inr p) = inr (record { to = p.to; text = p.text; rest = p.rest; takes = takes p.to p.text p.takes; now_is = p.now_is; parts = p.parts })
 
-pub frame_off : (s : Scene) (n time : ℕ) (frame : Frame) (t : State) (old new : Option (List ℕ))
-    → Writes (BreaksOff s.state (FollowsEvent s.state (FrameAt time frame)) (TakesInputLine s (FrameAt time frame)) t) old new
+pub frame_off : (s : ReplayState) (n time : ℕ) (frame : Frame) (t : State) (old new : Option (List ℕ))
+    → Writes (BreaksOff s.state (FollowsInput s.state (FrameAt time frame)) (TakesInputLine s (FrameAt time frame)) t) old new
     → Writes (BreaksOff s.state (Follows s.state (Ok (FrameAt time frame))) (TakesReading s n (Ok (FrameAt time frame))) t) old new
 frame_off s n time frame t old new w = record {
   text = w.text;
-  text_is = breaks_as (FollowsEvent s.state (FrameAt time frame)) (Follows s.state (Ok (FrameAt time frame))) (TakesInputLine s (FrameAt time frame))
+  text_is = breaks_as (FollowsInput s.state (FrameAt time frame)) (Follows s.state (Ok (FrameAt time frame))) (TakesInputLine s (FrameAt time frame))
       (TakesReading s n (Ok (FrameAt time frame))) s.state t w.text (λ to p. p) (λ to print p. p) w.text_is;
   written = w.written;
 }
 
-pub action_off : (s : Scene) (n : ℕ) (action : ActionValue) (t : State) (old new : Option (List ℕ))
-    → Writes (BreaksOff s.state (FollowsEvent s.state (OperatorAction action)) (TakesInputLine s (OperatorAction action)) t) old new
+pub action_off : (s : ReplayState) (n : ℕ) (action : ActionValue) (t : State) (old new : Option (List ℕ))
+    → Writes (BreaksOff s.state (FollowsInput s.state (OperatorAction action)) (TakesInputLine s (OperatorAction action)) t) old new
     → Writes (BreaksOff s.state (Follows s.state (Ok (OperatorAction action))) (TakesReading s n (Ok (OperatorAction action))) t) old new
 action_off s n action t old new w = record {
   text = w.text;
-  text_is = breaks_as (FollowsEvent s.state (OperatorAction action)) (Follows s.state (Ok (OperatorAction action))) (TakesInputLine s (OperatorAction action))
+  text_is = breaks_as (FollowsInput s.state (OperatorAction action)) (Follows s.state (Ok (OperatorAction action))) (TakesInputLine s (OperatorAction action))
       (TakesReading s n (Ok (OperatorAction action))) s.state t w.text (λ to p. p) (λ to print p. p) w.text_is;
   written = w.written;
 }
 
 -- ---- a faulty line
 
-pub fault_begun : (s : Scene) (n : ℕ) (fault : LineFault) (old new : Option (List ℕ)) → Begins old new (fault_text n fault)
+pub fault_begun : (s : ReplayState) (n : ℕ) (fault : LineFault) (old new : Option (List ℕ)) → Begins old new (fault_text n fault)
     → Writes (BreaksOff s.state (Follows s.state (Err fault)) (TakesReading s n (Err fault)) s.state) old new
 fault_begun s n fault old new begun = record {
   text = begun.front;

@@ -9,9 +9,9 @@ use Rattle.vt_can.specs.lines.Line.{Reads}
 use Rattle.vt_can.specs.lines.Readings.{FrameAt, OperatorAction, SkippedFrame, CommentLine}
 use Rattle.vt_logs.specs.declared.counts.Counts.{Counts}
 use Rattle.vt_logs.specs.Lines.{lines_of}
-use Rattle.vt_logs.specs.Taken.{Scene, TakesReading, TakesReadings}
-use Rattle.vt_logs.specs.Texts.{Reading, with_line, with_lines}
-use Rattle.vt_logs.specs.Progress.{AtMost, Stand, Takes, TakesOne, HasNoNewline, TakesBytes}
+use Rattle.vt_logs.specs.Taken.{ReplayState, TakesReading, TakesReadings}
+use Rattle.vt_logs.specs.Texts.{LineReading, with_line, with_lines}
+use Rattle.vt_logs.specs.Progress.{AtMost, ReplayPoint, Takes, TakesOne, HasNoNewline, TakesBytes}
 use Rattle.vt_server.specs.Screens.{IsScreenOf}
 
 -- ---- readings, one list after another
@@ -26,18 +26,18 @@ pub All-joined : {A : Type 0} (P : A → Type 0) (xs bs : List A) → AllByRecur
 All-joined P [] bs p q = q
 All-joined P (a ∷ xs) bs p q = (p.0, All-joined P xs bs p.1 q)
 
-with_lines-append : (c : Counts) (rs qs : List Reading) → with_lines c (rs ++ qs) ≡ with_lines (with_lines c rs) qs
+with_lines-append : (c : Counts) (rs qs : List LineReading) → with_lines c (rs ++ qs) ≡ with_lines (with_lines c rs) qs
 with_lines-append c [] qs = refl
 with_lines-append c (r ∷ rs) qs = with_lines-append (with_line c r) rs qs
 
-with_line-lines : (c : Counts) (r : Reading) → (with_line c r).lines ≡ c.lines + 1
+with_line-lines : (c : Counts) (r : LineReading) → (with_line c r).lines ≡ c.lines + 1
 with_line-lines c (Ok (FrameAt time frame)) = refl
 with_line-lines c (Ok (OperatorAction action)) = refl
 with_line-lines c (Ok (SkippedFrame why)) = refl
 with_line-lines c (Ok CommentLine) = refl
 with_line-lines c (Err fault) = refl
 
-with_lines-lines : (c : Counts) (rs : List Reading) → (with_lines c rs).lines ≡ c.lines + length rs
+with_lines-lines : (c : Counts) (rs : List LineReading) → (with_lines c rs).lines ≡ c.lines + length rs
 with_lines-lines c [] = omega arith
 with_lines-lines c (r ∷ rs) =
     let rest = with_lines-lines (with_line c r) rs in
@@ -45,11 +45,11 @@ with_lines-lines c (r ∷ rs) =
     omega arith
 
 -- the next line is line n + 1, after n others
-pub readings-append : (a b c : Scene) (n m : ℕ) (rs qs : List Reading) (t u : List ℕ) → TakesReadings a n rs b t → m ≡ n + length rs → TakesReadings b m qs c u
+pub readings-append : (a b c : ReplayState) (n m : ℕ) (rs qs : List LineReading) (t u : List ℕ) → TakesReadings a n rs b t → m ≡ n + length rs → TakesReadings b m qs c u
     → TakesReadings a n (rs ++ qs) c (t ++ u)
 readings-append a b c n m [] qs t u p place q =
     let here : m ≡ n = place ∙ add-zero n in
-    let from : TakesReadings a m qs c u = subst (λ (s : Scene). TakesReadings s m qs c u) p.0 q in
+    let from : TakesReadings a m qs c u = subst (λ (s : ReplayState). TakesReadings s m qs c u) p.0 q in
     subst (λ (text : List ℕ). TakesReadings a n qs c (text ++ u)) (sym p.1) (subst (λ (k : ℕ). TakesReadings a k qs c u) here from)
 readings-append a b c n m (r ∷ rs) qs t u p place q = record {
   middle = p.middle;
@@ -62,27 +62,27 @@ readings-append a b c n m (r ∷ rs) qs t u p place q = record {
 
 -- ---- the screen that was printed last is the terminal's
 
-reading_drawn : (a b : Scene) (n : ℕ) (r : Reading) (t : List ℕ) → TakesReading a n r b t → IsScreenOf a.state a.screen → IsScreenOf b.state b.screen
+reading_drawn : (a b : ReplayState) (n : ℕ) (r : LineReading) (t : List ℕ) → TakesReading a n r b t → IsScreenOf a.state a.screen → IsScreenOf b.state b.screen
 reading_drawn a b n (Ok (FrameAt time frame)) t p drawn = p.takes.screen
 reading_drawn a b n (Ok (OperatorAction action)) t p drawn = p.takes.screen
-reading_drawn a b n (Ok (SkippedFrame why)) t p drawn = subst (λ (s : Scene). IsScreenOf s.state s.screen) (sym p.0) drawn
-reading_drawn a b n (Ok CommentLine) t p drawn = subst (λ (s : Scene). IsScreenOf s.state s.screen) (sym p.0) drawn
-reading_drawn a b n (Err fault) t p drawn = subst (λ (s : Scene). IsScreenOf s.state s.screen) (sym p.0) drawn
+reading_drawn a b n (Ok (SkippedFrame why)) t p drawn = subst (λ (s : ReplayState). IsScreenOf s.state s.screen) (sym p.0) drawn
+reading_drawn a b n (Ok CommentLine) t p drawn = subst (λ (s : ReplayState). IsScreenOf s.state s.screen) (sym p.0) drawn
+reading_drawn a b n (Err fault) t p drawn = subst (λ (s : ReplayState). IsScreenOf s.state s.screen) (sym p.0) drawn
 
-readings_drawn : (a b : Scene) (n : ℕ) (rs : List Reading) (t : List ℕ) → TakesReadings a n rs b t → IsScreenOf a.state a.screen → IsScreenOf b.state b.screen
-readings_drawn a b n [] t p drawn = subst (λ (s : Scene). IsScreenOf s.state s.screen) (sym p.0) drawn
+readings_drawn : (a b : ReplayState) (n : ℕ) (rs : List LineReading) (t : List ℕ) → TakesReadings a n rs b t → IsScreenOf a.state a.screen → IsScreenOf b.state b.screen
+readings_drawn a b n [] t p drawn = subst (λ (s : ReplayState). IsScreenOf s.state s.screen) (sym p.0) drawn
 readings_drawn a b n (r ∷ rs) t p drawn =
     readings_drawn p.middle b (n + 1) rs p.rest p.next (reading_drawn a p.middle (n + 1) r p.first p.takes drawn)
 
-pub takes_drawn : (a b : Stand) (lines : List (List ℕ)) → Takes a lines b → IsScreenOf a.scene.state a.scene.screen → IsScreenOf b.scene.state b.scene.screen
+pub takes_drawn : (a b : ReplayPoint) (lines : List (List ℕ)) → Takes a lines b → IsScreenOf a.scene.state a.scene.screen → IsScreenOf b.scene.state b.scene.screen
 takes_drawn a b lines p drawn = readings_drawn a.scene b.scene a.counts.lines p.readings p.printed p.takes drawn
 
 -- ---- lines taken
 
-pub takes_none : (a : Stand) → Takes a [] a
+pub takes_none : (a : ReplayPoint) → Takes a [] a
 takes_none a = record { readings = []; read = tt; short = tt; printed = []; takes = (refl, refl); counts = refl; text = Appends-nil a.held }
 
-pub takes_one : (a b : Stand) (line : List ℕ) (r : Reading) → Reads line r → length line ≤ 4096 → TakesOne a r b → Takes a (line ∷ []) b
+pub takes_one : (a b : ReplayPoint) (line : List ℕ) (r : LineReading) → Reads line r → length line ≤ 4096 → TakesOne a r b → Takes a (line ∷ []) b
 takes_one a b line r reads short one = record {
   readings = r ∷ [];
   read = (reads, tt);
@@ -94,10 +94,10 @@ takes_one a b line r reads short one = record {
 }
 
 -- the lines taken are counted
-pub takes-lines : (a b : Stand) (lines : List (List ℕ)) (takes : Takes a lines b) → b.counts.lines ≡ a.counts.lines + length takes.readings
+pub takes-lines : (a b : ReplayPoint) (lines : List (List ℕ)) (takes : Takes a lines b) → b.counts.lines ≡ a.counts.lines + length takes.readings
 takes-lines a b lines takes = ap (λ (k : Counts). k.lines) takes.counts ∙ with_lines-lines a.counts takes.readings
 
-pub takes_more : (a b c : Stand) (xs ys : List (List ℕ)) → Takes a xs b → Takes b ys c → Takes a (xs ++ ys) c
+pub takes_more : (a b c : ReplayPoint) (xs ys : List (List ℕ)) → Takes a xs b → Takes b ys c → Takes a (xs ++ ys) c
 takes_more a b c xs ys p q =
     let n = takes-lines a b xs p in record {
       readings = p.readings ++ q.readings;
@@ -137,11 +137,11 @@ lines_of-last (x ∷ y ∷ ys) lacks some =
 pub HasNoNewline-append : (xs ys : List ℕ) → HasNoNewline xs → HasNoNewline ys → HasNoNewline (xs ++ ys)
 HasNoNewline-append xs ys p q = All-append (λ byte. not (eqb byte 10) ≡ true) xs ys p q
 
-pub bytes_none : (a : Stand) (pending : List ℕ) → TakesBytes a pending [] a pending
+pub bytes_none : (a : ReplayPoint) (pending : List ℕ) → TakesBytes a pending [] a pending
 bytes_none a pending = record { lines = []; takes = takes_none a; few = omega arith; split = λ rest. ap (λ (t : List ℕ). lines_of (t ++ rest)) (append-nil pending) }
 
 -- a part of a line is kept
-pub bytes_kept : (a b : Stand) (before bytes pending part : List ℕ) → TakesBytes a before bytes b pending → TakesBytes a before (bytes ++ part) b (pending ++ part)
+pub bytes_kept : (a b : ReplayPoint) (before bytes pending part : List ℕ) → TakesBytes a before bytes b pending → TakesBytes a before (bytes ++ part) b (pending ++ part)
 bytes_kept a b before bytes pending part so_far = record {
   lines = so_far.lines;
   takes = so_far.takes;
@@ -152,7 +152,7 @@ bytes_kept a b before bytes pending part so_far = record {
 }
 
 -- a line ends
-pub bytes_line : (a b c : Stand) (before bytes pending part : List ℕ) → TakesBytes a before bytes b pending → HasNoNewline (pending ++ part) → Takes b ((pending ++ part) ∷ []) c
+pub bytes_line : (a b c : ReplayPoint) (before bytes pending part : List ℕ) → TakesBytes a before bytes b pending → HasNoNewline (pending ++ part) → Takes b ((pending ++ part) ∷ []) c
     → TakesBytes a before (bytes ++ (part ++ 10 ∷ [])) c []
 bytes_line a b c before bytes pending part so_far lacks one = record {
   lines = so_far.lines ++ (pending ++ part) ∷ [];
@@ -167,7 +167,7 @@ bytes_line a b c before bytes pending part so_far lacks one = record {
 }
 
 -- one piece after another
-pub bytes_more : (a b c : Stand) (before xs pending ys left : List ℕ) → TakesBytes a before xs b pending → TakesBytes b pending ys c left → TakesBytes a before (xs ++ ys) c left
+pub bytes_more : (a b c : ReplayPoint) (before xs pending ys left : List ℕ) → TakesBytes a before xs b pending → TakesBytes b pending ys c left → TakesBytes a before (xs ++ ys) c left
 bytes_more a b c before xs pending ys left p q = record {
   lines = p.lines ++ q.lines;
   takes = takes_more a b c p.lines q.lines p.takes q.takes;
@@ -182,14 +182,14 @@ bytes_more a b c before xs pending ys left p q = record {
 
 -- ---- how high the counts are
 
-AtMost-line : (n : ℕ) (c : Counts) (r : Reading) → AtMost n c → AtMost (n + 1) (with_line c r)
+AtMost-line : (n : ℕ) (c : Counts) (r : LineReading) → AtMost n c → AtMost (n + 1) (with_line c r)
 AtMost-line n c (Ok (FrameAt time frame)) most = record { lines = omega (arith, most.lines); frames = omega (arith, most.frames); operator = omega (arith, most.operator); skipped = omega (arith, most.skipped); comments = omega (arith, most.comments); faults = omega (arith, most.faults) }
 AtMost-line n c (Ok (OperatorAction action)) most = record { lines = omega (arith, most.lines); frames = omega (arith, most.frames); operator = omega (arith, most.operator); skipped = omega (arith, most.skipped); comments = omega (arith, most.comments); faults = omega (arith, most.faults) }
 AtMost-line n c (Ok (SkippedFrame why)) most = record { lines = omega (arith, most.lines); frames = omega (arith, most.frames); operator = omega (arith, most.operator); skipped = omega (arith, most.skipped); comments = omega (arith, most.comments); faults = omega (arith, most.faults) }
 AtMost-line n c (Ok CommentLine) most = record { lines = omega (arith, most.lines); frames = omega (arith, most.frames); operator = omega (arith, most.operator); skipped = omega (arith, most.skipped); comments = omega (arith, most.comments); faults = omega (arith, most.faults) }
 AtMost-line n c (Err fault) most = record { lines = omega (arith, most.lines); frames = omega (arith, most.frames); operator = omega (arith, most.operator); skipped = omega (arith, most.skipped); comments = omega (arith, most.comments); faults = omega (arith, most.faults) }
 
-AtMost-lines : (n : ℕ) (c : Counts) (rs : List Reading) → AtMost n c → AtMost (n + length rs) (with_lines c rs)
+AtMost-lines : (n : ℕ) (c : Counts) (rs : List LineReading) → AtMost n c → AtMost (n + length rs) (with_lines c rs)
 AtMost-lines n c [] most = subst (λ (k : ℕ). AtMost k c) (sym (add-zero n)) most
 AtMost-lines n c (r ∷ rs) most =
     let place : n + 1 + length rs ≡ n + suc (length rs) = omega arith in
@@ -204,12 +204,12 @@ length-zip R [] (b ∷ bs) p = absurd p
 length-zip R (a ∷ xs) [] p = absurd p
 length-zip R (a ∷ xs) (b ∷ bs) p = ap suc (length-zip R xs bs p.1)
 
-pub takes-AtMost : (n : ℕ) (a b : Stand) (ls : List (List ℕ)) → Takes a ls b → AtMost n a.counts → AtMost (n + length ls) b.counts
+pub takes-AtMost : (n : ℕ) (a b : ReplayPoint) (ls : List (List ℕ)) → Takes a ls b → AtMost n a.counts → AtMost (n + length ls) b.counts
 takes-AtMost n a b ls takes most =
     subst (AtMost (n + length ls)) (sym takes.counts)
     (subst (λ (k : ℕ). AtMost (n + k) (with_lines a.counts takes.readings)) (sym (length-zip Reads ls takes.readings takes.read)) (AtMost-lines n a.counts takes.readings most))
 
 -- no more lines were taken than there were bytes
-pub bytes-AtMost : (n k : ℕ) (a b : Stand) (before bytes pending : List ℕ) → TakesBytes a before bytes b pending → AtMost n a.counts → length bytes ≤ k → AtMost (n + k) b.counts
+pub bytes-AtMost : (n k : ℕ) (a b : ReplayPoint) (before bytes pending : List ℕ) → TakesBytes a before bytes b pending → AtMost n a.counts → length bytes ≤ k → AtMost (n + k) b.counts
 bytes-AtMost n k a b before bytes pending so_far most le =
     AtMost-more (n + length so_far.lines) (n + k) b.counts (omega (arith, so_far.few)) (takes-AtMost n a b so_far.lines so_far.takes most)

@@ -4,10 +4,10 @@ use Rattle.std.specs.List.{AllZip, AllByRecursion}
 use Rattle.std.specs.Io.KnownBytes.{Appends, Keeps}
 use Rattle.vt_can.specs.lines.Line.{Reads}
 use Rattle.vt_logs.specs.Lines.{lines_of}
-use Rattle.vt_logs.specs.Progress.{Stand, Takes}
+use Rattle.vt_logs.specs.Progress.{ReplayPoint, Takes}
 use Rattle.vt_logs.specs.Replays.{HasLong, HasLongLine}
-use Rattle.vt_logs.specs.Taken.{Scene, Follows, TakesReading, TakesReadings}
-use Rattle.vt_logs.specs.Texts.{Reading, with_lines, no_counts, counts_text}
+use Rattle.vt_logs.specs.Taken.{ReplayState, Follows, TakesReading, TakesReadings}
+use Rattle.vt_logs.specs.Texts.{LineReading, with_lines, no_counts, counts_text}
 use Rattle.vt_server.specs.Screens.{IsScreenOf}
 use Rattle.vt_server.specs.Terminals.{State}
 
@@ -25,8 +25,8 @@ MayBegin Is old new = Keeps old new ⊎ ((text : List ℕ) × Is text × Begins 
 -- ---- a line
 
 -- the first bytes of what is printed on the way to this state
-pub record IsFrontOfPrint (Takes : Scene → List ℕ → Type 0) (now : State) (front : List ℕ) : Type 0 where
-  pub to : Scene
+pub record IsFrontOfPrint (Takes : ReplayState → List ℕ → Type 0) (now : State) (front : List ℕ) : Type 0 where
+  pub to : ReplayState
   pub text : List ℕ
   pub rest : List ℕ
   pub takes : Takes to text
@@ -34,35 +34,35 @@ pub record IsFrontOfPrint (Takes : Scene → List ℕ → Type 0) (now : State) 
   pub parts : text ≡ front ++ rest
 
 -- The terminal has taken what a line says, and of what is printed for it nothing is written, or the first bytes.
-pub record TakesInPart (Does : State → Type 0) (Takes : Scene → List ℕ → Type 0) (now : State) (text : List ℕ) : Type 0 where
+pub record TakesInPart (Does : State → Type 0) (Takes : ReplayState → List ℕ → Type 0) (now : State) (text : List ℕ) : Type 0 where
   pub done : Does now
   pub printed : (text ≡ []) ⊎ IsFrontOfPrint Takes now text
 
 -- The terminal has not taken it, and nothing is written; or it has taken it in part.
-abbrev pub BreaksOff : State → (State → Type 0) → (Scene → List ℕ → Type 0) → State → List ℕ → Type 0
+abbrev pub BreaksOff : State → (State → Type 0) → (ReplayState → List ℕ → Type 0) → State → List ℕ → Type 0
 BreaksOff from Does Takes now text = ((now ≡ from) × (text ≡ [])) ⊎ TakesInPart Does Takes now text
 
 -- ---- lines
 
 -- The first of these lines, line n, is taken in part.
-pub record TakesNextInPart (from : Scene) (n : ℕ) (lines : List (List ℕ)) (now : State) (text : List ℕ) : Type 0 where
+pub record TakesNextInPart (from : ReplayState) (n : ℕ) (lines : List (List ℕ)) (now : State) (text : List ℕ) : Type 0 where
   pub line : List ℕ
   pub after : List (List ℕ)
-  pub reading : Reading
+  pub reading : LineReading
   pub next : lines ≡ line ∷ after
   pub read : Reads line reading
   pub short : length line ≤ 4096
   pub part : TakesInPart (Follows from.state reading) (TakesReading from n reading) now text
 
 -- None of these lines is taken, and nothing is written; or the first of them is taken in part.
-abbrev pub LeavesLines : Scene → ℕ → List (List ℕ) → State → List ℕ → Type 0
+abbrev pub LeavesLines : ReplayState → ℕ → List (List ℕ) → State → List ℕ → Type 0
 LeavesLines from n lines now text = ((now ≡ from.state) × (text ≡ [])) ⊎ TakesNextInPart from n lines now text
 
 -- Not all of these lines are taken: the first of them are, and what they print is written; and one more at most, in part.
-pub record Stops (from : Stand) (lines : List (List ℕ)) (now : State) (held : Option (List ℕ)) : Type 0 where
+pub record Stops (from : ReplayPoint) (lines : List (List ℕ)) (now : State) (held : Option (List ℕ)) : Type 0 where
   pub front : List (List ℕ)
   pub back : List (List ℕ)
-  pub to : Stand
+  pub to : ReplayPoint
   pub text : List ℕ
   pub whole : lines ≡ front ++ back
   pub takes : Takes from front to
@@ -70,9 +70,9 @@ pub record Stops (from : Stand) (lines : List (List ℕ)) (now : State) (held : 
   pub written : Appends to.held held text
 
 -- The lines before the first that is longer than 4,096 bytes are taken, and what they print is written.
-pub record StopsAtLong (from : Stand) (lines : List (List ℕ)) (state : State) (held : Option (List ℕ)) : Type 0 where
+pub record StopsAtLong (from : ReplayPoint) (lines : List (List ℕ)) (state : State) (held : Option (List ℕ)) : Type 0 where
   pub long : HasLong lines
-  pub to : Stand
+  pub to : ReplayPoint
   pub takes : Takes from long.before to
   pub state_is : state ≡ to.scene.state
   pub held_is : held ≡ to.held
@@ -80,7 +80,7 @@ pub record StopsAtLong (from : Stand) (lines : List (List ℕ)) (state : State) 
 -- ---- a replay
 
 -- No line is left, and of the counts the first bytes are written.
-pub record BeginsCounts (last : Scene) (readings : List Reading) (lines : List (List ℕ)) (now : State) (text : List ℕ) : Type 0 where
+pub record BeginsCounts (last : ReplayState) (readings : List LineReading) (lines : List (List ℕ)) (now : State) (text : List ℕ) : Type 0 where
   pub none_left : lines ≡ []
   pub now_is : now ≡ last.state
   pub rest : List ℕ
@@ -92,9 +92,9 @@ pub record BeginsCounts (last : Scene) (readings : List Reading) (lines : List (
 pub record StopsInLines (start : State) (input : List ℕ) (now : State) (old new : Option (List ℕ)) : Type 0 where
   pub front : List (List ℕ)
   pub back : List (List ℕ)
-  pub readings : List Reading
-  pub first : Scene
-  pub last : Scene
+  pub readings : List LineReading
+  pub first : ReplayState
+  pub last : ReplayState
   pub printed : List ℕ
   pub text : List ℕ
   pub whole : lines_of input ≡ front ++ back
@@ -115,11 +115,11 @@ HasStopped start input now old new = ((now ≡ start) × MayBegin (IsScreenOf st
 -- written are the first screen and what they print.
 pub record HasStoppedAtLong (start : State) (input : List ℕ) (now : State) (old new : Option (List ℕ)) : Type 0 where
   pub long : HasLongLine input
-  pub readings : List Reading
+  pub readings : List LineReading
   pub read : AllZip Reads long.before readings
   pub short : AllByRecursion (λ line. length line ≤ 4096) long.before
-  pub first : Scene
-  pub last : Scene
+  pub first : ReplayState
+  pub last : ReplayState
   pub printed : List ℕ
   pub starts : first.state ≡ start
   pub shown : IsScreenOf start first.screen

@@ -7,8 +7,8 @@ use Rattle.vt_logs.specs.declared.counts.Counts.{Counts}
 use Rattle.vt_logs.specs.declared.fault.ReplayFault.{ReplayFault}
 use Rattle.vt_logs.specs.declared.fault.ReplayFault.TheVariants.{Memory, TooLong, Write}
 use Rattle.vt_logs.specs.Lines.{lines_of}
-use Rattle.vt_logs.specs.Taken.{Scene, TakesReading, TakesReadings}
-use Rattle.vt_logs.specs.Texts.{Reading, with_line, with_lines}
+use Rattle.vt_logs.specs.Taken.{ReplayState, TakesReading, TakesReadings}
+use Rattle.vt_logs.specs.Texts.{LineReading, with_line, with_lines}
 use Rattle.vt_server.specs.declared.terminal.Terminal.{Terminal}
 use Rattle.vt_server.specs.States.{state_of}
 
@@ -22,15 +22,15 @@ pub record AtMost (most : ℕ) (c : Counts) : Type 0 where
   pub faults : c.faults ≤ most
 
 -- where a replay stands: the terminal with the screen that was printed last, the counts, and what the writer holds
-pub record Stand : Type 0 where
-  pub scene : Scene
+pub record ReplayPoint : Type 0 where
+  pub scene : ReplayState
   pub counts : Counts
   pub held : Option (List ℕ)
 
-abbrev pub scene : Terminal → List ℕ → Scene
+abbrev pub scene : Terminal → List ℕ → ReplayState
 scene terminal screen = record { state = state_of terminal; screen = screen }
 
-abbrev pub stand : Terminal → List ℕ → Counts → Option (List ℕ) → Stand
+abbrev pub stand : Terminal → List ℕ → Counts → Option (List ℕ) → ReplayPoint
 stand terminal screen counts held = record { scene = scene terminal screen; counts = counts; held = held }
 
 -- A text of this kind is written.
@@ -40,15 +40,15 @@ pub record Writes (Is : List ℕ → Type 0) (old new : Option (List ℕ)) : Typ
   pub written : Appends old new text
 
 -- a line is taken, as it was read
-pub record TakesOne (from : Stand) (reading : Reading) (to : Stand) : Type 0 where
+pub record TakesOne (from : ReplayPoint) (reading : LineReading) (to : ReplayPoint) : Type 0 where
   pub printed : List ℕ
   pub takes : TakesReading from.scene (from.counts.lines + 1) reading to.scene printed
   pub counts : to.counts ≡ with_line from.counts reading
   pub text : Appends from.held to.held printed
 
 -- the lines are taken one after the other
-pub record Takes (from : Stand) (lines : List (List ℕ)) (to : Stand) : Type 0 where
-  pub readings : List Reading
+pub record Takes (from : ReplayPoint) (lines : List (List ℕ)) (to : ReplayPoint) : Type 0 where
+  pub readings : List LineReading
   pub read : AllZip Reads lines readings
   pub short : AllByRecursion (λ line. length line ≤ 4096) lines
   pub printed : List ℕ
@@ -69,7 +69,7 @@ HasNoNewline text = AllPass (λ byte. not (byte == 10)) text
 
 -- Some bytes are taken after those that were pending: their whole lines, no more than there are bytes, and
 -- the rest is pending.
-pub record TakesBytes (from : Stand) (before bytes : List ℕ) (to : Stand) (pending : List ℕ) : Type 0 where
+pub record TakesBytes (from : ReplayPoint) (before bytes : List ℕ) (to : ReplayPoint) (pending : List ℕ) : Type 0 where
   pub lines : List (List ℕ)
   pub takes : Takes from lines to
   pub few : length lines ≤ length bytes

@@ -4,19 +4,19 @@ use Rattle.std.specs.List.{AllZip, AllByRecursion}
 use Rattle.vt_can.specs.lines.Line.{Reads}
 use Rattle.vt_logs.specs.declared.counts.Counts.{Counts}
 use Rattle.vt_logs.specs.Lines.{lines_of}
-use Rattle.vt_logs.specs.Taken.{Scene, TakesReadings}
-use Rattle.vt_logs.specs.Texts.{Reading, with_lines, no_counts, counts_text}
+use Rattle.vt_logs.specs.Taken.{ReplayState, TakesReadings}
+use Rattle.vt_logs.specs.Texts.{LineReading, with_lines, no_counts, counts_text}
 use Rattle.vt_server.specs.Screens.{IsScreenOf}
 use Rattle.vt_server.specs.Terminals.{State}
 
 -- The text and the counts of a replay of these bytes by a terminal, and the terminal after it: first its screen, then what each
 -- line prints, and the counts. A line is at most 4,096 bytes long.
 pub record IsReplay (start : State) (input : List ℕ) (text : List ℕ) (counts : Counts) (now : State) : Type 0 where
-  pub readings : List Reading
+  pub readings : List LineReading
   pub read : AllZip Reads (lines_of input) readings
   pub short : AllByRecursion (λ line. length line ≤ 4096) (lines_of input)
-  pub first : Scene
-  pub last : Scene
+  pub first : ReplayState
+  pub last : ReplayState
   pub printed : List ℕ
   pub starts : first.state ≡ start
   pub shown : IsScreenOf start first.screen

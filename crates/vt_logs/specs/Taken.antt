@@ -3,24 +3,24 @@ use Rattle.std.specs.Prelude.{◌≡◌, ℕ, ◌+◌, List, [], ◌∷◌, ◌+
 use Rattle.std.specs.List.{flat_map}
 use Rattle.vt_can.specs.lines.Actions.{action_value}
 use Rattle.vt_can.specs.lines.Readings.{ParsedLine, FrameAt, OperatorAction, SkippedFrame, CommentLine}
-use Rattle.vt_logs.specs.Texts.{Reading, output_text, fault_text, new_screen}
+use Rattle.vt_logs.specs.Texts.{LineReading, output_text, fault_text, new_screen}
 use Rattle.vt_server.specs.Findings.{IsFound}
 use Rattle.vt_server.specs.Outputs.{outputs_of}
 use Rattle.vt_server.specs.Screens.{IsScreenOf}
 use Rattle.vt_server.specs.Steps as steps
-use Rattle.vt_server.specs.Steps.{Event, step}
+use Rattle.vt_server.specs.Steps.{JudgedInput, step}
 use Rattle.vt_server.specs.Terminals.{State}
 use Rattle.vt_server.specs.declared.input.Input.{Input}
 use Rattle.vt_server.specs.declared.input.Input.TheVariants as inputs
 
 -- where a replay stands between two lines: the terminal, and the screen that was printed last
-pub record Scene : Type 0 where
+pub record ReplayState : Type 0 where
   pub state : State
   pub screen : List ℕ
 
 -- The terminal takes an event, with what is found of pools in its course, and what it sends is printed; then its screen, where
 -- that is another than the one printed last.
-pub record TakesEvent (from : Scene) (event : Event) (to : Scene) (text : List ℕ) : Type 0 where
+pub record TakesJudged (from : ReplayState) (event : JudgedInput) (to : ReplayState) (text : List ℕ) : Type 0 where
   pub found : IsFound from.state event
   pub state : to.state ≡ (step from.state event).after
   pub screen : IsScreenOf to.state to.screen
@@ -34,22 +34,22 @@ input_line (inputs.Frame time frame) = FrameAt time frame
 input_line (inputs.Operator action) = OperatorAction (action_value action)
 
 -- an event of a line: a frame or an action of the operator
-abbrev pub IsEventOfLine : ParsedLine → Event → Type 0
-IsEventOfLine (FrameAt time frame) (steps.FrameAt at heard verdict) = (at ≡ time) × (heard ≡ frame)
-IsEventOfLine (OperatorAction action) (steps.ActionAt value shown) = value ≡ action
-IsEventOfLine line event = ⊥
+abbrev pub IsInputOfLine : ParsedLine → JudgedInput → Type 0
+IsInputOfLine (FrameAt time frame) (steps.FrameAt at heard verdict) = (at ≡ time) × (heard ≡ frame)
+IsInputOfLine (OperatorAction action) (steps.ActionAt value shown) = value ≡ action
+IsInputOfLine line event = ⊥
 
-pub record TakesInputLine (from : Scene) (line : ParsedLine) (to : Scene) (text : List ℕ) : Type 0 where
-  pub event : Event
-  pub of_line : IsEventOfLine line event
-  pub takes : TakesEvent from event to text
+pub record TakesInputLine (from : ReplayState) (line : ParsedLine) (to : ReplayState) (text : List ℕ) : Type 0 where
+  pub event : JudgedInput
+  pub of_line : IsInputOfLine line event
+  pub takes : TakesJudged from event to text
 
 -- nothing happens, and this is printed
-abbrev pub Prints : Scene → Scene → List ℕ → List ℕ → Type 0
+abbrev pub Prints : ReplayState → ReplayState → List ℕ → List ℕ → Type 0
 Prints from to printed text = (to ≡ from) × (text ≡ printed)
 
 -- line n, as it was read
-abbrev pub TakesReading : Scene → ℕ → Reading → Scene → List ℕ → Type 0
+abbrev pub TakesReading : ReplayState → ℕ → LineReading → ReplayState → List ℕ → Type 0
 TakesReading from n (Ok (FrameAt time frame)) to text = TakesInputLine from (FrameAt time frame) to text
 TakesReading from n (Ok (OperatorAction action)) to text = TakesInputLine from (OperatorAction action) to text
 TakesReading from n (Ok (SkippedFrame why)) to text = Prints from to [] text
@@ -57,27 +57,27 @@ TakesReading from n (Ok CommentLine) to text = Prints from to [] text
 TakesReading from n (Err fault) to text = Prints from to (fault_text n fault) text
 
 -- lines one after the other, the first of them after n others
-pub record TakesFirst (from : Scene) (n : ℕ) (reading : Reading) (Then : Scene → List ℕ → Type 0) (text : List ℕ) : Type 0 where
-  pub middle : Scene
+pub record TakesFirst (from : ReplayState) (n : ℕ) (reading : LineReading) (Then : ReplayState → List ℕ → Type 0) (text : List ℕ) : Type 0 where
+  pub middle : ReplayState
   pub first : List ℕ
   pub rest : List ℕ
   pub takes : TakesReading from (n + 1) reading middle first
   pub next : Then middle rest
   pub whole : text ≡ first ++ rest
 
-abbrev pub TakesReadings : Scene → ℕ → List Reading → Scene → List ℕ → Type 0
+abbrev pub TakesReadings : ReplayState → ℕ → List LineReading → ReplayState → List ℕ → Type 0
 TakesReadings from n [] to text = Prints from to [] text
 TakesReadings from n (r ∷ rs) to text = TakesFirst from n r (λ middle rest. TakesReadings middle (n + 1) rs to rest) text
 
 -- ---- the terminal alone, whatever is printed
 
-pub record FollowsEvent (from : State) (line : ParsedLine) (to : State) : Type 0 where
-  pub event : Event
-  pub of_line : IsEventOfLine line event
+pub record FollowsInput (from : State) (line : ParsedLine) (to : State) : Type 0 where
+  pub event : JudgedInput
+  pub of_line : IsInputOfLine line event
   pub found : IsFound from event
   pub state : to ≡ (step from event).after
 
-abbrev pub Follows : State → Reading → State → Type 0
-Follows from (Ok (FrameAt time frame)) to = FollowsEvent from (FrameAt time frame) to
-Follows from (Ok (OperatorAction action)) to = FollowsEvent from (OperatorAction action) to
+abbrev pub Follows : State → LineReading → State → Type 0
+Follows from (Ok (FrameAt time frame)) to = FollowsInput from (FrameAt time frame) to
+Follows from (Ok (OperatorAction action)) to = FollowsInput from (OperatorAction action) to
 Follows from _ to = to ≡ from

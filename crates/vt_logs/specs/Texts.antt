@@ -13,8 +13,8 @@ use Rattle.vt_server.specs.declared.output.Output.{Output}
 use Rattle.vt_server.specs.declared.output.Output.TheVariants as outputs
 
 -- how a line was read
-abbrev pub Reading : Type 0
-Reading = Result ParsedLine LineFault
+abbrev pub LineReading : Type 0
+LineReading = Result ParsedLine LineFault
 
 abbrev pub newline : List ℕ
 newline = 10 ∷ []
@@ -54,14 +54,14 @@ abbrev pub no_counts : Counts
 no_counts = record { lines = 0; frames = 0; operator = 0; skipped = 0; comments = 0; faults = 0 }
 
 -- each line is one of the five
-abbrev pub with_line : Counts → Reading → Counts
+abbrev pub with_line : Counts → LineReading → Counts
 with_line c (Ok (FrameAt time frame)) = record c { lines = c.lines + 1; frames = c.frames + 1 }
 with_line c (Ok (OperatorAction action)) = record c { lines = c.lines + 1; operator = c.operator + 1 }
 with_line c (Ok (SkippedFrame why)) = record c { lines = c.lines + 1; skipped = c.skipped + 1 }
 with_line c (Ok CommentLine) = record c { lines = c.lines + 1; comments = c.comments + 1 }
 with_line c (Err fault) = record c { lines = c.lines + 1; faults = c.faults + 1 }
 
-abbrev pub with_lines : Counts → List Reading → Counts
+abbrev pub with_lines : Counts → List LineReading → Counts
 with_lines c [] = c
 with_lines c (r ∷ rs) = with_lines (with_line c r) rs
 

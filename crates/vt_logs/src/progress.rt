@@ -5,7 +5,7 @@ ghost use Rattle.std.specs.Io.KnownBytes.{Appends};
 ghost use Rattle.vt_can.specs.lines.Readings.{reading_of};
 ghost use Rattle.vt_logs.specs.Lines.{lines_of};
 ghost use Rattle.vt_logs.specs.Begun.{BreaksOff, MayBegin, Stops, StopsAtLong};
-ghost use Rattle.vt_logs.specs.Taken.{Follows, FollowsEvent, TakesInputLine, TakesReading, input_line};
+ghost use Rattle.vt_logs.specs.Taken.{Follows, FollowsInput, TakesInputLine, TakesReading, input_line};
 ghost use Rattle.vt_logs.specs.Texts.{with_line, no_counts, new_screen};
 ghost use Rattle.vt_logs.specs.Progress.{AtMost, HasNoNewline, IsLineFault, IsStepFault, Takes, TakesBytes, TakesOne, Writes, scene, stand};
 ghost use Rattle.vt_server.specs.Screens.{IsScreenOf, redraws};
@@ -246,7 +246,7 @@ impl Progress {
         requires drawn { IsScreenOf (state_of terminal.old) self.old.screen.items }
         ensures takes { OnOk result (Writes (TakesInputLine (scene terminal.old self.old.screen.items) (input_line input.now) (scene terminal.new self.new.screen.items))
             (W.contents writer.old) (W.contents writer.new)) }
-        ensures stopped { OnErr result (Writes (BreaksOff (state_of terminal.old) (FollowsEvent (state_of terminal.old) (input_line input.now))
+        ensures stopped { OnErr result (Writes (BreaksOff (state_of terminal.old) (FollowsInput (state_of terminal.old) (input_line input.now))
             (TakesInputLine (scene terminal.old self.old.screen.items) (input_line input.now)) (state_of terminal.new))
             (W.contents writer.old) (W.contents writer.new)) }
         ensures counts { self.new.counts ≡ self.old.counts }

@@ -12,7 +12,7 @@ use Rattle.vt_kinds.specs.declared.object.Object.{Object}
 use Rattle.vt_kinds.specs.declared.object.Object.TheVariants as objects
 use Rattle.vt_commands.specs.declared.raising.Raised.{Raised}
 use Rattle.vt_kinds.specs.Records.{Seen, seen, kind_of}
-use Rattle.vt_stores.specs.Stores.{Contents, Objects, AreStored, shown, object_at, map_of, contents_of}
+use Rattle.vt_stores.specs.Stores.{ObjectMap, Objects, AreStored, shown, object_at, map_of, contents_of}
 use Rattle.vt_stores.proofs.Stored.{get_from}
 use Rattle.vt_verify.specs.Macros.{commands}
 use Rattle.vt_stores.specs.Shapes.{Shape, shape_of, kind_at}
@@ -29,7 +29,7 @@ use Rattle.vt_macros.specs.declared.index.Index.{Index}
 use Rattle.vt_chains.specs.declared.levels.Levels.{Levels}
 use Rattle.vt_machine.specs.declared.live.HeldKey.{HeldKey}
 use Rattle.vt_chains.specs.Certificates.{AreLevels}
-use Rattle.vt_effects.specs.Changes.{Answers}
+use Rattle.vt_effects.specs.Changes.{HasResult}
 use Rattle.vt_effects.specs.Effects.{kind_in, effect, after}
 use Rattle.vt_macros.specs.Indexes.{IsIndexOf}
 use Rattle.vt_machine.specs.Lives.{SetState, HasRun, IsDone, is_key, holds_key, same_kind, kept_key}
@@ -54,15 +54,15 @@ stored_is es pool is stored =
     ∙ finite.same_map nat_cmp_total finite.nat_cmp-IsAntisymmetric (finite.from_entries pool) (map_of pool)
     (λ q. finite.get-from_entries nat_cmp_total pool q ∙ sym (get_from pool q stored.rising))
 
-pub stored_closed : (m : Contents) (pool : Objects) → m ≡ map_of pool → AreStored pool → IsAcceptable terminal pool → IsClosed (ids_of m) (inclusions_of m)
+pub stored_closed : (m : ObjectMap) (pool : Objects) → m ≡ map_of pool → AreStored pool → IsAcceptable terminal pool → IsClosed (ids_of m) (inclusions_of m)
 stored_closed m pool is stored acceptable =
-    subst (λ (n : Contents). IsClosed (ids_of n) (inclusions_of n)) (sym is) (closed_store pool stored.rising acceptable.references_there)
+    subst (λ (n : ObjectMap). IsClosed (ids_of n) (inclusions_of n)) (sym is) (closed_store pool stored.rising acceptable.references_there)
 
-pub stored_shallow : (m : Contents) (pool : Objects) → m ≡ map_of pool → AreStored pool → IsAcceptable terminal pool → IsShallow terminal.inclusions (inclusions_of m)
+pub stored_shallow : (m : ObjectMap) (pool : Objects) → m ≡ map_of pool → AreStored pool → IsAcceptable terminal pool → IsShallow terminal.inclusions (inclusions_of m)
 stored_shallow m pool is stored acceptable =
-    subst (λ (n : Contents). IsShallow terminal.inclusions (inclusions_of n)) (sym is) (pools_are_ready pool stored acceptable).sound.shallow
+    subst (λ (n : ObjectMap). IsShallow terminal.inclusions (inclusions_of n)) (sym is) (pools_are_ready pool stored acceptable).sound.shallow
 
-pub stored_runs : (m : Contents) (pool : Objects) (index : Index) (levels : Levels) → m ≡ map_of pool → AreStored pool → IsAcceptable terminal pool → CostsAreTotals (shape_of pool)
+pub stored_runs : (m : ObjectMap) (pool : Objects) (index : Index) (levels : Levels) → m ≡ map_of pool → AreStored pool → IsAcceptable terminal pool → CostsAreTotals (shape_of pool)
     → IsIndexOf (shape_of pool) index → AreLevels m levels → CanRun index m levels
 stored_runs m pool index levels is stored acceptable totals indexed levelled =
     let ready : IsReady pool m = subst (IsReady pool) (sym is) (pools_are_ready pool stored acceptable) in
@@ -79,7 +79,7 @@ stored_runs m pool index levels is stored acceptable totals indexed levelled =
 
 -- ---- runs
 
-pub has_run : (index : Index) (old : Contents) (front : List Command) (most steps : ℕ) (new : Contents) (levels : Levels) → HaveRun index old front most steps new levels
+pub has_run : (index : Index) (old : ObjectMap) (front : List Command) (most steps : ℕ) (new : ObjectMap) (levels : Levels) → HaveRun index old front most steps new levels
     → HasRun old front most steps new
 has_run index old front most steps new levels ran =
     let le = ran.within in
@@ -101,11 +101,11 @@ events_within shape (r ∷ raised) within =
     let all = sum_by-cons (λ (e : Raised). budget shape (listing_of e).id (listing_of e).event) r raised in
     omega (arith, one, rest, all)
 
-pub events_small : (index : Index) (m : Contents) (levels : Levels) (raised : List Raised) → CanRun index m levels → length raised ≤ 3 → total_budget (shape_in m) raised < 4294967296
+pub events_small : (index : Index) (m : ObjectMap) (levels : Levels) (raised : List Raised) → CanRun index m levels → length raised ≤ 3 → total_budget (shape_in m) raised < 4294967296
 events_small index m levels raised can few = let le = events_within (shape_in m) raised can.within in omega (arith, le, few)
 
-pub is_done : (index : Index) (m new last : Contents) (levels then : Levels) (command : Command) (raised : List Raised) (k : ℕ) → raised ≡ events_of m command
-    → Answers (Ok tt) (effect m command) → new ≡ after m command
+pub is_done : (index : Index) (m new last : ObjectMap) (levels then : Levels) (command : Command) (raised : List Raised) (k : ℕ) → raised ≡ events_of m command
+    → HasResult (Ok tt) (effect m command) → new ≡ after m command
     → HaveRun index new (joined_all (shape_in new) raised) (total_budget (shape_in new) raised) k last then → IsDone m command (k + 1) last
 is_done index m new last levels then command raised k of ok is ran = record {
   middle = new;
@@ -118,7 +118,7 @@ is_done index m new last levels then command raised k of ok is ran = record {
 
 -- ---- the working set
 
-pub kind_stays : (a b : Contents) (id : ℕ) → shape_in a ≡ shape_in b → kind_in a id ≡ kind_in b id
+pub kind_stays : (a b : ObjectMap) (id : ℕ) → shape_in a ≡ shape_in b → kind_in a id ≡ kind_in b id
 unfolding shape_in
 kind_stays a b id same =
     ap (option_map kind_of) (finite.get-entries a id) ∙ sym (kind_found (finite.entries a) id) ∙ ap (λ (s : Shape). kind_at s id) same
@@ -126,12 +126,12 @@ kind_stays a b id same =
 
 -- ---- the key that is held
 
-pub key_stays : (old new : Contents) (key : Option HeldKey) → shape_in new ≡ shape_in old → holds_key old key ≡ true → holds_key new key ≡ true
+pub key_stays : (old new : ObjectMap) (key : Option HeldKey) → shape_in new ≡ shape_in old → holds_key old key ≡ true → holds_key new key ≡ true
 key_stays old new None same is = refl
 key_stays old new (Some key) same is = ap is_key (kind_stays new old key.id same) ∙ is
 
 -- one that has a message may be held
-pub key_held : (m : Contents) (code id mask : ℕ) (message : List ℕ) → key_message code id mask (finite.get m id) ≡ Some message → is_key (kind_in m id) ≡ true
+pub key_held : (m : ObjectMap) (code id mask : ℕ) (message : List ℕ) → key_message code id mask (finite.get m id) ≡ Some message → is_key (kind_in m id) ≡ true
 key_held m code id mask message is = by (finite.get m id) is
   where
     by : (o : Option Seen) → key_message code id mask o ≡ Some message → is_key (option_map kind_of o) ≡ true
@@ -140,7 +140,7 @@ key_held m code id mask message is = by (finite.get m id) is
     by _ is = absurd cc
 
 -- what is held has a message of eight bytes
-pub message_of_key : (m : Contents) (code id mask : ℕ) (message : Option (List ℕ)) → is_key (kind_in m id) ≡ true → message ≡ key_message code id mask (finite.get m id)
+pub message_of_key : (m : ObjectMap) (code id mask : ℕ) (message : Option (List ℕ)) → is_key (kind_in m id) ≡ true → message ≡ key_message code id mask (finite.get m id)
     → (P : Type 0) → ((bytes : List ℕ) → message ≡ Some bytes → length bytes ≡ 8 → P) → P
 message_of_key m code id mask message held is P then = by (finite.get m id) held is
   where
@@ -150,7 +150,7 @@ message_of_key m code id mask message held is P then = by (finite.get m id) held
     by _ held is = absurd cc
 
 -- where the object stays of a kind, so does what is held
-pub key_kept : (old new : Contents) (key : Option HeldKey) → holds_key old key ≡ true → holds_key new (kept_key old new key) ≡ true
+pub key_kept : (old new : ObjectMap) (key : Option HeldKey) → holds_key old key ≡ true → holds_key new (kept_key old new key) ≡ true
 key_kept old new None is = refl
 key_kept old new (Some key) is = by (same_kind (kind_in old key.id) (kind_in new key.id)) refl
   where
@@ -176,29 +176,29 @@ pub set_found : {B : Type 0} (es : List (ℕ × Object B)) (place : ℕ) (e d : 
 set_found es place e d is lt stored set =
     ap (option_map kind_of) (found_at (map shown es) place e.0 (seen e.1) stored.rising (placed_at es place e d is lt)) ∙ ap Some (seen_kind e.1 ∙ set_kind (kind_of e.1) set)
 
-pub stored_set : {B : Type 0} (m : Contents) (es : List (ℕ × Object B)) (pool : Objects) (id : ℕ) → m ≡ map_of pool → map shown es ≡ pool → AreStored pool
+pub stored_set : {B : Type 0} (m : ObjectMap) (es : List (ℕ × Object B)) (pool : Objects) (id : ℕ) → m ≡ map_of pool → map shown es ≡ pool → AreStored pool
     → option_map kind_of (object_at (map shown es) id) ≡ Some kinds.WorkingSet → kind_in m id ≡ Some kinds.WorkingSet
 stored_set m es pool id is all stored set =
-    ap (λ (n : Contents). kind_in n id) is ∙ ap (option_map kind_of) (get_from pool id stored.rising)
+    ap (λ (n : ObjectMap). kind_in n id) is ∙ ap (option_map kind_of) (get_from pool id stored.rising)
     ∙ ap (λ (s : Objects). option_map kind_of (object_at s id)) (sym all) ∙ set
 
-pub after_shape : (m new : Contents) (command : Command) → new ≡ after m command → shape_in new ≡ shape_in m
+pub after_shape : (m new : ObjectMap) (command : Command) → new ≡ after m command → shape_in new ≡ shape_in m
 after_shape m new command is = ap shape_in is ∙ shapes_stay m command
 
 -- ---- the marks
 
-pub marks_stay : (old new : Contents) (marks : List Bool) → shape_in new ≡ shape_in old → length marks ≡ length (ids_of old) → length marks ≡ length (ids_of new)
+pub marks_stay : (old new : ObjectMap) (marks : List Bool) → shape_in new ≡ shape_in old → length marks ≡ length (ids_of old) → length marks ≡ length (ids_of new)
 marks_stay old new marks same are = are ∙ sym (ap length (ids_by new old same))
 
 -- ---- events
 
-pub has_acted : (index : Index) (state new : SetState) (raised : List Raised) (k : ℕ) (m last : Contents) (then : Levels) → m ≡ state.objects → last ≡ new.objects
+pub has_acted : (index : Index) (state new : SetState) (raised : List Raised) (k : ℕ) (m last : ObjectMap) (then : Levels) → m ≡ state.objects → last ≡ new.objects
     → new.key ≡ state.key → new.input ≡ state.input
     → HaveRun index m (joined_all (shape_in m) raised) (total_budget (shape_in m) raised) k last then → HasActed state raised k new
 has_acted index state new raised k m last then is last_is key input ran =
     record {
-      has_run = subst (λ (n : Contents). HasRun state.objects (joined_all (shape_in state.objects) raised) (total_budget (shape_in state.objects) raised) k n) last_is
-          (subst (λ (o : Contents). HasRun o (joined_all (shape_in o) raised) (total_budget (shape_in o) raised) k last) is
+      has_run = subst (λ (n : ObjectMap). HasRun state.objects (joined_all (shape_in state.objects) raised) (total_budget (shape_in state.objects) raised) k n) last_is
+          (subst (λ (o : ObjectMap). HasRun o (joined_all (shape_in o) raised) (total_budget (shape_in o) raised) k last) is
           (has_run index m (joined_all (shape_in m) raised) (total_budget (shape_in m) raised) k last then ran));
       key = key;
       input = input;

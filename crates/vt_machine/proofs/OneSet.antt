@@ -8,7 +8,7 @@ use Rattle.std.specs.FinMap as finite
 use Rattle.vt_kinds.specs.declared.kind.Kind.{Kind}
 use Rattle.vt_kinds.specs.declared.kind.Kind.TheVariants as kinds
 use Rattle.vt_kinds.specs.Records.{Seen, kind_of}
-use Rattle.vt_stores.specs.Stores.{Contents, Objects, object_at}
+use Rattle.vt_stores.specs.Stores.{ObjectMap, Objects, object_at}
 use Rattle.vt_stores.specs.Shapes.{fixed, shape_of}
 use Rattle.vt_verify.specs.Rules.{is_working_set, working_sets}
 use Rattle.vt_chains.proofs.Places.{get_placed}
@@ -72,11 +72,11 @@ one_set [] p q one first second = absurd cc
 one_set (e ∷ es) p q one first second =
     one_by e es p q (is_working_set (kind_of e.1)) refl (sym (count_more e es) ∙ one) first second (λ left. one_set es p q left)
 
-entries_count : (m : Contents) → working_sets (shape_in m) ≡ 1 → working_sets (shape_of (finite.entries m)) ≡ 1
+entries_count : (m : ObjectMap) → working_sets (shape_in m) ≡ 1 → working_sets (shape_of (finite.entries m)) ≡ 1
 unfolding shape_in
 entries_count m one = one
 
-pub masks_are_one : (m : Contents) (mask other : ℕ) → working_sets (shape_in m) ≡ 1 → IsActive m mask → IsActive m other → mask ≡ other
+pub masks_are_one : (m : ObjectMap) (mask other : ℕ) → working_sets (shape_in m) ≡ 1 → IsActive m mask → IsActive m other → mask ≡ other
 masks_are_one m mask other one first second =
     let same : first.0 ≡ second.0 =
     one_set (finite.entries m) first.0 second.0 (entries_count m one)
@@ -102,12 +102,12 @@ is_first [] q one is = absurd cc
 is_first (e ∷ es) q one is =
     found_by e es q (is_working_set (kind_of e.1)) refl (sym (count_more e es) ∙ one) is (λ left later. is_first es q left later)
 
-pub set_is : (m : Contents) (set : ℕ) → working_sets (shape_in m) ≡ 1 → kind_in m set ≡ Some kinds.WorkingSet → set ≡ working_set_in m
+pub set_is : (m : ObjectMap) (set : ℕ) → working_sets (shape_in m) ≡ 1 → kind_in m set ≡ Some kinds.WorkingSet → set ≡ working_set_in m
 unfolding working_set_in
 set_is m set one is =
     is_first (finite.entries m) set (entries_count m one) (sym (ap (option_map kind_of) (finite.get-entries m set)) ∙ is)
 
-pub active_is : (m : Contents) (set mask : ℕ) → working_sets (shape_in m) ≡ 1 → kind_in m set ≡ Some kinds.WorkingSet → mask ≡ mask_of (finite.get m set) → mask ≡ active_in m
+pub active_is : (m : ObjectMap) (set mask : ℕ) → working_sets (shape_in m) ≡ 1 → kind_in m set ≡ Some kinds.WorkingSet → mask ≡ mask_of (finite.get m set) → mask ≡ active_in m
 active_is m set mask one is active = active ∙ ap (λ (k : ℕ). mask_of (finite.get m k)) (set_is m set one is)
 
 -- where there is one, there is an ID of it
@@ -115,20 +115,20 @@ pub set_kind : (k : Kind) → is_working_set k ≡ true → k ≡ kinds.WorkingS
 set_kind kinds.WorkingSet is = refl
 set_kind _ is = absurd cc
 
-some_by : (P : Type 0) (m : Contents) (e : ℕ × Seen) (es : Objects) (b : Bool) → is_working_set (kind_of e.1) ≡ b → finite.get m e.0 ≡ Some e.1
+some_by : (P : Type 0) (m : ObjectMap) (e : ℕ × Seen) (es : Objects) (b : Bool) → is_working_set (kind_of e.1) ≡ b → finite.get m e.0 ≡ Some e.1
     → cond b (suc (working_sets (shape_of es))) (working_sets (shape_of es)) ≡ 1 → ((q : ℕ) → kind_in m q ≡ Some kinds.WorkingSet → P)
     → (working_sets (shape_of es) ≡ 1 → P) → P
 some_by P m e es true set here one then rest = then e.0 (ap (option_map kind_of) here ∙ ap (λ (k : Kind). Some k) (set_kind (kind_of e.1) set))
 some_by P m e es false other here one then rest = rest one
 
-some_set : (P : Type 0) (m : Contents) (es : Objects) → ((place q : ℕ) (o : Seen) → slice_get es place ≡ Some (q, o) → finite.get m q ≡ Some o) → working_sets (shape_of es) ≡ 1
+some_set : (P : Type 0) (m : ObjectMap) (es : Objects) → ((place q : ℕ) (o : Seen) → slice_get es place ≡ Some (q, o) → finite.get m q ≡ Some o) → working_sets (shape_of es) ≡ 1
     → ((q : ℕ) → kind_in m q ≡ Some kinds.WorkingSet → P) → P
 some_set P m [] there one then = absurd cc
 some_set P m (e ∷ es) there one then =
     some_by P m e es (is_working_set (kind_of e.1)) refl (there 0 e.0 e.1 refl) (sym (count_more e es) ∙ one) then
     (λ left. some_set P m es (λ place q o at. there (suc place) q o at) left then)
 
-pub set_there : (m : Contents) → working_sets (shape_in m) ≡ 1 → kind_in m (working_set_in m) ≡ Some kinds.WorkingSet
+pub set_there : (m : ObjectMap) → working_sets (shape_in m) ≡ 1 → kind_in m (working_set_in m) ≡ Some kinds.WorkingSet
 set_there m one =
     some_set (kind_in m (working_set_in m) ≡ Some kinds.WorkingSet) m (finite.entries m) (λ place q o at. get_placed m place q o at) (entries_count m one)
     (λ q is. subst (λ (k : ℕ). kind_in m k ≡ Some kinds.WorkingSet) (set_is m q one is) is)

@@ -10,7 +10,7 @@ use Rattle.vt_kinds.specs.declared.slot.Slot.{Slot}
 use Rattle.vt_kinds.specs.declared.object.Object.TheVariants as objects
 use Rattle.vt_kinds.specs.Records.{Seen}
 use Rattle.vt_kinds.specs.References.{slots_of}
-use Rattle.vt_stores.specs.Stores.{Contents, replaced, with_object}
+use Rattle.vt_stores.specs.Stores.{ObjectMap, replaced, with_object}
 use Rattle.vt_stores.specs.Shapes.{Shape, Fixed, fixed}
 use Rattle.vt_verify.specs.Macros.{commands}
 use Rattle.vt_verify.specs.Budgets.{CostsAreTotals}
@@ -84,9 +84,9 @@ texts_plain text = record { slots = slots; same = same; values = values }
 
 -- ---- an object under its ID
 
-module _ (m : Contents) (id : ℕ) (old new : Seen) (at : finite.get m id ≡ Some old) (slots : slots_of new ≡ slots_of old) (same : fixed new ≡ fixed old)
+module _ (m : ObjectMap) (id : ℕ) (old new : Seen) (at : finite.get m id ≡ Some old) (slots : slots_of new ≡ slots_of old) (same : fixed new ≡ fixed old)
     (value : pointer_value (Some new) ≡ pointer_value (Some old)) where
-  abbrev n : Contents
+  abbrev n : ObjectMap
   n = finite.insert m id new
 
   kinds : (q : ℕ) → kind_in n q ≡ kind_in m q
@@ -160,33 +160,33 @@ module _ (m : Contents) (id : ℕ) (old new : Seen) (at : finite.get m id ≡ So
 
 -- ---- an object that is changed where it is there
 
-changed_runs : (m : Contents) (id : ℕ) (change : Seen → Seen) (found : Option Seen) (index : Index) (levels : Levels) → finite.get m id ≡ found → IsPlain change
+changed_runs : (m : ObjectMap) (id : ℕ) (change : Seen → Seen) (found : Option Seen) (index : Index) (levels : Levels) → finite.get m id ≡ found → IsPlain change
     → CanRun index m levels → CanRun index (put_at m id change found) levels
 changed_runs m id change None index levels is plain can = can
 changed_runs m id change (Some o) index levels is plain can = still_runs m id o (change o) is (plain.slots o) (plain.same o) (plain.values o) index levels can
 
-changed_shape : (m : Contents) (id : ℕ) (change : Seen → Seen) (found : Option Seen) → finite.get m id ≡ found → IsPlain change → shape_in (put_at m id change found) ≡ shape_in m
+changed_shape : (m : ObjectMap) (id : ℕ) (change : Seen → Seen) (found : Option Seen) → finite.get m id ≡ found → IsPlain change → shape_in (put_at m id change found) ≡ shape_in m
 changed_shape m id change None is plain = refl
 changed_shape m id change (Some o) is plain = still_shaped m id o (change o) is (plain.slots o) (plain.same o) (plain.values o)
 
-changed_sound : (m : Contents) (id : ℕ) (change : Seen → Seen) (found : Option Seen) → finite.get m id ≡ found → IsPlain change
+changed_sound : (m : ObjectMap) (id : ℕ) (change : Seen → Seen) (found : Option Seen) → finite.get m id ≡ found → IsPlain change
     → IsSound m → IsSound (put_at m id change found)
 changed_sound m id change None is plain sound = sound
 changed_sound m id change (Some o) is plain sound = still_sound m id o (change o) is (plain.slots o) (plain.same o) (plain.values o) sound
 
-pub plain_sound : (m : Contents) (id : ℕ) (change : Seen → Seen) → IsPlain change → IsSound m → IsSound (put_at m id change (finite.get m id))
+pub plain_sound : (m : ObjectMap) (id : ℕ) (change : Seen → Seen) → IsPlain change → IsSound m → IsSound (put_at m id change (finite.get m id))
 plain_sound m id change plain sound = changed_sound m id change (finite.get m id) refl plain sound
 
-pub plain_runs : (m n : Contents) (id : ℕ) (change : Seen → Seen) (index : Index) (levels : Levels) → n ≡ put_at m id change (finite.get m id) → IsPlain change
+pub plain_runs : (m n : ObjectMap) (id : ℕ) (change : Seen → Seen) (index : Index) (levels : Levels) → n ≡ put_at m id change (finite.get m id) → IsPlain change
     → CanRun index m levels → CanRun index n levels
 plain_runs m n id change index levels is plain can =
-    subst (λ (k : Contents). CanRun index k levels) (sym is) (changed_runs m id change (finite.get m id) index levels refl plain can)
+    subst (λ (k : ObjectMap). CanRun index k levels) (sym is) (changed_runs m id change (finite.get m id) index levels refl plain can)
 
-pub plain_shape : (m n : Contents) (id : ℕ) (change : Seen → Seen) → n ≡ put_at m id change (finite.get m id) → IsPlain change → shape_in n ≡ shape_in m
+pub plain_shape : (m n : ObjectMap) (id : ℕ) (change : Seen → Seen) → n ≡ put_at m id change (finite.get m id) → IsPlain change → shape_in n ≡ shape_in m
 plain_shape m n id change is plain = ap shape_in is ∙ changed_shape m id change (finite.get m id) refl plain
 
 -- what is written through a store is what a change makes
-pub put_changed : (m after : Contents) (id : ℕ) (change : Seen → Seen) (old new : Seen) → Some old ≡ finite.get m id → after ≡ with_object m id new → new ≡ change old
+pub put_changed : (m after : ObjectMap) (id : ℕ) (change : Seen → Seen) (old new : Seen) → Some old ≡ finite.get m id → after ≡ with_object m id new → new ≡ change old
     → after ≡ put_at m id change (finite.get m id)
 put_changed m after id change old new at wrote is =
     wrote ∙ ap (λ (f : Option Seen). replaced f m id new) (sym at) ∙ ap (finite.insert m id) is ∙ ap (λ (f : Option Seen). put_at m id change f) at

@@ -8,7 +8,7 @@ use Rattle.vt_commands.specs.declared.event.Event.TheVariants as events
 use Rattle.vt_commands.specs.declared.raising.Raised.{Raised}
 use Rattle.vt_commands.specs.Events.{raise}
 use Rattle.vt_kinds.specs.Records.{Seen}
-use Rattle.vt_stores.specs.Stores.{Contents}
+use Rattle.vt_stores.specs.Stores.{ObjectMap}
 use Rattle.vt_kinds.specs.Texts.{filled_up}
 use Rattle.vt_machine.specs.declared.operator.OperatorRefusal.{OperatorRefusal}
 use Rattle.vt_machine.specs.declared.operator.OperatorRefusal.TheVariants as refusals
@@ -28,7 +28,7 @@ entry_events id changed =
     raise id events.EntryOfValue ∷ (if changed then raise id events.EntryOfNewValue ∷ raise id events.Value ∷ [] else [])
 
 -- another object under an ID
-abbrev pub put_at : Contents → ℕ → (Seen → Seen) → Option Seen → Contents
+abbrev pub put_at : ObjectMap → ℕ → (Seen → Seen) → Option Seen → ObjectMap
 put_at store id change None = store
 put_at store id change (Some o) = finite.insert store id (change o)
 
@@ -124,7 +124,7 @@ abbrev pub text_in : Option Seen → Option (List ℕ)
 text_in None = None
 text_in (Some o) = text_of o
 
-abbrev pub text_at : Contents → ℕ → Option (List ℕ)
+abbrev pub text_at : ObjectMap → ℕ → Option (List ℕ)
 text_at store at = text_in (finite.get store at)
 
 abbrev pub store_text : SetState → ℕ → ℕ → List ℕ → Action
@@ -133,7 +133,7 @@ store_text state id at text =
     (entry_events id (not (same_text text (text_at state.objects at))))
 
 -- no longer than the object's text, and than that of its variable
-abbrev pub text_place : Contents → ℕ → List ℕ → Option Seen → Result ℕ OperatorRefusal
+abbrev pub text_place : ObjectMap → ℕ → List ℕ → Option Seen → Result ℕ OperatorRefusal
 text_place store id text (Some (objects.InputString o)) =
     place_if (not (o.enabled == 0)) (nat_le (length text) (length o.text) && text_fits text (text_at store (kept_at id o.variable))) refusals.TooLong (kept_at id o.variable)
 text_place store id text _ = Err refusals.WrongKind
@@ -150,10 +150,10 @@ enter_text true state id text = text_entered state id text (text_place state.obj
 
 -- No number and no text that is entered changes a kind, a macro entry or a macro byte under any ID.
 pub record EntriesKeepShapes : Type 0 where
-  pub numbers : (store : Contents) (at n : ℕ) → shape_in (put_at store at (with_number n) (finite.get store at)) ≡ shape_in store
-  pub texts : (store : Contents) (at : ℕ) (text : List ℕ) → shape_in (put_at store at (with_text text) (finite.get store at)) ≡ shape_in store
+  pub numbers : (store : ObjectMap) (at n : ℕ) → shape_in (put_at store at (with_number n) (finite.get store at)) ≡ shape_in store
+  pub texts : (store : ObjectMap) (at : ℕ) (text : List ℕ) → shape_in (put_at store at (with_text text) (finite.get store at)) ≡ shape_in store
 
 -- Nor does one break the order of a store.
 pub record EntriesKeepOrder : Type 0 where
-  pub numbers : (store : Contents) (at n : ℕ) → IsSound store → IsSound (put_at store at (with_number n) (finite.get store at))
-  pub texts : (store : Contents) (at : ℕ) (text : List ℕ) → IsSound store → IsSound (put_at store at (with_text text) (finite.get store at))
+  pub numbers : (store : ObjectMap) (at n : ℕ) → IsSound store → IsSound (put_at store at (with_number n) (finite.get store at))
+  pub texts : (store : ObjectMap) (at : ℕ) (text : List ℕ) → IsSound store → IsSound (put_at store at (with_text text) (finite.get store at))

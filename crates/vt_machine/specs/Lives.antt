@@ -12,7 +12,7 @@ use Rattle.vt_kinds.specs.declared.kind.Kind.TheVariants as kinds
 use Rattle.vt_kinds.specs.Kinds.{kind_number}
 use Rattle.vt_stores.specs.Rows.{bytes_row}
 use Rattle.vt_kinds.specs.Records.{kind_of}
-use Rattle.vt_stores.specs.Stores.{Contents, Objects}
+use Rattle.vt_stores.specs.Stores.{ObjectMap, Objects}
 use Rattle.vt_verify.specs.Rules.{is_working_set, working_sets}
 use Rattle.vt_machine.specs.contracts.live.HeldKey as held_key
 use Rattle.vt_machine.specs.declared.live.HeldKey.{HeldKey}
@@ -25,7 +25,7 @@ use Rattle.vt_effects.specs.Soundness.{IsSound}
 
 -- a working set's objects, the key held with the mask of its press, and the input selected
 pub record SetState : Type 0 where
-  pub objects : Contents
+  pub objects : ObjectMap
   pub key : Option HeldKey
   pub input : Option ℕ
 
@@ -34,14 +34,14 @@ seen_row = object.the_row (macro_bytes.the_row bytes_row (record { items = λ v.
 
 abbrev pub state_code : Coded SetState
 state_code =
-    code_by (Contents × (Option HeldKey × Option ℕ))
+    code_by (ObjectMap × (Option HeldKey × Option ℕ))
     (coded× (map.code coded_ℕ seen_row.coded) (coded× (coded_option held_key.the_row.coded) (coded_option coded_ℕ)))
     (λ s. (s.objects, (s.key, s.input)))
     (λ p. record { objects = p.0; key = p.1.0; input = p.1.1 })
     (λ _. refl)
 
 -- with other objects
-abbrev pub with_objects : SetState → Contents → SetState
+abbrev pub with_objects : SetState → ObjectMap → SetState
 with_objects state new = record state { objects = new }
 
 -- a Key or a Button is held, or nothing
@@ -50,7 +50,7 @@ is_key (Some kinds.Key) = true
 is_key (Some kinds.Button) = true
 is_key _ = false
 
-abbrev pub holds_key : Contents → Option HeldKey → Bool
+abbrev pub holds_key : ObjectMap → Option HeldKey → Bool
 holds_key store None = true
 holds_key store (Some key) = is_key (kind_in store key.id)
 
@@ -61,30 +61,30 @@ abbrev pub first_set : Objects → ℕ
 first_set [] = 0xFFFF
 first_set (e ∷ entries) = if is_working_set (kind_of e.1) then e.0 else first_set entries
 
-unfoldable pub working_set_in : Contents → ℕ
+unfoldable pub working_set_in : ObjectMap → ℕ
 working_set_in store = first_set (map.entries store)
 
 -- its active mask, and NULL where there is no working set
-abbrev pub active_in : Contents → ℕ
+abbrev pub active_in : ObjectMap → ℕ
 active_in store = mask_of (map.get store (working_set_in store))
 
 -- the active mask of the working set
-abbrev pub IsActive : Contents → ℕ → Type 0
+abbrev pub IsActive : ObjectMap → ℕ → Type 0
 IsActive store mask = (set : ℕ) × (kind_in store set ≡ Some kinds.WorkingSet) × (mask_of (map.get store set) ≡ mask)
 
 -- Where there is one working set, it is the one that is found, and there is one active mask.
 pub record ActiveMasksAreOne : Type 0 where
-  pub one : (store : Contents) (mask other : ℕ) → working_sets (shape_in store) ≡ 1 → IsActive store mask → IsActive store other → mask ≡ other
-  pub set : (store : Contents) (set : ℕ) → working_sets (shape_in store) ≡ 1 → kind_in store set ≡ Some kinds.WorkingSet → set ≡ working_set_in store
-  pub set_there : (store : Contents) → working_sets (shape_in store) ≡ 1 → kind_in store (working_set_in store) ≡ Some kinds.WorkingSet
-  pub mask : (store : Contents) (mask : ℕ) → working_sets (shape_in store) ≡ 1 → IsActive store mask → mask ≡ active_in store
-  pub active : (store : Contents) → working_sets (shape_in store) ≡ 1 → IsActive store (active_in store)
+  pub one : (store : ObjectMap) (mask other : ℕ) → working_sets (shape_in store) ≡ 1 → IsActive store mask → IsActive store other → mask ≡ other
+  pub set : (store : ObjectMap) (set : ℕ) → working_sets (shape_in store) ≡ 1 → kind_in store set ≡ Some kinds.WorkingSet → set ≡ working_set_in store
+  pub set_there : (store : ObjectMap) → working_sets (shape_in store) ≡ 1 → kind_in store (working_set_in store) ≡ Some kinds.WorkingSet
+  pub mask : (store : ObjectMap) (mask : ℕ) → working_sets (shape_in store) ≡ 1 → IsActive store mask → mask ≡ active_in store
+  pub active : (store : ObjectMap) → working_sets (shape_in store) ≡ 1 → IsActive store (active_in store)
 
 -- ---- what runs leave
 
 -- Commands have run on objects, in so many steps and at most in so many as were left to them. The run ended without sticking, the
 -- references and chains are in order, and no kind, no macro entry and no macro byte is another one.
-pub record HasRun (old : Contents) (commands : List Command) (most steps : ℕ) (new : Contents) : Type 0 where
+pub record HasRun (old : ObjectMap) (commands : List Command) (most steps : ℕ) (new : ObjectMap) : Type 0 where
   pub ended : run most old commands ≡ Ended new (most - steps)
   pub within : steps ≤ most
   pub sound : IsSound new
@@ -93,19 +93,19 @@ pub record HasRun (old : Contents) (commands : List Command) (most steps : ℕ) 
 -- ---- commands
 
 -- A command that is done has the effect that it has, and then the macros of the events that it raises run: its own step, and theirs.
-pub record IsDone (old : Contents) (command : Command) (steps : ℕ) (new : Contents) : Type 0 where
-  pub middle : Contents
+pub record IsDone (old : ObjectMap) (command : Command) (steps : ℕ) (new : ObjectMap) : Type 0 where
+  pub middle : ObjectMap
   pub done : effect old command ≡ Ok middle
   pub run_steps : ℕ
   pub steps_are : steps ≡ run_steps + 1
   pub has_run : HasRun middle (joined_all (shape_in middle) (events_of old command)) (total_budget (shape_in middle) (events_of old command)) run_steps new
 
 -- A command that is refused has an error byte, and changes nothing.
-pub record IsRefused (old : Contents) (command : Command) (bits : ℕ) (new : Contents) : Type 0 where
-  pub refused : ◌≡◌ {A = Result Contents ℕ} (effect old command) (Err bits)
+pub record IsRefused (old : ObjectMap) (command : Command) (bits : ℕ) (new : ObjectMap) : Type 0 where
+  pub refused : ◌≡◌ {A = Result ObjectMap ℕ} (effect old command) (Err bits)
   pub same : new ≡ old
 
-abbrev pub Applied : Contents → Command → Outcome → Contents → Type 0
+abbrev pub Applied : ObjectMap → Command → Outcome → ObjectMap → Type 0
 Applied old command (Done steps) new = IsDone old command steps new
 Applied old command (Refused bits) new = IsRefused old command bits new
 
@@ -117,17 +117,17 @@ same_kind (Some kind) (Some other) = kind_number kind == kind_number other
 same_kind _ _ = false
 
 -- what was held or selected stays so where the object of its ID is of the kind that it was of
-abbrev pub is_kept : Contents → Contents → ℕ → Bool
+abbrev pub is_kept : ObjectMap → ObjectMap → ℕ → Bool
 is_kept old new id = same_kind (kind_in old id) (kind_in new id)
 
-abbrev pub kept_key : Contents → Contents → Option HeldKey → Option HeldKey
+abbrev pub kept_key : ObjectMap → ObjectMap → Option HeldKey → Option HeldKey
 kept_key old new None = None
 kept_key old new (Some key) = if is_kept old new key.id then Some key else None
 
-abbrev pub kept_input : Contents → Contents → Option ℕ → Option ℕ
+abbrev pub kept_input : ObjectMap → ObjectMap → Option ℕ → Option ℕ
 kept_input old new None = None
 kept_input old new (Some input) = if is_kept old new input then Some input else None
 
 -- the working set with other objects
-abbrev pub renewed : SetState → Contents → SetState
+abbrev pub renewed : SetState → ObjectMap → SetState
 renewed state new = record { objects = new; key = kept_key state.objects new state.key; input = kept_input state.objects new state.input }

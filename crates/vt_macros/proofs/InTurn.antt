@@ -4,7 +4,7 @@ use Rattle.std.proofs.lemmas.List.{append-nil}
 use Rattle.std.proofs.lemmas.List.Sums.{sum_by-cons}
 use Rattle.vt_commands.specs.declared.command.Command.{Command}
 use Rattle.vt_commands.specs.declared.raising.Raised.{Raised}
-use Rattle.vt_stores.specs.Stores.{Contents, Objects}
+use Rattle.vt_stores.specs.Stores.{ObjectMap, Objects}
 use Rattle.vt_stores.specs.Shapes.{Shape, shape_of}
 use Rattle.vt_verify.specs.Triggers.{listing_of}
 use Rattle.vt_verify.specs.Budgets.{CostsAreTotals, budget}
@@ -18,7 +18,7 @@ use Rattle.vt_effects.specs.Soundness.{IsSound}
 use Rattle.vt_macros.proofs.Running.{run_none, run_step, runs_end}
 
 -- what an end leaves
-abbrev end_store : End → Contents
+abbrev end_store : End → ObjectMap
 end_store (Ended store left) = store
 end_store (Sticks why store) = store
 
@@ -28,27 +28,27 @@ end_left (Sticks why store) = 0
 
 -- ---- more commands, and more steps
 
-never_spent : (f : Option Stuck) (m new : Contents) (left : ℕ) → or_sticks f m (Sticks Spent m) ≡ Ended new left → ⊥
+never_spent : (f : Option Stuck) (m new : ObjectMap) (left : ℕ) → or_sticks f m (Sticks Spent m) ≡ Ended new left → ⊥
 never_spent (Some why) m new left e = cc
 never_spent None m new left e = cc
 
-run_zero : (m : Contents) (command : Command) (pending : List Command)
+run_zero : (m : ObjectMap) (command : Command) (pending : List Command)
     → run zero m (command ∷ pending) ≡ or_sticks (fault (shape_in m) command) m (Sticks Spent m)
 unfolding run
 run_zero m command pending = refl
 
 -- where one run ends, so does another that goes the same way
-goes_on : (f : Option Stuck) (m new : Contents) (left : ℕ) (one other end : End) → (one ≡ Ended new left → other ≡ end) → or_sticks f m one ≡ Ended new left
+goes_on : (f : Option Stuck) (m new : ObjectMap) (left : ℕ) (one other end : End) → (one ≡ Ended new left → other ≡ end) → or_sticks f m one ≡ Ended new left
     → or_sticks f m other ≡ end
 goes_on (Some why) m new left one other end next ended = absurd cc
 goes_on None m new left one other end next ended = next ended
 
 -- After a run has ended, the commands behind it run with the steps that are left.
-run_on : (n left : ℕ) (m new : Contents) (front rest : List Command) (more : ℕ) → run n m front ≡ Ended new left
+run_on : (n left : ℕ) (m new : ObjectMap) (front rest : List Command) (more : ℕ) → run n m front ≡ Ended new left
     → run (n + more) m (front ++ rest) ≡ run (left + more) new rest
 run_on n left m new [] rest more ended =
     let same : Ended m n ≡ Ended new left = sym (run_none n m) ∙ ended in
-    ap (λ (k : ℕ). run (k + more) m rest) (ap end_left same) ∙ ap (λ (s : Contents). run (left + more) s rest) (ap end_store same)
+    ap (λ (k : ℕ). run (k + more) m rest) (ap end_left same) ∙ ap (λ (s : ObjectMap). run (left + more) s rest) (ap end_store same)
 run_on zero left m new (c ∷ front) rest more ended =
     absurd (never_spent (fault (shape_in m) c) m new left (sym (run_zero m c front) ∙ ended))
 run_on (suc n) left m new (c ∷ front) rest more ended =
@@ -62,7 +62,7 @@ run_on (suc n) left m new (c ∷ front) rest more ended =
 -- ---- events
 
 -- The run of one event, and then of others.
-both_run : (s : Shape) (m middle new : Contents) (r : Raised) (rs : List Raised) (left rest : ℕ) → run (total_budget s (r ∷ [])) m (joined_all s (r ∷ [])) ≡ Ended middle left
+both_run : (s : Shape) (m middle new : ObjectMap) (r : Raised) (rs : List Raised) (left rest : ℕ) → run (total_budget s (r ∷ [])) m (joined_all s (r ∷ [])) ≡ Ended middle left
     → run (total_budget s rs) middle (joined_all s rs) ≡ Ended new rest → run (total_budget s (r ∷ rs)) m (joined_all s (r ∷ rs)) ≡ Ended new (rest + left)
 both_run s m middle new r rs left rest first second =
     let cost : Raised → ℕ = λ x. budget s (listing_of x).id (listing_of x).event in
@@ -77,7 +77,7 @@ both_run s m middle new r rs left rest first second =
     ∙ run_on (total_budget s rs) rest middle new (joined_all s rs) [] left second
     ∙ run_none (rest + left) new
 
-pub events_end_in_turn : (pool : Objects) (m new : Contents) (left : ℕ) (rs : List Raised) → IsAcceptable terminal pool → CostsAreTotals (shape_of pool)
+pub events_end_in_turn : (pool : Objects) (m new : ObjectMap) (left : ℕ) (rs : List Raised) → IsAcceptable terminal pool → CostsAreTotals (shape_of pool)
     → shape_in m ≡ shape_of pool → IsSound m → run_of m rs ≡ Ended new left → EndInTurn m rs new
 events_end_in_turn pool m new left [] acceptable totals is sound ended = ap end_store (sym ended ∙ run_none 0 m)
 events_end_in_turn pool m new left (r ∷ rs) acceptable totals is sound ended =
@@ -89,12 +89,12 @@ events_end_in_turn pool m new left (r ∷ rs) acceptable totals is sound ended =
     let both = both_run (shape_in m) m own.new others.new r rs own.left others.left own.ended second in
     let same : others.new ≡ new = ap end_store (sym both ∙ ended) in (
       own,
-      events_end_in_turn pool own.new new others.left rs acceptable totals shape own.sound (others.ended ∙ ap (λ (s : Contents). Ended s others.left) same),
+      events_end_in_turn pool own.new new others.left rs acceptable totals shape own.sound (others.ended ∙ ap (λ (s : ObjectMap). Ended s others.left) same),
     )
 
 -- ---- commands that are pending
 
-pub events_end_before_pending : (pool : Objects) (m : Contents) (r : Raised) (pending : List Command) (more : ℕ) → IsAcceptable terminal pool
+pub events_end_before_pending : (pool : Objects) (m : ObjectMap) (r : Raised) (pending : List Command) (more : ℕ) → IsAcceptable terminal pool
     → CostsAreTotals (shape_of pool) → shape_in m ≡ shape_of pool → IsSound m → EndsBefore m r pending more
 events_end_before_pending pool m r pending more acceptable totals is sound =
     let own = runs_end pool m (r ∷ []) acceptable totals is sound in

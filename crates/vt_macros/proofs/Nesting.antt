@@ -7,7 +7,7 @@ use Rattle.std.specs.FinMap as finite
 use Rattle.vt_commands.specs.declared.command.Command.{Command}
 use Rattle.vt_commands.specs.declared.raising.Raised.{Raised}
 use Rattle.vt_commands.specs.Events.{event_number}
-use Rattle.vt_stores.specs.Stores.{Contents}
+use Rattle.vt_stores.specs.Stores.{ObjectMap}
 use Rattle.vt_stores.specs.Shapes.{Shape, shape_of}
 use Rattle.vt_verify.specs.Triggers.{listing, listing_of, listed}
 use Rattle.vt_verify.specs.Macros.{commands}
@@ -18,7 +18,7 @@ use Rattle.vt_macros.specs.declared.index.Index.{Index}
 use Rattle.vt_macros.specs.declared.index.Span.{Span}
 use Rattle.vt_chains.specs.declared.levels.Levels.{Levels}
 use Rattle.vt_chains.specs.Certificates.{AreLevels}
-use Rattle.vt_effects.specs.Changes.{Answers, left}
+use Rattle.vt_effects.specs.Changes.{HasResult, left}
 use Rattle.vt_effects.specs.Effects.{effect, after}
 use Rattle.vt_macros.specs.Indexes.{IsIndexOf, command_in}
 use Rattle.vt_macros.specs.Machines.{events_of, raised, joined, joined_all, total_budget, fault, run, follow_ups}
@@ -41,11 +41,11 @@ append_twice : {A : Type 0} (xs ys zs : List A) → (xs ++ ys) ++ zs ≡ xs ++ (
 append_twice [] ys zs = refl
 append_twice (x ∷ xs) ys zs = ap (λ l. x ∷ l) (append_twice xs ys zs)
 
-pub leads_none : (m : Contents) (front : List Command) → Leads m front 0 m front
+pub leads_none : (m : ObjectMap) (front : List Command) → Leads m front 0 m front
 leads_none m front rest left = ap (λ (n : ℕ). run n m (front ++ rest)) (omega arith)
 
 -- steps that lead on
-pub leads_more : (a b c : Contents) (all front next : List Command) (j k : ℕ) → Leads a all j b (front ++ next) → Leads b front k c [] → Leads a all (j + k) c next
+pub leads_more : (a b c : ObjectMap) (all front next : List Command) (j k : ℕ) → Leads a all j b (front ++ next) → Leads b front k c [] → Leads a all (j + k) c next
 leads_more a b c all front next j k first second rest left =
     ap (λ (n : ℕ). run n a (all ++ rest)) (omega arith) ∙ first rest (k + left)
     ∙ ap (run (k + left) b) (append_twice front next rest) ∙ second (next ++ rest) left
@@ -63,11 +63,11 @@ there_at [] i d lt = absurd (omega (arith, lt))
 there_at (x ∷ xs) zero d lt = refl
 there_at (x ∷ xs) (suc i) d lt = there_at xs i d (omega (arith, lt))
 
-module _ {A : Type 0} (index : Index) (old : Contents) (front : A → List Command) (most : A → ℕ) (parts : List A) where
+module _ {A : Type 0} (index : Index) (old : ObjectMap) (front : A → List Command) (most : A → ℕ) (parts : List A) where
   pub begin_parts : (levels : Levels) → CanRun index old levels → AreRunning index old front most parts 0 0 old levels
   begin_parts levels can = record { can = can; shape = refl; leads = leads_none old (flat_map front parts); within = omega arith }
 
-  pub next_part : (i j k next : ℕ) (d : A) (now new : Contents) (levels then : Levels) → AreRunning index old front most parts i j now levels → i < length parts
+  pub next_part : (i j k next : ℕ) (d : A) (now new : ObjectMap) (levels then : Levels) → AreRunning index old front most parts i j now levels → i < length parts
       → HaveRun index now (front (slice_index_or parts i d)) (most (slice_index_or parts i d)) k new then → next ≡ suc i
       → AreRunning index old front most parts next (j + k) new then
   next_part i j k next d now new levels then running lt ran is =
@@ -85,7 +85,7 @@ module _ {A : Type 0} (index : Index) (old : Contents) (front : A → List Comma
         within = omega (arith, before, one, all);
       })
 
-  pub end_parts : (i j : ℕ) (now : Contents) (levels : Levels) → AreRunning index old front most parts i j now levels → length parts ≤ i
+  pub end_parts : (i j : ℕ) (now : ObjectMap) (levels : Levels) → AreRunning index old front most parts i j now levels → length parts ≤ i
       → HaveRun index old (flat_map front parts) (sum_by most parts) j now levels
   end_parts i j now levels running le =
       let none = drop_end parts i le in
@@ -98,7 +98,7 @@ module _ {A : Type 0} (index : Index) (old : Contents) (front : A → List Comma
       }
 
   -- what is left costs no more than all
-  pub part_within : (i j : ℕ) (d : A) (now : Contents) (levels : Levels) → AreRunning index old front most parts i j now levels → i < length parts
+  pub part_within : (i j : ℕ) (d : A) (now : ObjectMap) (levels : Levels) → AreRunning index old front most parts i j now levels → i < length parts
       → j + most (slice_index_or parts i d) ≤ sum_by most parts
   part_within i j d now levels running lt =
       let x = slice_index_or parts i d in
@@ -117,12 +117,12 @@ unfolding joined
 joined_is shape id event items is = ap (flat_map (commands shape)) is
 
 -- what runs under a shape that has stayed
-at_shape : {A : Type 0} (front : Shape → A → List Command) (most : Shape → A → ℕ) (index : Index) (old now new : Contents) (x : A) (k : ℕ) (then : Levels) → shape_in now ≡ shape_in old
+at_shape : {A : Type 0} (front : Shape → A → List Command) (most : Shape → A → ℕ) (index : Index) (old now new : ObjectMap) (x : A) (k : ℕ) (then : Levels) → shape_in now ≡ shape_in old
     → HaveRun index now (front (shape_in now) x) (most (shape_in now) x) k new then → HaveRun index now (front (shape_in old) x) (most (shape_in old) x) k new then
 at_shape front most index old now new x k then same ran = subst (λ (s : Shape). HaveRun index now (front s x) (most s x) k new then) same ran
 
-module _ (index : Index) (old : Contents) (items : List ℕ) (id event : ℕ) (is : items ≡ listed (shape_in old) (listing id event)) where
-  pub macro_within : (i j d : ℕ) (now : Contents) (levels : Levels) → AreRunning index old (commands (shape_in old)) (cost (shape_in old)) items i j now levels → i < length items
+module _ (index : Index) (old : ObjectMap) (items : List ℕ) (id event : ℕ) (is : items ≡ listed (shape_in old) (listing id event)) where
+  pub macro_within : (i j d : ℕ) (now : ObjectMap) (levels : Levels) → AreRunning index old (commands (shape_in old)) (cost (shape_in old)) items i j now levels → i < length items
       → j + cost (shape_in now) (slice_index_or items i d) ≤ budget (shape_in old) id event
   macro_within i j d now levels running lt =
       let le = part_within index old (commands (shape_in old)) (cost (shape_in old)) items i j d now levels running lt in
@@ -130,14 +130,14 @@ module _ (index : Index) (old : Contents) (items : List ℕ) (id event : ℕ) (i
       let same = ap (λ (s : Shape). cost s (slice_index_or items i d)) running.shape in
       omega (arith, le, all, same)
 
-  pub macros_end : (i j : ℕ) (now : Contents) (levels : Levels) → AreRunning index old (commands (shape_in old)) (cost (shape_in old)) items i j now levels → length items ≤ i
+  pub macros_end : (i j : ℕ) (now : ObjectMap) (levels : Levels) → AreRunning index old (commands (shape_in old)) (cost (shape_in old)) items i j now levels → length items ≤ i
       → HaveRun index old (joined (shape_in old) (listing id event)) (budget (shape_in old) id event) j now levels
   macros_end i j now levels running le =
       subst (λ (front : List Command). HaveRun index old front (budget (shape_in old) id event) j now levels) (joined_is (shape_in old) id event items is)
       (subst (λ (most : ℕ). HaveRun index old (flat_map (commands (shape_in old)) items) most j now levels) (budget_total (shape_in old) id event items is)
       (end_parts index old (commands (shape_in old)) (cost (shape_in old)) items i j now levels running le))
 
-pub macro_ran : (index : Index) (old : Contents) (items : List ℕ) (i j k next d : ℕ) (now new : Contents) (levels then : Levels)
+pub macro_ran : (index : Index) (old : ObjectMap) (items : List ℕ) (i j k next d : ℕ) (now new : ObjectMap) (levels then : Levels)
     → AreRunning index old (commands (shape_in old)) (cost (shape_in old)) items i j now levels → i < length items
     → HaveRun index now (commands (shape_in now) (slice_index_or items i d)) (cost (shape_in now) (slice_index_or items i d)) k new then → next ≡ suc i
     → AreRunning index old (commands (shape_in old)) (cost (shape_in old)) items next (j + k) new then
@@ -147,7 +147,7 @@ macro_ran index old items i j k next d now new levels then running lt ran is =
 
 -- ---- events
 
-pub event_ran : (index : Index) (old : Contents) (raised : List Raised) (i j k next number : ℕ) (d : Raised) (now new : Contents) (levels then : Levels)
+pub event_ran : (index : Index) (old : ObjectMap) (raised : List Raised) (i j k next number : ℕ) (d : Raised) (now new : ObjectMap) (levels then : Levels)
     → AreRunning index old (event_front (shape_in old)) (event_most (shape_in old)) raised i j now levels → i < length raised
     → number ≡ event_number (slice_index_or raised i d).event
     → HaveRun index now (joined (shape_in now) (listing (slice_index_or raised i d).id number)) (budget (shape_in now) (slice_index_or raised i d).id number) k new then
@@ -158,7 +158,7 @@ event_ran index old raised i j k next number d now new levels then running lt is
     (subst (λ (n : ℕ). HaveRun index now (joined (shape_in now) (listing (slice_index_or raised i d).id n)) (budget (shape_in now) (slice_index_or raised i d).id n) k new then) is ran))
     more
 
-pub event_within : (index : Index) (old : Contents) (raised : List Raised) (i j number : ℕ) (d : Raised) (now : Contents) (levels : Levels)
+pub event_within : (index : Index) (old : ObjectMap) (raised : List Raised) (i j number : ℕ) (d : Raised) (now : ObjectMap) (levels : Levels)
     → AreRunning index old (event_front (shape_in old)) (event_most (shape_in old)) raised i j now levels → i < length raised
     → number ≡ event_number (slice_index_or raised i d).event
     → j + budget (shape_in now) (slice_index_or raised i d).id number ≤ total_budget (shape_in old) raised
@@ -198,16 +198,16 @@ part_of P h (x ∷ xs) zero d lt all = front_all P (h x) (flat_map h xs) all
 part_of P h (x ∷ xs) (suc i) d lt all = part_of P h xs i d (omega (arith, lt)) (rest_all P (h x) (flat_map h xs) all)
 
 -- the pieces of a macro, and what each of them costs at most
-abbrev pub piece_most : Index → Contents → Span → ℕ
+abbrev pub piece_most : Index → ObjectMap → Span → ℕ
 piece_most index store piece = sum_by (cost_of store) (commands_at index piece)
 
-module _ (index : Index) (old : Contents) (levels : Levels) (can : CanRun index old levels) (id : ℕ) (pieces : List Span)
+module _ (index : Index) (old : ObjectMap) (levels : Levels) (can : CanRun index old levels) (id : ℕ) (pieces : List Span)
     (are : map (command_in index) pieces ≡ map Some (commands (shape_in old) id)) where
   pub pieces_cost : sum_by (piece_most index old) pieces ≡ cost (shape_in old) id
   pieces_cost =
       sym (sums_of_sums (cost_of old) (commands_at index) pieces) ∙ ap (sum_by (cost_of old)) (all_some index pieces (commands (shape_in old) id) are) ∙ sym (can.totals id)
 
-  pub piece_within : (i j : ℕ) (d : Span) (now : Contents) (later : Levels) → AreRunning index old (commands_at index) (piece_most index old) pieces i j now later → i < length pieces
+  pub piece_within : (i j : ℕ) (d : Span) (now : ObjectMap) (later : Levels) → AreRunning index old (commands_at index) (piece_most index old) pieces i j now later → i < length pieces
       → j + piece_most index now (slice_index_or pieces i d) ≤ cost (shape_in old) id
   piece_within i j d now later running lt =
       let le = part_within index old (commands_at index) (piece_most index old) pieces i j d now later running lt in
@@ -215,21 +215,21 @@ module _ (index : Index) (old : Contents) (levels : Levels) (can : CanRun index 
       let all = pieces_cost in
       omega (arith, le, same, all)
 
-  pub piece_faultless : (i j : ℕ) (d : Span) (now : Contents) (later : Levels) → AreRunning index old (commands_at index) (piece_most index old) pieces i j now later → i < length pieces
+  pub piece_faultless : (i j : ℕ) (d : Span) (now : ObjectMap) (later : Levels) → AreRunning index old (commands_at index) (piece_most index old) pieces i j now later → i < length pieces
       → AllByRecursion (λ command. fault (shape_in now) command ≡ None) (commands_at index (slice_index_or pieces i d))
   piece_faultless i j d now later running lt =
       subst (λ (s : Shape). AllByRecursion (λ command. fault s command ≡ None) (commands_at index (slice_index_or pieces i d))) (sym running.shape)
       (part_of (λ command. fault (shape_in old) command ≡ None) (commands_at index) pieces i d lt
       (subst (λ (l : List Command). AllByRecursion (λ command. fault (shape_in old) command ≡ None) l) (sym (all_some index pieces (commands (shape_in old) id) are)) (can.faultless id)))
 
-  pub pieces_end : (i j : ℕ) (now : Contents) (later : Levels) → AreRunning index old (commands_at index) (piece_most index old) pieces i j now later → length pieces ≤ i
+  pub pieces_end : (i j : ℕ) (now : ObjectMap) (later : Levels) → AreRunning index old (commands_at index) (piece_most index old) pieces i j now later → length pieces ≤ i
       → HaveRun index old (commands (shape_in old) id) (cost (shape_in old) id) j now later
   pieces_end i j now later running le =
       subst (λ (front : List Command). HaveRun index old front (cost (shape_in old) id) j now later) (all_some index pieces (commands (shape_in old) id) are)
       (subst (λ (most : ℕ). HaveRun index old (flat_map (commands_at index) pieces) most j now later) pieces_cost
       (end_parts index old (commands_at index) (piece_most index old) pieces i j now later running le))
 
-pub piece_ran : (index : Index) (old : Contents) (pieces : List Span) (i j k next : ℕ) (d : Span) (now new : Contents) (levels then : Levels)
+pub piece_ran : (index : Index) (old : ObjectMap) (pieces : List Span) (i j k next : ℕ) (d : Span) (now new : ObjectMap) (levels then : Levels)
     → AreRunning index old (commands_at index) (piece_most index old) pieces i j now levels → i < length pieces
     → HaveRun index now (commands_at index (slice_index_or pieces i d)) (piece_most index now (slice_index_or pieces i d)) k new then → next ≡ suc i
     → AreRunning index old (commands_at index) (piece_most index old) pieces next (j + k) new then
@@ -240,7 +240,7 @@ piece_ran index old pieces i j k next d now new levels then running lt ran is =
 
 -- ---- a command
 
-pub after_can : (index : Index) (m : Contents) (levels then : Levels) (command : Command) (new : Contents) → CanRun index m levels → new ≡ after m command → AreLevels new then → CanRun index new then
+pub after_can : (index : Index) (m : ObjectMap) (levels then : Levels) (command : Command) (new : ObjectMap) → CanRun index m levels → new ≡ after m command → AreLevels new then → CanRun index new then
 after_can index m levels then command new can is are =
     let same : shape_in new ≡ shape_in m = ap shape_in is ∙ shapes_stay m command in
     record {
@@ -256,24 +256,24 @@ after_can index m levels then command new can is are =
 events_cost : (shape : Shape) (raised : List Raised) → total_budget shape raised ≡ sum_by (raised_cost shape) raised
 events_cost shape raised = same_sums (λ r. budget shape (listing_of r).id (listing_of r).event) (raised_cost shape) raised (budget_is shape)
 
-accepted : {A : Type 0} (x : Result A ℕ) → Answers (Ok tt) x → is_ok x ≡ true
+accepted : {A : Type 0} (x : Result A ℕ) → HasResult (Ok tt) x → is_ok x ≡ true
 accepted (Ok y) is = refl
 accepted (Err error) is = absurd is
 
-raised_is : (m : Contents) (command : Command) → is_ok (effect m command) ≡ true → raised m command ≡ events_of m command
+raised_is : (m : ObjectMap) (command : Command) → is_ok (effect m command) ≡ true → raised m command ≡ events_of m command
 unfolding raised
 raised_is m command ok = ap (λ b. cond b (events_of m command) []) ok
 
-none_raised : (m : Contents) (command : Command) → is_ok (effect m command) ≡ false → raised m command ≡ []
+none_raised : (m : ObjectMap) (command : Command) → is_ok (effect m command) ≡ false → raised m command ≡ []
 unfolding raised
 none_raised m command failed = ap (λ b. cond b (events_of m command) []) failed
 
-shape_entries : (m : Contents) → shape_of (finite.entries m) ≡ shape_in m
+shape_entries : (m : ObjectMap) → shape_of (finite.entries m) ≡ shape_in m
 unfolding shape_in
 shape_entries m = refl
 
-module _ (index : Index) (m : Contents) (levels : Levels) (command : Command) (can : CanRun index m levels) (events : List Raised) (of : events ≡ events_of m command)
-    (done : Answers (Ok tt) (effect m command)) (new : Contents) (is : new ≡ after m command) where
+module _ (index : Index) (m : ObjectMap) (levels : Levels) (command : Command) (can : CanRun index m levels) (events : List Raised) (of : events ≡ events_of m command)
+    (done : HasResult (Ok tt) (effect m command)) (new : ObjectMap) (is : new ≡ after m command) where
   pub new_shape : shape_in new ≡ shape_in m
   new_shape = ap shape_in is ∙ shapes_stay m command
 
@@ -290,10 +290,10 @@ module _ (index : Index) (m : Contents) (levels : Levels) (command : Command) (c
   follows : follow_ups m command ≡ joined_all (shape_in new) events
   unfolding follow_ups
   follows =
-      ap (λ (n : Contents). joined_all (shape_in n) (raised m command)) (sym is)
+      ap (λ (n : ObjectMap). joined_all (shape_in n) (raised m command)) (sym is)
       ∙ ap (joined_all (shape_in new)) (raised_is m command (accepted (effect m command) done) ∙ sym of)
 
-  pub command_ran : (k : ℕ) (last : Contents) (later : Levels) → fault (shape_in m) command ≡ None
+  pub command_ran : (k : ℕ) (last : ObjectMap) (later : Levels) → fault (shape_in m) command ≡ None
       → HaveRun index new (joined_all (shape_in new) events) (total_budget (shape_in new) events) k last later
       → HaveRun index m (command ∷ []) (cost_of m command) (k + 1) last later
   command_ran k last later none ran =
@@ -305,22 +305,22 @@ module _ (index : Index) (m : Contents) (levels : Levels) (command : Command) (c
         leads = λ rest left.
             ap (λ (n : ℕ). run n m (command ∷ rest)) (omega arith) ∙ run_step (k + left) m command rest
             ∙ no_fault_runs (shape_in m) m command (run (k + left) (after m command) (follow_ups m command ++ rest)) refl none
-            ∙ ap (λ (n : Contents). run (k + left) n (follow_ups m command ++ rest)) (sym is)
+            ∙ ap (λ (n : ObjectMap). run (k + left) n (follow_ups m command ++ rest)) (sym is)
             ∙ ap (λ (front : List Command). run (k + left) new (front ++ rest)) follows
             ∙ ran.leads rest left;
         within = omega (arith, one, all);
       }
 
-refused_by : {A : Type 0} (error : ℕ) (x : Result A ℕ) → Answers (Err error) x → is_ok x ≡ false
+refused_by : {A : Type 0} (error : ℕ) (x : Result A ℕ) → HasResult (Err error) x → is_ok x ≡ false
 refused_by error (Ok y) is = absurd is
 refused_by error (Err other) is = refl
 
-none_follow : (m : Contents) (command : Command) (error : ℕ) → Answers (Err error) (effect m command) → follow_ups m command ≡ []
+none_follow : (m : ObjectMap) (command : Command) (error : ℕ) → HasResult (Err error) (effect m command) → follow_ups m command ≡ []
 unfolding follow_ups
 none_follow m command error failed = ap (joined_all (shape_in (after m command))) (none_raised m command (refused_by error (effect m command) failed))
 
-pub command_refused : (index : Index) (m new : Contents) (levels then : Levels) (command : Command) (error : ℕ) → CanRun index m levels → fault (shape_in m) command ≡ None
-    → Answers (Err error) (effect m command) → new ≡ after m command → AreLevels new then → HaveRun index m (command ∷ []) (cost_of m command) 1 new then
+pub command_refused : (index : Index) (m new : ObjectMap) (levels then : Levels) (command : Command) (error : ℕ) → CanRun index m levels → fault (shape_in m) command ≡ None
+    → HasResult (Err error) (effect m command) → new ≡ after m command → AreLevels new then → HaveRun index m (command ∷ []) (cost_of m command) 1 new then
 command_refused index m new levels then command error can none failed is are =
     record {
       can = after_can index m levels then command new can is are;
@@ -328,14 +328,14 @@ command_refused index m new levels then command error can none failed is are =
       leads = λ rest left.
           ap (λ (n : ℕ). run n m (command ∷ rest)) (omega arith) ∙ run_step left m command rest
           ∙ no_fault_runs (shape_in m) m command (run left (after m command) (follow_ups m command ++ rest)) refl none
-          ∙ ap (λ (n : Contents). run left n (follow_ups m command ++ rest)) (sym is)
+          ∙ ap (λ (n : ObjectMap). run left n (follow_ups m command ++ rest)) (sym is)
           ∙ ap (λ (front : List Command). run left new (front ++ rest)) (none_follow m command error failed);
       within = omega arith;
     }
 
 -- ---- an event that is read from the list
 
-pub item_ran : (index : Index) (old : Contents) (raised : List Raised) (i j k next number : ℕ) (x d : Raised) (now new : Contents) (levels then : Levels)
+pub item_ran : (index : Index) (old : ObjectMap) (raised : List Raised) (i j k next number : ℕ) (x d : Raised) (now new : ObjectMap) (levels then : Levels)
     → AreRunning index old (event_front (shape_in old)) (event_most (shape_in old)) raised i j now levels → i < length raised
     → x ≡ slice_index_or raised i d → number ≡ event_number x.event
     → HaveRun index now (joined (shape_in now) (listing x.id number)) (budget (shape_in now) x.id number) k new then
@@ -344,7 +344,7 @@ item_ran index old raised i j k next number x d now new levels then running lt a
     event_ran index old raised i j k next number d now new levels then running lt (is ∙ ap (λ (r : Raised). event_number r.event) at)
     (subst (λ (r : Raised). HaveRun index now (joined (shape_in now) (listing r.id number)) (budget (shape_in now) r.id number) k new then) at ran) more
 
-pub item_within : (index : Index) (old : Contents) (raised : List Raised) (i j number : ℕ) (x d : Raised) (now : Contents) (levels : Levels)
+pub item_within : (index : Index) (old : ObjectMap) (raised : List Raised) (i j number : ℕ) (x d : Raised) (now : ObjectMap) (levels : Levels)
     → AreRunning index old (event_front (shape_in old)) (event_most (shape_in old)) raised i j now levels → i < length raised
     → x ≡ slice_index_or raised i d → number ≡ event_number x.event
     → j + budget (shape_in now) x.id number ≤ total_budget (shape_in old) raised

@@ -21,7 +21,7 @@ use Rattle.vt_commands.specs.Events.{event_number, raise, row_events}
 use Rattle.vt_kinds.specs.declared.place.Place.TheVariants as places
 use Rattle.vt_kinds.specs.References.{slot}
 use Rattle.vt_kinds.specs.Records.{Seen, kind_of}
-use Rattle.vt_stores.specs.Stores.{Contents, Objects, object_at}
+use Rattle.vt_stores.specs.Stores.{ObjectMap, Objects, object_at}
 use Rattle.vt_rank.specs.Costs.{greatest}
 use Rattle.vt_verify.specs.declared.listing.Listing.{Listing}
 use Rattle.vt_stores.specs.Shapes.{Shape, fixed, shape_of}
@@ -105,13 +105,13 @@ mask_among f (e ∷ es) q x found is =
     (mask_or f q e.0 e.1 x (object_at es q) (masks (shape_of es)) (eq_by_cmp nat_cmp q e.0) (is_mask (kind_of e.1)) refl refl found is
     (λ later. mask_among f es q x later is))
 
-found_mask : (f : ℕ → ℕ) (m : Contents) (q : ℕ) (found : Option Seen) → finite.get m q ≡ found → is_one_of sets.Masks (option_map kind_of found) ≡ true
+found_mask : (f : ℕ → ℕ) (m : ObjectMap) (q : ℕ) (found : Option Seen) → finite.get m q ≡ found → is_one_of sets.Masks (option_map kind_of found) ≡ true
     → f q ≤ greatest f (masks (shape_of (finite.entries m)))
 found_mask f m q None is one = absurd cc
 found_mask f m q (Some x) is one = mask_among f (finite.entries m) q x (sym (finite.get-entries m q) ∙ is) (mask_kind (kind_of x) one)
 
 -- what hiding a mask costs, where it is one or NULL
-hide_cost : (m : Contents) (shape : Shape) (mask : ℕ) (b : Bool) → shape_of (finite.entries m) ≡ shape
+hide_cost : (m : ObjectMap) (shape : Shape) (mask : ℕ) (b : Bool) → shape_of (finite.entries m) ≡ shape
     → (b ≡ false → is_one_of sets.Masks (kind_in m mask) ≡ true)
     → sum_by (raised_cost shape) (cond b [] (raise mask events.Hide ∷ []))
     ≤ greatest (λ id. total (cost shape) shape (listing id (event_number events.Hide))) (masks shape)
@@ -126,7 +126,7 @@ hide_cost m shape mask false is there =
     sum_by-cons (raised_cost shape) (raise mask events.Hide) [] in
     omega (arith, most, one)
 
-active_mask_is : (m : Contents) (set : ℕ) (found : Option Seen) → IsSound m → finite.get m set ≡ found → (mask_of found == 0xFFFF) ≡ false
+active_mask_is : (m : ObjectMap) (set : ℕ) (found : Option Seen) → IsSound m → finite.get m set ≡ found → (mask_of found == 0xFFFF) ≡ false
     → is_one_of sets.Masks (kind_in m (mask_of found)) ≡ true
 active_mask_is m set None sound is other = absurd cc
 active_mask_is m set (Some (objects.WorkingSet o)) sound is other =
@@ -152,7 +152,7 @@ mask_bound shape most a b hidden true le =
 mask_bound shape most a b hidden false le =
     omega (arith, le, sum_by-append (raised_cost shape) hidden (a ∷ b ∷ []), sum_mapped (total (cost shape) shape) listing_of (a ∷ b ∷ []))
 
-events_bound : (m : Contents) (shape : Shape) (command : Command) → IsSound m → shape_of (finite.entries m) ≡ shape
+events_bound : (m : ObjectMap) (shape : Shape) (command : Command) → IsSound m → shape_of (finite.entries m) ≡ shape
     → sum_by (raised_cost shape) (events_of m command) + 1 ≤ command_cost (cost shape) shape command
 events_bound m shape (ChangeActiveMask set mask) sound is =
     mask_bound shape (greatest (λ id. total (cost shape) shape (listing id (event_number events.Hide))) (masks shape)) (raise set events.ActiveMask) (raise mask events.Show)
@@ -164,7 +164,7 @@ events_bound m shape command sound is = plain_bound shape (row_events command)
 refused_bound : (shape : Shape) (command : Command) → 0 + 1 ≤ command_cost (cost shape) shape command
 refused_bound shape command = omega arith
 
-pub raised_bound : (m : Contents) (shape : Shape) (command : Command) → IsSound m → shape_of (finite.entries m) ≡ shape
+pub raised_bound : (m : ObjectMap) (shape : Shape) (command : Command) → IsSound m → shape_of (finite.entries m) ≡ shape
     → sum_by (raised_cost shape) (raised m command) + 1 ≤ command_cost (cost shape) shape command
 unfolding raised
 raised_bound m shape command sound is = by (is_ok (effect m command))
@@ -173,12 +173,12 @@ raised_bound m shape command sound is = by (is_ok (effect m command))
     by true = events_bound m shape command sound is
     by false = refused_bound shape command
 
-entries_shape : (m : Contents) (shape : Shape) → shape_in m ≡ shape → shape_of (finite.entries m) ≡ shape
+entries_shape : (m : ObjectMap) (shape : Shape) → shape_in m ≡ shape → shape_of (finite.entries m) ≡ shape
 unfolding shape_in
 entries_shape m shape is = is
 
 -- what a command triggers costs less than the command
-follow_bound : (m : Contents) (shape : Shape) (command : Command) → IsSound m → shape_in m ≡ shape → CostsAreTotals shape
+follow_bound : (m : ObjectMap) (shape : Shape) (command : Command) → IsSound m → shape_in m ≡ shape → CostsAreTotals shape
     → sum_by (command_cost (cost shape) shape) (follow_ups m command) + 1 ≤ command_cost (cost shape) shape command
 unfolding follow_ups
 follow_bound m shape command sound is totals =
@@ -202,7 +202,7 @@ all_faultless shape rs none =
     all_flat (λ c. fault shape c ≡ None) (λ r. joined shape (listing_of r)) rs
     (all_of (λ r. NoFault shape (joined shape (listing_of r))) rs (λ r. joined_faultless shape (listing_of r) none))
 
-follow_faultless : (m : Contents) (shape : Shape) (command : Command) → shape_in m ≡ shape → ((id : ℕ) → NoFault shape (commands shape id))
+follow_faultless : (m : ObjectMap) (shape : Shape) (command : Command) → shape_in m ≡ shape → ((id : ℕ) → NoFault shape (commands shape id))
     → NoFault shape (follow_ups m command)
 unfolding follow_ups
 follow_faultless m shape command is none =
@@ -210,23 +210,23 @@ follow_faultless m shape command is none =
 
 -- ---- the run
 
-pub no_fault_runs : (shape : Shape) (m : Contents) (command : Command) (next : End) → shape_in m ≡ shape → fault shape command ≡ None
+pub no_fault_runs : (shape : Shape) (m : ObjectMap) (command : Command) (next : End) → shape_in m ≡ shape → fault shape command ≡ None
     → or_sticks (fault (shape_in m) command) m next ≡ next
 no_fault_runs shape m command next is none =
     ap (λ (s : Shape). or_sticks (fault s command) m next) is ∙ ap (λ f. or_sticks f m next) none
 
-pub run_none : (n : ℕ) (m : Contents) → run n m [] ≡ Ended m n
+pub run_none : (n : ℕ) (m : ObjectMap) → run n m [] ≡ Ended m n
 unfolding run
 run_none zero m = refl
 run_none (suc n) m = refl
 
-pub run_step : (n : ℕ) (m : Contents) (command : Command) (pending : List Command)
+pub run_step : (n : ℕ) (m : ObjectMap) (command : Command) (pending : List Command)
     → run (suc n) m (command ∷ pending) ≡ or_sticks (fault (shape_in m) command) m (run n (after m command) (follow_ups m command ++ pending))
 unfolding run
 run_step n m command pending = refl
 
 -- a run of commands whose cost is at most the steps
-pub commands_end : (shape : Shape) → CostsAreTotals shape → working_sets shape ≡ 1 → ((id : ℕ) → NoFault shape (commands shape id)) → (n : ℕ) (m : Contents) (cs : List Command)
+pub commands_end : (shape : Shape) → CostsAreTotals shape → working_sets shape ≡ 1 → ((id : ℕ) → NoFault shape (commands shape id)) → (n : ℕ) (m : ObjectMap) (cs : List Command)
     → shape_in m ≡ shape → IsSound m → NoFault shape cs → sum_by (command_cost (cost shape) shape) cs ≤ n → Ends m n (run n m cs)
 commands_end shape totals one none n m [] is sound faultless le =
     record { new = m; left = n; ended = run_none n m; within = omega arith; working_set = ap working_sets is ∙ one; sound = sound; shape = refl }
@@ -257,7 +257,7 @@ pub budget_is : (shape : Shape) (r : Raised) → budget shape (listing_of r).id 
 unfolding budget
 budget_is shape r = refl
 
-pub runs_end : (pool : Objects) (m : Contents) (rs : List Raised) → IsAcceptable terminal pool → CostsAreTotals (shape_of pool) → shape_in m ≡ shape_of pool → IsSound m
+pub runs_end : (pool : Objects) (m : ObjectMap) (rs : List Raised) → IsAcceptable terminal pool → CostsAreTotals (shape_of pool) → shape_in m ≡ shape_of pool → IsSound m
     → Ends m (total_budget (shape_in m) rs) (run_of m rs)
 runs_end pool m rs acceptable totals is sound =
     subst (λ (s : Shape). Ends m (total_budget s rs) (run (total_budget s rs) m (joined_all s rs))) (sym is)

@@ -9,7 +9,7 @@ use Rattle.vt_commands.specs.declared.event.Event.TheVariants as events
 use Rattle.vt_commands.specs.declared.raising.Raised.{Raised}
 use Rattle.vt_commands.specs.Events.{raise, row_events}
 use Rattle.vt_kinds.specs.Records.{Seen}
-use Rattle.vt_stores.specs.Stores.{Contents}
+use Rattle.vt_stores.specs.Stores.{ObjectMap}
 use Rattle.vt_verify.specs.declared.listing.Listing.{Listing}
 use Rattle.vt_stores.specs.Shapes.{Shape}
 use Rattle.vt_verify.specs.Macros.{commands}
@@ -36,12 +36,12 @@ abbrev pub mask_events : ℕ → ℕ → ℕ → List Raised
 mask_events old set mask =
     if old == mask then raise set events.ActiveMask ∷ [] else hide old ++ row_events (ChangeActiveMask set mask)
 
-abbrev pub events_of : Contents → Command → List Raised
+abbrev pub events_of : ObjectMap → Command → List Raised
 events_of store (ChangeActiveMask set mask) = mask_events (mask_of (finite.get store set)) set mask
 events_of store command = row_events command
 
 -- a refused command raises nothing
-unfoldable pub raised : Contents → Command → List Raised
+unfoldable pub raised : ObjectMap → Command → List Raised
 raised store command = if is_ok (effect store command) then events_of store command else []
 
 -- ---- the machine
@@ -68,19 +68,19 @@ fault shape command =
 
 -- how a run ends: with a store and steps left, or stuck
 pub data End : Type 0 where
-  Ended : (store : Contents) (left : ℕ) → End
-  Sticks : (why : Stuck) (store : Contents) → End
+  Ended : (store : ObjectMap) (left : ℕ) → End
+  Sticks : (why : Stuck) (store : ObjectMap) → End
 
-abbrev pub or_sticks : Option Stuck → Contents → End → End
+abbrev pub or_sticks : Option Stuck → ObjectMap → End → End
 or_sticks (Some why) store next = Sticks why store
 or_sticks None store next = next
 
 -- what a command triggers, which goes in front of the commands that are pending
-unfoldable pub follow_ups : Contents → Command → List Command
+unfoldable pub follow_ups : ObjectMap → Command → List Command
 follow_ups store command = joined_all (shape_in (after store command)) (raised store command)
 
 -- A step takes the first pending command. With no steps left it sticks.
-unfoldable pub run : ℕ → Contents → List Command → End
+unfoldable pub run : ℕ → ObjectMap → List Command → End
 run left store [] = Ended store left
 run zero store (command ∷ pending) = or_sticks (fault (shape_in store) command) store (Sticks Spent store)
 run (suc left) store (command ∷ pending) =
@@ -92,5 +92,5 @@ abbrev pub total_budget : Shape → List Raised → ℕ
 total_budget shape raised = sum_by (λ r. budget shape (listing_of r).id (listing_of r).event) raised
 
 -- The run of events begins with the commands that they trigger, and with their budgets.
-abbrev pub run_of : Contents → List Raised → End
+abbrev pub run_of : ObjectMap → List Raised → End
 run_of store raised = run (total_budget (shape_in store) raised) store (joined_all (shape_in store) raised)

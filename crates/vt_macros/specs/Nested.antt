@@ -3,7 +3,7 @@ use Rattle.std.specs.Prelude.{◌≡◌, ◌≤◌, ◌+◌, ℕ, List, [], ◌+
 use Rattle.std.specs.Option.{option_to_list}
 use Rattle.std.specs.List.{AllByRecursion, flat_map}
 use Rattle.vt_commands.specs.declared.command.Command.{Command}
-use Rattle.vt_stores.specs.Stores.{Contents}
+use Rattle.vt_stores.specs.Stores.{ObjectMap}
 use Rattle.vt_verify.specs.Macros.{commands}
 use Rattle.vt_verify.specs.Budgets.{CostsAreTotals, cost, command_cost}
 use Rattle.vt_verify.specs.Rules.{IsWithinBudget, working_sets}
@@ -18,7 +18,7 @@ use Rattle.vt_effects.specs.Soundness.{shape_in}
 use Rattle.vt_effects.specs.Soundness.{IsSound}
 
 -- the macros of a store can run
-pub record CanRun (index : Index) (store : Contents) (levels : Levels) : Type 0 where
+pub record CanRun (index : Index) (store : ObjectMap) (levels : Levels) : Type 0 where
   pub indexed : IsIndexOf (shape_in store) index
   pub levelled : AreLevels store levels
   pub sound : IsSound store
@@ -28,11 +28,11 @@ pub record CanRun (index : Index) (store : Contents) (levels : Levels) : Type 0 
   pub faultless : (id : ℕ) → AllByRecursion (λ command. fault (shape_in store) command ≡ None) (commands (shape_in store) id)
 
 -- So many steps lead from one store to another, and from pending commands to others, whatever is pending behind them.
-abbrev pub Leads : Contents → List Command → ℕ → Contents → List Command → Type 0
+abbrev pub Leads : ObjectMap → List Command → ℕ → ObjectMap → List Command → Type 0
 Leads old front steps new next = (rest : List Command) (left : ℕ) → run (steps + left) old (front ++ rest) ≡ run left new (next ++ rest)
 
 -- commands have run, in at most so many steps
-pub record HaveRun (index : Index) (old : Contents) (front : List Command) (most steps : ℕ) (new : Contents) (levels : Levels) : Type 0 where
+pub record HaveRun (index : Index) (old : ObjectMap) (front : List Command) (most steps : ℕ) (new : ObjectMap) (levels : Levels) : Type 0 where
   pub can : CanRun index new levels
   pub shape : shape_in new ≡ shape_in old
   pub leads : Leads old front steps new []
@@ -43,12 +43,12 @@ abbrev pub commands_at : Index → Span → List Command
 commands_at index piece = option_to_list (command_in index piece)
 
 -- what a command costs at most on a store
-abbrev pub cost_of : Contents → Command → ℕ
+abbrev pub cost_of : ObjectMap → Command → ℕ
 cost_of store command = command_cost (cost (shape_in store)) (shape_in store) command
 
 -- ---- while the parts of a list run one after the other, from a place on
 
-pub record AreRunning {A : Type 0} (index : Index) (old : Contents) (front : A → List Command) (most : A → ℕ) (parts : List A) (place steps : ℕ) (now : Contents) (levels : Levels) : Type 0 where
+pub record AreRunning {A : Type 0} (index : Index) (old : ObjectMap) (front : A → List Command) (most : A → ℕ) (parts : List A) (place steps : ℕ) (now : ObjectMap) (levels : Levels) : Type 0 where
   pub can : CanRun index now levels
   pub shape : shape_in now ≡ shape_in old
   pub leads : Leads old (flat_map front parts) steps now (flat_map front (drop place parts))

@@ -3,7 +3,7 @@ use Rattle.std.specs.Prelude.{◌≡◌, ◌≤◌, ◌+◌, ◌++◌, ℕ, List
 use Rattle.std.specs.FinMap as finite
 use Rattle.vt_commands.specs.declared.command.Command.{Command}
 use Rattle.vt_commands.specs.declared.raising.Raised.{Raised}
-use Rattle.vt_stores.specs.Stores.{Contents, Objects, AreStored, map_of}
+use Rattle.vt_stores.specs.Stores.{ObjectMap, Objects, AreStored, map_of}
 use Rattle.vt_stores.specs.Shapes.{shape_of}
 use Rattle.vt_verify.specs.Budgets.{CostsAreTotals}
 use Rattle.vt_verify.specs.Triggers.{listing_of}
@@ -15,8 +15,8 @@ use Rattle.vt_effects.specs.Soundness.{IsSound}
 
 -- A run that began with so many steps ends, and does not stick. The store has one working set still, its references and chains
 -- are in order, and no kind, no macro entry and no macro byte is another one.
-pub record Ends (store : Contents) (steps : ℕ) (end : End) : Type 0 where
-  pub new : Contents
+pub record Ends (store : ObjectMap) (steps : ℕ) (end : End) : Type 0 where
+  pub new : ObjectMap
   pub left : ℕ
   pub ended : end ≡ Ended new left
   pub within : left ≤ steps
@@ -27,34 +27,34 @@ pub record Ends (store : Contents) (steps : ℕ) (end : End) : Type 0 where
 -- Whatever events are raised on a store of an acceptable pool, each command of their macros finds the objects that it names,
 -- of kinds that they may have, and the run ends within the budgets of the events.
 abbrev pub RunsEnd : Type 0
-RunsEnd = (pool : Objects) (store : Contents) (raised : List Raised) → IsAcceptable terminal pool → CostsAreTotals (shape_of pool)
+RunsEnd = (pool : Objects) (store : ObjectMap) (raised : List Raised) → IsAcceptable terminal pool → CostsAreTotals (shape_of pool)
     → shape_in store ≡ shape_of pool → IsSound store → Ends store (total_budget (shape_in store) raised) (run_of store raised)
 
 -- Events in turn: each begins on the store that those before it leave, with its own budget of steps, and ends.
-abbrev pub EndInTurn : Contents → List Raised → Contents → Type 0
+abbrev pub EndInTurn : ObjectMap → List Raised → ObjectMap → Type 0
 EndInTurn store [] new = new ≡ store
 EndInTurn store (r ∷ raised) new =
     (own : Ends store (total_budget (shape_in store) (r ∷ [])) (run_of store (r ∷ []))) × EndInTurn own.new raised new
 
 -- What a run of events leaves is what they leave in turn, each within its own budget.
 abbrev pub EventsEndInTurn : Type 0
-EventsEndInTurn = (pool : Objects) (store new : Contents) (left : ℕ) (raised : List Raised) → IsAcceptable terminal pool → CostsAreTotals (shape_of pool)
+EventsEndInTurn = (pool : Objects) (store new : ObjectMap) (left : ℕ) (raised : List Raised) → IsAcceptable terminal pool → CostsAreTotals (shape_of pool)
     → shape_in store ≡ shape_of pool → IsSound store → run_of store raised ≡ Ended new left → EndInTurn store raised new
 
 -- With commands pending behind it an event ends, within its own budget of steps, and then these commands run on what it leaves,
 -- with the steps that are left.
-pub record EndsBefore (store : Contents) (r : Raised) (pending : List Command) (more : ℕ) : Type 0 where
+pub record EndsBefore (store : ObjectMap) (r : Raised) (pending : List Command) (more : ℕ) : Type 0 where
   pub own : Ends store (total_budget (shape_in store) (r ∷ [])) (run_of store (r ∷ []))
   pub goes_on : run (total_budget (shape_in store) (r ∷ []) + more) store (joined (shape_in store) (listing_of r) ++ pending) ≡ run (own.left + more) own.new pending
 
 -- So does an event that a command of a macro raises: the store is in order then too, by the laws `commands_keep_order` and
 -- `commands_keep_shapes` of vt_effects.
 abbrev pub EventsEndBeforePending : Type 0
-EventsEndBeforePending = (pool : Objects) (store : Contents) (r : Raised) (pending : List Command) (more : ℕ) → IsAcceptable terminal pool
+EventsEndBeforePending = (pool : Objects) (store : ObjectMap) (r : Raised) (pending : List Command) (more : ℕ) → IsAcceptable terminal pool
     → CostsAreTotals (shape_of pool) → shape_in store ≡ shape_of pool → IsSound store → EndsBefore store r pending more
 
 -- The store of an acceptable pool has one working set, and its references and chains are in order.
-pub record IsReady (pool : Objects) (store : Contents) : Type 0 where
+pub record IsReady (pool : Objects) (store : ObjectMap) : Type 0 where
   pub working_set : working_sets (shape_in store) ≡ 1
   pub sound : IsSound store
   pub shape : shape_in store ≡ shape_of pool
@@ -64,4 +64,4 @@ PoolsAreReady = (pool : Objects) → AreStored pool → IsAcceptable terminal po
 
 -- Nothing stands under NULL there.
 abbrev pub NullIsNoObject : Type 0
-NullIsNoObject = (pool : Objects) (store : Contents) → AreStored pool → IsReady pool store → finite.get store 0xFFFF ≡ None
+NullIsNoObject = (pool : Objects) (store : ObjectMap) → AreStored pool → IsReady pool store → finite.get store 0xFFFF ≡ None

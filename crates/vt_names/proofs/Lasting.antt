@@ -3,7 +3,7 @@ use Rattle.std.proofs.Common.{◌≡◌, ◌≢◌, ℕ, zero, suc, ◌-◌, ◌
 use Rattle.std.proofs.lemmas.Option.{same_Some}
 use Rattle.std.proofs.lemmas.Bool.{lt-ltb, le-ltb, cases_lt}
 use Rattle.vt_names.specs.Registry.{Set, set_at, with_set, joining, binding, preloaded, mastered, joined, bound, has_place}
-use Rattle.vt_names.specs.Registrations.{Event, Masters, Joins, Closes, Preloads, Binds, registers, closes, registration_name, registration_count, bound_name, member_names, IsOfLast, after_events}
+use Rattle.vt_names.specs.Registrations.{RegistryInput, Masters, Joins, Closes, Preloads, Binds, registers, closes, registration_name, registration_count, bound_name, member_names, IsOfLast, after_events}
 use Rattle.vt_names.proofs.Holding.{by_eq, none-some}
 use Rattle.vt_names.proofs.Filing.{set_at-address, at-with, at-without}
 
@@ -13,7 +13,7 @@ take-none : (n : ℕ) → ◌≡◌ {A = List ℕ} (take n []) []
 take-none zero = refl
 take-none (suc n) = refl
 
-first : (q : ℕ) (e : Event) (earlier : List Event) (s : Set) → registers q e ≡ true
+first : (q : ℕ) (e : RegistryInput) (earlier : List RegistryInput) (s : Set) → registers q e ≡ true
     → s.name ≡ registration_name e → s.count ≡ registration_count e → s.members ≡ [] → IsOfLast (e ∷ earlier) q s
 first q e earlier s own name count none = record {
   since = [];
@@ -27,9 +27,9 @@ first q e earlier s own name count none = record {
   members = none ∙ sym (take-none (s.count - 1));
 }
 
-other : (q : ℕ) (e : Event) (earlier : List Event) (s : Set) → (registers q e || closes q e) ≡ false
-    → ((since : List Event) (name : Option ℕ) → bound_name q (e ∷ since) name ≡ bound_name q since name)
-    → ((since : List Event) → member_names q (e ∷ since) ≡ member_names q since)
+other : (q : ℕ) (e : RegistryInput) (earlier : List RegistryInput) (s : Set) → (registers q e || closes q e) ≡ false
+    → ((since : List RegistryInput) (name : Option ℕ) → bound_name q (e ∷ since) name ≡ bound_name q since name)
+    → ((since : List RegistryInput) → member_names q (e ∷ since) ≡ member_names q since)
     → IsOfLast earlier q s → IsOfLast (e ∷ earlier) q s
 other q e earlier s apart names members is = record {
   since = e ∷ is.since;
@@ -65,7 +65,7 @@ one-more (suc k) (x ∷ l) n =
     ap (λ t. x ∷ t) (one-more k l n) ∙ cons-cond (nat_lt (length (take k l)) k) x (take k l ++ n ∷ []) (take k l)
     ∙ ap (λ b. cond b (x ∷ take k l ++ n ∷ []) (x ∷ take k l)) (sym (below (length (take k l)) k (suc (length (take k l))) (suc k) (λ h. omega arith) (λ h. omega arith)))
 
-joined-last : (q n : ℕ) (earlier : List Event) (s : Set) (b : Bool) → has_place s ≡ b → IsOfLast earlier q s
+joined-last : (q n : ℕ) (earlier : List RegistryInput) (s : Set) (b : Bool) → has_place s ≡ b → IsOfLast earlier q s
     → IsOfLast (Joins q n ∷ earlier) q (cond b (joined s n) s)
 joined-last q n earlier s b has is = record {
   since = Joins q n ∷ is.since;
@@ -97,7 +97,7 @@ joined-last q n earlier s b has is = record {
     members true e = ap (λ l. l ++ n ∷ []) is.members ∙ sym (more ∙ ap (λ c. cond c (taken ++ n ∷ []) taken) e)
     members false e = is.members ∙ sym (more ∙ ap (λ c. cond c (taken ++ n ∷ []) taken) e)
 
-bound-last : (q n : ℕ) (earlier : List Event) (s : Set) → IsOfLast earlier q s → IsOfLast (Binds q n ∷ earlier) q (bound s n)
+bound-last : (q n : ℕ) (earlier : List RegistryInput) (s : Set) → IsOfLast earlier q s → IsOfLast (Binds q n ∷ earlier) q (bound s n)
 bound-last q n earlier s is = record {
   since = Binds q n ∷ is.since;
   registration = is.registration;
@@ -113,7 +113,7 @@ bound-last q n earlier s is = record {
 -- ---- the history
 
 -- where an event writes a set at its own address
-written : (a q : ℕ) (e : Event) (earlier : List Event) (new s : Set) (before : List Set) → a ≡ new.address
+written : (a q : ℕ) (e : RegistryInput) (earlier : List RegistryInput) (new s : Set) (before : List Set) → a ≡ new.address
     → set_at q (with_set new before) ≡ Some s → (a ≡ q → s ≡ new → IsOfLast (e ∷ earlier) q s)
     → (a ≢ q → set_at q before ≡ Some s → IsOfLast (e ∷ earlier) q s) → IsOfLast (e ∷ earlier) q s
 written a q e earlier new s before its there here elsewhere =
@@ -122,7 +122,7 @@ written a q e earlier new s before its there here elsewhere =
     (λ own. here own (sym (same_Some new s (sym (ap (λ b. cond b (Some new) (set_at q before)) (eq-eqb new.address q (sym its ∙ own))) ∙ is))))
     (λ ne. elsewhere ne (sym (ap (λ b. cond b (Some new) (set_at q before)) (ne_eqb new.address q (λ h. ne (its ∙ h)))) ∙ is))
 
-module _ (a n q : ℕ) (earlier : List Event) (s : Set) (rest : (t : Set) → set_at q (after_events earlier) ≡ Some t → IsOfLast earlier q t) where
+module _ (a n q : ℕ) (earlier : List RegistryInput) (s : Set) (rest : (t : Set) → set_at q (after_events earlier) ≡ Some t → IsOfLast earlier q t) where
   joins-elsewhere : a ≢ q → set_at q (after_events earlier) ≡ Some s → IsOfLast (Joins a n ∷ earlier) q s
   joins-elsewhere ne there =
       other q (Joins a n) earlier s refl (λ since name. refl)
@@ -166,7 +166,7 @@ module _ (a n q : ℕ) (earlier : List Event) (s : Set) (rest : (t : Set) → se
       (bound-last q n earlier t (rest t (ap (λ x. set_at x (after_events earlier)) (sym own) ∙ was)))))
       binds-elsewhere
 
-pub are-last : (events : List Event) (q : ℕ) (s : Set) → set_at q (after_events events) ≡ Some s → IsOfLast events q s
+pub are-last : (events : List RegistryInput) (q : ℕ) (s : Set) → set_at q (after_events events) ≡ Some s → IsOfLast events q s
 are-last [] q s there = none-some there
 are-last (Masters a None c ∷ earlier) q s there =
     other q (Masters a None c) earlier s refl (λ since name. refl) (λ since. refl) (are-last earlier q s there)

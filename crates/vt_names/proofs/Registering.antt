@@ -4,7 +4,7 @@ use Rattle.std.proofs.lemmas.Option.{same_Some}
 use Rattle.std.proofs.lemmas.Bool.{ltb-true}
 use Rattle.std.proofs.lemmas.List.{length-append}
 use Rattle.vt_names.specs.Registry.{Set, set_at, with_set, without, joining, binding, preloaded, mastered, joined, bound, has_place}
-use Rattle.vt_names.specs.Registrations.{Event, Masters, Joins, Closes, Preloads, Binds, registers, closes, since, registered_at, AreRising, after_events, times_of, AreWithin, SetsAreRegistered}
+use Rattle.vt_names.specs.Registrations.{RegistryInput, Masters, Joins, Closes, Preloads, Binds, registers, closes, since, registered_at, AreRising, after_events, times_of, AreWithin, SetsAreRegistered}
 use Rattle.vt_names.proofs.Holding.{by_eq, none-some}
 use Rattle.vt_names.proofs.Lasting.{are-last}
 use Rattle.vt_names.proofs.Filing.{set_at-first, set_at-later, with_set-first, with_set-later, without-first, without-later, set_at-address, at-with, at-without}
@@ -58,7 +58,7 @@ within-bound : (a : ℕ) (o : Option Set) (name : ℕ) (sets : List Set) → set
 within-bound a None name sets there w = w
 within-bound a (Some s) name sets there w = within-with (bound s name) sets (within-at a s sets there w) w
 
-pub are-within : (events : List Event) → AreWithin (after_events events)
+pub are-within : (events : List RegistryInput) → AreWithin (after_events events)
 are-within [] = tt
 are-within (Masters a None c ∷ earlier) = are-within earlier
 are-within (Masters a (Some h) c ∷ earlier) = within-with (mastered a h c) (after_events earlier) (counted-some (eqb c 0) c refl) (are-within earlier)
@@ -101,7 +101,7 @@ is-bound : (a q n : ℕ) (o : Option Set) (sets : List Set) → set_at a sets �
 is-bound a q n None sets there = refl
 is-bound a q n (Some s) sets there = is-same a q s (bound s n) sets there (set_at-address a s sets there)
 
-pub are-there : (events : List Event) (q : ℕ) → is_some (set_at q (after_events events)) ≡ is_some (registered_at events q)
+pub are-there : (events : List RegistryInput) (q : ℕ) → is_some (set_at q (after_events events)) ≡ is_some (registered_at events q)
 are-there [] q = refl
 are-there (Masters a None c ∷ earlier) q = are-there earlier q
 are-there (Masters a (Some h) c ∷ earlier) q =
@@ -130,7 +130,7 @@ below-cases false false o n t small e = later t n (small t e)
     later : (u n : ℕ) → u < n → u < suc n
     later u n h = (grind (arith))
 
-below : (events : List Event) (q t : ℕ) → registered_at events q ≡ Some t → t < length events
+below : (events : List RegistryInput) (q t : ℕ) → registered_at events q ≡ Some t → t < length events
 below [] q t e = none-some e
 below (event ∷ earlier) q t e =
     below-cases (registers q event) (closes q event) (registered_at earlier q) (length earlier) t (below earlier q) e
@@ -206,7 +206,7 @@ rising-without at was k a (s ∷ sets) others r =
     stays rest (Some t) r = (r.0, rest (suc t) r.1)
 
 -- an event that registers, where there is a set or none
-module _ (earlier : List Event) (new : Set) (at : ℕ → Option ℕ)
+module _ (earlier : List RegistryInput) (new : Set) (at : ℕ → Option ℕ)
     (is : (q : ℕ) → at q ≡ cond (eqb new.address q) (Some (since (registered_at earlier q) (length earlier))) (registered_at earlier q))
     (r : AreRising 0 (times_of (registered_at earlier) (after_events earlier))) where
   other-time : (q : ℕ) → q ≢ new.address → at q ≡ registered_at earlier q
@@ -251,10 +251,10 @@ rising-bound : (at : ℕ → Option ℕ) (a n : ℕ) (o : Option Set) (sets : Li
 rising-bound at a n None sets there = refl
 rising-bound at a n (Some s) sets there = times-same at a s (bound s n) sets there (set_at-address a s sets there)
 
-closed-time : (a : ℕ) (earlier : List Event) (q : ℕ) → q ≢ a → registered_at (Closes a ∷ earlier) q ≡ registered_at earlier q
+closed-time : (a : ℕ) (earlier : List RegistryInput) (q : ℕ) → q ≢ a → registered_at (Closes a ∷ earlier) q ≡ registered_at earlier q
 closed-time a earlier q ne = ap (λ b. cond b None (registered_at earlier q)) (ne_eqb a q (λ h. ne (sym h)))
 
-pub are-rising : (events : List Event) → AreRising 0 (times_of (registered_at events) (after_events events))
+pub are-rising : (events : List RegistryInput) → AreRising 0 (times_of (registered_at events) (after_events events))
 are-rising [] = tt
 are-rising (Masters a None c ∷ earlier) = are-rising earlier
 are-rising (Masters a (Some h) c ∷ earlier) =

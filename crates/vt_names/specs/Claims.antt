@@ -6,8 +6,8 @@ use Rattle.std.specs.Option.{option_eq}
 use Rattle.std.specs.BTreeMap.{insert_entry, is_at}
 use Rattle.std.specs.BTreeSet.{BTreeSet, contains}
 use Rattle.std.specs.Coded.{Coded, code_by, coded×, coded_ℕ, coded_list}
-use Rattle.vt_names.specs.declared.claims.Heard.{Heard}
-use Rattle.vt_names.specs.declared.claims.Heard.TheVariants.{Nothing, Defend, Lost}
+use Rattle.vt_names.specs.declared.claims.ClaimMeaning.{ClaimMeaning}
+use Rattle.vt_names.specs.declared.claims.ClaimMeaning.TheVariants.{Nothing, Defend, Lost}
 
 -- ---- by all claims that were heard
 
@@ -77,7 +77,7 @@ holder_of [] address = None
 holder_of (e ∷ addresses) address = if e.1 == address then Some e.0 else holder_of addresses address
 
 -- A claim of the own address by a lower NAME means its loss; by a greater one it is to be claimed again.
-abbrev pub answer : Claimed → ℕ → ℕ → Heard
+abbrev pub answer : Claimed → ℕ → ℕ → ClaimMeaning
 answer c address name =
     if address == c.own then (if nat_lt name c.name then Lost else if nat_lt c.name name then Defend else Nothing)
     else Nothing

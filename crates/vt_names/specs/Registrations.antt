@@ -5,22 +5,22 @@ use Rattle.vt_names.specs.Registry.{Set, set_at, with_set, without, registering,
 
 -- What may change the sets: a master message, with the holder of its address and its count; a member message, with
 -- its NAME; a closing; a preloading; and a NAME for the set of an address.
-pub data Event : Type 0 where
-  Masters : ℕ → Option ℕ → ℕ → Event
-  Joins : ℕ → ℕ → Event
-  Closes : ℕ → Event
-  Preloads : ℕ → Event
-  Binds : ℕ → ℕ → Event
+pub data RegistryInput : Type 0 where
+  Masters : ℕ → Option ℕ → ℕ → RegistryInput
+  Joins : ℕ → ℕ → RegistryInput
+  Closes : ℕ → RegistryInput
+  Preloads : ℕ → RegistryInput
+  Binds : ℕ → ℕ → RegistryInput
 
 -- ---- by all that happened; lists of events have the latest first
 
 -- there is a set of the address after the event, whatever was before
-abbrev pub registers : ℕ → Event → Bool
+abbrev pub registers : ℕ → RegistryInput → Bool
 registers address (Masters other (Some holder) count) = other == address
 registers address (Preloads other) = other == address
 registers address _ = false
 
-abbrev pub closes : ℕ → Event → Bool
+abbrev pub closes : ℕ → RegistryInput → Bool
 closes address (Closes other) = other == address
 closes address _ = false
 
@@ -30,7 +30,7 @@ since None now = now
 
 -- When the set of an address was registered, as the number of events before, if there is one. A set that is there
 -- keeps its time.
-abbrev pub registered_at : List Event → ℕ → Option ℕ
+abbrev pub registered_at : List RegistryInput → ℕ → Option ℕ
 registered_at [] address = None
 registered_at (event ∷ earlier) address =
     if registers address event then Some (since (registered_at earlier address) (length earlier))
@@ -45,32 +45,32 @@ AreRising least (Some time ∷ times) = (least ≤ time) × AreRising (suc time)
 
 -- ---- the last registration of an address, and what came since
 
-abbrev pub registration_name : Event → Option ℕ
+abbrev pub registration_name : RegistryInput → Option ℕ
 registration_name (Masters address holder count) = holder
 registration_name _ = None
 
-abbrev pub registration_count : Event → ℕ
+abbrev pub registration_count : RegistryInput → ℕ
 registration_count (Masters address holder count) = counted count
 registration_count _ = 1
 
 -- the last NAME that an address was bound to, or else another
-abbrev pub bound_name : ℕ → List Event → Option ℕ → Option ℕ
+abbrev pub bound_name : ℕ → List RegistryInput → Option ℕ → Option ℕ
 bound_name address [] first = first
 bound_name address (Binds other name ∷ earlier) first = if other == address then Some name else bound_name address earlier first
 bound_name address (event ∷ earlier) first = bound_name address earlier first
 
 -- the NAMEs of the member messages of an address, in their order
-abbrev pub member_names : ℕ → List Event → List ℕ
+abbrev pub member_names : ℕ → List RegistryInput → List ℕ
 member_names address [] = []
 member_names address (Joins other name ∷ earlier) = member_names address earlier ++ (if other == address then name ∷ [] else [])
 member_names address (event ∷ earlier) = member_names address earlier
 
 -- A set is that of the last registration of its address. It has the count of that, the NAME of it or the one that
 -- it was bound to since, and of the member messages since as many as there are places: the count less one.
-pub record IsOfLast (events : List Event) (address : ℕ) (set : Set) : Type 0 where
-  pub since : List Event
-  pub registration : Event
-  pub before : List Event
+pub record IsOfLast (events : List RegistryInput) (address : ℕ) (set : Set) : Type 0 where
+  pub since : List RegistryInput
+  pub registration : RegistryInput
+  pub before : List RegistryInput
   pub all : events ≡ since ++ registration ∷ before
   pub of_address : registers address registration ≡ true
   pub last : AllByRecursion (λ event. (registers address event || closes address event) ≡ false) since
@@ -80,14 +80,14 @@ pub record IsOfLast (events : List Event) (address : ℕ) (set : Set) : Type 0 w
 
 -- ---- what is kept of it
 
-abbrev pub after_event : Event → List Set → List Set
+abbrev pub after_event : RegistryInput → List Set → List Set
 after_event (Masters address holder count) sets = registering address holder count sets
 after_event (Joins address name) sets = joining (set_at address sets) name sets
 after_event (Closes address) sets = without address sets
 after_event (Preloads address) sets = with_set (preloaded address) sets
 after_event (Binds address name) sets = binding (set_at address sets) name sets
 
-abbrev pub after_events : List Event → List Set
+abbrev pub after_events : List RegistryInput → List Set
 after_events [] = []
 after_events (event ∷ earlier) = after_event event (after_events earlier)
 
@@ -102,7 +102,7 @@ AreWithin (set ∷ sets) = (length set.members < set.count) × AreWithin sets
 -- The sets are those that were registered and not closed since, one for each address, in the order of their
 -- registration, each with fewer members than its count, and each as its last registration and what came since have it.
 pub record SetsAreRegistered : Type 0 where
-  pub there : (events : List Event) (address : ℕ) → is_some (set_at address (after_events events)) ≡ is_some (registered_at events address)
-  pub order : (events : List Event) → AreRising 0 (times_of (registered_at events) (after_events events))
-  pub within : (events : List Event) → AreWithin (after_events events)
-  pub last : (events : List Event) (address : ℕ) (set : Set) → set_at address (after_events events) ≡ Some set → IsOfLast events address set
+  pub there : (events : List RegistryInput) (address : ℕ) → is_some (set_at address (after_events events)) ≡ is_some (registered_at events address)
+  pub order : (events : List RegistryInput) → AreRising 0 (times_of (registered_at events) (after_events events))
+  pub within : (events : List RegistryInput) → AreWithin (after_events events)
+  pub last : (events : List RegistryInput) (address : ℕ) (set : Set) → set_at address (after_events events) ≡ Some set → IsOfLast events address set

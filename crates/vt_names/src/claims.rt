@@ -15,7 +15,7 @@ const NULL_ADDRESS: u8 = 254;
 
 /// What a claim means for the node that heard it.
 #[derive(Clone, Copy, Debug, PartialEq, Eq)]
-pub enum Heard {
+pub enum ClaimMeaning {
     /// There is nothing to do.
     Nothing,
     /// A greater NAME claimed the own address: it is to be claimed again.
@@ -75,7 +75,7 @@ impl Claims {
 
     /// Hears that a NAME claims an address, and tells what that means for this node. After `OutOfMemory`
     /// nothing is changed. docs/PROFILE.md, "The terminal's claims".
-    pub fn hear(&mut self, address: u8, name: Name) -> Result<Heard, OutOfMemory>
+    pub fn hear(&mut self, address: u8, name: Name) -> Result<ClaimMeaning, OutOfMemory>
         ensures answer { IfOk result (λ said. said ≡ answer self.old address name) }
         ensures ok { OnOk result (self.new ≡ heard self.old address name) }
         ensures err { OnErr result (self.new ≡ self.old) }
@@ -126,17 +126,17 @@ impl Claims {
     }
 
     /// What the claim of an address by a NAME means for this node, without recording it.
-    pub fn answer(&self, address: u8, name: Name) -> Heard
+    pub fn answer(&self, address: u8, name: Name) -> ClaimMeaning
         ensures { result ≡ answer self.now address name }
     {
         if address != self.own {
-            Heard::Nothing
+            ClaimMeaning::Nothing
         } else if name < self.name {
-            Heard::Lost
+            ClaimMeaning::Lost
         } else if self.name < name {
-            Heard::Defend
+            ClaimMeaning::Defend
         } else {
-            Heard::Nothing
+            ClaimMeaning::Nothing
         }
     }
 }

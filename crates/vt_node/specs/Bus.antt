@@ -6,8 +6,8 @@ use Rattle.vt_can.specs.declared.frames.frame.Frame.{Frame}
 use Rattle.vt_can.specs.Assigned.{ADDRESS_CLAIMED, ECU_TO_VT, ETP_CM, ETP_DT, GLOBAL_ADDRESS, REQUEST, TP_CM, TP_DT, WORKING_SET_MASTER, WORKING_SET_MEMBER}
 use Rattle.vt_can.specs.frames.Identifier.{parts_of, pgn_of, destination_of}
 use Rattle.vt_can.specs.frames.Frame.{is_to, source_of}
-use Rattle.vt_node.specs.declared.bus.Notice.{Notice}
-use Rattle.vt_node.specs.declared.bus.Notice.TheVariants.{Claim, ClaimRequest, Master, Member, Message, Tp, Etp, Nothing}
+use Rattle.vt_node.specs.declared.bus.FrameMeaning.{FrameMeaning}
+use Rattle.vt_node.specs.declared.bus.FrameMeaning.TheVariants.{Claim, ClaimRequest, Master, Member, Message, Tp, Etp, Nothing}
 
 -- the first eight bytes as a NAME
 abbrev pub name_in : List ℕ → ℕ
@@ -19,7 +19,7 @@ asks_for_claim bytes = starts_with nat_eq bytes (0x00 ∷ 0xEE ∷ 0x00 ∷ [])
 
 -- A frame of a group to a destination. Shorter frames of the groups of claims and sets say nothing; those of the
 -- transport protocols are the receivers' to look at.
-abbrev pub group_notice : ℕ → ℕ → Option ℕ → List ℕ → Notice
+abbrev pub group_notice : ℕ → ℕ → Option ℕ → List ℕ → FrameMeaning
 group_notice own pgn destination bytes =
     if pgn == ADDRESS_CLAIMED then (if is_to GLOBAL_ADDRESS destination && nat_le 8 (length bytes) then Claim (name_in bytes) else Nothing)
     else if pgn == REQUEST then
@@ -31,13 +31,13 @@ group_notice own pgn destination bytes =
     else if pgn == ETP_CM || pgn == ETP_DT then Etp
     else Nothing
 
-abbrev pub frame_notice : ℕ → Frame → Notice
+abbrev pub frame_notice : ℕ → Frame → FrameMeaning
 frame_notice own frame = let p = parts_of frame.id in group_notice own (pgn_of p) (destination_of p) frame.bytes.items
 
 -- Of the frames from the terminal's own address only a claim by another NAME says anything; the others are echoes.
-abbrev pub unless_echo : ℕ → Notice → Notice
+abbrev pub unless_echo : ℕ → FrameMeaning → FrameMeaning
 unless_echo name (Claim other) = if other == name then Nothing else Claim other
 unless_echo name _ = Nothing
 
-abbrev pub notice_of : ℕ → ℕ → Frame → Notice
+abbrev pub notice_of : ℕ → ℕ → Frame → FrameMeaning
 notice_of own name frame = if source_of frame == own then unless_echo name (frame_notice own frame) else frame_notice own frame

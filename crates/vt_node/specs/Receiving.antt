@@ -6,7 +6,7 @@ use Rattle.vt_can.specs.declared.transport.heard.Heard.{Heard}
 use Rattle.vt_can.specs.declared.transport.heard.Heard.TheVariants as heard
 use Rattle.vt_can.specs.declared.transport.sessions.Timed.{Timed}
 use Rattle.vt_can.specs.transport.Messages.{Message}
-use Rattle.vt_can.specs.transport.Protocols.{Protocol, Outcome}
+use Rattle.vt_can.specs.transport.Protocols.{Protocol, SessionOutcome}
 use Rattle.vt_can.specs.transport.Steps.{stepped}
 
 -- the session of the address afterwards, the frames to it, and the message that is whole
@@ -15,7 +15,7 @@ pub record Taken (S : Type 0) : Type 0 where
   pub frames : List Frame
   pub message : Option Message
 
-abbrev pub taken_of : {S R : Type 0} → (R → Frame) → Outcome S R → Taken S
+abbrev pub taken_of : {S R : Type 0} → (R → Frame) → SessionOutcome S R → Taken S
 taken_of spelled out = record { session = out.session; frames = option_to_list (option_map spelled out.reply); message = out.message }
 
 -- by a protocol at a time: from the terminal's own address, that of the source, and its session

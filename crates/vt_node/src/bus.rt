@@ -2,7 +2,7 @@
 
 ghost use Rattle.std.specs.Prelude.{◌≡◌, ◌≤◌, length};
 ghost use Rattle.byteorder.specs.Endian.{little_number};
-ghost use Rattle.vt_node.specs.declared.bus.Notice.TheVariants as declared;
+ghost use Rattle.vt_node.specs.declared.bus.FrameMeaning.TheVariants as declared;
 ghost use Rattle.vt_node.specs.Bus.{frame_notice, notice_of, unless_echo};
 
 use byteorder::{ByteOrder, LittleEndian};
@@ -15,7 +15,7 @@ use vt_names::Name;
 
 /// What a frame says to the terminal.
 #[derive(Clone, Copy, Debug, PartialEq, Eq)]
-pub enum Notice {
+pub enum FrameMeaning {
     /// A NAME claims the source address.
     Claim(Name),
     /// The terminal is asked for its claim.
@@ -35,7 +35,7 @@ pub enum Notice {
 }
 
 /// What a frame says to the terminal of an address and NAME. docs/PROFILE.md, "Echoes".
-pub fn notice_of(own: u8, name: Name, frame: &Frame) -> Notice
+pub fn notice_of(own: u8, name: Name, frame: &Frame) -> FrameMeaning
     ensures { result ≡ notice_of own name frame.now }
 {
     let notice = frame_notice(own, frame);
@@ -46,25 +46,25 @@ pub fn notice_of(own: u8, name: Name, frame: &Frame) -> Notice
 }
 
 // Of what comes from the own address, only a claim by another NAME says anything.
-fn unless_echo(name: Name, notice: Notice) -> Notice
+fn unless_echo(name: Name, notice: FrameMeaning) -> FrameMeaning
     ensures { result ≡ unless_echo name notice }
 {
     match notice {
-        Notice::Claim(other) => unless_own(name, other),
-        _ => Notice::Nothing,
+        FrameMeaning::Claim(other) => unless_own(name, other),
+        _ => FrameMeaning::Nothing,
     }
 }
 
-fn unless_own(name: Name, other: Name) -> Notice
+fn unless_own(name: Name, other: Name) -> FrameMeaning
     ensures { result ≡ unless_echo name (declared.Claim other) }
 {
     if other == name {
-        return Notice::Nothing;
+        return FrameMeaning::Nothing;
     }
-    Notice::Claim(other)
+    FrameMeaning::Claim(other)
 }
 
-fn frame_notice(own: u8, frame: &Frame) -> Notice
+fn frame_notice(own: u8, frame: &Frame) -> FrameMeaning
     ensures { result ≡ frame_notice own frame.now }
 {
     let bytes = frame.bytes.as_slice();
@@ -72,16 +72,16 @@ fn frame_notice(own: u8, frame: &Frame) -> Notice
     let to_all = destination == Some(GLOBAL_ADDRESS);
     let to_terminal = destination == Some(own);
     match frame.id.pgn() {
-        ADDRESS_CLAIMED if to_all && bytes.len() >= 8 => Notice::Claim(name_in(bytes)),
+        ADDRESS_CLAIMED if to_all && bytes.len() >= 8 => FrameMeaning::Claim(name_in(bytes)),
         REQUEST if (to_terminal || to_all) && bytes.starts_with(&[0x00, 0xEE, 0x00]) => {
-            Notice::ClaimRequest
+            FrameMeaning::ClaimRequest
         }
-        WORKING_SET_MASTER if !bytes.is_empty() => Notice::Master { count: bytes[0] },
-        WORKING_SET_MEMBER if bytes.len() >= 8 => Notice::Member(name_in(bytes)),
-        ECU_TO_VT if to_terminal => Notice::Message,
-        TP_CM | TP_DT => Notice::Tp,
-        ETP_CM | ETP_DT => Notice::Etp,
-        _ => Notice::Nothing,
+        WORKING_SET_MASTER if !bytes.is_empty() => FrameMeaning::Master { count: bytes[0] },
+        WORKING_SET_MEMBER if bytes.len() >= 8 => FrameMeaning::Member(name_in(bytes)),
+        ECU_TO_VT if to_terminal => FrameMeaning::Message,
+        TP_CM | TP_DT => FrameMeaning::Tp,
+        ETP_CM | ETP_DT => FrameMeaning::Etp,
+        _ => FrameMeaning::Nothing,
     }
 }
 

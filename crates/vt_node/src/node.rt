@@ -5,7 +5,7 @@ ghost use Rattle.std.specs.FinMap as finite;
 ghost use Rattle.vt_can.specs.Assigned as assigned;
 ghost use Rattle.vt_can.specs.frames.Frame.{source_of};
 ghost use Rattle.vt_can.specs.transport.Messages.{size_and_first_byte};
-ghost use Rattle.vt_can.specs.transport.Receivers.{IsReadyFor};
+ghost use Rattle.vt_can.specs.transport.Receivers.{HasCapacityFor};
 ghost use Rattle.vt_can.specs.transport.Sessions.{AreOfAddresses, NoneExpires, alive};
 ghost use Rattle.vt_can.specs.transport.Steps.{stepped};
 ghost use Rattle.vt_names.specs.Claims.{IsRising, heard, address_of, holder_of, answer};
@@ -22,7 +22,7 @@ use std::alloc::Global;
 use std::marker::Model;
 use vt_can::assigned::VT_TO_ECU;
 use vt_can::{Frame, Heard};
-use vt_names::{Claims, Heard as Meaning, Name};
+use vt_names::{ClaimMeaning, Claims, Name};
 use vt_transport::SendFault;
 
 /// What a node has heard of addresses, and the messages that it receives and sends in packets, at one address of its own.
@@ -103,7 +103,7 @@ impl Node {
     }
 
     /// What the claim of an address by a NAME means for this node.
-    pub fn answer(&self, address: u8, name: Name) -> Meaning
+    pub fn answer(&self, address: u8, name: Name) -> ClaimMeaning
         ensures { result ≡ answer self.now.claims address name }
     {
         self.claims.answer(address, name)
@@ -126,7 +126,7 @@ impl Node {
         frame: &Frame,
     ) -> Result<Option<(usize, u8)>, OutOfMemory>
         ensures same { self.new ≡ record self.old { tp_room = self.new.tp_room } }
-        ensures ready { OnOk result (IsReadyFor tp.protocol (tp_frame self.old.claims.own frame.now) self.new.tp_room) }
+        ensures ready { OnOk result (HasCapacityFor tp.protocol (tp_frame self.old.claims.own frame.now) self.new.tp_room) }
         ensures told { IfOk result (λ told. told ≡ size_and_first_byte
             (stepped tp.protocol now (alive now (finite.get self.old.tp (source_of frame.now))) (tp_frame self.old.claims.own frame.now)).message) }
     {
@@ -140,7 +140,7 @@ impl Node {
         frame: &Frame,
     ) -> Result<Option<(usize, u8)>, OutOfMemory>
         ensures same { self.new ≡ record self.old { etp_room = self.new.etp_room } }
-        ensures ready { OnOk result (IsReadyFor etp.protocol (etp_frame self.old.claims.own frame.now) self.new.etp_room) }
+        ensures ready { OnOk result (HasCapacityFor etp.protocol (etp_frame self.old.claims.own frame.now) self.new.etp_room) }
         ensures told { IfOk result (λ told. told ≡ size_and_first_byte
             (stepped etp.protocol now (alive now (finite.get self.old.etp (source_of frame.now))) (etp_frame self.old.claims.own frame.now)).message) }
     {
@@ -149,7 +149,7 @@ impl Node {
 
     /// Hears a frame of the transport protocol, for which there is room.
     pub fn hear_tp(&mut self, now: u64, frame: &Frame) -> Heard
-        requires { IsReadyFor tp.protocol (tp_frame self.old.claims.own frame.now) self.old.tp_room }
+        requires { HasCapacityFor tp.protocol (tp_frame self.old.claims.own frame.now) self.old.tp_room }
         ensures taken { HasTaken (tp_taken self.old now frame.now) (source_of frame.now) self.old.tp self.new.tp result }
         ensures rest { self.new ≡ record self.old { tp = self.new.tp; tp_room = self.new.tp_room } }
     {
@@ -161,7 +161,7 @@ impl Node {
 
     /// Hears a frame of the extended transport protocol, for which there is room.
     pub fn hear_etp(&mut self, now: u64, frame: &Frame) -> Heard
-        requires { IsReadyFor etp.protocol (etp_frame self.old.claims.own frame.now) self.old.etp_room }
+        requires { HasCapacityFor etp.protocol (etp_frame self.old.claims.own frame.now) self.old.etp_room }
         ensures taken { HasTaken (etp_taken self.old now frame.now) (source_of frame.now) self.old.etp self.new.etp result }
         ensures rest { self.new ≡ record self.old { etp = self.new.etp; etp_room = self.new.etp_room } }
     {

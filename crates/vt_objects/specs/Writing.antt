@@ -8,12 +8,12 @@ use Rattle.vt_kinds.specs.declared.fields.Attribute.{Attribute}
 use Rattle.vt_kinds.specs.declared.fields.Field as names
 use Rattle.vt_kinds.specs.declared.fields.ValueType.{ValueType}
 use Rattle.vt_kinds.specs.declared.fields.ValueType.TheVariants as types
-use Rattle.vt_kinds.specs.Layout.{Field, Number, Unsigned, Signed, ScaleBytes, DecimalPlaces, Value, number, natural, integer, field_spelling}
+use Rattle.vt_kinds.specs.Layout.{RecordField, Number, Unsigned, Signed, ScaleBytes, DecimalPlaces, Value, number, natural, integer, field_spelling}
 use Rattle.vt_kinds.specs.Attributes.{attribute_at, width, lowest}
 use Rattle.vt_kinds.specs.Records.{fields_of, names_of}
 
 -- the field of a record in which values of a type stand
-abbrev pub field_of : ValueType → Field
+abbrev pub field_of : ValueType → RecordField
 field_of types.SignedLong = Number (Signed w32)
 field_of types.Scale = ScaleBytes
 field_of types.Decimals = DecimalPlaces

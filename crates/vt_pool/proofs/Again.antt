@@ -7,7 +7,7 @@ use Rattle.std.proofs.lemmas.Map.Keys.{IsDistinct-head, IsDistinct-tail, IsDisti
 use Rattle.std.proofs.lemmas.List.{reverse-append}
 use Rattle.std.specs.FinMap as finite
 use Rattle.vt_kinds.specs.Records.{Seen, HasRecord}
-use Rattle.vt_stores.specs.Stores.{Contents}
+use Rattle.vt_stores.specs.Stores.{ObjectMap}
 use Rattle.vt_pool.specs.Pools.{Entry, joined, AreRecords, first_occurrences, ids, AreObjects, IsInForce, WrittenIsRead}
 use Rattle.vt_pool.specs.Places.{with_entry}
 use Rattle.vt_pool.proofs.InPlace.{entry_at, get-contents, ids_with}
@@ -134,4 +134,4 @@ written_read written records objects are read same in_force =
     let one : records ≡ written = joined_one records written read are.whole (sym same) in
     let force : IsInForce written objects = subst (λ (rs : List Entry). IsInForce rs objects) one in_force in
     same_entries objects written (force.order ∙ firsts (ids written) apart) apart
-    (λ q. sym (get-contents objects q) ∙ ap (λ (m : Contents). finite.get m q) force.last ∙ get-contents (reverse written) q ∙ turned written q apart)
+    (λ q. sym (get-contents objects q) ∙ ap (λ (m : ObjectMap). finite.get m q) force.last ∙ get-contents (reverse written) q ∙ turned written q apart)

@@ -6,7 +6,7 @@ use Rattle.std.proofs.lemmas.List.{append-nil, map_push, reverse-append}
 use Rattle.std.proofs.lemmas.List.Elements.{filter-append}
 use Rattle.std.specs.FinMap as finite
 use Rattle.vt_kinds.specs.Records.{Seen}
-use Rattle.vt_stores.specs.Stores.{Contents}
+use Rattle.vt_stores.specs.Stores.{ObjectMap}
 use Rattle.vt_pool.specs.Pools.{Entry, ids, contents, first_occurrences, IsInForce}
 use Rattle.vt_pool.specs.Places.{with_entry}
 use Rattle.vt_pool.proofs.InPlace.{with_id, ids_with, contents_with}
@@ -62,5 +62,5 @@ in_force_push records objects id o before =
     let turned : reverse (records ++ (id, o) ∷ []) ≡ (id, o) ∷ reverse records = reverse-append records ((id, o) ∷ []) in
     record {
       order = ids_with objects id o ∙ ap (λ (l : List ℕ). with_id l id) before.order ∙ sym (ap first_occurrences pushed ∙ first_push (ids records) id);
-      last = contents_with objects id o ∙ ap (λ (m : Contents). finite.insert m id o) before.last ∙ sym (ap contents turned);
+      last = contents_with objects id o ∙ ap (λ (m : ObjectMap). finite.insert m id o) before.last ∙ sym (ap contents turned);
     }

@@ -4,8 +4,8 @@ use Rattle.std.specs.Prelude.{IfErr}
 use Rattle.std.proofs.lemmas.List.{length-append, flat_map_more}
 use Rattle.vt_kinds.specs.Layout.{ScaleBytes, DecimalPlaces}
 use Rattle.vt_kinds.specs.Records.{Seen, record_of, HasRecord}
-use Rattle.vt_records.specs.declared.stop.Stop.{Stop}
-use Rattle.vt_records.specs.declared.stop.Stop.TheVariants as stops
+use Rattle.vt_records.specs.declared.stop.RecordFault.{RecordFault}
+use Rattle.vt_records.specs.declared.stop.RecordFault.TheVariants as stops
 use Rattle.vt_records.specs.declared.fault.PoolFault.{PoolFault}
 use Rattle.vt_records.specs.declared.fault.PoolFault.TheVariants as faults
 use Rattle.vt_pool.specs.Pools.{Entry, joined, AreRecords, IsFaultAt, AtFirst, IsFault, IsWantOfMemory}
@@ -40,7 +40,7 @@ fault_first bytes records rest at Faulty are parts place some is =
     let same : at + 0 ≡ at = omega arith in
     subst (λ (n : ℕ). IsFaultAt bytes n (AtFirst Faulty)) same (fault_there bytes records rest at 0 (AtFirst Faulty) are parts place some (refl, is))
 
-pub is_fault : (bytes : List ℕ) (records : List Entry) (rest : List ℕ) (at : ℕ) (stop : Stop) → AreRecords records → bytes ≡ joined records ++ rest → at ≡ length bytes - length rest → 0 < length rest
+pub is_fault : (bytes : List ℕ) (records : List Entry) (rest : List ℕ) (at : ℕ) (stop : RecordFault) → AreRecords records → bytes ≡ joined records ++ rest → at ≡ length bytes - length rest → 0 < length rest
     → IsStop rest stop → IsFault bytes (fault_at stop at)
 is_fault bytes records rest at stops.Truncated are parts place some is = fault_first bytes records rest at _ are parts place some is
 is_fault bytes records rest at stops.NullId are parts place some is = fault_first bytes records rest at _ are parts place some is

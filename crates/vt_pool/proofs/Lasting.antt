@@ -2,7 +2,7 @@
 use Rattle.std.proofs.Common.{◌≡◌, ℕ, ◌≤◌, List, [], ◌∷◌, ◌++◌, length, drop, Option, Some, refl, sym, ap, subst, ◌∙◌, append_assoc, arith, inl, inr}
 use Rattle.std.proofs.lemmas.List.{length-append}
 use Rattle.vt_kinds.specs.declared.kind.Kind.{Kind}
-use Rattle.vt_kinds.specs.Layout.{Field, ScaleBytes, DecimalPlaces, Value, spelling, Proper, no_counts}
+use Rattle.vt_kinds.specs.Layout.{RecordField, ScaleBytes, DecimalPlaces, Value, spelling, Proper, no_counts}
 use Rattle.vt_kinds.specs.Kinds.{kind_at}
 use Rattle.vt_kinds.specs.Records.{fields_of, kind_of, values_of}
 use Rattle.vt_records.specs.declared.fault.PoolFault.TheVariants as faults
@@ -47,7 +47,7 @@ values_more rest more kind vs head has =
 
 -- ---- where a value is not proper, no record begins
 
-not_proper : (sort : Field) (later : ℕ) (fs : List Field) (vs : List Value) → IsFirstImproper sort later fs vs → Proper fs vs → ⊥
+not_proper : (sort : RecordField) (later : ℕ) (fs : List RecordField) (vs : List Value) → IsFirstImproper sort later fs vs → Proper fs vs → ⊥
 not_proper sort later [] vs first proper = absurd first
 not_proper sort later (f ∷ fs) [] first proper = absurd first
 not_proper sort later (f ∷ fs) (v ∷ vs) (inl here) proper = here.2 proper.0
@@ -59,7 +59,7 @@ same_values x y e = let same : x ≡ y = cc in ap (λ (z : List Value × List �
 same_kind : (k q : Kind) → ◌≡◌ {A = Option Kind} (Some k) (Some q) → k ≡ q
 same_kind k q e = cc
 
-improper_none : (sort : Field) (later : ℕ) (all : List ℕ) (kind : Kind) (vs : List Value) → HasValues all kind vs → IsFirstImproper sort later (fields_of kind) vs → NoRecordBegins all
+improper_none : (sort : RecordField) (later : ℕ) (all : List ℕ) (kind : Kind) (vs : List Value) → HasValues all kind vs → IsFirstImproper sort later (fields_of kind) vs → NoRecordBegins all
 improper_none sort later all kind vs has first id o tail is parts =
     let one : kind_of o ≡ kind = same_kind (kind_of o) kind (sym (kind_there all id o tail parts) ∙ has.known) in
     let read : values_at (fields_of kind) no_counts (drop 3 all) ≡ Some (vs, has.tail) =
@@ -85,7 +85,7 @@ other_more rest more is =
       no_kind = ap kind_at (same_type rest more is.head) ∙ is.no_kind;
     }
 
-improper_more : (sort : Field) (rest more : List ℕ) (at : ℕ) → IsImproper sort rest at → IsImproper sort (rest ++ more) at
+improper_more : (sort : RecordField) (rest more : List ℕ) (at : ℕ) → IsImproper sort rest at → IsImproper sort (rest ++ more) at
 improper_more sort rest more at is =
     let has = values_more rest more is.kind is.values is.head is.read in
     record {

@@ -1,7 +1,7 @@
 -- Where a pool's bytes end in the front of a record, they have no fault that lasts.
 use Rattle.std.proofs.Common.{◌≡◌, ℕ, List, [], ◌∷◌, ◌++◌, length, drop, Option, Some, None, sym, ap, subst, ◌∙◌, append_assoc, arith, inl, inr}
 use Rattle.std.specs.Prelude.{IfNone}
-use Rattle.vt_kinds.specs.Layout.{Field, ScaleBytes, DecimalPlaces}
+use Rattle.vt_kinds.specs.Layout.{RecordField, ScaleBytes, DecimalPlaces}
 use Rattle.vt_kinds.specs.Records.{record_of}
 use Rattle.vt_records.specs.declared.fault.PoolFault.{PoolFault}
 use Rattle.vt_records.specs.declared.fault.PoolFault.TheVariants as faults
@@ -38,7 +38,7 @@ other_apart : (rest : List ℕ) → IsTruncated rest → HasOtherType rest → �
 other_apart rest (inl lt) other = let head = other.head in absurd (omega arith)
 other_apart rest (inr cut) other = cut.known other.no_kind
 
-improper_apart : (sort : Field) (rest : List ℕ) (at : ℕ) → IsTruncated rest → IsImproper sort rest at → ⊥
+improper_apart : (sort : RecordField) (rest : List ℕ) (at : ℕ) → IsTruncated rest → IsImproper sort rest at → ⊥
 improper_apart sort rest at (inl lt) is = let head = is.head in absurd (omega arith)
 improper_apart sort rest at (inr cut) is = cut.cut is.kind is.values is.read
 

@@ -4,9 +4,9 @@ use Rattle.std.specs.List.{AllByRecursion, IsDistinct}
 use Rattle.std.proofs.lemmas.List.{append-nil}
 use Rattle.std.proofs.lemmas.Map.Keys.{IsDistinct-head, IsDistinct-tail, IsDistinct-cons}
 use Rattle.std.specs.FinMap as finite
-use Rattle.vt_kinds.specs.Layout.{Field, ScaleBytes, DecimalPlaces}
+use Rattle.vt_kinds.specs.Layout.{RecordField, ScaleBytes, DecimalPlaces}
 use Rattle.vt_kinds.specs.Records.{record_of}
-use Rattle.vt_stores.specs.Stores.{Contents}
+use Rattle.vt_stores.specs.Stores.{ObjectMap}
 use Rattle.vt_records.specs.declared.fault.PoolFault.{PoolFault}
 use Rattle.vt_records.specs.declared.fault.PoolFault.TheVariants as faults
 use Rattle.vt_pool.specs.Pools.{Entry, joined, AreRecords, first_occurrences, ids, IsInForce, IsFaultAt, IsFault, IsWantOfMemory, ReadingsAreOne, is_of_type}
@@ -63,7 +63,7 @@ firsts_distinct (x ∷ xs) =
 in_force_one : (records p q : List Entry) → IsInForce records p → IsInForce records q → p ≡ q
 in_force_one records p q is other =
     same_entries p q (is.order ∙ sym other.order) (subst (IsDistinct eqb) (sym other.order) (firsts_distinct (ids records)))
-    (λ id. sym (get-contents p id) ∙ ap (λ (m : Contents). finite.get m id) (is.last ∙ sym other.last) ∙ get-contents q id)
+    (λ id. sym (get-contents p id) ∙ ap (λ (m : ObjectMap). finite.get m id) (is.last ∙ sym other.last) ∙ get-contents q id)
 
 pools_one : (records others p q : List Entry) → AreRecords records → AreRecords others → joined records ≡ joined others → IsInForce records p → IsInForce others q → p ≡ q
 pools_one records others p q are too same is other =
@@ -95,7 +95,7 @@ cut_known rest (inr cut) other = cut.known other.no_kind
 null_named : (rest : List ℕ) → HasNullId rest → HasOtherType rest → ⊥
 null_named rest null other = other.named null.null
 
-improper_known : (sort : Field) (rest : List ℕ) (at : ℕ) → IsImproper sort rest at → HasOtherType rest → ⊥
+improper_known : (sort : RecordField) (rest : List ℕ) (at : ℕ) → IsImproper sort rest at → HasOtherType rest → ⊥
 improper_known sort rest at is other = some_kind _ is.kind is.read.known other.no_kind
 
 -- the type is at fault, or not

@@ -1,7 +1,7 @@
 -- How far a pool is read: the records so far, and what they leave in force.
 use Rattle.std.proofs.Common.{◌≡◌, ℕ, ◌-◌, ◌<◌, List, [], ◌∷◌, ◌++◌, length, sym, subst}
 use Rattle.vt_kinds.specs.Records.{Seen, record_of, HasRecord}
-use Rattle.vt_records.specs.declared.stop.Stop.{Stop}
+use Rattle.vt_records.specs.declared.stop.RecordFault.{RecordFault}
 use Rattle.vt_pool.specs.Pools.{Entry, joined, AreRecords, IsInForce, IsFault}
 use Rattle.vt_records.specs.Stops.{IsStop, fault_at}
 use Rattle.vt_pool.specs.Places.{with_entry}
@@ -24,5 +24,5 @@ one_more bytes rest after pool pool' id o so_far has parts with =
     } in
     subst (IsReadUpTo bytes after) (sym with) next
 
-pub faulty_next : (bytes rest : List ℕ) (pool : List Entry) (at : ℕ) (stop : Stop) → IsReadUpTo bytes rest pool → at ≡ length bytes - length rest → 0 < length rest → IsStop rest stop → IsFault bytes (fault_at stop at)
+pub faulty_next : (bytes rest : List ℕ) (pool : List Entry) (at : ℕ) (stop : RecordFault) → IsReadUpTo bytes rest pool → at ≡ length bytes - length rest → 0 < length rest → IsStop rest stop → IsFault bytes (fault_at stop at)
 faulty_next bytes rest pool at stop so_far place some is = is_fault bytes so_far.records rest at stop so_far.whole so_far.parts place some is

@@ -6,10 +6,10 @@ use Rattle.vt_kinds.specs.declared.kind.Kind.{Kind}
 use Rattle.vt_kinds.specs.Layout.{Value, no_counts}
 use Rattle.vt_kinds.specs.Kinds.{kind_at}
 use Rattle.vt_kinds.specs.Records.{Seen, fields_of, kind_of, values_of, record_of, HasRecord}
-use Rattle.vt_records.specs.declared.stop.Stop.{Stop}
-use Rattle.vt_records.specs.declared.stop.Stop.TheVariants as stops
+use Rattle.vt_records.specs.declared.stop.RecordFault.{RecordFault}
+use Rattle.vt_records.specs.declared.stop.RecordFault.TheVariants as stops
 use Rattle.vt_records.specs.declared.fault.PoolFault.{PoolFault}
-use Rattle.vt_records.specs.Heads.{Held, fitting, fields_at, record_at}
+use Rattle.vt_records.specs.Heads.{ReadRecord, fitting, fields_at, record_at}
 use Rattle.vt_records.specs.Reading.{values_at}
 use Rattle.vt_pool.specs.Pools.{joined, IsFault}
 use Rattle.vt_records.specs.Stops.{fault_at}
@@ -34,7 +34,7 @@ pub record BeginsRecord (all rest : List ℕ) : Type 0 where
   pub has : HasRecord id object
   pub parts : all ≡ record_of id object ++ rest
 
-pub begins_record : (all : List ℕ) (h : Held) → IsBytes all → record_at all ≡ Ok h → BeginsRecord all h.rest
+pub begins_record : (all : List ℕ) (h : ReadRecord) → IsBytes all → record_at all ≡ Ok h → BeginsRecord all h.rest
 begins_record all h fits e =
     let read = is_read all h fits e in
     let there = object_there h.kind h.values read.fields_fit read.proper in
@@ -50,11 +50,11 @@ values_memory kind rest None fits is e = absurd cc
 values_memory kind rest (Some x) fits is e =
     misfit_is 3 (fields_of kind) no_counts x.0 stops.OutOfMemory (values_take (fields_of kind) no_counts rest x fits is).1 (fitting_err (fields_of kind) x stops.OutOfMemory e)
 
-of_values_err : (id : ℕ) (kind : Kind) (vs : Result (List Value × List ℕ) Stop) (stop : Stop) → of_values id kind vs ≡ Err stop → vs ≡ Err stop
+of_values_err : (id : ℕ) (kind : Kind) (vs : Result (List Value × List ℕ) RecordFault) (stop : RecordFault) → of_values id kind vs ≡ Err stop → vs ≡ Err stop
 of_values_err id kind (Ok x) stop e = absurd cc
-of_values_err id kind (Err s) stop e = let same : s ≡ stop = cc in ap (λ (t : Stop). Err t) same
+of_values_err id kind (Err s) stop e = let same : s ≡ stop = cc in ap (λ (t : RecordFault). Err t) same
 
-other_memory : (low high : Bool) → ◌≡◌ {A = Result Held Stop} (Err (cond (low && high) stops.LeftOutType stops.UnknownType)) (Err stops.OutOfMemory) → ⊥
+other_memory : (low high : Bool) → ◌≡◌ {A = Result ReadRecord RecordFault} (Err (cond (low && high) stops.LeftOutType stops.UnknownType)) (Err stops.OutOfMemory) → ⊥
 other_memory true true e = absurd cc
 other_memory true false e = absurd cc
 other_memory false high e = absurd cc
@@ -98,7 +98,7 @@ whole_more before more place to =
       place_is = to.place_is;
     }
 
-next_cases : (pool : List ℕ) (at place : ℕ) (r : Result Held Stop) → IsBytes pool → AreWholeTo pool at → record_at (drop at pool) ≡ r → PassesRecord (length pool) at (Ok place) r → AreWholeTo pool place
+next_cases : (pool : List ℕ) (at place : ℕ) (r : Result ReadRecord RecordFault) → IsBytes pool → AreWholeTo pool at → record_at (drop at pool) ≡ r → PassesRecord (length pool) at (Ok place) r → AreWholeTo pool place
 next_cases pool at place (Ok h) fits to is ends =
     let there = begins_record (drop at pool) h (IsBytes-drop at pool fits) is in
     let records = to.records ++ (there.id, there.object) ∷ [] in
@@ -122,12 +122,12 @@ all_whole pool at to le = (to, inl (drop_all at pool le))
 
 -- ---- where reading stops
 
-fault_is : (pool : List ℕ) (at : ℕ) (stop : Stop) → IsBytes pool → AreWholeTo pool at → at < length pool → record_at (drop at pool) ≡ Err stop → IsFault pool (fault_at stop at)
+fault_is : (pool : List ℕ) (at : ℕ) (stop : RecordFault) → IsBytes pool → AreWholeTo pool at → at < length pool → record_at (drop at pool) ≡ Err stop → IsFault pool (fault_at stop at)
 fault_is pool at stop fits to lt is =
     is_fault pool to.records (drop at pool) at stop to.whole to.parts (omega (arith, length-drop at pool)) (omega (arith, length-drop at pool))
     (record_stops (drop at pool) stop (IsBytes-drop at pool fits) is)
 
-stop_cases : (pool : List ℕ) (at : ℕ) (stop : Stop) → IsBytes pool → AreWholeTo pool at → at < length pool → record_at (drop at pool) ≡ Err stop → IsReadTo pool at (lasting_of (fault_at stop at))
+stop_cases : (pool : List ℕ) (at : ℕ) (stop : RecordFault) → IsBytes pool → AreWholeTo pool at → at < length pool → record_at (drop at pool) ≡ Err stop → IsReadTo pool at (lasting_of (fault_at stop at))
 stop_cases pool at stops.Truncated fits to lt is = (to, inr (record_stops (drop at pool) stops.Truncated (IsBytes-drop at pool fits) is))
 stop_cases pool at stops.OutOfMemory fits to lt is = absurd (no_memory (drop at pool) (IsBytes-drop at pool fits) is)
 stop_cases pool at stops.UnknownType fits to lt is = (fault_is pool at stops.UnknownType fits to lt is, tt)
@@ -136,7 +136,7 @@ stop_cases pool at (stops.Scale place) fits to lt is = (fault_is pool at (stops.
 stop_cases pool at (stops.Decimals place) fits to lt is = (fault_is pool at (stops.Decimals place) fits to lt is, tt)
 stop_cases pool at stops.NullId fits to lt is = (fault_is pool at stops.NullId fits to lt is, tt)
 
-read_cases : (pool : List ℕ) (at : ℕ) (fault : PoolFault) (r : Result Held Stop) → IsBytes pool → AreWholeTo pool at → at < length pool → record_at (drop at pool) ≡ r → PassesRecord (length pool) at (Err fault) r
+read_cases : (pool : List ℕ) (at : ℕ) (fault : PoolFault) (r : Result ReadRecord RecordFault) → IsBytes pool → AreWholeTo pool at → at < length pool → record_at (drop at pool) ≡ r → PassesRecord (length pool) at (Err fault) r
     → IsReadTo pool at (lasting_of fault)
 read_cases pool at fault (Ok h) fits to lt is stops = absurd stops
 read_cases pool at fault (Err stop) fits to lt is stops =

@@ -3,19 +3,19 @@ use Rattle.std.specs.Prelude.{◌≡◌, ℕ, ◌+◌, ◌*◌, ◌≤◌, List,
 use Rattle.byteorder.specs.Endian.{little_number}
 use Rattle.vt_kinds.specs.declared.scale.Scale.{Scale}
 use Rattle.vt_kinds.specs.Scales.{scale_at}
-use Rattle.vt_kinds.specs.Layout.{Size, Unsigned, Signed, bytes_in, Field, Number, Count, Rows, Bytes, ScaleBytes, DecimalPlaces, Value, Objects, Macros, Others}
+use Rattle.vt_kinds.specs.Layout.{Size, Unsigned, Signed, bytes_in, RecordField, Number, Count, Rows, Bytes, ScaleBytes, DecimalPlaces, Value, Objects, Macros, Others}
 use Rattle.vt_kinds.specs.Layout as layout
 use Rattle.vt_pool.specs.declared.parts.Counted.{Counted}
 use Rattle.vt_pool.specs.declared.parts.Counted.TheVariants as counted
-use Rattle.vt_pool.specs.declared.parts.Counts.{Counts}
-use Rattle.vt_pool.specs.declared.parts.Part.{Part}
-use Rattle.vt_pool.specs.declared.parts.Part.TheVariants as parts
-use Rattle.vt_records.specs.declared.stop.Stop.{Stop}
+use Rattle.vt_pool.specs.declared.parts.EntryCounts.{EntryCounts}
+use Rattle.vt_pool.specs.declared.parts.FieldLayout.{FieldLayout}
+use Rattle.vt_pool.specs.declared.parts.FieldLayout.TheVariants as parts
+use Rattle.vt_records.specs.declared.stop.RecordFault.{RecordFault}
 use Rattle.vt_records.specs.declared.fault.PoolFault.{PoolFault}
 use Rattle.vt_records.specs.declared.fault.PoolFault.TheVariants as faults
 use Rattle.vt_kinds.specs.declared.kind.Kind.{Kind}
 use Rattle.vt_kinds.specs.Records.{fields_of}
-use Rattle.vt_records.specs.Heads.{Held, ◌>>=◌, fields_at, record_at}
+use Rattle.vt_records.specs.Heads.{ReadRecord, ◌>>=◌, fields_at, record_at}
 use Rattle.vt_records.specs.Reading.{row_size}
 use Rattle.vt_records.specs.Stops.{fault_at}
 
@@ -26,7 +26,7 @@ counted_as Objects = counted.Objects
 counted_as Macros = counted.Macros
 counted_as Others = counted.Others
 
-abbrev pub part_of : Field → Part
+abbrev pub part_of : RecordField → FieldLayout
 part_of (Number (Unsigned size)) = parts.Number size
 part_of (Number (Signed width)) = parts.Number (bytes_in width)
 part_of (Count size of) = parts.Count (counted_as of) size
@@ -36,22 +36,22 @@ part_of ScaleBytes = parts.Scale
 part_of DecimalPlaces = parts.Decimals
 
 -- a count is a number of one to eight bytes
-abbrev pub is_countable : Part → Bool
+abbrev pub is_countable : FieldLayout → Bool
 is_countable (parts.Count of size) = nat_le 1 size && nat_le size 8
 is_countable _ = true
 
-abbrev pub are_countable : List Part → Bool
+abbrev pub are_countable : List FieldLayout → Bool
 are_countable [] = true
 are_countable (p ∷ ps) = is_countable p && are_countable ps
 
 -- ---- counts
 
-abbrev pub count_in : Counts → Counted → ℕ
+abbrev pub count_in : EntryCounts → Counted → ℕ
 count_in counts counted.Objects = counts.objects
 count_in counts counted.Macros = counts.macros
 count_in counts counted.Others = counts.others
 
-abbrev pub with_count : Counts → Counted → ℕ → Counts
+abbrev pub with_count : EntryCounts → Counted → ℕ → EntryCounts
 with_count counts counted.Objects n = record counts { objects = n }
 with_count counts counted.Macros n = record counts { macros = n }
 with_count counts counted.Others n = record counts { others = n }
@@ -59,7 +59,7 @@ with_count counts counted.Others n = record counts { others = n }
 -- ---- what a part takes and tells
 
 -- how many bytes a part takes behind these counts
-abbrev pub part_size : Part → Counts → ℕ
+abbrev pub part_size : FieldLayout → EntryCounts → ℕ
 part_size (parts.Number size) counts = size
 part_size (parts.Count of size) counts = size
 part_size (parts.List of size) counts = count_in counts of * size
@@ -67,7 +67,7 @@ part_size parts.Scale counts = 4
 part_size parts.Decimals counts = 1
 
 -- the counts behind a part of these bytes
-abbrev pub counts_behind : Part → List ℕ → Counts → Counts
+abbrev pub counts_behind : FieldLayout → List ℕ → EntryCounts → EntryCounts
 counts_behind (parts.Count of size) bytes counts = with_count counts of (little_number size bytes)
 counts_behind _ bytes counts = counts
 
@@ -76,13 +76,13 @@ fault_without None fault = Some fault
 fault_without (Some s) fault = None
 
 -- the fault of a part of these bytes at a place of the pool
-abbrev pub part_fault : Part → List ℕ → ℕ → Option PoolFault
+abbrev pub part_fault : FieldLayout → List ℕ → ℕ → Option PoolFault
 part_fault parts.Scale bytes at = fault_without (scale_at (little_number 4 bytes)) (faults.Scale at)
 part_fault parts.Decimals bytes at = if nat_lt 7 (little_number 1 bytes) then Some (faults.Decimals at) else None
 part_fault _ bytes at = None
 
 -- the bytes are as many as the part needs to be read
-abbrev pub IsLongEnough : Part → List ℕ → Type 0
+abbrev pub IsLongEnough : FieldLayout → List ℕ → Type 0
 IsLongEnough (parts.Count of size) bytes = (1 ≤ size) × (size ≤ 8) × (size ≤ length bytes)
 IsLongEnough parts.Scale bytes = 4 ≤ length bytes
 IsLongEnough parts.Decimals bytes = 1 ≤ length bytes
@@ -91,19 +91,19 @@ IsLongEnough _ bytes = Unit {0}
 -- ---- passing over fields and records
 
 -- The bytes behind the fields, seen by view, or the fault of the record that begins at a place, are what reading gives.
-abbrev pub PassesFields : {X : Type 0} → (X → List ℕ) → ℕ → Result X PoolFault → Result (List Value × List ℕ) Stop → Type 0
+abbrev pub PassesFields : {X : Type 0} → (X → List ℕ) → ℕ → Result X PoolFault → Result (List Value × List ℕ) RecordFault → Type 0
 PassesFields view at (Ok rest) (Ok read) = view rest ≡ read.1
 PassesFields view at (Err fault) (Err stop) = fault ≡ fault_at stop at
 PassesFields view at _ _ = ⊥
 
 -- The kind of the record that begins with an ID and a type, or why none begins.
-abbrev pub HeadGives : Result Kind Stop → List ℕ → Type 0
+abbrev pub HeadGives : Result Kind RecordFault → List ℕ → Type 0
 HeadGives (Ok kind) all =
     (id : ℕ) × (record_at all ≡ (fields_at (fields_of kind) (drop 3 all) >>= λ vs. Ok (record { id = id; kind = kind; values = vs.0; rest = vs.1 })))
 HeadGives (Err stop) all = record_at all ≡ Err stop
 
 -- The end of the record that begins at a place of a pool of so many bytes, or its fault, are what reading gives.
-abbrev pub PassesRecord : ℕ → ℕ → Result ℕ PoolFault → Result Held Stop → Type 0
+abbrev pub PassesRecord : ℕ → ℕ → Result ℕ PoolFault → Result ReadRecord RecordFault → Type 0
 PassesRecord count at (Ok place) (Ok read) = place + length read.rest ≡ count
 PassesRecord count at (Err fault) (Err stop) = fault ≡ fault_at stop at
 PassesRecord count at _ _ = ⊥

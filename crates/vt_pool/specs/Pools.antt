@@ -4,7 +4,7 @@ use Rattle.std.specs.List.{flat_map, AllByRecursion, IsDistinct}
 use Rattle.vt_kinds.specs.Layout.{ScaleBytes, DecimalPlaces}
 use Rattle.vt_kinds.specs.Records.{Seen, record_of, HasRecord}
 use Rattle.std.specs.FinMap as finite
-use Rattle.vt_stores.specs.Stores.{Contents}
+use Rattle.vt_stores.specs.Stores.{ObjectMap}
 use Rattle.vt_records.specs.Faults.{IsLeftOut, HasNullId, HasOtherType, IsTruncated, IsImproper, type_at}
 use Rattle.vt_records.specs.declared.fault.PoolFault.{PoolFault}
 use Rattle.vt_records.specs.declared.fault.PoolFault.TheVariants.{Truncated, UnknownType, LeftOutType, Scale, Decimals, OutOfMemory, NullId}
@@ -31,7 +31,7 @@ abbrev pub ids : List Entry → List ℕ
 ids entries = map (λ e. e.0) entries
 
 -- a map of the entries: of an ID that stands twice the first object
-abbrev pub contents : List Entry → Contents
+abbrev pub contents : List Entry → ObjectMap
 contents entries = finite.from_entries entries
 
 -- The objects in force after records: each ID once, where it first stood, with the object of its last record.

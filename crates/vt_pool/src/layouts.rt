@@ -4,40 +4,40 @@ ghost use Rattle.std.specs.Prelude.{◌≡◌, map, true};
 ghost use Rattle.vt_kinds.specs.Records.{fields_of};
 ghost use Rattle.vt_pool.specs.Parts.{part_of, are_countable};
 
-use crate::parts::{Counted, Part};
+use crate::parts::{Counted, FieldLayout};
 use vt_kinds::Kind;
 
-const BYTE: Part = Part::Number(1);
+const BYTE: FieldLayout = FieldLayout::Number(1);
 
-const WORD: Part = Part::Number(2);
+const WORD: FieldLayout = FieldLayout::Number(2);
 
-const LONG: Part = Part::Number(4);
+const LONG: FieldLayout = FieldLayout::Number(4);
 
-const OBJECT_COUNT: Part = Part::Count(Counted::Objects, 1);
+const OBJECT_COUNT: FieldLayout = FieldLayout::Count(Counted::Objects, 1);
 
-const MACRO_COUNT: Part = Part::Count(Counted::Macros, 1);
+const MACRO_COUNT: FieldLayout = FieldLayout::Count(Counted::Macros, 1);
 
-const COUNT: Part = Part::Count(Counted::Others, 1);
+const COUNT: FieldLayout = FieldLayout::Count(Counted::Others, 1);
 
-const WORD_COUNT: Part = Part::Count(Counted::Others, 2);
+const WORD_COUNT: FieldLayout = FieldLayout::Count(Counted::Others, 2);
 
-const LONG_COUNT: Part = Part::Count(Counted::Others, 4);
+const LONG_COUNT: FieldLayout = FieldLayout::Count(Counted::Others, 4);
 
-const CHILDREN: Part = Part::List(Counted::Objects, 6);
+const CHILDREN: FieldLayout = FieldLayout::List(Counted::Objects, 6);
 
-const KEYS: Part = Part::List(Counted::Objects, 2);
+const KEYS: FieldLayout = FieldLayout::List(Counted::Objects, 2);
 
-const MACROS: Part = Part::List(Counted::Macros, 2);
+const MACROS: FieldLayout = FieldLayout::List(Counted::Macros, 2);
 
-const LANGUAGES: Part = Part::List(Counted::Others, 2);
+const LANGUAGES: FieldLayout = FieldLayout::List(Counted::Others, 2);
 
-const ITEMS: Part = Part::List(Counted::Others, 2);
+const ITEMS: FieldLayout = FieldLayout::List(Counted::Others, 2);
 
-const POINTS: Part = Part::List(Counted::Others, 4);
+const POINTS: FieldLayout = FieldLayout::List(Counted::Others, 4);
 
-const CONTENT: Part = Part::List(Counted::Others, 1);
+const CONTENT: FieldLayout = FieldLayout::List(Counted::Others, 1);
 
-const WORKING_SET: &[Part] = &[
+const WORKING_SET: &[FieldLayout] = &[
     BYTE,
     BYTE,
     WORD,
@@ -49,9 +49,9 @@ const WORKING_SET: &[Part] = &[
     LANGUAGES,
 ];
 
-const DATA_MASK: &[Part] = &[BYTE, WORD, OBJECT_COUNT, MACRO_COUNT, CHILDREN, MACROS];
+const DATA_MASK: &[FieldLayout] = &[BYTE, WORD, OBJECT_COUNT, MACRO_COUNT, CHILDREN, MACROS];
 
-const ALARM_MASK: &[Part] = &[
+const ALARM_MASK: &[FieldLayout] = &[
     BYTE,
     WORD,
     BYTE,
@@ -62,7 +62,7 @@ const ALARM_MASK: &[Part] = &[
     MACROS,
 ];
 
-const CONTAINER: &[Part] = &[
+const CONTAINER: &[FieldLayout] = &[
     WORD,
     WORD,
     BYTE,
@@ -72,11 +72,11 @@ const CONTAINER: &[Part] = &[
     MACROS,
 ];
 
-const SOFT_KEY_MASK: &[Part] = &[BYTE, OBJECT_COUNT, MACRO_COUNT, KEYS, MACROS];
+const SOFT_KEY_MASK: &[FieldLayout] = &[BYTE, OBJECT_COUNT, MACRO_COUNT, KEYS, MACROS];
 
-const KEY: &[Part] = &[BYTE, BYTE, OBJECT_COUNT, MACRO_COUNT, CHILDREN, MACROS];
+const KEY: &[FieldLayout] = &[BYTE, BYTE, OBJECT_COUNT, MACRO_COUNT, CHILDREN, MACROS];
 
-const BUTTON: &[Part] = &[
+const BUTTON: &[FieldLayout] = &[
     WORD,
     WORD,
     BYTE,
@@ -89,9 +89,9 @@ const BUTTON: &[Part] = &[
     MACROS,
 ];
 
-const INPUT_BOOLEAN: &[Part] = &[BYTE, WORD, WORD, WORD, BYTE, BYTE, MACRO_COUNT, MACROS];
+const INPUT_BOOLEAN: &[FieldLayout] = &[BYTE, WORD, WORD, WORD, BYTE, BYTE, MACRO_COUNT, MACROS];
 
-const INPUT_STRING: &[Part] = &[
+const INPUT_STRING: &[FieldLayout] = &[
     WORD,
     WORD,
     BYTE,
@@ -107,7 +107,7 @@ const INPUT_STRING: &[Part] = &[
     MACROS,
 ];
 
-const INPUT_NUMBER: &[Part] = &[
+const INPUT_NUMBER: &[FieldLayout] = &[
     WORD,
     WORD,
     BYTE,
@@ -118,8 +118,8 @@ const INPUT_NUMBER: &[Part] = &[
     LONG,
     LONG,
     LONG,
-    Part::Scale,
-    Part::Decimals,
+    FieldLayout::Scale,
+    FieldLayout::Decimals,
     BYTE,
     BYTE,
     BYTE,
@@ -127,7 +127,7 @@ const INPUT_NUMBER: &[Part] = &[
     MACROS,
 ];
 
-const INPUT_LIST: &[Part] = &[
+const INPUT_LIST: &[FieldLayout] = &[
     WORD,
     WORD,
     WORD,
@@ -139,7 +139,7 @@ const INPUT_LIST: &[Part] = &[
     MACROS,
 ];
 
-const OUTPUT_STRING: &[Part] = &[
+const OUTPUT_STRING: &[FieldLayout] = &[
     WORD,
     WORD,
     BYTE,
@@ -153,7 +153,7 @@ const OUTPUT_STRING: &[Part] = &[
     MACROS,
 ];
 
-const OUTPUT_NUMBER: &[Part] = &[
+const OUTPUT_NUMBER: &[FieldLayout] = &[
     WORD,
     WORD,
     BYTE,
@@ -162,19 +162,19 @@ const OUTPUT_NUMBER: &[Part] = &[
     WORD,
     LONG,
     LONG,
-    Part::Scale,
-    Part::Decimals,
+    FieldLayout::Scale,
+    FieldLayout::Decimals,
     BYTE,
     BYTE,
     MACRO_COUNT,
     MACROS,
 ];
 
-const LINE: &[Part] = &[WORD, WORD, WORD, BYTE, MACRO_COUNT, MACROS];
+const LINE: &[FieldLayout] = &[WORD, WORD, WORD, BYTE, MACRO_COUNT, MACROS];
 
-const RECTANGLE: &[Part] = &[WORD, WORD, WORD, BYTE, WORD, MACRO_COUNT, MACROS];
+const RECTANGLE: &[FieldLayout] = &[WORD, WORD, WORD, BYTE, WORD, MACRO_COUNT, MACROS];
 
-const ELLIPSE: &[Part] = &[
+const ELLIPSE: &[FieldLayout] = &[
     WORD,
     WORD,
     WORD,
@@ -186,7 +186,7 @@ const ELLIPSE: &[Part] = &[
     MACROS,
 ];
 
-const POLYGON: &[Part] = &[
+const POLYGON: &[FieldLayout] = &[
     WORD,
     WORD,
     WORD,
@@ -198,7 +198,7 @@ const POLYGON: &[Part] = &[
     MACROS,
 ];
 
-const METER: &[Part] = &[
+const METER: &[FieldLayout] = &[
     WORD,
     BYTE,
     BYTE,
@@ -215,7 +215,7 @@ const METER: &[Part] = &[
     MACROS,
 ];
 
-const LINEAR_BAR: &[Part] = &[
+const LINEAR_BAR: &[FieldLayout] = &[
     WORD,
     WORD,
     BYTE,
@@ -232,7 +232,7 @@ const LINEAR_BAR: &[Part] = &[
     MACROS,
 ];
 
-const ARCHED_BAR: &[Part] = &[
+const ARCHED_BAR: &[FieldLayout] = &[
     WORD,
     WORD,
     BYTE,
@@ -251,7 +251,7 @@ const ARCHED_BAR: &[Part] = &[
     MACROS,
 ];
 
-const PICTURE: &[Part] = &[
+const PICTURE: &[FieldLayout] = &[
     WORD,
     WORD,
     WORD,
@@ -264,24 +264,24 @@ const PICTURE: &[Part] = &[
     MACROS,
 ];
 
-const NUMBER_VARIABLE: &[Part] = &[LONG];
+const NUMBER_VARIABLE: &[FieldLayout] = &[LONG];
 
-const STRING_VARIABLE: &[Part] = &[WORD_COUNT, CONTENT];
+const STRING_VARIABLE: &[FieldLayout] = &[WORD_COUNT, CONTENT];
 
-const FONT: &[Part] = &[BYTE, BYTE, BYTE, BYTE, MACRO_COUNT, MACROS];
+const FONT: &[FieldLayout] = &[BYTE, BYTE, BYTE, BYTE, MACRO_COUNT, MACROS];
 
-const LINE_ATTRIBUTES: &[Part] = &[BYTE, BYTE, WORD, MACRO_COUNT, MACROS];
+const LINE_ATTRIBUTES: &[FieldLayout] = &[BYTE, BYTE, WORD, MACRO_COUNT, MACROS];
 
-const FILL_ATTRIBUTES: &[Part] = &[BYTE, BYTE, WORD, MACRO_COUNT, MACROS];
+const FILL_ATTRIBUTES: &[FieldLayout] = &[BYTE, BYTE, WORD, MACRO_COUNT, MACROS];
 
-const INPUT_ATTRIBUTES: &[Part] = &[BYTE, COUNT, CONTENT, MACRO_COUNT, MACROS];
+const INPUT_ATTRIBUTES: &[FieldLayout] = &[BYTE, COUNT, CONTENT, MACRO_COUNT, MACROS];
 
-const OBJECT_POINTER: &[Part] = &[WORD];
+const OBJECT_POINTER: &[FieldLayout] = &[WORD];
 
-const MACRO_OBJECT: &[Part] = &[WORD_COUNT, CONTENT];
+const MACRO_OBJECT: &[FieldLayout] = &[WORD_COUNT, CONTENT];
 
 /// The parts of a record of this kind.
-pub fn parts(kind: Kind) -> &'static [Part]
+pub fn parts(kind: Kind) -> &'static [FieldLayout]
     ensures parts { result.now ≡ map part_of (fields_of kind) }
     ensures countable { are_countable result.now ≡ true }
 {

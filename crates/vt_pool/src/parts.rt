@@ -17,7 +17,7 @@ pub enum Counted {
 
 /// A field of a record.
 #[derive(Clone, Copy)]
-pub enum Part {
+pub enum FieldLayout {
     /// A number of so many bytes.
     Number(usize),
     /// How many entries a later list has, a number of so many bytes.
@@ -32,17 +32,17 @@ pub enum Part {
 
 /// The counts of a record that were met so far.
 #[derive(Clone, Copy)]
-pub struct Counts {
+pub struct EntryCounts {
     objects: usize,
     macros: usize,
     others: usize,
 }
 
-impl Counts {
-    pub fn none() -> Counts
+impl EntryCounts {
+    pub fn none() -> EntryCounts
         ensures { result ≡ record { objects = 0; macros = 0; others = 0 } }
     {
-        Counts {
+        EntryCounts {
             objects: 0,
             macros: 0,
             others: 0,
@@ -59,19 +59,19 @@ impl Counts {
         }
     }
 
-    fn with(self, of: Counted, count: usize) -> Counts
+    fn with(self, of: Counted, count: usize) -> EntryCounts
         ensures { result ≡ with_count self of count }
     {
         match of {
-            Counted::Objects => Counts {
+            Counted::Objects => EntryCounts {
                 objects: count,
                 ..self
             },
-            Counted::Macros => Counts {
+            Counted::Macros => EntryCounts {
                 macros: count,
                 ..self
             },
-            Counted::Others => Counts {
+            Counted::Others => EntryCounts {
                 others: count,
                 ..self
             },
@@ -79,9 +79,9 @@ impl Counts {
     }
 }
 
-impl Part {
+impl FieldLayout {
     /// The bytes of the part, which stands behind these counts, and those after it, or `None` where they end before.
-    pub fn split<'a>(self, counts: Counts, bytes: &'a [u8]) -> Option<(&'a [u8], &'a [u8])>
+    pub fn split<'a>(self, counts: EntryCounts, bytes: &'a [u8]) -> Option<(&'a [u8], &'a [u8])>
         ensures there { IfSome result (λ split. part_size self counts ≤ length bytes.now) }
         ensures front { IfSome result (λ split. split.0.now ≡ take (part_size self counts) bytes.now) }
         ensures rest { IfSome result (λ split. split.1.now ≡ drop (part_size self counts) bytes.now) }
@@ -95,25 +95,25 @@ impl Part {
     }
 
     /// How many bytes the part takes, unless that is no `usize`.
-    fn size(self, counts: Counts) -> Option<usize>
+    fn size(self, counts: EntryCounts) -> Option<usize>
         ensures some { IfSome result (λ size. size ≡ part_size self counts) }
         ensures none { IfNone result (2 ^ 64 ≤ part_size self counts) }
     {
         match self {
-            Part::Number(size) | Part::Count(_, size) => Some(size),
-            Part::List(of, size) => counts.get(of).checked_mul(size),
-            Part::Scale => Some(4),
-            Part::Decimals => Some(1),
+            FieldLayout::Number(size) | FieldLayout::Count(_, size) => Some(size),
+            FieldLayout::List(of, size) => counts.get(of).checked_mul(size),
+            FieldLayout::Scale => Some(4),
+            FieldLayout::Decimals => Some(1),
         }
     }
 
     /// The counts behind the part, which has these bytes.
-    pub fn count(self, bytes: &[u8], counts: Counts) -> Counts
+    pub fn count(self, bytes: &[u8], counts: EntryCounts) -> EntryCounts
         requires { IsLongEnough self bytes.now }
         ensures { result ≡ counts_behind self bytes.now counts }
     {
         match self {
-            Part::Count(of, size) => {
+            FieldLayout::Count(of, size) => {
                 counts.with(of, LittleEndian::read_uint(bytes, size) as usize)
             }
             _ => counts,
@@ -126,13 +126,13 @@ impl Part {
         ensures { result ≡ part_fault self bytes.now at }
     {
         match self {
-            Part::Scale => {
+            FieldLayout::Scale => {
                 match Scale::from_bytes([bytes[0], bytes[1], bytes[2], bytes[3]]) {
                     Some(_) => None,
                     None => Some(PoolFault::Scale { at }),
                 }
             }
-            Part::Decimals => match Decimals::new(bytes[0]) {
+            FieldLayout::Decimals => match Decimals::new(bytes[0]) {
                 Some(_) => None,
                 None => Some(PoolFault::Decimals { at }),
             },

@@ -7,9 +7,9 @@ ghost use Rattle.vt_pool.specs.Arriving.{AreWholeTo, IsReadTo, lasting_of};
 ghost use Rattle.vt_pool.specs.Parts.{HeadGives, PassesFields, PassesRecord};
 
 use crate::layouts::parts;
-use crate::parts::Counts;
+use crate::parts::EntryCounts;
 use vt_kinds::Kind;
-use vt_records::{PoolFault, Reader, Stop, kind_with};
+use vt_records::{PoolFault, Reader, RecordFault, kind_with};
 
 /// Passes over the whole records from a place on, at which others end. Answers the end of the last, and the
 /// fault of what follows it, if the fault lasts.
@@ -54,7 +54,7 @@ pub fn record_end(pool: &[u8], at: usize) -> Result<usize, PoolFault>
 }
 
 /// The kind of the record at the front.
-fn kind_of_record(bytes: &[u8]) -> Result<Kind, Stop>
+fn kind_of_record(bytes: &[u8]) -> Result<Kind, RecordFault>
     ensures head { HeadGives result bytes.now }
     ensures long { IfOk result (λ kind. 3 ≤ length bytes.now) }
 {
@@ -63,7 +63,7 @@ fn kind_of_record(bytes: &[u8]) -> Result<Kind, Stop>
     let id = reader.id();
     let number = reader.u8();
     if id.is_null() {
-        return Err(Stop::NullId);
+        return Err(RecordFault::NullId);
     }
     kind_with(number)
 }
@@ -75,7 +75,7 @@ fn pass_fields<'a>(kind: Kind, bytes: &'a [u8], at: usize) -> Result<&'a [u8], P
     ensures passes { PassesFields (λ rest. rest.now) at result (fields_at (fields_of kind) (drop 3 bytes.now)) }
     ensures shorter { IfOk result (λ rest. length rest.now < length bytes.now) }
 {
-    let mut counts = Counts::none();
+    let mut counts = EntryCounts::none();
     let mut rest = &bytes[3..];
     let mut met = None;
     for part in parts(kind) {

@@ -6,14 +6,14 @@ ghost use Rattle.std.specs.FinMap as finite;
 ghost use Rattle.vt_kinds.specs.Records.{seen, HasRecord};
 ghost use Rattle.vt_stores.specs.Stores.{shown};
 ghost use Rattle.vt_pool.specs.Pools.{Entry, AreObjects, AreRecords, joined, contents, IsInForce, IsFault, IsWantOfMemory};
-ghost use Rattle.vt_records.specs.declared.stop.Stop.TheVariants as stops;
+ghost use Rattle.vt_records.specs.declared.stop.RecordFault.TheVariants as stops;
 ghost use Rattle.vt_pool.specs.Places.{with_entry};
 
 use indexmap::IndexSet;
 use std::alloc::Global;
 use std::marker::Model;
 use vt_kinds::{Object, ObjectId};
-use vt_records::{PoolFault, Stop, read_record};
+use vt_records::{PoolFault, RecordFault, read_record};
 
 /// The objects of a pool, each ID once, in the order in which their IDs first stood. Their texts are
 /// slices of the pool's bytes.
@@ -73,7 +73,7 @@ impl<'a> Pool<'a> {
     }
 
     /// Puts an object in the place of the one of its ID, or at the end.
-    fn put(&mut self, id: ObjectId, object: Object<&'a [u8]>) -> Result<(), Stop>
+    fn put(&mut self, id: ObjectId, object: Object<&'a [u8]>) -> Result<(), RecordFault>
         requires { HasRecord id (seen object) }
         ensures ok { OnOk result (self.new ≡ with_entry self.old id (seen object.entry)) }
         ensures err { IfErr result (λ stop. stop ≡ stops.OutOfMemory) }

@@ -7,7 +7,7 @@ use Rattle.std.specs.FinMap as finite
 use Rattle.std.specs.FinMap.{nat_cmp-IsAntisymmetric}
 use Rattle.std.proofs.lemmas.Cmp.{nat_cmp_total}
 use Rattle.std.proofs.lemmas.List.{append-nil}
-use Rattle.vt_stores.specs.Stores.{Contents, by_rising_id, map_of}
+use Rattle.vt_stores.specs.Stores.{ObjectMap, by_rising_id, map_of}
 use Rattle.vt_verify.specs.Rules.{IsVerified, IsRefused, IsWantOfMemory}
 use Rattle.vt_chains.specs.Limits.{terminal}
 use Rattle.vt_verify.specs.declared.refusal.Refusal.{Refusal}
@@ -27,13 +27,13 @@ use Rattle.vt_server.specs.Steps.{preloading}
 use Rattle.vt_server.specs.Terminals.{State}
 
 -- a map is that of its entries
-pub entries_again : (m : Contents) → contents (finite.entries m) ≡ m
+pub entries_again : (m : ObjectMap) → contents (finite.entries m) ≡ m
 entries_again m =
     finite.same_map nat_cmp_total nat_cmp-IsAntisymmetric (contents (finite.entries m)) m
     (λ q. finite.get-from_entries nat_cmp_total (finite.entries m) q ∙ sym (finite.get-entries m q))
 
 -- the entries of a map are sorted, and are that map
-pub map_again : (m : Contents) → map_of (finite.entries m) ≡ m
+pub map_again : (m : ObjectMap) → map_of (finite.entries m) ≡ m
 map_again m =
     finite.same_map nat_cmp_total nat_cmp-IsAntisymmetric (map_of (finite.entries m)) m
     (λ q. finite.get-from_sorted nat_cmp (finite.entries m) q (finite.entries_sorted m) ∙ sym (finite.get-entries m q))
@@ -69,7 +69,7 @@ unfolding by_rising_id
 refused_pool read pool why p refused named = record { objects = contents pool; pool = pool_of read pool p; refused = refused; named = named }
 
 -- the pool of a file, where it is accepted
-pool_of_file : (file : Option (List ℕ)) (objects : Contents) → IfSome file (λ bytes. IsAcceptedPoolOf bytes objects) → IfSome file (λ bytes. IsPoolOf bytes objects)
+pool_of_file : (file : Option (List ℕ)) (objects : ObjectMap) → IfSome file (λ bytes. IsAcceptedPoolOf bytes objects) → IfSome file (λ bytes. IsPoolOf bytes objects)
 pool_of_file None objects is = tt
 pool_of_file (Some bytes) objects is = is.0
 

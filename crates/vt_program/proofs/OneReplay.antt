@@ -15,8 +15,8 @@ use Rattle.vt_layout.specs.Screens.{ScreensAreOne}
 use Rattle.vt_logs.specs.declared.counts.Counts.{Counts}
 use Rattle.vt_logs.specs.Lines.{lines_of}
 use Rattle.vt_logs.specs.Replays.{IsReplay}
-use Rattle.vt_logs.specs.Taken.{Scene, IsEventOfLine, TakesInputLine, TakesReading, TakesReadings}
-use Rattle.vt_logs.specs.Texts.{Reading, counts_text, new_screen, no_counts, output_text, with_lines}
+use Rattle.vt_logs.specs.Taken.{ReplayState, IsInputOfLine, TakesInputLine, TakesReading, TakesReadings}
+use Rattle.vt_logs.specs.Texts.{LineReading, counts_text, new_screen, no_counts, output_text, with_lines}
 use Rattle.vt_machine.specs.Lives.{SetState}
 use Rattle.vt_kinds.specs.Records.{Seen}
 use Rattle.vt_pool.specs.Pools.{Entry, AreRecords, contents, joined}
@@ -31,18 +31,18 @@ use Rattle.vt_server.specs.Findings.{IsEventOf, IsFound}
 use Rattle.vt_server.specs.Outputs.{outputs_of}
 use Rattle.vt_server.specs.Screens.{IsScreenAt, IsScreenOf, IsScreenOfShown}
 use Rattle.vt_server.specs.Steps as steps
-use Rattle.vt_server.specs.Steps.{Event, Step, preloading, step}
+use Rattle.vt_server.specs.Steps.{JudgedInput, Step, preloading, step}
 use Rattle.vt_server.specs.Terminals.{State, pool_of}
 use Rattle.vt_server.specs.declared.input.Input.TheVariants as inputs
-use Rattle.vt_stores.specs.Stores.{Contents}
+use Rattle.vt_stores.specs.Stores.{ObjectMap}
 
 -- ---- the events of a line
 
-frame-event : (time : ℕ) (frame : Frame) (e : Event) → IsEventOfLine (FrameAt time frame) e → IsEventOf (inputs.Frame time frame) e
+frame-event : (time : ℕ) (frame : Frame) (e : JudgedInput) → IsInputOfLine (FrameAt time frame) e → IsEventOf (inputs.Frame time frame) e
 frame-event time frame (steps.FrameAt at heard verdict) is = is
 frame-event time frame (steps.ActionAt action shown) is = absurd is
 
-action-event : (action : Action) (value : ActionValue) (e : Event) → action_value action ≡ value → IsEventOfLine (OperatorAction value) e
+action-event : (action : Action) (value : ActionValue) (e : JudgedInput) → action_value action ≡ value → IsInputOfLine (OperatorAction value) e
     → IsEventOf (inputs.Operator action) e
 action-event action value (steps.FrameAt at heard verdict) same is = absurd is
 action-event action value (steps.ActionAt other shown) same is = is ∙ sym same
@@ -78,18 +78,18 @@ pub record Laws : Type 0 where
 module _ (laws : Laws) where
   -- ---- readings
 
-  readings-one : (lines : List (List ℕ)) (rs qs : List Reading) → AllZip Reads lines rs → AllZip Reads lines qs → rs ≡ qs
+  readings-one : (lines : List (List ℕ)) (rs qs : List LineReading) → AllZip Reads lines rs → AllZip Reads lines qs → rs ≡ qs
   readings-one [] [] [] p q = refl
   readings-one [] [] (r ∷ qs) p q = absurd q
   readings-one [] (r ∷ rs) qs p q = absurd p
   readings-one (line ∷ lines) [] qs p q = absurd p
   readings-one (line ∷ lines) (r ∷ rs) [] p q = absurd q
   readings-one (line ∷ lines) (r ∷ rs) (s ∷ qs) p q =
-      ap₂ (λ (x : Reading) (xs : List Reading). x ∷ xs) (laws.read line r s p.0 q.0) (readings-one lines rs qs p.1 q.1)
+      ap₂ (λ (x : LineReading) (xs : List LineReading). x ∷ xs) (laws.read line r s p.0 q.0) (readings-one lines rs qs p.1 q.1)
 
   -- ---- screens
 
-  screens-at : (address : ℕ) (last : Option Contents) (o : Option SetState) (a b : List ℕ) → IfSome o (IsInForce last) → IsScreenAt address o a → IsScreenAt address o b → a ≡ b
+  screens-at : (address : ℕ) (last : Option ObjectMap) (o : Option SetState) (a b : List ℕ) → IfSome o (IsInForce last) → IsScreenAt address o a → IsScreenAt address o b → a ≡ b
   screens-at address last None a b force p q = p ∙ sym q
   screens-at address last (Some state) a b force p q = laws.screens.one address state.objects a b force.ready.working_set p q
 
@@ -103,7 +103,7 @@ module _ (laws : Laws) where
 
   -- ---- a line
 
-  events-one : (s : State) (line : ParsedLine) (e f : Event) → IsEventOfLine line e → IsEventOfLine line f → IsFound s e → IsFound s f → step s e ≡ step s f
+  events-one : (s : State) (line : ParsedLine) (e f : JudgedInput) → IsInputOfLine line e → IsInputOfLine line f → IsFound s e → IsFound s f → step s e ≡ step s f
   events-one s (FrameAt time frame) e f is too found alike =
       laws.steps.events s (inputs.Frame time frame) e f (frame-event time frame e is) (frame-event time frame f too) found alike
   events-one s (OperatorAction value) e f is too found alike =
@@ -113,21 +113,21 @@ module _ (laws : Laws) where
   events-one s CommentLine e f is too found alike = absurd is
 
   -- two ways on from a scene lead to one, with one text, and the pools there are in force
-  record IsOneWay (b c : Scene) (t u : List ℕ) : Type 0 where
+  record IsOneWay (b c : ReplayState) (t u : List ℕ) : Type 0 where
     pub scene : b ≡ c
     pub text : t ≡ u
     pub pools : Pools
     pub force : AreInForce pools b.state
 
-  prints-one : (pools : Pools) (a b c : Scene) (printed t u : List ℕ) → AreInForce pools a.state → (b ≡ a) × (t ≡ printed) → (c ≡ a) × (u ≡ printed) → IsOneWay b c t u
+  prints-one : (pools : Pools) (a b c : ReplayState) (printed t u : List ℕ) → AreInForce pools a.state → (b ≡ a) × (t ≡ printed) → (c ≡ a) × (u ≡ printed) → IsOneWay b c t u
   prints-one pools a b c printed t u force p q = record {
     scene = p.0 ∙ sym q.0;
     text = p.1 ∙ sym q.1;
     pools = pools;
-    force = subst (λ (s : Scene). AreInForce pools s.state) (sym p.0) force;
+    force = subst (λ (s : ReplayState). AreInForce pools s.state) (sym p.0) force;
   }
 
-  inputs-one : (pools : Pools) (a b c : Scene) (line : ParsedLine) (t u : List ℕ) → AreInForce pools a.state → TakesInputLine a line b t → TakesInputLine a line c u → IsOneWay b c t u
+  inputs-one : (pools : Pools) (a b c : ReplayState) (line : ParsedLine) (t u : List ℕ) → AreInForce pools a.state → TakesInputLine a line b t → TakesInputLine a line c u → IsOneWay b c t u
   inputs-one pools a b c line t u force p q =
       let same : step a.state p.event ≡ step a.state q.event = events-one a.state line p.event q.event p.of_line q.of_line p.takes.found q.takes.found in
       let states : b.state ≡ c.state = p.takes.state ∙ ap (λ (s : Step). s.after) same ∙ sym q.takes.state in
@@ -146,7 +146,7 @@ module _ (laws : Laws) where
         force = stays;
       }
 
-  reading-one : (pools : Pools) (a b c : Scene) (n : ℕ) (r : Reading) (t u : List ℕ) → AreInForce pools a.state → TakesReading a n r b t → TakesReading a n r c u → IsOneWay b c t u
+  reading-one : (pools : Pools) (a b c : ReplayState) (n : ℕ) (r : LineReading) (t u : List ℕ) → AreInForce pools a.state → TakesReading a n r b t → TakesReading a n r c u → IsOneWay b c t u
   reading-one pools a b c n (Ok (FrameAt time frame)) t u force p q = inputs-one pools a b c (FrameAt time frame) t u force p q
   reading-one pools a b c n (Ok (OperatorAction action)) t u force p q = inputs-one pools a b c (OperatorAction action) t u force p q
   reading-one pools a b c n (Ok (SkippedFrame why)) t u force p q = prints-one pools a b c [] t u force p q
@@ -155,12 +155,12 @@ module _ (laws : Laws) where
 
   -- ---- lines one after the other
 
-  lines-one : (pools : Pools) (a b c : Scene) (n : ℕ) (rs : List Reading) (t u : List ℕ) → AreInForce pools a.state → TakesReadings a n rs b t → TakesReadings a n rs c u
+  lines-one : (pools : Pools) (a b c : ReplayState) (n : ℕ) (rs : List LineReading) (t u : List ℕ) → AreInForce pools a.state → TakesReadings a n rs b t → TakesReadings a n rs c u
       → (b ≡ c) × (t ≡ u)
   lines-one pools a b c n [] t u force p q = (p.0 ∙ sym q.0, p.1 ∙ sym q.1)
   lines-one pools a b c n (r ∷ rs) t u force p q =
       let one = reading-one pools a p.middle q.middle (n + 1) r p.first q.first force p.takes q.takes in
-      let next : TakesReadings p.middle (n + 1) rs c q.rest = subst (λ (s : Scene). TakesReadings s (n + 1) rs c q.rest) (sym one.scene) q.next in
+      let next : TakesReadings p.middle (n + 1) rs c q.rest = subst (λ (s : ReplayState). TakesReadings s (n + 1) rs c q.rest) (sym one.scene) q.next in
       let rest = lines-one one.pools p.middle b c (n + 1) rs p.rest q.rest one.force p.next next in
       (rest.0, p.whole ∙ ap₂ (λ (x y : List ℕ). x ++ y) one.text rest.1 ∙ sym q.whole)
 
@@ -174,23 +174,23 @@ module _ (laws : Laws) where
       let states : q.first.state ≡ p.first.state = q.starts ∙ sym p.starts in
       let first : q.first ≡ p.first = λ i. record { state = states i; screen = screens i } in
       let takes : TakesReadings p.first 0 p.readings q.last q.printed =
-      subst (λ (s : Scene). TakesReadings s 0 p.readings q.last q.printed) first
-      (subst (λ (rs : List Reading). TakesReadings q.first 0 rs q.last q.printed) readings q.takes) in
+      subst (λ (s : ReplayState). TakesReadings s 0 p.readings q.last q.printed) first
+      (subst (λ (rs : List LineReading). TakesReadings q.first 0 rs q.last q.printed) readings q.takes) in
       let one = lines-one pools p.first p.last q.last 0 p.readings p.printed q.printed (subst (λ (s : State). AreInForce pools s) (sym p.starts) force) p.takes takes in
       let same : counts ≡ more = p.counts_are ∙ ap (with_lines no_counts) (sym readings) ∙ sym q.counts_are in (
         p.text_is ∙ (λ i. sym screens i ++ one.1 i ++ counts_text (same i)) ∙ sym q.text_is,
         same,
-        p.now_is ∙ ap (λ (s : Scene). s.state) one.0 ∙ sym q.now_is,
+        p.now_is ∙ ap (λ (s : ReplayState). s.state) one.0 ∙ sym q.now_is,
       )
 
   -- ---- the terminal of the options
 
-  objects-one : (bytes : List ℕ) (a b : Contents) → IsPoolOf bytes a → IsPoolOf bytes b → a ≡ b
+  objects-one : (bytes : List ℕ) (a b : ObjectMap) → IsPoolOf bytes a → IsPoolOf bytes b → a ≡ b
   objects-one bytes a b p q =
       let same = joined-one p.records q.records p.whole q.whole (sym p.spelled ∙ q.spelled) in
       p.in_force ∙ ap (λ (records : List Entry). contents (reverse records)) same ∙ sym q.in_force
 
-  loaded-one : (file : Option (List ℕ)) (a b : Contents) → IsKnown file → IfSome file (λ bytes. IsPoolOf bytes a) → IfSome file (λ bytes. IsPoolOf bytes b) → a ≡ b
+  loaded-one : (file : Option (List ℕ)) (a b : ObjectMap) → IsKnown file → IfSome file (λ bytes. IsPoolOf bytes a) → IfSome file (λ bytes. IsPoolOf bytes b) → a ≡ b
   loaded-one None a b known p q = let none = known.1 in absurd cc
   loaded-one (Some bytes) a b known p q = objects-one bytes a b p q
 

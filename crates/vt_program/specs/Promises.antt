@@ -7,32 +7,32 @@ use Rattle.vt_laws.specs.Headline.{Pools, AreInForce, EventsKeep}
 use Rattle.vt_logs.specs.declared.counts.Counts.{Counts}
 use Rattle.vt_logs.specs.Begun.{BeginsCounts, HasStopped, LeavesLines}
 use Rattle.vt_logs.specs.Replays.{IsReplay}
-use Rattle.vt_logs.specs.Taken.{IsEventOfLine, Scene}
-use Rattle.vt_logs.specs.Texts.{Reading}
+use Rattle.vt_logs.specs.Taken.{IsInputOfLine, ReplayState}
+use Rattle.vt_logs.specs.Texts.{LineReading}
 use Rattle.vt_program.specs.declared.options.Options.{Options}
 use Rattle.vt_node.specs.ByAddress.{with_at}
 use Rattle.vt_program.specs.declared.options.Preload.{Preload}
 use Rattle.vt_program.specs.Runs.{Files, IsPreloaded, IsStart, new_state}
 use Rattle.vt_server.specs.Findings.{AreFound}
-use Rattle.vt_server.specs.Steps.{Event, after_all}
+use Rattle.vt_server.specs.Steps.{JudgedInput, after_all}
 use Rattle.vt_server.specs.Terminals.{State}
 
 -- The events are those of the lines, in their order: one of each frame and of each action of the operator.
-abbrev pub AreEventsOfLines : List Reading → List Event → Type 0
-AreEventsOfLines [] [] = Unit {0}
-AreEventsOfLines [] (e ∷ events) = ⊥
-AreEventsOfLines (Err fault ∷ readings) events = AreEventsOfLines readings events
-AreEventsOfLines (Ok (SkippedFrame why) ∷ readings) events = AreEventsOfLines readings events
-AreEventsOfLines (Ok CommentLine ∷ readings) events = AreEventsOfLines readings events
-AreEventsOfLines (Ok (FrameAt time frame) ∷ readings) [] = ⊥
-AreEventsOfLines (Ok (FrameAt time frame) ∷ readings) (e ∷ events) = IsEventOfLine (FrameAt time frame) e × AreEventsOfLines readings events
-AreEventsOfLines (Ok (OperatorAction action) ∷ readings) [] = ⊥
-AreEventsOfLines (Ok (OperatorAction action) ∷ readings) (e ∷ events) = IsEventOfLine (OperatorAction action) e × AreEventsOfLines readings events
+abbrev pub AreInputsOfLines : List LineReading → List JudgedInput → Type 0
+AreInputsOfLines [] [] = Unit {0}
+AreInputsOfLines [] (e ∷ events) = ⊥
+AreInputsOfLines (Err fault ∷ readings) events = AreInputsOfLines readings events
+AreInputsOfLines (Ok (SkippedFrame why) ∷ readings) events = AreInputsOfLines readings events
+AreInputsOfLines (Ok CommentLine ∷ readings) events = AreInputsOfLines readings events
+AreInputsOfLines (Ok (FrameAt time frame) ∷ readings) [] = ⊥
+AreInputsOfLines (Ok (FrameAt time frame) ∷ readings) (e ∷ events) = IsInputOfLine (FrameAt time frame) e × AreInputsOfLines readings events
+AreInputsOfLines (Ok (OperatorAction action) ∷ readings) [] = ⊥
+AreInputsOfLines (Ok (OperatorAction action) ∷ readings) (e ∷ events) = IsInputOfLine (OperatorAction action) e × AreInputsOfLines readings events
 
 -- From a state a terminal takes the events of these lines, and keeps its promise.
-pub record LinesKeep (pools : Pools) (start : State) (readings : List Reading) (now : State) : Type 0 where
-  pub events : List Event
-  pub of_lines : AreEventsOfLines readings events
+pub record LinesKeep (pools : Pools) (start : State) (readings : List LineReading) (now : State) : Type 0 where
+  pub events : List JudgedInput
+  pub of_lines : AreInputsOfLines readings events
   pub found : AreFound start events
   pub now_is : now ≡ after_all start events
   pub keeps : EventsKeep pools start events
@@ -45,18 +45,18 @@ given_pools files (Some p) before after loaded = with_at p.owner (Some loaded.ob
 -- ---- the lines that a replay has taken which stopped
 
 -- the one that is taken in part
-abbrev pub reading_in_part : (last : Scene) (n : ℕ) (lines : List (List ℕ)) (now : State) (text : List ℕ) → LeavesLines last n lines now text → List Reading
+abbrev pub reading_in_part : (last : ReplayState) (n : ℕ) (lines : List (List ℕ)) (now : State) (text : List ℕ) → LeavesLines last n lines now text → List LineReading
 reading_in_part last n lines now text (inl none) = []
 reading_in_part last n lines now text (inr part) = part.reading ∷ []
 
 -- the one behind those that are taken to their end
-abbrev pub reading_behind : (last : Scene) (n : ℕ) (readings : List Reading) (lines : List (List ℕ)) (now : State) (text : List ℕ)
-    → LeavesLines last n lines now text ⊎ BeginsCounts last readings lines now text → List Reading
+abbrev pub reading_behind : (last : ReplayState) (n : ℕ) (readings : List LineReading) (lines : List (List ℕ)) (now : State) (text : List ℕ)
+    → LeavesLines last n lines now text ⊎ BeginsCounts last readings lines now text → List LineReading
 reading_behind last n readings lines now text (inl leaves) = reading_in_part last n lines now text leaves
 reading_behind last n readings lines now text (inr counts) = []
 
 -- how they were read
-abbrev pub readings_taken : (start : State) (input : List ℕ) (now : State) (old new : Option (List ℕ)) → HasStopped start input now old new → List Reading
+abbrev pub readings_taken : (start : State) (input : List ℕ) (now : State) (old new : Option (List ℕ)) → HasStopped start input now old new → List LineReading
 readings_taken start input now old new (inl before) = []
 readings_taken start input now old new (inr s) =
     s.readings ++ reading_behind s.last (length s.front + 1) s.readings s.back now s.text s.leaves

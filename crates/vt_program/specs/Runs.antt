@@ -5,7 +5,7 @@ use Rattle.std.specs.Io.KnownBytes.{Appends, Keeps}
 use Rattle.clap.specs.Words.{Text, kind_of}
 use Rattle.clap.specs.declared.error.kind.ErrorKind.{ErrorKind}
 use Rattle.clap.specs.declared.error.kind.ErrorKind.TheVariants.{DisplayHelp, DisplayVersion}
-use Rattle.vt_stores.specs.Stores.{Contents}
+use Rattle.vt_stores.specs.Stores.{ObjectMap}
 use Rattle.vt_records.specs.declared.fault.PoolFault.{PoolFault}
 use Rattle.vt_records.specs.FaultTexts.{fault_text}
 use Rattle.vt_pool.specs.Pools.{Entry, AreRecords, IsFault, contents, joined}
@@ -21,8 +21,8 @@ use Rattle.vt_logs.specs.declared.fault.ReplayFault.{ReplayFault}
 use Rattle.vt_logs.specs.declared.fault.ReplayFault.TheVariants as replay_fault
 use Rattle.vt_program.specs.declared.options.Options.{Options}
 use Rattle.vt_program.specs.declared.options.Preload.{Preload}
-use Rattle.vt_program.specs.declared.options.Refusal.{Refusal}
-use Rattle.vt_program.specs.declared.options.Refusal.TheVariants.{Words, Address, Name, OwnerIsOwn, Alone, Memory}
+use Rattle.vt_program.specs.declared.options.UsageError.{UsageError}
+use Rattle.vt_program.specs.declared.options.UsageError.TheVariants.{Words, Address, Name, OwnerIsOwn, Alone, Memory}
 use Rattle.vt_program.specs.declared.program.Fault.{Fault}
 use Rattle.vt_program.specs.declared.program.Fault.TheVariants as fault
 use Rattle.vt_program.specs.declared.program.Status.{Status}
@@ -42,14 +42,14 @@ Files = Text → Option (List ℕ)
 -- ---- what stands before the first line
 
 -- the objects of a pool's bytes: of each ID the last record's
-pub record IsPoolOf (bytes : List ℕ) (objects : Contents) : Type 0 where
+pub record IsPoolOf (bytes : List ℕ) (objects : ObjectMap) : Type 0 where
   pub records : List Entry
   pub whole : AreRecords records
   pub spelled : bytes ≡ joined records
   pub in_force : objects ≡ contents (reverse records)
 
 -- the same of a pool that is verified
-abbrev pub IsAcceptedPoolOf : List ℕ → Contents → Type 0
+abbrev pub IsAcceptedPoolOf : List ℕ → ObjectMap → Type 0
 IsAcceptedPoolOf bytes objects = IsPoolOf bytes objects × IsVerified (finite.entries objects)
 
 -- The bytes are no pool, by a fault of theirs. Want of memory is none.
@@ -59,7 +59,7 @@ pub record IsNoPool (bytes : List ℕ) (why : PoolFault) : Type 0 where
 
 -- The bytes are a pool that is refused by a rule. Want of memory is none.
 pub record IsRefusedPool (bytes : List ℕ) (why : PoolRefusal) : Type 0 where
-  pub objects : Contents
+  pub objects : ObjectMap
   pub pool : IsPoolOf bytes objects
   pub refused : IsRefused terminal (finite.entries objects) why
   pub named : rules.IsWantOfMemory why → ⊥
@@ -78,7 +78,7 @@ new_state own name = record {
 
 -- A set with the pool of the file is preloaded at the owner. It is verified, also where the bytes of the file are not known.
 pub record IsLoaded (files : Files) (p : Preload) (before after : State) : Type 0 where
-  pub objects : Contents
+  pub objects : ObjectMap
   pub verified : IsVerified (finite.entries objects)
   pub pool : IfSome (files p.pool.now) (λ bytes. IsPoolOf bytes objects)
   pub state : after ≡ preloading before p.owner objects
@@ -109,7 +109,7 @@ pub record HasReplayed (files : Files) (options : Options) (old new : Option (Li
 
 -- The bytes are a pool that meets all rules, and this is its report.
 pub record IsReportOf (bytes : List ℕ) (text : List ℕ) : Type 0 where
-  pub objects : Contents
+  pub objects : ObjectMap
   pub accepted : IsAcceptedPoolOf bytes objects
   pub text_is : text ≡ report.report_text (finite.entries objects)
 
@@ -215,7 +215,7 @@ abbrev pub IsHelp : ErrorKind → Type 0
 IsHelp kind = (kind ≡ DisplayHelp) ⊎ (kind ≡ DisplayVersion)
 
 -- the status after a refusal
-abbrev pub EndsBy : Refusal → Status → Type 0
+abbrev pub EndsBy : UsageError → Status → Type 0
 EndsBy (Words error) status.Done = IsHelp (kind_of error)
 EndsBy (Words error) status.Usage = IsHelp (kind_of error) → ⊥
 EndsBy (Words error) status.Fault = ⊥
@@ -227,7 +227,7 @@ EndsBy Memory end = end ≡ status.Fault
 
 -- The words are refused, and a refusal of them ends with this status.
 pub record Refuses (words : List Text) (end : Status) : Type 0 where
-  pub refusal : Refusal
+  pub refusal : UsageError
   pub of_words : IsRefusalOf words refusal
   pub ends : EndsBy refusal end
 

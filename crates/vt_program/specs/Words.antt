@@ -8,8 +8,8 @@ use Rattle.clap.specs.declared.error.kind.ErrorKind.TheVariants.{OutOfMemory}
 use Rattle.hex.specs.Hex.{decode_of}
 use Rattle.vt_program.specs.declared.options.Options.{Options}
 use Rattle.vt_program.specs.declared.options.Preload.{Preload}
-use Rattle.vt_program.specs.declared.options.Refusal.{Refusal}
-use Rattle.vt_program.specs.declared.options.Refusal.TheVariants.{Words, Address, Name, OwnerIsOwn, Alone, Memory}
+use Rattle.vt_program.specs.declared.options.UsageError.{UsageError}
+use Rattle.vt_program.specs.declared.options.UsageError.TheVariants.{Words, Address, Name, OwnerIsOwn, Alone, Memory}
 use Rattle.vt_program.specs.declared.program.Status.{Status}
 use Rattle.vt_program.specs.declared.program.Status.TheVariants.{Done, Fault, Usage}
 
@@ -141,12 +141,12 @@ pub record WordsGive (words : List Text) (options : Options) : Type 0 where
 -- ---- which words are refused
 
 -- the value of an option is no address, and stands in the refusal
-abbrev pub IsBadAddress : Text → Option Text → Refusal → Type 0
+abbrev pub IsBadAddress : Text → Option Text → UsageError → Type 0
 IsBadAddress name given (Address option value) = (option.now ≡ name) × (given ≡ Some value.now) × GivesNoAddress given
 IsBadAddress name given refusal = ⊥
 
 -- the value of --name is no NAME, and stands in the refusal
-abbrev pub IsBadName : Option Text → Refusal → Type 0
+abbrev pub IsBadName : Option Text → UsageError → Type 0
 IsBadName given (Name value) = (given ≡ Some value.now) × GivesNoName given
 IsBadName given refusal = ⊥
 
@@ -158,7 +158,7 @@ pub record HasOwnOwner (given : Given) : Type 0 where
   pub owner : GivesAddress given.owner (Some address)
 
 -- what is wrong with words in which clap finds no fault
-abbrev pub IsMistake : Given → Refusal → Type 0
+abbrev pub IsMistake : Given → UsageError → Type 0
 IsMistake given (Address option value) =
     IsBadAddress (codes "own") given.own (Address option value) ⊎ IsBadAddress (codes "owner") given.owner (Address option value)
 IsMistake given (Name value) = IsBadName given.name (Name value)
@@ -168,11 +168,11 @@ IsMistake given (Words error) = ⊥
 IsMistake given Memory = ⊥
 
 -- a mistake in words in which clap finds no fault
-abbrev pub IsMistakeIn : List Text → Refusal → Type 0
+abbrev pub IsMistakeIn : List Text → UsageError → Type 0
 IsMistakeIn words refusal = (faults_in words ≡ []) × IsMistake (given_by words) refusal
 
 -- Why these words give no options. Memory may run out at any words.
-abbrev pub IsRefusalOf : List Text → Refusal → Type 0
+abbrev pub IsRefusalOf : List Text → UsageError → Type 0
 IsRefusalOf words (Words error) = IsAmong (kind_of error) (faults_in words)
 IsRefusalOf words (Address option value) = IsMistakeIn words (Address option value)
 IsRefusalOf words (Name value) = IsMistakeIn words (Name value)
@@ -181,7 +181,7 @@ IsRefusalOf words Alone = IsMistakeIn words Alone
 IsRefusalOf words Memory = Unit {0}
 
 -- what an error of clap's is to the program
-abbrev pub IsRefusalFor : Error → Refusal → Type 0
+abbrev pub IsRefusalFor : Error → UsageError → Type 0
 IsRefusalFor error Memory = kind_of error ≡ OutOfMemory
 IsRefusalFor error (Words other) = (other ≡ error) × (kind_of error ≢ OutOfMemory)
 IsRefusalFor error (Address option value) = ⊥
@@ -190,7 +190,7 @@ IsRefusalFor error OwnerIsOwn = ⊥
 IsRefusalFor error Alone = ⊥
 
 -- what is printed of a refusal; what clap prints no contract says
-abbrev pub refusal_text : Refusal → Option Text
+abbrev pub refusal_text : UsageError → Option Text
 refusal_text (Words error) = None
 refusal_text (Address option value) = Some (codes "error: --" ++ option.now ++ codes " " ++ value.now ++ codes ": two hex digits up to FD are wanted\n")
 refusal_text (Name value) = Some (codes "error: --name " ++ value.now ++ codes ": 16 hex digits are wanted\n")

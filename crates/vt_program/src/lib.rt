@@ -1,7 +1,7 @@
 //! The program over words, files and writers: logs replayed, and the reports of pools printed.
 //!
 //! `run` takes the words of the program, and opens their files by `Open`, as `Files` does by the system; it answers a `Status`.
-//! `Options` are words that were read, or a `Refusal`. docs/PROFILE.md, "The program", has the words and the statuses.
+//! `Options` are words that were read, or a `UsageError`. docs/PROFILE.md, "The program", has the words and the statuses.
 #![tactic(auto)]
 
 mod files;
@@ -11,5 +11,5 @@ mod program;
 mod sentences;
 
 pub use files::{Files, Opened};
-pub use options::{Options, Preload, Refusal};
+pub use options::{Options, Preload, UsageError};
 pub use program::{Open, Status, run};

@@ -4,7 +4,7 @@ ghost use Rattle.std.specs.Prelude.{◌≡◌, ℕ, IfOk, IfErr, MatchOption, co
 ghost use Rattle.clap.specs.Words.{IsParsedFrom, IsPlainArg, app_of, first_value, found_of, one_text, rule_of};
 ghost use Rattle.clap.specs.Built.{TakesValue};
 ghost use Rattle.clap.specs.declared.parser.matches.ArgMatches.{ArgMatches};
-ghost use Rattle.vt_program.specs.declared.options.Refusal.TheVariants.{Memory};
+ghost use Rattle.vt_program.specs.declared.options.UsageError.TheVariants.{Memory};
 ghost use Rattle.vt_program.specs.Words.{AreApart, Gives, GivesAddress, IsAddress, IsBadAddress, IsBadName, IsMistake, IsName, IsOwnName, IsRefusalFor, IsRefusalOf, WordsGive, app, file_word, given_in, refusal_text, report_flag, valued_option};
 
 use byteorder::{BigEndian, ByteOrder};
@@ -48,7 +48,7 @@ pub struct Preload<'a> {
 
 /// Why the words give no options, or that help is asked for.
 #[derive(Drop)]
-pub enum Refusal<'a> {
+pub enum UsageError<'a> {
     /// What `clap` says of the words.
     Words(Error),
     /// The value of an option is no address: two hex digits up to FD.
@@ -68,60 +68,60 @@ pub enum Refusal<'a> {
     Memory,
 }
 
-impl fmt::Display for Refusal<'_> {
+impl fmt::Display for UsageError<'_> {
     ghost output = { refusal_text };
 
     fn fmt<W: fmt::Write>(&self, f: &mut fmt::Formatter<W>) -> fmt::Result {
         match self {
-            Refusal::Words(error) => write!(f, "{error}"),
-            Refusal::Address { option, value } => {
+            UsageError::Words(error) => write!(f, "{error}"),
+            UsageError::Address { option, value } => {
                 writeln!(
                     f,
                     "error: --{option} {value}: two hex digits up to FD are wanted"
                 )
             }
-            Refusal::Name(value) => {
+            UsageError::Name(value) => {
                 writeln!(f, "error: --name {value}: 16 hex digits are wanted")
             }
-            Refusal::OwnerIsOwn => {
+            UsageError::OwnerIsOwn => {
                 writeln!(
                     f,
                     "error: --owner is the terminal's own address (--own, 26 unless given)"
                 )
             }
-            Refusal::Alone => {
+            UsageError::Alone => {
                 writeln!(
                     f,
                     "error: --pool and --owner are given together or not at all"
                 )
             }
-            Refusal::Memory => writeln!(f, "vt_replay: out of memory"),
+            UsageError::Memory => writeln!(f, "vt_replay: out of memory"),
         }
     }
 }
 
-impl From<Error> for Refusal<'_> {
+impl From<Error> for UsageError<'_> {
     ghost from_gives = { IsRefusalFor };
 
     fn from(error: Error) -> Self {
         match error.kind() {
-            ErrorKind::OutOfMemory => Refusal::Memory,
-            _ => Refusal::Words(error),
+            ErrorKind::OutOfMemory => UsageError::Memory,
+            _ => UsageError::Words(error),
         }
     }
 }
 
-impl From<AllocError> for Refusal<'_> {
+impl From<AllocError> for UsageError<'_> {
     ghost from_gives = { λ _ refusal. refusal ≡ Memory };
 
     fn from(_error: AllocError) -> Self {
-        Refusal::Memory
+        UsageError::Memory
     }
 }
 
 impl<'a> Options<'a> {
     /// Reads the words, of which the first is the program's name.
-    pub fn parse<S: AsStr>(alloc: Global, words: &'a [S]) -> Result<Options<'a>, Refusal<'a>>
+    pub fn parse<S: AsStr>(alloc: Global, words: &'a [S]) -> Result<Options<'a>, UsageError<'a>>
         ensures given { IfOk result (WordsGive (map S.text words.now)) }
         ensures refused { IfErr result (IsRefusalOf (map S.text words.now)) }
     {
@@ -227,7 +227,7 @@ fn report_flag<'a>(alloc: Global) -> Arg<'a>
 }
 
 /// The options that parsed words give. They have a FILE.
-fn options_of<'a>(matches: &ArgMatches<'a>) -> Result<Options<'a>, Refusal<'a>>
+fn options_of<'a>(matches: &ArgMatches<'a>) -> Result<Options<'a>, UsageError<'a>>
     requires { is_some (first_value (found_of matches.now) (codes "FILE")) ≡ true }
     ensures gives { IfOk result (Gives (given_in (first_value (found_of matches.now)) (one_text (found_of matches.now)))) }
     ensures apart { IfOk result AreApart }
@@ -237,10 +237,10 @@ fn options_of<'a>(matches: &ArgMatches<'a>) -> Result<Options<'a>, Refusal<'a>>
     let name = name_given(matches)?;
     let owner = address_given(matches, "owner")?;
     let preload = match (matches.get_str("pool"), owner) {
-        (Some(_), Some(owner)) if owner == own => return Err(Refusal::OwnerIsOwn),
+        (Some(_), Some(owner)) if owner == own => return Err(UsageError::OwnerIsOwn),
         (Some(pool), Some(owner)) => Some(Preload { pool, owner }),
         (None, None) => None,
-        _ => return Err(Refusal::Alone),
+        _ => return Err(UsageError::Alone),
     };
     let file = matches.get_str("FILE").unwrap_or("");
     let report = matches.get_flag("report");
@@ -257,7 +257,7 @@ fn options_of<'a>(matches: &ArgMatches<'a>) -> Result<Options<'a>, Refusal<'a>>
 fn address_given<'a>(
     matches: &ArgMatches<'a>,
     option: &'static str,
-) -> Result<Option<u8>, Refusal<'a>>
+) -> Result<Option<u8>, UsageError<'a>>
     ensures given { IfOk result (GivesAddress (first_value (found_of matches.now) option.now)) }
     ensures refused { IfErr result (IsBadAddress option.now (first_value (found_of matches.now) option.now)) }
 {
@@ -266,7 +266,7 @@ fn address_given<'a>(
     };
     match address(value) {
         Some(address) => Ok(Some(address)),
-        None => Err(Refusal::Address { option, value }),
+        None => Err(UsageError::Address { option, value }),
     }
 }
 
@@ -279,7 +279,7 @@ pub fn address(text: &str) -> Option<u8>
 }
 
 /// The terminal's NAME.
-fn name_given<'a>(matches: &ArgMatches<'a>) -> Result<Name, Refusal<'a>>
+fn name_given<'a>(matches: &ArgMatches<'a>) -> Result<Name, UsageError<'a>>
     ensures given { IfOk result (IsOwnName (first_value (found_of matches.now) (codes "name"))) }
     ensures refused { IfErr result (IsBadName (first_value (found_of matches.now) (codes "name"))) }
 {
@@ -288,7 +288,7 @@ fn name_given<'a>(matches: &ArgMatches<'a>) -> Result<Name, Refusal<'a>>
     };
     match name(value) {
         Some(name) => Ok(name),
-        None => Err(Refusal::Name(value)),
+        None => Err(UsageError::Name(value)),
     }
 }
 

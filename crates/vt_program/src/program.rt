@@ -10,7 +10,7 @@ ghost use Rattle.vt_program.specs.Runs.{Ends, EndsBy, EndsReport, FailsReplay, H
 ghost use Rattle.vt_pool.specs.Pools.{contents};
 ghost use Rattle.vt_server.specs.States.{state_of};
 
-use crate::options::{Options, Preload, Refusal};
+use crate::options::{Options, Preload, UsageError};
 use crate::sentences::{FaultSentence, Named, RefusalSentence};
 use std::alloc::{AllocError, Global};
 use std::convert::AsStr;
@@ -125,19 +125,23 @@ pub fn run<S: AsStr, F: Open, W: Write, E: Write>(
     }
 }
 
-fn refuse<W: Write, E: Write>(refusal: &Refusal, out: &mut W, errors: &mut E) -> io::Result<Status>
+fn refuse<W: Write, E: Write>(
+    refusal: &UsageError,
+    out: &mut W,
+    errors: &mut E,
+) -> io::Result<Status>
     ensures status { IfOk result (EndsBy refusal.now) }
     ensures out { IfOk result (λ status. status ≢ Status.Done → Keeps (W.contents out.old) (W.contents out.new)) }
     // It fails only where help is printed.
     ensures fails { OnErr result (EndsBy refusal.now Status.Done) }
 {
     let status = match refusal {
-        Refusal::Words(error) if !error.use_stderr() => {
+        UsageError::Words(error) if !error.use_stderr() => {
             write!(out, "{refusal}")?;
             out.flush()?;
             return Ok(Status::Done);
         }
-        Refusal::Memory => Status::Fault,
+        UsageError::Memory => Status::Fault,
         _ => Status::Usage,
     };
     let _ = write!(errors, "{refusal}");

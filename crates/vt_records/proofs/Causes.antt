@@ -7,9 +7,9 @@ use Rattle.vt_kinds.specs.declared.kind.Kind.{Kind}
 use Rattle.vt_kinds.specs.Layout.{Value, no_counts}
 use Rattle.vt_kinds.specs.Kinds.{kind_at}
 use Rattle.vt_kinds.specs.Records.{Seen, fields_of, kind_of, values_of, record_of}
-use Rattle.vt_records.specs.declared.stop.Stop.{Stop}
-use Rattle.vt_records.specs.declared.stop.Stop.TheVariants as stops
-use Rattle.vt_records.specs.Heads.{Held, other_type, fitting, fields_at, record_at}
+use Rattle.vt_records.specs.declared.stop.RecordFault.{RecordFault}
+use Rattle.vt_records.specs.declared.stop.RecordFault.TheVariants as stops
+use Rattle.vt_records.specs.Heads.{ReadRecord, other_type, fitting, fields_at, record_at}
 use Rattle.vt_records.specs.Reading.{values_at}
 use Rattle.vt_records.specs.Faults.{NoRecordBegins, HasNullId, HasOtherType, IsTruncated, HasValues, id_at, type_at}
 use Rattle.vt_records.specs.Stops.{IsStop}
@@ -20,17 +20,17 @@ use Rattle.vt_records.proofs.Heads.{kind_at-kind_number, of_values, of_kind, rec
 use Rattle.vt_records.proofs.Taken.{record_again}
 
 -- a record that begins there would be read
-none_begins : (all : List ℕ) (stop : Stop) → record_at all ≡ Err stop → NoRecordBegins all
+none_begins : (all : List ℕ) (stop : RecordFault) → record_at all ≡ Err stop → NoRecordBegins all
 none_begins all stop e id o tail has parts =
     let no = sym e ∙ ap record_at parts ∙ record_again id o tail has in absurd cc
 
-stop_is : (s t : Stop) → ◌≡◌ {A = Result Held Stop} (Err s) (Err t) → s ≡ t
+stop_is : (s t : RecordFault) → ◌≡◌ {A = Result ReadRecord RecordFault} (Err s) (Err t) → s ≡ t
 stop_is s t e = cc
 
 some_kind : (k q : Kind) → ◌≡◌ {A = Option Kind} (Some k) (Some q) → k ≡ q
 some_kind k q e = cc
 
-values_err : (s t : Stop) → ◌≡◌ {A = Result (List Value × List ℕ) Stop} (Err s) (Err t) → s ≡ t
+values_err : (s t : RecordFault) → ◌≡◌ {A = Result (List Value × List ℕ) RecordFault} (Err s) (Err t) → s ≡ t
 values_err s t e = cc
 
 -- ---- the first cause
@@ -54,7 +54,7 @@ module _ (a b c : ℕ) (rest : List ℕ) where
       let no = sym (subst (λ (q : Kind). values_at (fields_of q) no_counts rest ≡ Some (vs, has.tail)) same read) ∙ none in
       absurd cc
 
-  improper_stop : (kind : Kind) (x : List Value × List ℕ) (stop : Stop) → id ≢ 0xFFFF → HasValues all kind x.0 → NoRecordBegins all → IsMisfit 3 (fields_of kind) x.0 stop → IsStop all stop
+  improper_stop : (kind : Kind) (x : List Value × List ℕ) (stop : RecordFault) → id ≢ 0xFFFF → HasValues all kind x.0 → NoRecordBegins all → IsMisfit 3 (fields_of kind) x.0 stop → IsStop all stop
   improper_stop kind x (stops.Scale place) named has none is =
       record { head = omega arith; named = named; kind = kind; values = x.0; read = has; later = is.0; place = is.1; first = is.2; no_record = none }
   improper_stop kind x (stops.Decimals place) named has none is =
@@ -65,11 +65,11 @@ module _ (a b c : ℕ) (rest : List ℕ) where
   improper_stop kind x stops.OutOfMemory named has none is = absurd is
   improper_stop kind x stops.NullId named has none is = absurd is
 
-  err_is : (kind : Kind) (vs : Result (List Value × List ℕ) Stop) (stop : Stop) → of_values id kind vs ≡ Err stop → vs ≡ Err stop
+  err_is : (kind : Kind) (vs : Result (List Value × List ℕ) RecordFault) (stop : RecordFault) → of_values id kind vs ≡ Err stop → vs ≡ Err stop
   err_is kind (Ok x) stop e = absurd cc
-  err_is kind (Err s) stop e = ap (λ (t : Stop). Err t) (stop_is s stop e)
+  err_is kind (Err s) stop e = ap (λ (t : RecordFault). Err t) (stop_is s stop e)
 
-  values_stop : (kind : Kind) (vs : Option (List Value × List ℕ)) (stop : Stop) → IsBytes rest → values_at (fields_of kind) no_counts rest ≡ vs → id ≢ 0xFFFF → kind_at c ≡ Some kind → NoRecordBegins all
+  values_stop : (kind : Kind) (vs : Option (List Value × List ℕ)) (stop : RecordFault) → IsBytes rest → values_at (fields_of kind) no_counts rest ≡ vs → id ≢ 0xFFFF → kind_at c ≡ Some kind → NoRecordBegins all
       → fitting (fields_of kind) vs ≡ Err stop → IsStop all stop
   values_stop kind None stop fits is named known none e =
       subst (IsStop all) (values_err stops.Truncated stop e)
@@ -83,20 +83,20 @@ module _ (a b c : ℕ) (rest : List ℕ) where
   type_stop true false l h other = (other, λ is. let above = leb-false _ _ h in absurd (omega (arith, is.1)))
   type_stop false high l h other = (other, λ is. let below = leb-false _ _ l in absurd (omega (arith, is.0)))
 
-  kind_stop : (kind : Option Kind) (stop : Stop) → IsBytes rest → kind_at c ≡ kind → id ≢ 0xFFFF → NoRecordBegins all → of_kind id c rest kind ≡ Err stop → IsStop all stop
+  kind_stop : (kind : Option Kind) (stop : RecordFault) → IsBytes rest → kind_at c ≡ kind → id ≢ 0xFFFF → NoRecordBegins all → of_kind id c rest kind ≡ Err stop → IsStop all stop
   kind_stop None stop fits is named none e =
       subst (IsStop all) (stop_is (other_type c) stop e) (type_stop (leb 29 c) (leb c 33) refl refl (record { head = omega arith; named = named; no_kind = is }))
   kind_stop (Some k) stop fits is named none e =
       values_stop k (values_at (fields_of k) no_counts rest) stop fits refl named is none (err_is k (fields_at (fields_of k) rest) stop e)
 
-  id_stop : (null : Bool) (stop : Stop) → IsBytes rest → eqb id 0xFFFF ≡ null → NoRecordBegins all → cond null (Err stops.NullId) (of_kind id c rest (kind_at c)) ≡ Err stop → IsStop all stop
+  id_stop : (null : Bool) (stop : RecordFault) → IsBytes rest → eqb id 0xFFFF ≡ null → NoRecordBegins all → cond null (Err stops.NullId) (of_kind id c rest (kind_at c)) ≡ Err stop → IsStop all stop
   id_stop true stop fits is none e = subst (IsStop all) (stop_is stops.NullId stop e) (record { head = omega arith; null = eqb-true id 0xFFFF is })
   id_stop false stop fits is none e = kind_stop (kind_at c) stop fits refl (eqb-false id 0xFFFF is) none e
 
-short_stop : (all : List ℕ) (stop : Stop) → length all < 3 → record_at all ≡ Err stop → IsStop all stop
+short_stop : (all : List ℕ) (stop : RecordFault) → length all < 3 → record_at all ≡ Err stop → IsStop all stop
 short_stop all stop lt e = subst (IsStop all) (stop_is stops.Truncated stop (sym (record_at-short all lt) ∙ e)) (inl lt)
 
-pub record_stops : (all : List ℕ) (stop : Stop) → IsBytes all → record_at all ≡ Err stop → IsStop all stop
+pub record_stops : (all : List ℕ) (stop : RecordFault) → IsBytes all → record_at all ≡ Err stop → IsStop all stop
 record_stops [] stop fits e = short_stop [] stop (omega arith) e
 record_stops (a ∷ []) stop fits e = short_stop (a ∷ []) stop (omega arith) e
 record_stops (a ∷ b ∷ []) stop fits e = short_stop (a ∷ b ∷ []) stop (omega arith) e

@@ -6,7 +6,7 @@ use Rattle.vt_kinds.specs.declared.kind.Kind.{Kind}
 use Rattle.vt_kinds.specs.declared.kind.Kind.TheVariants as kinds
 use Rattle.vt_kinds.specs.declared.object.Object.TheVariants as objects
 use Rattle.vt_kinds.specs.declared.scale.Scale.{Scale}
-use Rattle.vt_kinds.specs.Layout.{Counted, Objects, Macros, Others, Unsigned, Signed, natural, integer, Field, Number, Count, Rows, Bytes, ScaleBytes, DecimalPlaces, Value, number, rows, bytes, Counts, counted, count_of, FieldsFit, IsProper, Proper, no_counts}
+use Rattle.vt_kinds.specs.Layout.{Counted, Objects, Macros, Others, Unsigned, Signed, natural, integer, RecordField, Number, Count, Rows, Bytes, ScaleBytes, DecimalPlaces, Value, number, rows, bytes, Counts, counted, count_of, FieldsFit, IsProper, Proper, no_counts}
 use Rattle.vt_kinds.specs.Scales.{scale_number}
 use Rattle.vt_kinds.specs.Tables.{child_sizes, macro_sizes, language_sizes, id_sizes, point_sizes}
 use Rattle.vt_kinds.specs.Records.{Seen, fields_of, kind_of, values_of}
@@ -17,14 +17,14 @@ use Rattle.vt_records.proofs.Entries.{entries_of, list_back, list_again, scale_f
 -- ---- from the values of a table's fields
 
 -- what a field holds
-abbrev pub Content : Field → Type 0
+abbrev pub Content : RecordField → Type 0
 Content (Number (Signed width)) = ℤ
 Content (Rows of sizes) = List ((entries_of of sizes).Entry)
 Content (Bytes of) = List ℕ
 Content ScaleBytes = Scale
 Content _ = ℕ
 
-abbrev pub content : (f : Field) → Value → Option (Content f)
+abbrev pub content : (f : RecordField) → Value → Option (Content f)
 content (Number (Unsigned size)) (number (natural n)) = Some n
 content (Number (Signed width)) (number (integer z)) = Some z
 content (Count size of) (number (natural n)) = Some n
@@ -35,11 +35,11 @@ content DecimalPlaces (number (natural n)) = Some n
 content _ _ = None
 
 -- a function of what each field holds
-abbrev pub Maker : List Field → Type 0 → Type 0
+abbrev pub Maker : List RecordField → Type 0 → Type 0
 Maker [] A = A
 Maker (f ∷ fs) A = Content f → Maker fs A
 
-abbrev pub made : {A : Type 0} (fs : List Field) → Maker fs A → List Value → Option A
+abbrev pub made : {A : Type 0} (fs : List RecordField) → Maker fs A → List Value → Option A
 made [] m [] = Some m
 made (f ∷ fs) m (v ∷ vs) = content f v >>= λ x. made fs (m x) vs
 made _ _ _ = None
@@ -95,7 +95,7 @@ same_object o p e = some_is o p (sym (from_values o) ∙ e ∙ from_values p)
 -- ---- from values that fit
 
 -- what is made, and then changed
-abbrev after : {A B : Type 0} (fs : List Field) → (A → B) → Maker fs A → Maker fs B
+abbrev after : {A B : Type 0} (fs : List RecordField) → (A → B) → Maker fs A → Maker fs B
 after [] g m = g m
 after (f ∷ fs) g m = λ x. after fs g (m x)
 
@@ -103,19 +103,19 @@ through : {X A B : Type 0} (r : Option X) (k : X → Option A) (l : X → Option
 through None k l g same = refl
 through (Some x) k l g same = same x
 
-made_after : {A B : Type 0} (fs : List Field) (g : A → B) (m : Maker fs A) (vs : List Value) → made fs (after fs g m) vs ≡ (made fs m vs >>= λ y. Some (g y))
+made_after : {A B : Type 0} (fs : List RecordField) (g : A → B) (m : Maker fs A) (vs : List Value) → made fs (after fs g m) vs ≡ (made fs m vs >>= λ y. Some (g y))
 made_after [] g m [] = refl
 made_after [] g m (v ∷ vs) = refl
 made_after (f ∷ fs) g m [] = refl
 made_after (f ∷ fs) g m (v ∷ vs) = through (content f v) (λ x. made fs (m x) vs) (λ x. made fs (after fs g (m x)) vs) g (λ x. made_after fs g (m x) vs)
 
 -- the counts that follow a field
-abbrev next : Counts → (f : Field) → Content f → Counts
+abbrev next : Counts → (f : RecordField) → Content f → Counts
 next counts (Count size of) n = counted of n counts
 next counts _ _ = counts
 
 -- the counts and values from a field on, by those behind it, each count as long as its list
-abbrev from_field : Counts → (f : Field) → Content f → Counts × List Value → Counts × List Value
+abbrev from_field : Counts → (f : RecordField) → Content f → Counts × List Value → Counts × List Value
 from_field counts (Number (Unsigned size)) n (c, vs) = (c, number (natural n) ∷ vs)
 from_field counts (Number (Signed width)) z (c, vs) = (c, number (integer z) ∷ vs)
 from_field counts (Count size of) n (c, vs) = (counted of (count_of of counts) c, number (natural (count_of of c)) ∷ vs)
@@ -125,12 +125,12 @@ from_field counts ScaleBytes s (c, vs) = (c, number (natural (scale_number s)) �
 from_field counts DecimalPlaces n (c, vs) = (c, number (natural n) ∷ vs)
 
 -- the counts and values of what the fields hold
-abbrev spelled : Counts → (fs : List Field) → Maker fs (Counts × List Value)
+abbrev spelled : Counts → (fs : List RecordField) → Maker fs (Counts × List Value)
 spelled counts [] = (counts, [])
 spelled counts (f ∷ fs) = λ x. after fs (from_field counts f x) (spelled (next counts f x) fs)
 
 -- what the first of some values that fit holds
-record IsContent (counts : Counts) (f : Field) (fs : List Field) (v : Value) (vs : List Value) : Type 0 where
+record IsContent (counts : Counts) (f : RecordField) (fs : List RecordField) (v : Value) (vs : List Value) : Type 0 where
   its_content : Content f
   content_is : content f v ≡ Some its_content
   others_fit : FieldsFit fs (next counts f its_content) vs
@@ -140,7 +140,7 @@ counted_again : (of : Counted) (counts : Counts) (n : ℕ) → n ≡ count_of of
 counted_again Objects counts n e = ap (λ (k : ℕ). counted Objects k counts) e
 counted_again of counts n e = ap (λ (k : ℕ). counted of k counts) e
 
-is_content : (counts : Counts) (f : Field) (fs : List Field) (v : Value) (vs : List Value) → FieldsFit (f ∷ fs) counts (v ∷ vs) → IsProper f v → IsContent counts f fs v vs
+is_content : (counts : Counts) (f : RecordField) (fs : List RecordField) (v : Value) (vs : List Value) → FieldsFit (f ∷ fs) counts (v ∷ vs) → IsProper f v → IsContent counts f fs v vs
 is_content counts (Number (Unsigned size)) fs (number (natural n)) vs fit proper = record { its_content = n; content_is = refl; others_fit = fit.1; again = refl }
 is_content counts (Number (Signed width)) fs (number (integer z)) vs fit proper = record { its_content = z; content_is = refl; others_fit = fit.1; again = refl }
 is_content counts (Count size Objects) fs (number (natural n)) vs fit proper = record { its_content = n; content_is = refl; others_fit = fit.1; again = refl }
@@ -156,11 +156,11 @@ is_content counts ScaleBytes fs (number (natural n)) vs fit proper =
 is_content counts DecimalPlaces fs (number (natural n)) vs fit proper = record { its_content = n; content_is = refl; others_fit = fit.1; again = refl }
 is_content counts f fs v vs fit proper = absurd (assumption)
 
-none_fit : (f : Field) (fs : List Field) (counts : Counts) → FieldsFit (f ∷ fs) counts [] → ⊥
+none_fit : (f : RecordField) (fs : List RecordField) (counts : Counts) → FieldsFit (f ∷ fs) counts [] → ⊥
 none_fit (Number size) fs counts fit = fit
 none_fit f fs counts fit = fit
 
-spelled_again : (counts : Counts) (fs : List Field) (vs : List Value) → FieldsFit fs counts vs → Proper fs vs → made fs (spelled counts fs) vs ≡ Some (counts, vs)
+spelled_again : (counts : Counts) (fs : List RecordField) (vs : List Value) → FieldsFit fs counts vs → Proper fs vs → made fs (spelled counts fs) vs ≡ Some (counts, vs)
 spelled_again counts [] [] fit proper = refl
 spelled_again counts [] (v ∷ vs) fit proper = absurd fit
 spelled_again counts (f ∷ fs) [] fit proper = absurd (none_fit f fs counts fit)

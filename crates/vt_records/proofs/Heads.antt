@@ -7,9 +7,9 @@ use Rattle.vt_kinds.specs.declared.kind.Kind.TheVariants as kinds
 use Rattle.vt_kinds.specs.Layout.{Value}
 use Rattle.vt_kinds.specs.Kinds.{kind_number, kind_at, kind_among, every_kind}
 use Rattle.vt_kinds.specs.Records.{fields_of}
-use Rattle.vt_records.specs.declared.stop.Stop.{Stop}
-use Rattle.vt_records.specs.declared.stop.Stop.TheVariants as stops
-use Rattle.vt_records.specs.Heads.{Held, ◌>>=◌, or_stop, other_type, fields_at, record_at}
+use Rattle.vt_records.specs.declared.stop.RecordFault.{RecordFault}
+use Rattle.vt_records.specs.declared.stop.RecordFault.TheVariants as stops
+use Rattle.vt_records.specs.Heads.{ReadRecord, ◌>>=◌, or_stop, other_type, fields_at, record_at}
 use Rattle.vt_records.specs.Reading.{bytes_at, number_at}
 
 -- ---- kinds
@@ -60,16 +60,16 @@ kind_at-kind_number kinds.Macro = refl
 -- ---- what is read behind the ID and the type
 
 -- a record of a kind with these values, and the bytes after them
-abbrev pub held : ℕ → Kind → List Value × List ℕ → Held
+abbrev pub held : ℕ → Kind → List Value × List ℕ → ReadRecord
 held id kind vs = record { id = id; kind = kind; values = vs.0; rest = vs.1 }
 
-abbrev pub of_values : ℕ → Kind → Result (List Value × List ℕ) Stop → Result Held Stop
+abbrev pub of_values : ℕ → Kind → Result (List Value × List ℕ) RecordFault → Result ReadRecord RecordFault
 of_values id kind vs = vs >>= λ v. Ok (held id kind v)
 
-abbrev pub of_kind : ℕ → ℕ → List ℕ → Option Kind → Result Held Stop
+abbrev pub of_kind : ℕ → ℕ → List ℕ → Option Kind → Result ReadRecord RecordFault
 of_kind id type rest kind = or_stop (other_type type) kind >>= λ k. of_values id k (fields_at (fields_of k) rest)
 
-abbrev pub behind : ℕ → ℕ → List ℕ → Result Held Stop
+abbrev pub behind : ℕ → ℕ → List ℕ → Result ReadRecord RecordFault
 behind id type rest = cond (eqb id 0xFFFF) (Err stops.NullId) (of_kind id type rest (kind_at type))
 
 pub record_at-short : (all : List ℕ) → length all < 3 → record_at all ≡ Err stops.Truncated

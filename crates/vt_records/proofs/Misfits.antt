@@ -6,9 +6,9 @@ use Rattle.byteorder.specs.Numbers.{length-bytes_low_first}
 use Rattle.vt_kinds.specs.declared.scale.Scale.{Scale}
 use Rattle.vt_kinds.specs.declared.scale.Scale.TheVariants as scale
 use Rattle.vt_kinds.specs.Scales.{scale_number, scale_at, scale_among, scales, IsScale}
-use Rattle.vt_kinds.specs.Layout.{Unsigned, Signed, natural, integer, bytes_in, Field, Number, Count, Rows, Bytes, ScaleBytes, DecimalPlaces, Value, number, rows, bytes, Counts, counted, rows_spelling, field_spelling, IsProper, Proper, FieldsFit}
-use Rattle.vt_records.specs.declared.stop.Stop.{Stop}
-use Rattle.vt_records.specs.declared.stop.Stop.TheVariants as stops
+use Rattle.vt_kinds.specs.Layout.{Unsigned, Signed, natural, integer, bytes_in, RecordField, Number, Count, Rows, Bytes, ScaleBytes, DecimalPlaces, Value, number, rows, bytes, Counts, counted, rows_spelling, field_spelling, IsProper, Proper, FieldsFit}
+use Rattle.vt_records.specs.declared.stop.RecordFault.{RecordFault}
+use Rattle.vt_records.specs.declared.stop.RecordFault.TheVariants as stops
 use Rattle.vt_records.specs.Heads.{if_none, misfit, or_misfit, fitting}
 use Rattle.vt_records.specs.Faults.{IsFirstImproper}
 
@@ -36,15 +36,15 @@ no_scale n e is = let both = sym e ∙ ap scale_at is.1 ∙ scale_again is.0 in 
 
 -- ---- no misfit
 
-none_cases : (found : Option Scale) (at n : ℕ) (next : Option Stop) → scale_at n ≡ found → if_none found (stops.Scale at) next ≡ None → IsScale n × (next ≡ None)
+none_cases : (found : Option Scale) (at n : ℕ) (next : Option RecordFault) → scale_at n ≡ found → if_none found (stops.Scale at) next ≡ None → IsScale n × (next ≡ None)
 none_cases None at n next is e = absurd cc
 none_cases (Some s) at n next is e = (is_scale n s is, e)
 
-few_cases : (many : Bool) (at n : ℕ) (next : Option Stop) → ltb 7 n ≡ many → cond many (Some (stops.Decimals at)) next ≡ None → (n ≤ 7) × (next ≡ None)
+few_cases : (many : Bool) (at n : ℕ) (next : Option RecordFault) → ltb 7 n ≡ many → cond many (Some (stops.Decimals at)) next ≡ None → (n ≤ 7) × (next ≡ None)
 few_cases true at n next is e = absurd cc
 few_cases false at n next is e = (ltb-false 7 n is, e)
 
-pub proper : (at : ℕ) (fs : List Field) (vs : List Value) → misfit at fs vs ≡ None → Proper fs vs
+pub proper : (at : ℕ) (fs : List RecordField) (vs : List Value) → misfit at fs vs ≡ None → Proper fs vs
 proper at [] vs e = tt
 proper at (Number size ∷ fs) [] e = tt
 proper at (Count size of ∷ fs) [] e = tt
@@ -65,7 +65,7 @@ proper at (DecimalPlaces ∷ fs) (number (integer z) ∷ vs) e = (tt, proper _ f
 proper at (DecimalPlaces ∷ fs) (rows rs ∷ vs) e = (tt, proper _ fs vs e)
 proper at (DecimalPlaces ∷ fs) (bytes bs ∷ vs) e = (tt, proper _ fs vs e)
 
-pub no_misfit : (at : ℕ) (fs : List Field) (vs : List Value) → Proper fs vs → misfit at fs vs ≡ None
+pub no_misfit : (at : ℕ) (fs : List RecordField) (vs : List Value) → Proper fs vs → misfit at fs vs ≡ None
 no_misfit at [] vs is = refl
 no_misfit at (Number size ∷ fs) [] is = refl
 no_misfit at (Count size of ∷ fs) [] is = refl
@@ -91,12 +91,12 @@ no_misfit at (DecimalPlaces ∷ fs) (bytes bs ∷ vs) is = no_misfit _ fs vs is.
 -- ---- the first misfit
 
 -- what a stop says of values, from a place on
-abbrev pub IsMisfit : ℕ → List Field → List Value → Stop → Type 0
+abbrev pub IsMisfit : ℕ → List RecordField → List Value → RecordFault → Type 0
 IsMisfit at fs vs (stops.Scale place) = (later : ℕ) × (place ≡ at + later) × IsFirstImproper ScaleBytes later fs vs
 IsMisfit at fs vs (stops.Decimals place) = (later : ℕ) × (place ≡ at + later) × IsFirstImproper DecimalPlaces later fs vs
 IsMisfit at fs vs _ = ⊥
 
-later_is : (at size : ℕ) (f : Field) (v : Value) (fs : List Field) (vs : List Value) (stop : Stop) → size ≡ length (field_spelling f v) → IsProper f v → IsMisfit (at + size) fs vs stop → IsMisfit at (f ∷ fs) (v ∷ vs) stop
+later_is : (at size : ℕ) (f : RecordField) (v : Value) (fs : List RecordField) (vs : List Value) (stop : RecordFault) → size ≡ length (field_spelling f v) → IsProper f v → IsMisfit (at + size) fs vs stop → IsMisfit at (f ∷ fs) (v ∷ vs) stop
 later_is at size f v fs vs (stops.Scale place) same is next = (size + next.0, omega (arith, next.1), inr (is, (next.0, omega (arith, same), next.2)))
 later_is at size f v fs vs (stops.Decimals place) same is next = (size + next.0, omega (arith, next.1), inr (is, (next.0, omega (arith, same), next.2)))
 later_is at size f v fs vs stops.Truncated same is next = absurd next
@@ -105,17 +105,17 @@ later_is at size f v fs vs stops.LeftOutType same is next = absurd next
 later_is at size f v fs vs stops.OutOfMemory same is next = absurd next
 later_is at size f v fs vs stops.NullId same is next = absurd next
 
-some_stop : (s t : Stop) → ◌≡◌ {A = Option Stop} (Some s) (Some t) → s ≡ t
+some_stop : (s t : RecordFault) → ◌≡◌ {A = Option RecordFault} (Some s) (Some t) → s ≡ t
 some_stop s t e = cc
 
-scale_stop : (found : Option Scale) (at n : ℕ) (fs : List Field) (vs : List Value) (stop : Stop) → scale_at n ≡ found → if_none found (stops.Scale at) (misfit (at + 4) fs vs) ≡ Some stop
+scale_stop : (found : Option Scale) (at n : ℕ) (fs : List RecordField) (vs : List Value) (stop : RecordFault) → scale_at n ≡ found → if_none found (stops.Scale at) (misfit (at + 4) fs vs) ≡ Some stop
     → (misfit (at + 4) fs vs ≡ Some stop → IsMisfit (at + 4) fs vs stop) → IsMisfit at (ScaleBytes ∷ fs) (number (natural n) ∷ vs) stop
 scale_stop None at n fs vs stop is e later =
     subst (IsMisfit at (ScaleBytes ∷ fs) (number (natural n) ∷ vs)) (some_stop (stops.Scale at) stop e) (0, omega arith, inl (refl, refl, no_scale n is))
 scale_stop (Some s) at n fs vs stop is e later =
     later_is at 4 ScaleBytes (number (natural n)) fs vs stop (let len = length-bytes_low_first 0 4 n in omega (arith, len)) (is_scale n s is) (later e)
 
-many_stop : (many : Bool) (at n : ℕ) (fs : List Field) (vs : List Value) (stop : Stop) → ltb 7 n ≡ many → cond many (Some (stops.Decimals at)) (misfit (at + 1) fs vs) ≡ Some stop
+many_stop : (many : Bool) (at n : ℕ) (fs : List RecordField) (vs : List Value) (stop : RecordFault) → ltb 7 n ≡ many → cond many (Some (stops.Decimals at)) (misfit (at + 1) fs vs) ≡ Some stop
     → (misfit (at + 1) fs vs ≡ Some stop → IsMisfit (at + 1) fs vs stop) → IsMisfit at (DecimalPlaces ∷ fs) (number (natural n) ∷ vs) stop
 many_stop true at n fs vs stop is e later =
     subst (IsMisfit at (DecimalPlaces ∷ fs) (number (natural n) ∷ vs)) (some_stop (stops.Decimals at) stop e)
@@ -123,7 +123,7 @@ many_stop true at n fs vs stop is e later =
 many_stop false at n fs vs stop is e later =
     later_is at 1 DecimalPlaces (number (natural n)) fs vs stop (let len = length-bytes_low_first 0 1 n in omega (arith, len)) (ltb-false 7 n is) (later e)
 
-pub misfit_is : (at : ℕ) (fs : List Field) (counts : Counts) (vs : List Value) (stop : Stop) → FieldsFit fs counts vs → misfit at fs vs ≡ Some stop → IsMisfit at fs vs stop
+pub misfit_is : (at : ℕ) (fs : List RecordField) (counts : Counts) (vs : List Value) (stop : RecordFault) → FieldsFit fs counts vs → misfit at fs vs ≡ Some stop → IsMisfit at fs vs stop
 misfit_is at [] counts [] stop fit e = absurd cc
 misfit_is at (Number (Unsigned size) ∷ fs) counts (number (natural n) ∷ vs) stop fit e =
     later_is at size (Number (Unsigned size)) (number (natural n)) fs vs stop (sym (length-bytes_low_first 0 size n)) tt (misfit_is (at + size) fs counts vs stop fit.1 e)
@@ -145,19 +145,19 @@ misfit_is at fs counts vs stop fit e = absurd fit
 
 -- ---- the fields of a table, and what is wrong with them
 
-or_misfit_ok : (x : List Value × List ℕ) (m : Option Stop) (y : List Value × List ℕ) → or_misfit x m ≡ Ok y → (m ≡ None) × (x ≡ y)
+or_misfit_ok : (x : List Value × List ℕ) (m : Option RecordFault) (y : List Value × List ℕ) → or_misfit x m ≡ Ok y → (m ≡ None) × (x ≡ y)
 or_misfit_ok x None y e = (refl, cc)
 or_misfit_ok x (Some stop) y e = absurd cc
 
-or_misfit_err : (x : List Value × List ℕ) (m : Option Stop) (stop : Stop) → or_misfit x m ≡ Err stop → m ≡ Some stop
+or_misfit_err : (x : List Value × List ℕ) (m : Option RecordFault) (stop : RecordFault) → or_misfit x m ≡ Err stop → m ≡ Some stop
 or_misfit_err x None stop e = absurd cc
-or_misfit_err x (Some s) stop e = let same : s ≡ stop = cc in ap (λ (t : Stop). Some t) same
+or_misfit_err x (Some s) stop e = let same : s ≡ stop = cc in ap (λ (t : RecordFault). Some t) same
 
-pub fitting_ok : (fs : List Field) (r : Option (List Value × List ℕ)) (y : List Value × List ℕ) → fitting fs r ≡ Ok y → (r ≡ Some y) × (misfit 3 fs y.0 ≡ None)
+pub fitting_ok : (fs : List RecordField) (r : Option (List Value × List ℕ)) (y : List Value × List ℕ) → fitting fs r ≡ Ok y → (r ≡ Some y) × (misfit 3 fs y.0 ≡ None)
 fitting_ok fs None y e = absurd cc
 fitting_ok fs (Some x) y e =
     let m = or_misfit_ok x (misfit 3 fs x.0) y e in
     (ap (λ (z : List Value × List ℕ). Some z) m.1, subst (λ (z : List Value × List ℕ). misfit 3 fs z.0 ≡ None) m.1 m.0)
 
-pub fitting_err : (fs : List Field) (x : List Value × List ℕ) (stop : Stop) → fitting fs (Some x) ≡ Err stop → misfit 3 fs x.0 ≡ Some stop
+pub fitting_err : (fs : List RecordField) (x : List Value × List ℕ) (stop : RecordFault) → fitting fs (Some x) ≡ Err stop → misfit 3 fs x.0 ≡ Some stop
 fitting_err fs x stop e = or_misfit_err x (misfit 3 fs x.0) stop e

@@ -2,8 +2,8 @@
 use Rattle.std.proofs.Common.{◌≡◌, ◌⊎◌, ℕ, suc, ◌-◌, ◌+◌, ◌≤◌, ◌<◌, List, [], ◌∷◌, ◌++◌, length, Option, Some, None, refl, sym, ap, ◌∙◌, append_assoc, inr, arith}
 use Rattle.std.proofs.lemmas.List.{append-nil}
 use Rattle.vt_kinds.specs.Layout.{Size, Unsigned, Signed, Numeral, natural, integer}
-use Rattle.vt_records.specs.declared.stop.Stop.{Stop}
-use Rattle.vt_records.specs.declared.stop.Stop.TheVariants as stops
+use Rattle.vt_records.specs.declared.stop.RecordFault.{RecordFault}
+use Rattle.vt_records.specs.declared.stop.RecordFault.TheVariants as stops
 use Rattle.vt_records.proofs.Numbers.{number_then_short, signed_then_short}
 use Rattle.vt_records.specs.Reading.{◌>>=◌, row_at, rows_at}
 use Rattle.vt_records.specs.Reading.{row_size}
@@ -25,7 +25,7 @@ goes_on sizes front count i all row after total lt h so_far =
     let one : with_front front (rows_at sizes (count - i) all) ≡ with_front (front ++ row ∷ []) (rows_at sizes (count - (i + 1)) after) = rw (k, h) (regroup front row (rows_at sizes (count - (i + 1)) after)) in
     sym one ∙ so_far
 
-pub ends : (sizes : List Size) (stop : Stop) (front : List (List Numeral)) (count i : ℕ) (all : List ℕ) (total : Option (List (List Numeral) × List ℕ)) → i < count → (stop ≡ stops.Truncated) × (row_at sizes all ≡ None)
+pub ends : (sizes : List Size) (stop : RecordFault) (front : List (List Numeral)) (count i : ℕ) (all : List ℕ) (total : Option (List (List Numeral) × List ℕ)) → i < count → (stop ≡ stops.Truncated) × (row_at sizes all ≡ None)
     → with_front front (rows_at sizes (count - i) all) ≡ total → (stop ≡ stops.OutOfMemory) ⊎ ((stop ≡ stops.Truncated) × (total ≡ None))
 unfolding rows_at
 ends sizes stop front count i all total lt h so_far =

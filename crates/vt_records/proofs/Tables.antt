@@ -4,8 +4,8 @@ use Rattle.std.specs.List.{AllByRecursion}
 use Rattle.std.proofs.lemmas.List.Elements.{recursion_from_All, All-from_get_or}
 use Rattle.byteorder.specs.Endian.{little_bytes}
 use Rattle.std.specs.Int.{cast_unsigned}
-use Rattle.vt_kinds.specs.Layout.{Size, Unsigned, Signed, Numeral, natural, integer, bytes_in, Field, Number, Count, Rows, Bytes, ScaleBytes, DecimalPlaces, Value, number, rows, bytes, Counts, counted, count_of, row_spelling, rows_spelling, spelling, RowFits, FieldsFit, no_counts}
-use Rattle.vt_records.specs.declared.stop.Stop.TheVariants as stops
+use Rattle.vt_kinds.specs.Layout.{Size, Unsigned, Signed, Numeral, natural, integer, bytes_in, RecordField, Number, Count, Rows, Bytes, ScaleBytes, DecimalPlaces, Value, number, rows, bytes, Counts, counted, count_of, row_spelling, rows_spelling, spelling, RowFits, FieldsFit, no_counts}
+use Rattle.vt_records.specs.declared.stop.RecordFault.TheVariants as stops
 use Rattle.vt_records.specs.Heads.{fitting, fields_at}
 use Rattle.vt_records.specs.Reading.{◌>>=◌, bytes_at, number_at, signed_at, row_at, rows_at, values_at, head_size}
 use Rattle.vt_records.proofs.Numbers.{IsBytes, bind_some, some_is, Takes, Takes-nothing, Takes-then, bytes_take, bytes_again, number_takes, number_again, signed_takes, signed_again, number_then_short, signed_then_short}
@@ -71,10 +71,10 @@ bytes_fit : (bs : List ℕ) → IsBytes bs → AllByRecursion (λ b. b < 256) bs
 bytes_fit bs fits = recursion_from_All (λ b. b < 256) bs (All-from_get_or (λ b. b < 256) bs 0 (λ i lt. fits i))
 
 -- what a table takes: the spelling of values that fit it
-abbrev TakesValues : List Field → Counts → List ℕ → List Value × List ℕ → Type 0
+abbrev TakesValues : List RecordField → Counts → List ℕ → List Value × List ℕ → Type 0
 TakesValues fs counts all x = Takes all (spelling fs x.0) x.1 × FieldsFit fs counts x.0
 
-pub values_take : (fs : List Field) (counts : Counts) (all : List ℕ) (x : List Value × List ℕ) → IsBytes all → values_at fs counts all ≡ Some x → TakesValues fs counts all x
+pub values_take : (fs : List RecordField) (counts : Counts) (all : List ℕ) (x : List Value × List ℕ) → IsBytes all → values_at fs counts all ≡ Some x → TakesValues fs counts all x
 values_take [] counts all x fits e =
     subst (TakesValues [] counts all) (some_is ([], all) x e) (Takes-nothing all fits, tt)
 values_take (Number (Unsigned size) ∷ fs) counts all x fits e =
@@ -127,7 +127,7 @@ values_take (DecimalPlaces ∷ fs) counts all x fits e =
     subst (TakesValues (DecimalPlaces ∷ fs) counts all) (some_is (number (natural a.0.0) ∷ b.0.0, b.0.1) x b.2)
     (Takes-then all (little_bytes 1 a.0.0) a.0.1 (spelling fs b.0.0) b.0.1 first.0 others.0, (first.1, others.1))
 
-pub values_again : (fs : List Field) (counts : Counts) (vs : List Value) (rest : List ℕ) → FieldsFit fs counts vs → values_at fs counts (spelling fs vs ++ rest) ≡ Some (vs, rest)
+pub values_again : (fs : List RecordField) (counts : Counts) (vs : List Value) (rest : List ℕ) → FieldsFit fs counts vs → values_at fs counts (spelling fs vs ++ rest) ≡ Some (vs, rest)
 values_again [] counts [] rest fits = refl
 values_again (Number (Unsigned size) ∷ fs) counts (number (natural n) ∷ vs) rest fits =
     ap (values_at (Number (Unsigned size) ∷ fs) counts) (append_assoc (little_bytes size n) (spelling fs vs) rest)
@@ -161,14 +161,14 @@ values_again fs counts vs rest fits = absurd fits
 abbrev then_values : Value → Option (List Value × List ℕ) → Option (List Value × List ℕ)
 then_values v read = read >>= λ vs. Some (v ∷ vs.0, vs.1)
 
-number_first : (size : ℕ) (fs : List Field) (all : List ℕ) (give : ℕ → Counts) (value : ℕ → Value) → length all < size + head_size fs
+number_first : (size : ℕ) (fs : List RecordField) (all : List ℕ) (give : ℕ → Counts) (value : ℕ → Value) → length all < size + head_size fs
     → ((counts : Counts) (rest : List ℕ) → length rest < head_size fs → values_at fs counts rest ≡ None)
     → (number_at size all >>= λ n. then_values (value n.0) (values_at fs (give n.0) n.1)) ≡ None
 number_first size fs all give value lt short =
     number_then_short size (head_size fs) all (λ n. then_values (value n.0) (values_at fs (give n.0) n.1)) lt (λ n rest less. ap (then_values (value n)) (short (give n) rest less))
 
 -- where the bytes end before the first list, the values are not all there
-pub values_short : (fs : List Field) (counts : Counts) (all : List ℕ) → length all < head_size fs → values_at fs counts all ≡ None
+pub values_short : (fs : List RecordField) (counts : Counts) (all : List ℕ) → length all < head_size fs → values_at fs counts all ≡ None
 values_short [] counts all lt = absurd (omega arith)
 values_short (Number (Unsigned size) ∷ fs) counts all lt = number_first size fs all (λ n. counts) (λ n. number (natural n)) lt (values_short fs)
 values_short (Number (Signed w) ∷ fs) counts all lt =
@@ -179,5 +179,5 @@ values_short (Bytes of ∷ fs) counts all lt = absurd (omega arith)
 values_short (ScaleBytes ∷ fs) counts all lt = number_first 4 fs all (λ n. counts) (λ n. number (natural n)) lt (values_short fs)
 values_short (DecimalPlaces ∷ fs) counts all lt = number_first 1 fs all (λ n. counts) (λ n. number (natural n)) lt (values_short fs)
 
-pub fields_short : (fs : List Field) (all : List ℕ) → length all < head_size fs → fields_at fs all ≡ Err stops.Truncated
+pub fields_short : (fs : List RecordField) (all : List ℕ) → length all < head_size fs → fields_at fs all ≡ Err stops.Truncated
 fields_short fs all lt = ap (fitting fs) (values_short fs no_counts all lt)

@@ -10,9 +10,9 @@ use Rattle.vt_kinds.specs.declared.object.Object.TheVariants as objects
 use Rattle.vt_kinds.specs.Layout.{Value, spelling, FieldsFit, Proper, no_counts}
 use Rattle.vt_kinds.specs.Kinds.{kind_number, kind_at}
 use Rattle.vt_kinds.specs.Records.{Seen, seen, fields_of, kind_of, values_of, record_of, HasRecord}
-use Rattle.vt_records.specs.declared.stop.Stop.{Stop}
-use Rattle.vt_records.specs.declared.stop.Stop.TheVariants as stops
-use Rattle.vt_records.specs.Heads.{Held, fields_at, record_at}
+use Rattle.vt_records.specs.declared.stop.RecordFault.{RecordFault}
+use Rattle.vt_records.specs.declared.stop.RecordFault.TheVariants as stops
+use Rattle.vt_records.specs.Heads.{ReadRecord, fields_at, record_at}
 use Rattle.vt_records.specs.Reading.{values_at}
 use Rattle.vt_records.specs.Whole.{RecordsAreWhole}
 use Rattle.vt_records.proofs.Numbers.{IsBytes, IsBytes-rest, IsBytes-take, number_spelled}
@@ -23,16 +23,16 @@ use Rattle.vt_records.proofs.Heads.{kind_at_is, kind_at-kind_number, held, of_va
 
 -- ---- what is read
 
-test_ok : (b : Bool) (r : Result Held Stop) (h : Held) → cond b (Err stops.NullId) r ≡ Ok h → (b ≡ false) × (r ≡ Ok h)
+test_ok : (b : Bool) (r : Result ReadRecord RecordFault) (h : ReadRecord) → cond b (Err stops.NullId) r ≡ Ok h → (b ≡ false) × (r ≡ Ok h)
 test_ok true r h e = absurd cc
 test_ok false r h e = (refl, e)
 
-of_kind_ok : (id type : ℕ) (rest : List ℕ) (k : Option Kind) (h : Held) → of_kind id type rest k ≡ Ok h
+of_kind_ok : (id type : ℕ) (rest : List ℕ) (k : Option Kind) (h : ReadRecord) → of_kind id type rest k ≡ Ok h
     → (kind : Kind) × (k ≡ Some kind) × (of_values id kind (fields_at (fields_of kind) rest) ≡ Ok h)
 of_kind_ok id type rest None h e = absurd cc
 of_kind_ok id type rest (Some kind) h e = (kind, refl, e)
 
-of_values_ok : (id : ℕ) (kind : Kind) (vs : Result (List Value × List ℕ) Stop) (h : Held) → of_values id kind vs ≡ Ok h
+of_values_ok : (id : ℕ) (kind : Kind) (vs : Result (List Value × List ℕ) RecordFault) (h : ReadRecord) → of_values id kind vs ≡ Ok h
     → (x : List Value × List ℕ) × (vs ≡ Ok x) × (held id kind x ≡ h)
 of_values_ok id kind (Err stop) h e = absurd cc
 of_values_ok id kind (Ok x) h e = (x, refl, (let same : held id kind x ≡ h = cc in same))
@@ -42,13 +42,13 @@ abbrev pub spelled : ℕ → Kind → List Value → List ℕ
 spelled id kind vs = little_bytes 2 id ++ kind_number kind ∷ spelling (fields_of kind) vs
 
 -- what stands at the front, and after it bytes
-pub record IsRead (all : List ℕ) (h : Held) : Type 0 where
+pub record IsRead (all : List ℕ) (h : ReadRecord) : Type 0 where
   pub parts : all ≡ spelled h.id h.kind h.values ++ h.rest
   pub named : h.id < 0xFFFF
   pub fields_fit : FieldsFit (fields_of h.kind) no_counts h.values
   pub proper : Proper (fields_of h.kind) h.values
 
-long_is_read : (a b c : ℕ) (rest : List ℕ) (h : Held) → IsBytes (a ∷ b ∷ c ∷ rest) → behind (little_number 2 (a ∷ b ∷ [])) c rest ≡ Ok h → IsRead (a ∷ b ∷ c ∷ rest) h
+long_is_read : (a b c : ℕ) (rest : List ℕ) (h : ReadRecord) → IsBytes (a ∷ b ∷ c ∷ rest) → behind (little_number 2 (a ∷ b ∷ [])) c rest ≡ Ok h → IsRead (a ∷ b ∷ c ∷ rest) h
 long_is_read a b c rest h fits e =
     let front = a ∷ b ∷ [] in
     let id = little_number 2 front in
@@ -68,7 +68,7 @@ long_is_read a b c rest h fits e =
     let other : id ≢ 0xFFFF = eqb-false id 0xFFFF t.0 in
     subst (IsRead (a ∷ b ∷ c ∷ rest)) v.2 (record { parts = parts; named = omega arith; fields_fit = took.1; proper = proper 3 (fields_of k.0) v.0.0 read.1 })
 
-pub is_read : (all : List ℕ) (h : Held) → IsBytes all → record_at all ≡ Ok h → IsRead all h
+pub is_read : (all : List ℕ) (h : ReadRecord) → IsBytes all → record_at all ≡ Ok h → IsRead all h
 is_read [] h fits e = let no = sym (record_at-short [] (omega arith)) ∙ e in absurd cc
 is_read (a ∷ []) h fits e = let no = sym (record_at-short (a ∷ []) (omega arith)) ∙ e in absurd cc
 is_read (a ∷ b ∷ []) h fits e = let no = sym (record_at-short (a ∷ b ∷ []) (omega arith)) ∙ e in absurd cc
@@ -77,7 +77,7 @@ is_read (a ∷ b ∷ c ∷ rest) h fits e = long_is_read a b c rest h fits (sym 
 -- ---- what was written
 
 -- the record of an object as its parts
-abbrev pub held_of : ℕ → Seen → List ℕ → Held
+abbrev pub held_of : ℕ → Seen → List ℕ → ReadRecord
 held_of id o rest = held id (kind_of o) (values_of o, rest)
 
 pub record_again : (id : ℕ) (o : Seen) (rest : List ℕ) → HasRecord id o → record_at (record_of id o ++ rest) ≡ Ok (held_of id o rest)
@@ -96,14 +96,14 @@ pub record AreSame (a b : ℕ) (o p : Seen) (rest tail : List ℕ) : Type 0 wher
   pub same_object : o ≡ p
   pub same_rest : rest ≡ tail
 
-ok_is : (x y : Held) → ◌≡◌ {A = Result Held Stop} (Ok x) (Ok y) → x ≡ y
+ok_is : (x y : ReadRecord) → ◌≡◌ {A = Result ReadRecord RecordFault} (Ok x) (Ok y) → x ≡ y
 ok_is x y e = cc
 
 pub same_record : (a b : ℕ) (o p : Seen) (rest tail : List ℕ) → HasRecord a o → HasRecord b p → record_of a o ++ rest ≡ record_of b p ++ tail → AreSame a b o p rest tail
 same_record a b o p rest tail has other parts =
     let same : held_of a o rest ≡ held_of b p tail = ok_is (held_of a o rest) (held_of b p tail) (sym (record_again a o rest has) ∙ ap record_at parts ∙ record_again b p tail other) in
-    let one : object_from (kind_of o) (values_of o) ≡ object_from (kind_of p) (values_of p) = ap (λ (h : Held). object_from h.kind h.values) same in
-    record { same_id = ap (λ (h : Held). h.id) same; same_object = same_object o p one; same_rest = ap (λ (h : Held). h.rest) same }
+    let one : object_from (kind_of o) (values_of o) ≡ object_from (kind_of p) (values_of p) = ap (λ (h : ReadRecord). object_from h.kind h.values) same in
+    record { same_id = ap (λ (h : ReadRecord). h.id) same; same_object = same_object o p one; same_rest = ap (λ (h : ReadRecord). h.rest) same }
 
 pub are_whole : RecordsAreWhole
 are_whole a b o p rest has other parts =

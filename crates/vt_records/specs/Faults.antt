@@ -2,7 +2,7 @@
 use Rattle.std.specs.Prelude.{◌≡◌, ◌≢◌, ◌<◌, ◌≤◌, ℕ, ◌+◌, ◌⊎◌, List, ◌∷◌, ◌++◌, length, drop, None, Some, slice_index}
 use Rattle.byteorder.specs.Endian.{little_number}
 use Rattle.vt_kinds.specs.declared.kind.Kind.{Kind}
-use Rattle.vt_kinds.specs.Layout.{Field, Value, field_spelling, spelling, FieldsFit, IsProper, no_counts}
+use Rattle.vt_kinds.specs.Layout.{RecordField, Value, field_spelling, spelling, FieldsFit, IsProper, no_counts}
 use Rattle.vt_kinds.specs.Records.{Seen, fields_of, record_of, HasRecord}
 use Rattle.vt_kinds.specs.Kinds.{kind_at}
 
@@ -49,7 +49,7 @@ abbrev pub IsTruncated : List ℕ → Type 0
 IsTruncated rest = (length rest < 3) ⊎ IsCut rest
 
 -- the first value that is not proper stands in a field of this sort, so many bytes from the first
-abbrev pub IsFirstImproper : Field → ℕ → List Field → List Value → Type 0
+abbrev pub IsFirstImproper : RecordField → ℕ → List RecordField → List Value → Type 0
 IsFirstImproper sort at (f ∷ fs) (v ∷ vs) =
     ((f ≡ sort) × (at ≡ 0) × (IsProper f v → ⊥))
     ⊎ (IsProper f v × ((later : ℕ) × (at ≡ length (field_spelling f v) + later) × IsFirstImproper sort later fs vs))
@@ -57,7 +57,7 @@ IsFirstImproper sort at _ _ = ⊥
 
 -- The fields are all there, and the first that is not proper is of this sort, so many bytes from the record's
 -- first. No record begins there.
-pub record IsImproper (sort : Field) (rest : List ℕ) (at : ℕ) : Type 0 where
+pub record IsImproper (sort : RecordField) (rest : List ℕ) (at : ℕ) : Type 0 where
   pub head : 3 ≤ length rest
   pub named : id_at rest ≢ 0xFFFF
   pub kind : Kind

@@ -3,41 +3,41 @@ use Rattle.std.specs.Prelude.{◌≡◌, ℕ, ◌+◌, List, ◌∷◌, length, 
 use Rattle.vt_kinds.specs.declared.kind.Kind.{Kind}
 use Rattle.vt_kinds.specs.declared.scale.Scale.{Scale}
 use Rattle.vt_kinds.specs.Scales.{scale_at}
-use Rattle.vt_kinds.specs.Layout.{Unsigned, Signed, natural, bytes_in, Field, Number, Count, ScaleBytes, DecimalPlaces, Value, number, field_spelling, no_counts}
+use Rattle.vt_kinds.specs.Layout.{Unsigned, Signed, natural, bytes_in, RecordField, Number, Count, ScaleBytes, DecimalPlaces, Value, number, field_spelling, no_counts}
 use Rattle.vt_kinds.specs.Kinds.{kind_at}
 use Rattle.vt_kinds.specs.Records.{fields_of}
-use Rattle.vt_records.specs.declared.stop.Stop.{Stop}
-use Rattle.vt_records.specs.declared.stop.Stop.TheVariants as stops
+use Rattle.vt_records.specs.declared.stop.RecordFault.{RecordFault}
+use Rattle.vt_records.specs.declared.stop.RecordFault.TheVariants as stops
 use Rattle.vt_records.specs.Reading.{number_at, values_at}
 
 -- a record as its parts, and the bytes after it
-pub record Held : Type 0 where
+pub record ReadRecord : Type 0 where
   pub id : ℕ
   pub kind : Kind
   pub values : List Value
   pub rest : List ℕ
 
 -- What a function returned, seen by view, is what reading gives, unless memory ran out.
-abbrev pub Reads : {X Y : Type 0} → (X → Y) → Result X Stop → Result Y Stop → Type 0
+abbrev pub Reads : {X Y : Type 0} → (X → Y) → Result X RecordFault → Result Y RecordFault → Type 0
 Reads view (Ok x) read = read ≡ Ok (view x)
 Reads view (Err stops.OutOfMemory) read = Unit {0}
 Reads view (Err stop) read = read ≡ Err stop
 
-abbrev pub or_stop : {A : Type 0} → Stop → Option A → Result A Stop
+abbrev pub or_stop : {A : Type 0} → RecordFault → Option A → Result A RecordFault
 or_stop stop None = Err stop
 or_stop stop (Some x) = Ok x
 
 infixl 10 ◌>>=◌
-abbrev pub ◌>>=◌ : {A B : Type 0} → Result A Stop → (A → Result B Stop) → Result B Stop
+abbrev pub ◌>>=◌ : {A B : Type 0} → Result A RecordFault → (A → Result B RecordFault) → Result B RecordFault
 (Ok x) >>= f = f x
 (Err e) >>= f = Err e
 
 -- why a type that is no kind's is refused: 29 to 33 are those of auxiliary functions and inputs
-abbrev pub other_type : ℕ → Stop
+abbrev pub other_type : ℕ → RecordFault
 other_type n = if nat_le 29 n && nat_le n 33 then stops.LeftOutType else stops.UnknownType
 
 -- how many bytes a value takes in its field
-abbrev pub size_in : Field → Value → ℕ
+abbrev pub size_in : RecordField → Value → ℕ
 size_in (Number (Unsigned size)) v = size
 size_in (Number (Signed width)) v = bytes_in width
 size_in (Count size of) v = size
@@ -45,31 +45,31 @@ size_in ScaleBytes v = 4
 size_in DecimalPlaces v = 1
 size_in f v = length (field_spelling f v)
 
-abbrev pub if_none : Option Scale → Stop → Option Stop → Option Stop
+abbrev pub if_none : Option Scale → RecordFault → Option RecordFault → Option RecordFault
 if_none None stop next = Some stop
 if_none (Some s) stop next = next
 
 -- the first field from a place on whose value is no scale's or too many decimals
-abbrev pub misfit : ℕ → List Field → List Value → Option Stop
+abbrev pub misfit : ℕ → List RecordField → List Value → Option RecordFault
 misfit at (ScaleBytes ∷ fs) (number (natural n) ∷ vs) = if_none (scale_at n) (stops.Scale at) (misfit (at + 4) fs vs)
 misfit at (DecimalPlaces ∷ fs) (number (natural n) ∷ vs) = if nat_lt 7 n then Some (stops.Decimals at) else misfit (at + 1) fs vs
 misfit at (f ∷ fs) (v ∷ vs) = misfit (at + size_in f v) fs vs
 misfit at fs vs = None
 
-abbrev pub or_misfit : List Value × List ℕ → Option Stop → Result (List Value × List ℕ) Stop
+abbrev pub or_misfit : List Value × List ℕ → Option RecordFault → Result (List Value × List ℕ) RecordFault
 or_misfit read None = Ok read
 or_misfit read (Some stop) = Err stop
 
 -- where the values are all there, the first misfit among them
-abbrev pub fitting : List Field → Option (List Value × List ℕ) → Result (List Value × List ℕ) Stop
+abbrev pub fitting : List RecordField → Option (List Value × List ℕ) → Result (List Value × List ℕ) RecordFault
 fitting fs None = Err stops.Truncated
 fitting fs (Some read) = or_misfit read (misfit 3 fs read.0)
 
 -- the values of the fields behind the ID and the type, which are three bytes
-abbrev pub fields_at : List Field → List ℕ → Result (List Value × List ℕ) Stop
+abbrev pub fields_at : List RecordField → List ℕ → Result (List Value × List ℕ) RecordFault
 fields_at fs all = fitting fs (values_at fs no_counts all)
 
-unfoldable pub record_at : List ℕ → Result Held Stop
+unfoldable pub record_at : List ℕ → Result ReadRecord RecordFault
 record_at all = do
   id ← or_stop stops.Truncated (number_at 2 all)
   type ← or_stop stops.Truncated (number_at 1 id.1)

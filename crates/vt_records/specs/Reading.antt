@@ -3,9 +3,9 @@
 use Rattle.std.specs.Prelude.{◌≡◌, ◌⊎◌, ℕ, ℤ, zero, suc, List, [], ◌∷◌, ◌+◌, length, take, drop, nat_lt, if◌then◌else◌, Option, Some, None, Result, Ok, Err}
 use Rattle.std.specs.Int.{Width, cast_signed}
 use Rattle.byteorder.specs.Endian.{little_number}
-use Rattle.vt_kinds.specs.Layout.{Size, Unsigned, Signed, Numeral, natural, integer, bytes_in, Field, Number, Count, Rows, Bytes, ScaleBytes, DecimalPlaces, Value, number, rows, bytes, Counts, counted, count_of}
-use Rattle.vt_records.specs.declared.stop.Stop.{Stop}
-use Rattle.vt_records.specs.declared.stop.Stop.TheVariants as stops
+use Rattle.vt_kinds.specs.Layout.{Size, Unsigned, Signed, Numeral, natural, integer, bytes_in, RecordField, Number, Count, Rows, Bytes, ScaleBytes, DecimalPlaces, Value, number, rows, bytes, Counts, counted, count_of}
+use Rattle.vt_records.specs.declared.stop.RecordFault.{RecordFault}
+use Rattle.vt_records.specs.declared.stop.RecordFault.TheVariants as stops
 
 infixl 10 ◌>>=◌
 abbrev pub ◌>>=◌ : {A B : Type 0} → Option A → (A → Option B) → Option B
@@ -14,12 +14,12 @@ None >>= f = None
 
 -- What a function returned, seen by view, is what reading gives: it stops only where memory runs out, or the bytes
 -- end first.
-abbrev pub Gives : {X Y : Type 0} → (X → Y) → Result X Stop → Option Y → Type 0
+abbrev pub Gives : {X Y : Type 0} → (X → Y) → Result X RecordFault → Option Y → Type 0
 Gives view (Ok x) read = read ≡ Some (view x)
 Gives view (Err stop) read = (stop ≡ stops.OutOfMemory) ⊎ ((stop ≡ stops.Truncated) × (read ≡ None))
 
 -- What a function returned, seen by view, is what reading finds: it stops only where the bytes end first.
-abbrev pub Finds : {X Y : Type 0} → (X → Y) → Result X Stop → Option Y → Type 0
+abbrev pub Finds : {X Y : Type 0} → (X → Y) → Result X RecordFault → Option Y → Type 0
 Finds view (Ok x) read = read ≡ Some (view x)
 Finds view (Err stop) read = (stop ≡ stops.Truncated) × (read ≡ None)
 
@@ -54,7 +54,7 @@ rows_at sizes (suc count) all = do
   others ← rows_at sizes count first.1
   Some (first.0 ∷ others.0, others.1)
 
-abbrev pub values_at : List Field → Counts → List ℕ → Option (List Value × List ℕ)
+abbrev pub values_at : List RecordField → Counts → List ℕ → Option (List Value × List ℕ)
 values_at [] counts all = Some ([], all)
 values_at (Number (Unsigned size) ∷ fs) counts all = do
   n ← number_at size all
@@ -92,7 +92,7 @@ row_size (Unsigned size ∷ sizes) = size + row_size sizes
 row_size (Signed width ∷ sizes) = bytes_in width + row_size sizes
 
 -- how many bytes the numbers take that come before any list
-abbrev pub head_size : List Field → ℕ
+abbrev pub head_size : List RecordField → ℕ
 head_size [] = 0
 head_size (Number (Unsigned size) ∷ fs) = size + head_size fs
 head_size (Number (Signed width) ∷ fs) = bytes_in width + head_size fs

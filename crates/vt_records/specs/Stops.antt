@@ -1,14 +1,14 @@
 -- Why a record cannot be read, and the fault of its pool.
 use Rattle.std.specs.Prelude.{ℕ, ◌+◌, List}
 use Rattle.vt_kinds.specs.Layout.{ScaleBytes, DecimalPlaces}
-use Rattle.vt_records.specs.declared.stop.Stop.{Stop}
-use Rattle.vt_records.specs.declared.stop.Stop.TheVariants as stops
+use Rattle.vt_records.specs.declared.stop.RecordFault.{RecordFault}
+use Rattle.vt_records.specs.declared.stop.RecordFault.TheVariants as stops
 use Rattle.vt_records.specs.declared.fault.PoolFault.{PoolFault}
 use Rattle.vt_records.specs.declared.fault.PoolFault.TheVariants as faults
 use Rattle.vt_records.specs.Faults.{IsTruncated, HasNullId, HasOtherType, IsLeftOut, IsImproper, type_at}
 
 -- what a stop says of the bytes with which a record begins
-abbrev pub IsStop : List ℕ → Stop → Type 0
+abbrev pub IsStop : List ℕ → RecordFault → Type 0
 IsStop rest stops.Truncated = IsTruncated rest
 IsStop rest stops.NullId = HasNullId rest
 IsStop rest stops.LeftOutType = HasOtherType rest × IsLeftOut (type_at rest)
@@ -18,7 +18,7 @@ IsStop rest (stops.Decimals at) = IsImproper DecimalPlaces rest at
 IsStop rest stops.OutOfMemory = Unit {0}
 
 -- the fault of the pool whose record at a place stops so; a scale and decimals are named at their field
-abbrev pub fault_at : Stop → ℕ → PoolFault
+abbrev pub fault_at : RecordFault → ℕ → PoolFault
 fault_at stops.Truncated at = faults.Truncated at
 fault_at stops.UnknownType at = faults.UnknownType at
 fault_at stops.LeftOutType at = faults.LeftOutType at

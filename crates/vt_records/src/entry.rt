@@ -6,7 +6,7 @@ ghost use Rattle.vt_kinds.specs.Tables.{child_sizes, child_numbers, macro_sizes,
 ghost use Rattle.vt_records.specs.Reading.{Finds, Gives, row_at, rows_at};
 
 use crate::reader::Reader;
-use crate::stop::Stop;
+use crate::stop::RecordFault;
 use std::alloc::Global;
 use vt_kinds::{Child, Entries, Language, MacroEntry, ObjectId, Point};
 
@@ -16,7 +16,7 @@ pub trait Entry: Drop {
 
     ghost numbers: { Self → List Numeral };
 
-    fn read(reader: &mut Reader<'_>) -> Result<Self, Stop>
+    fn read(reader: &mut Reader<'_>) -> Result<Self, RecordFault>
     where
         Self: Sized,
         ensures { Finds (λ x. (numbers x, reader.new)) result (row_at sizes reader.old) };
@@ -28,7 +28,7 @@ impl Entry for Child {
     ghost numbers = { child_numbers };
 
     #[tactic(auto, unfolding(crate::specs::Reading::row_at))]
-    fn read(reader: &mut Reader<'_>) -> Result<Child, Stop> {
+    fn read(reader: &mut Reader<'_>) -> Result<Child, RecordFault> {
         reader.need(6)?;
         let id = reader.id();
         let x = reader.i16();
@@ -43,7 +43,7 @@ impl Entry for MacroEntry {
     ghost numbers = { macro_numbers };
 
     #[tactic(auto, unfolding(crate::specs::Reading::row_at))]
-    fn read(reader: &mut Reader<'_>) -> Result<MacroEntry, Stop> {
+    fn read(reader: &mut Reader<'_>) -> Result<MacroEntry, RecordFault> {
         reader.need(2)?;
         let event = reader.u8();
         let macro_id = reader.u8();
@@ -57,7 +57,7 @@ impl Entry for Language {
     ghost numbers = { language_numbers };
 
     #[tactic(auto, unfolding(crate::specs::Reading::row_at))]
-    fn read(reader: &mut Reader<'_>) -> Result<Language, Stop> {
+    fn read(reader: &mut Reader<'_>) -> Result<Language, RecordFault> {
         reader.need(2)?;
         let first = reader.u8();
         let second = reader.u8();
@@ -71,7 +71,7 @@ impl Entry for ObjectId {
     ghost numbers = { id_numbers };
 
     #[tactic(auto, unfolding(crate::specs::Reading::row_at))]
-    fn read(reader: &mut Reader<'_>) -> Result<ObjectId, Stop> {
+    fn read(reader: &mut Reader<'_>) -> Result<ObjectId, RecordFault> {
         reader.need(2)?;
         Ok(reader.id())
     }
@@ -83,7 +83,7 @@ impl Entry for Point {
     ghost numbers = { point_numbers };
 
     #[tactic(auto, unfolding(crate::specs::Reading::row_at))]
-    fn read(reader: &mut Reader<'_>) -> Result<Point, Stop> {
+    fn read(reader: &mut Reader<'_>) -> Result<Point, RecordFault> {
         reader.need(4)?;
         let x = reader.u16();
         let y = reader.u16();
@@ -96,7 +96,7 @@ pub fn entries<T: Entry>(
     alloc: Global,
     reader: &mut Reader<'_>,
     count: u8,
-) -> Result<Entries<T>, Stop>
+) -> Result<Entries<T>, RecordFault>
     ensures read { Gives (λ x. (map T.numbers x, reader.new)) result (rows_at T.sizes count reader.old) }
     ensures len { IfOk result (λ x. length x ≡ count) }
 {

@@ -4,9 +4,9 @@ ghost use Rattle.std.specs.Prelude.{◌≡◌, ◌<◌, ◌≤◌, ◌+◌, leng
 ghost use Rattle.std.specs.Int.{w16, w32};
 ghost use Rattle.byteorder.specs.Endian.{little_number};
 ghost use Rattle.vt_records.specs.Reading.{Finds, number_at, signed_at, bytes_at};
-ghost use Rattle.vt_records.specs.declared.stop.Stop.TheVariants as stops;
+ghost use Rattle.vt_records.specs.declared.stop.RecordFault.TheVariants as stops;
 
-use crate::stop::Stop;
+use crate::stop::RecordFault;
 use byteorder::{ByteOrder, LittleEndian};
 use std::marker::Model;
 use vt_kinds::{LongText, MacroBytes, ObjectId, PictureBytes, ShortText};
@@ -41,12 +41,12 @@ impl<'a> Reader<'a> {
     }
 
     /// Whether so many bytes are left.
-    pub fn need(&self, count: usize) -> Result<(), Stop>
+    pub fn need(&self, count: usize) -> Result<(), RecordFault>
         ensures ok { IfOk result (λ _. count ≤ length self.now) }
         ensures err { IfErr result (λ stop. (stop ≡ stops.Truncated) × (length self.now < count)) }
     {
         if self.rest.len() < count {
-            return Err(Stop::Truncated);
+            return Err(RecordFault::Truncated);
         }
         Ok(())
     }
@@ -62,7 +62,7 @@ impl<'a> Reader<'a> {
 
     /// One more byte, if there is one.
     #[tactic(auto, unfolding(crate::specs::Reading::number_at))]
-    pub fn try_u8(&mut self) -> Result<u8, Stop>
+    pub fn try_u8(&mut self) -> Result<u8, RecordFault>
         ensures { Finds (λ x. (x, self.new)) result (number_at 1 self.old) }
     {
         let front = self.bytes(1)?;
@@ -138,7 +138,7 @@ impl<'a> Reader<'a> {
     }
 
     #[tactic(auto, unfolding(crate::specs::Reading::bytes_at))]
-    pub fn bytes(&mut self, count: usize) -> Result<&'a [u8], Stop>
+    pub fn bytes(&mut self, count: usize) -> Result<&'a [u8], RecordFault>
         ensures read { Finds (λ x. (x.now, self.new)) result (bytes_at count self.old) }
         ensures len { IfOk result (λ x. length x.now ≡ count) }
     {
@@ -147,7 +147,7 @@ impl<'a> Reader<'a> {
     }
 
     /// A text of so many bytes.
-    pub fn short_text(&mut self, count: u8) -> Result<ShortText<&'a [u8]>, Stop>
+    pub fn short_text(&mut self, count: u8) -> Result<ShortText<&'a [u8]>, RecordFault>
         ensures read { Finds (λ x. (x, self.new)) result (bytes_at count self.old) }
         ensures len { IfOk result (λ x. length x ≡ count) }
     {
@@ -155,7 +155,7 @@ impl<'a> Reader<'a> {
     }
 
     /// A text of so many bytes.
-    pub fn long_text(&mut self, count: u16) -> Result<LongText<&'a [u8]>, Stop>
+    pub fn long_text(&mut self, count: u16) -> Result<LongText<&'a [u8]>, RecordFault>
         ensures read { Finds (λ x. (x, self.new)) result (bytes_at count self.old) }
         ensures len { IfOk result (λ x. length x ≡ count) }
     {
@@ -163,7 +163,7 @@ impl<'a> Reader<'a> {
     }
 
     /// So many bytes of a macro.
-    pub fn macro_bytes(&mut self, count: u16) -> Result<MacroBytes<&'a [u8]>, Stop>
+    pub fn macro_bytes(&mut self, count: u16) -> Result<MacroBytes<&'a [u8]>, RecordFault>
         ensures read { Finds (λ x. (x, self.new)) result (bytes_at count self.old) }
         ensures len { IfOk result (λ x. length x ≡ count) }
     {
@@ -171,7 +171,7 @@ impl<'a> Reader<'a> {
     }
 
     /// So many bytes of a picture.
-    pub fn picture_bytes(&mut self, count: u32) -> Result<PictureBytes<&'a [u8]>, Stop>
+    pub fn picture_bytes(&mut self, count: u32) -> Result<PictureBytes<&'a [u8]>, RecordFault>
         ensures read { Finds (λ x. (x, self.new)) result (bytes_at count self.old) }
         ensures len { IfOk result (λ x. length x ≡ count) }
     {

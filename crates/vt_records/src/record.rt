@@ -8,7 +8,7 @@ ghost use Rattle.vt_records.specs.Stops.{IsStop};
 
 use crate::reader::Reader;
 use crate::records::read_fields;
-use crate::stop::Stop;
+use crate::stop::RecordFault;
 use std::alloc::Global;
 use vt_kinds::{Kind, Object, ObjectId};
 
@@ -21,7 +21,7 @@ pub struct Record<'a> {
 }
 
 /// Reads the record at the front.
-pub fn read_record<'a>(alloc: Global, bytes: &'a [u8]) -> Result<Record<'a>, Stop>
+pub fn read_record<'a>(alloc: Global, bytes: &'a [u8]) -> Result<Record<'a>, RecordFault>
     ensures record { IfOk result (λ r. HasRecord r.id (seen r.object)) }
     ensures parts { IfOk result (λ r. bytes.now ≡ record_of r.id (seen r.object) ++ r.rest.now) }
     ensures shorter { IfOk result (λ r. length r.rest.now < length bytes.now) }
@@ -32,7 +32,7 @@ pub fn read_record<'a>(alloc: Global, bytes: &'a [u8]) -> Result<Record<'a>, Sto
 
 // What `read_record` promises is proved from the one equation that this one keeps.
 #[tactic(auto, unfolding(crate::specs::Heads::record_at))]
-fn parse_record<'a>(alloc: Global, bytes: &'a [u8]) -> Result<Record<'a>, Stop>
+fn parse_record<'a>(alloc: Global, bytes: &'a [u8]) -> Result<Record<'a>, RecordFault>
     ensures { Reads (λ r. record { id = r.id; kind = kind_of r.object; values = values_of r.object; rest = r.rest.now }) result (record_at bytes.now) }
 {
     let mut reader = Reader::new(bytes);
@@ -40,7 +40,7 @@ fn parse_record<'a>(alloc: Global, bytes: &'a [u8]) -> Result<Record<'a>, Stop>
     let id = reader.id();
     let number = reader.u8();
     if id.is_null() {
-        return Err(Stop::NullId);
+        return Err(RecordFault::NullId);
     }
     let kind = kind_with(number)?;
     let object = read_fields(alloc, kind, &mut reader)?;
@@ -52,12 +52,12 @@ fn parse_record<'a>(alloc: Global, bytes: &'a [u8]) -> Result<Record<'a>, Stop>
 }
 
 /// The kind of a type, or why it has none.
-pub fn kind_with(number: u8) -> Result<Kind, Stop>
+pub fn kind_with(number: u8) -> Result<Kind, RecordFault>
     ensures { result ≡ or_stop (other_type number) (kind_at number) }
 {
     match Kind::from_number(number) {
         Some(kind) => Ok(kind),
-        None if (29..=33).contains(&number) => Err(Stop::LeftOutType),
-        None => Err(Stop::UnknownType),
+        None if (29..=33).contains(&number) => Err(RecordFault::LeftOutType),
+        None => Err(RecordFault::UnknownType),
     }
 }

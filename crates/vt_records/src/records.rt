@@ -17,7 +17,7 @@ mod shapes;
 mod variables;
 
 use crate::reader::Reader;
-use crate::stop::Stop;
+use crate::stop::RecordFault;
 use attribute_objects::{
     read_fill_attributes, read_font, read_input_attributes, read_line_attributes,
 };
@@ -38,7 +38,7 @@ pub fn read_fields<'a>(
     alloc: Global,
     kind: Kind,
     reader: &mut Reader<'a>,
-) -> Result<Object<&'a [u8]>, Stop>
+) -> Result<Object<&'a [u8]>, RecordFault>
     ensures read { Reads (λ o. (values_of o, reader.new)) result (fields_at (fields_of kind) reader.old) }
     ensures kind { IfOk result (λ o. kind_of o ≡ kind) }
 {

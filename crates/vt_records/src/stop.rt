@@ -1,7 +1,7 @@
 //! Why a record cannot be read.
 
 ghost use Rattle.std.specs.Prelude.{◌≡◌, ◌<◌, ◌^◌};
-ghost use Rattle.vt_records.specs.declared.stop.Stop.TheVariants.{OutOfMemory};
+ghost use Rattle.vt_records.specs.declared.stop.RecordFault.TheVariants.{OutOfMemory};
 ghost use Rattle.vt_records.specs.Stops.{fault_at};
 
 use crate::fault::PoolFault;
@@ -9,7 +9,7 @@ use std::alloc::{AllocError, AllocFailed};
 
 /// A fault of the record that is being read.
 #[derive(Clone, Copy, Debug, PartialEq, Eq)]
-pub enum Stop {
+pub enum RecordFault {
     Truncated,
     UnknownType,
     LeftOutType,
@@ -21,40 +21,40 @@ pub enum Stop {
     NullId,
 }
 
-impl Stop {
+impl RecordFault {
     /// The fault of the pool whose record at this place it is.
     pub fn at(self, at: usize) -> PoolFault
         requires { at < 2 ^ 63 }
         ensures { result ≡ fault_at self at }
     {
         match self {
-            Stop::Truncated => PoolFault::Truncated { at },
-            Stop::UnknownType => PoolFault::UnknownType { at },
-            Stop::LeftOutType => PoolFault::LeftOutType { at },
-            Stop::Scale { at: offset } => PoolFault::Scale {
+            RecordFault::Truncated => PoolFault::Truncated { at },
+            RecordFault::UnknownType => PoolFault::UnknownType { at },
+            RecordFault::LeftOutType => PoolFault::LeftOutType { at },
+            RecordFault::Scale { at: offset } => PoolFault::Scale {
                 at: at + usize::from(offset),
             },
-            Stop::Decimals { at: offset } => PoolFault::Decimals {
+            RecordFault::Decimals { at: offset } => PoolFault::Decimals {
                 at: at + usize::from(offset),
             },
-            Stop::OutOfMemory => PoolFault::OutOfMemory { at },
-            Stop::NullId => PoolFault::NullId { at },
+            RecordFault::OutOfMemory => PoolFault::OutOfMemory { at },
+            RecordFault::NullId => PoolFault::NullId { at },
         }
     }
 }
 
-impl From<AllocError> for Stop {
+impl From<AllocError> for RecordFault {
     ghost from_gives = { λ _ stop. stop ≡ OutOfMemory };
 
-    fn from(_error: AllocError) -> Stop {
-        Stop::OutOfMemory
+    fn from(_error: AllocError) -> RecordFault {
+        RecordFault::OutOfMemory
     }
 }
 
-impl<T: Drop> From<AllocFailed<T>> for Stop {
+impl<T: Drop> From<AllocFailed<T>> for RecordFault {
     ghost from_gives = { λ _ stop. stop ≡ OutOfMemory };
 
-    fn from(_error: AllocFailed<T>) -> Stop {
-        Stop::OutOfMemory
+    fn from(_error: AllocFailed<T>) -> RecordFault {
+        RecordFault::OutOfMemory
     }
 }

@@ -3,18 +3,18 @@ use Rattle.std.proofs.Common.{◌≡◌, ℕ, List, Option, Some, None, refl}
 use Rattle.vt_can.specs.declared.frames.frame.Frame.{Frame}
 use Rattle.vt_names.specs.Registry.{Set}
 use Rattle.vt_server.specs.Hearings.{IsNoClaim}
-use Rattle.vt_server.specs.Parts.{Part, after_message, after_master, after_member, after_notice}
+use Rattle.vt_server.specs.Parts.{AddressView, after_message, after_master, after_member, after_notice}
 use Rattle.vt_server.specs.Sessions.{came}
 use Rattle.vt_server.specs.Transfers.{Verdict}
-use Rattle.vt_node.specs.declared.bus.Notice.{Notice}
-use Rattle.vt_node.specs.declared.bus.Notice.TheVariants as notices
+use Rattle.vt_node.specs.declared.bus.FrameMeaning.{FrameMeaning}
+use Rattle.vt_node.specs.declared.bus.FrameMeaning.TheVariants as notices
 
-message-accepted : (a : ℕ) (p : Part) (v : Verdict) (o : Option Set) (m : Option (List ℕ)) → (after_message a p v o m).refused ≡ None
+message-accepted : (a : ℕ) (p : AddressView) (v : Verdict) (o : Option Set) (m : Option (List ℕ)) → (after_message a p v o m).refused ≡ None
 message-accepted a p v None m = refl
 message-accepted a p v (Some set) None = refl
 message-accepted a p v (Some set) (Some bytes) = refl
 
-pub accepted : (now a : ℕ) (n : Notice) (frame : Frame) → IsNoClaim n → (p : Part) (v : Verdict) → (after_notice now a p n frame v).refused ≡ None
+pub accepted : (now a : ℕ) (n : FrameMeaning) (frame : Frame) → IsNoClaim n → (p : AddressView) (v : Verdict) → (after_notice now a p n frame v).refused ≡ None
 accepted now a (notices.Claim name) frame unclaimed p v = absurd (unclaimed name refl)
 accepted now a notices.ClaimRequest frame unclaimed p v = message-accepted a p v p.set None
 accepted now a (notices.Master count) frame unclaimed p v = cases p.holder

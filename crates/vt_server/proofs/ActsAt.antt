@@ -9,8 +9,8 @@ use Rattle.vt_server.specs.Parts.{Act, Hears, Rebinds, Raises}
 use Rattle.vt_server.specs.Steps.{before, changed, changed_left, left_by, left_holder, changes, heard_at_source}
 use Rattle.vt_server.specs.Terminals.{State, holder}
 use Rattle.vt_server.specs.Transfers.{Verdict}
-use Rattle.vt_node.specs.declared.bus.Notice.{Notice}
-use Rattle.vt_node.specs.declared.bus.Notice.TheVariants.{Claim, ClaimRequest, Master, Member, Message, Tp, Etp, Nothing}
+use Rattle.vt_node.specs.declared.bus.FrameMeaning.{FrameMeaning}
+use Rattle.vt_node.specs.declared.bus.FrameMeaning.TheVariants.{Claim, ClaimRequest, Master, Member, Message, Tp, Etp, Nothing}
 
 -- ---- lists of acts with their addresses
 
@@ -43,7 +43,7 @@ at-left : (P : ℕ → Act → Type 0) → ((a : ℕ) → P a Rebinds) → (was 
 at-left P each was t None = tt
 at-left P each was t (Some left) = at-changed P each was t left
 
-pub at-changes : (P : ℕ → Act → Type 0) → ((a : ℕ) → P a Rebinds) → (s : State) (source : ℕ) (n : Notice) → AllAt P (changes s source n)
+pub at-changes : (P : ℕ → Act → Type 0) → ((a : ℕ) → P a Rebinds) → (s : State) (source : ℕ) (n : FrameMeaning) → AllAt P (changes s source n)
 at-changes P each s source (Claim name) =
     let t = before s source (Claim name) in
     let left = left_by source (address_of s.claims.addresses name) in
@@ -56,7 +56,7 @@ at-changes P each s source Tp = tt
 at-changes P each s source Etp = tt
 at-changes P each s source Nothing = tt
 
-pub at-heard : (P : ℕ → Act → Type 0) (own source : ℕ) (n : Notice) (f : Frame) (verdict : Verdict) → P source (Hears n f verdict) → AllAt P (heard_at_source own source n f verdict)
+pub at-heard : (P : ℕ → Act → Type 0) (own source : ℕ) (n : FrameMeaning) (f : Frame) (verdict : Verdict) → P source (Hears n f verdict) → AllAt P (heard_at_source own source n f verdict)
 at-heard P own source n f verdict is = cases (eqb source own)
   where
     cases : (b : Bool) → AllAt P (cond b [] ((source, Hears n f verdict) ∷ []))

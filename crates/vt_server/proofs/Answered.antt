@@ -8,10 +8,10 @@ use Rattle.vt_commands.specs.Commands.{command_at}
 use Rattle.vt_server.specs.Commands.{content_after, error_after}
 use Rattle.vt_server.specs.Findings.{ends_transfer}
 use Rattle.vt_server.specs.Handling.{Handled, handled, asked, commanded, transferred, end_handled, TRANSFER, END_OF_POOL}
-use Rattle.vt_server.specs.Hearings.{Answers, IsReplyTo, begins_with, is_other, with_content_at, IsJudgedAt}
+use Rattle.vt_server.specs.Hearings.{HandlesMessage, IsReplyTo, begins_with, is_other, with_content_at, IsJudgedAt}
 use Rattle.vt_node.specs.Messages.{message_to, technical_reply}
-use Rattle.vt_server.specs.Parts.{Outcome, unchanged, answered, after_message}
-use Rattle.vt_server.specs.Places.{Content, Place, with_content}
+use Rattle.vt_server.specs.Parts.{AddressOutcome, unchanged, answered, after_message}
+use Rattle.vt_server.specs.Places.{SetPool, AddressState, with_content}
 use Rattle.vt_server.specs.Replies.{reply_to}
 use Rattle.vt_server.specs.Terminals.{State, part, put}
 use Rattle.vt_node.specs.ByAddress.{with_at}
@@ -22,7 +22,7 @@ use Rattle.vt_node.proofs.ByAddress.{places-same}
 -- ---- a message that asks what the terminal is, or a command
 
 pub same-content : (a : ℕ) (s : State) → with_content_at a (s.places a).content s ≡ s
-same-content a s = ap (λ (p : ℕ → Place). record s { places = p }) (places-same a s.places (s.places a) refl)
+same-content a s = ap (λ (p : ℕ → AddressState). record s { places = p }) (places-same a s.places (s.places a) refl)
 
 module _ (s : State) (a : ℕ) (bytes : List ℕ) where
   module _ (none : None ≡ technical_reply bytes) where
@@ -36,20 +36,20 @@ module _ (s : State) (a : ℕ) (bytes : List ℕ) where
           reply_is = sym (ap (λ (h : Handled). h.reply) e);
         }
 
-    pub is-commanded : (command : Command) (places : ℕ → Place) (found : Option ℕ) → Some command ≡ command_at bytes
+    pub is-commanded : (command : Command) (places : ℕ → AddressState) (found : Option ℕ) → Some command ≡ command_at bytes
         → places ≡ with_at a (with_content (s.places a) (content_after command (s.places a).content)) s.places
         → found ≡ error_after command (s.places a).content.pool
         → IsReplyTo s a bytes (option_map (reply_to command) found) (record s { places = places })
     is-commanded command places found is left error =
         let e = asked-is ∙ ap (commanded (s.places a).content) (sym is) in record {
-          state = ap (λ (p : ℕ → Place). record s { places = p }) left ∙ sym (ap (λ (h : Handled). with_content_at a h.content s) e);
+          state = ap (λ (p : ℕ → AddressState). record s { places = p }) left ∙ sym (ap (λ (h : Handled). with_content_at a h.content s) e);
           reply_is = ap (option_map (reply_to command)) error ∙ sym (ap (λ (h : Handled). h.reply) e);
         }
 
 -- ---- a message at an address
 
 module _ (s : State) (a : ℕ) (bytes : List ℕ) where
-  abbrev pub answer_by : Verdict → Option Set → Outcome
+  abbrev pub answer_by : Verdict → Option Set → AddressOutcome
   answer_by verdict set = after_message a (part a s) verdict set (Some bytes)
 
   -- where there is no set
@@ -61,12 +61,12 @@ module _ (s : State) (a : ℕ) (bytes : List ℕ) where
   no-end verdict None none ends = absurd (true≢false (sym ends))
   no-end verdict (Some set) none ends = absurd (true≢false (sym none))
 
-  pub answers-none : (verdict : Verdict) → false ≡ is_some (set_at a s.sets) → Answers s a bytes None s
+  pub answers-none : (verdict : Verdict) → false ≡ is_some (set_at a s.sets) → HandlesMessage s a bytes None s
   answers-none verdict none = record {
     verdict = verdict;
     judged = no-end verdict (set_at a s.sets) none;
-    state = sym (ap (λ (o : Outcome). put a o s) (unheard verdict (set_at a s.sets) none) ∙ put-kept a s (unchanged (part a s)) refl refl);
-    reply_is = sym (ap (λ (o : Outcome). o.frames) (unheard verdict (set_at a s.sets) none));
+    state = sym (ap (λ (o : AddressOutcome). put a o s) (unheard verdict (set_at a s.sets) none) ∙ put-kept a s (unchanged (part a s)) refl refl);
+    reply_is = sym (ap (λ (o : AddressOutcome). o.frames) (unheard verdict (set_at a s.sets) none));
   }
 
   -- where there is one
@@ -81,30 +81,30 @@ module _ (s : State) (a : ℕ) (bytes : List ℕ) where
 
       pub answers-by : (t : State) (reply : Option Frame) → IsJudgedAt (part a s) bytes verdict
           → t ≡ with_content_at a done.content s
-          → option_to_list reply ≡ option_to_list (option_map (message_to s.claims.own a) done.reply) → Answers s a bytes reply t
+          → option_to_list reply ≡ option_to_list (option_map (message_to s.claims.own a) done.reply) → HandlesMessage s a bytes reply t
       answers-by t reply judged left said = record {
         verdict = verdict;
         judged = judged;
-        state = left ∙ sym (ap (λ (o : Outcome). put a o s) outcome-is ∙ put-place a s (answered a (part a s) done) refl);
-        reply_is = said ∙ sym (ap (λ (o : Outcome). o.frames) outcome-is);
+        state = left ∙ sym (ap (λ (o : AddressOutcome). put a o s) outcome-is ∙ put-place a s (answered a (part a s) done) refl);
+        reply_is = said ∙ sym (ap (λ (o : AddressOutcome). o.frames) outcome-is);
       }
 
 -- ---- which message it is
 
-pub other-handled : (content : Content) (verdict : Verdict) (bytes : List ℕ) → is_other bytes → handled content verdict bytes ≡ asked content bytes (technical_reply bytes)
+pub other-handled : (content : SetPool) (verdict : Verdict) (bytes : List ℕ) → is_other bytes → handled content verdict bytes ≡ asked content bytes (technical_reply bytes)
 other-handled content verdict [] other = refl
 other-handled content verdict (byte ∷ bytes) other =
     ap (λ b. cond b (transferred content bytes) (cond (eqb byte END_OF_POOL) (end_handled content verdict) (asked content (byte ∷ bytes) (technical_reply (byte ∷ bytes)))))
     (ne_eqb byte TRANSFER other.0)
     ∙ ap (λ b. cond b (end_handled content verdict) (asked content (byte ∷ bytes) (technical_reply (byte ∷ bytes)))) (ne_eqb byte END_OF_POOL other.1)
 
-pub piece-handled : (content : Content) (verdict : Verdict) (bytes : List ℕ) → begins_with TRANSFER bytes → handled content verdict bytes ≡ transferred content (drop 1 bytes)
+pub piece-handled : (content : SetPool) (verdict : Verdict) (bytes : List ℕ) → begins_with TRANSFER bytes → handled content verdict bytes ≡ transferred content (drop 1 bytes)
 piece-handled content verdict [] begins = absurd begins
 piece-handled content verdict (byte ∷ bytes) begins =
     ap (λ b. cond b (transferred content bytes) (cond (eqb byte END_OF_POOL) (end_handled content verdict) (asked content (byte ∷ bytes) (technical_reply (byte ∷ bytes)))))
     (eq-eqb byte TRANSFER begins)
 
-pub end-handled : (content : Content) (verdict : Verdict) (bytes : List ℕ) → begins_with END_OF_POOL bytes → handled content verdict bytes ≡ end_handled content verdict
+pub end-handled : (content : SetPool) (verdict : Verdict) (bytes : List ℕ) → begins_with END_OF_POOL bytes → handled content verdict bytes ≡ end_handled content verdict
 end-handled content verdict [] begins = absurd begins
 end-handled content verdict (byte ∷ bytes) begins =
     ap (λ (n : ℕ). handled content verdict (n ∷ bytes)) begins

@@ -7,8 +7,8 @@ use Rattle.vt_names.specs.Claims.{IsRising, OtherHoldersStay, address_of}
 use Rattle.vt_server.specs.Parts.{Act, Rebinds}
 use Rattle.vt_server.specs.Steps.{before, changed, left_by, changes, changes_by}
 use Rattle.vt_server.specs.Terminals.{State, holder, after_acts}
-use Rattle.vt_node.specs.declared.bus.Notice.{Notice}
-use Rattle.vt_node.specs.declared.bus.Notice.TheVariants.{Claim, ClaimRequest, Master, Member, Message, Tp, Etp, Nothing}
+use Rattle.vt_node.specs.declared.bus.FrameMeaning.{FrameMeaning}
+use Rattle.vt_node.specs.declared.bus.FrameMeaning.TheVariants.{Claim, ClaimRequest, Master, Member, Message, Tp, Etp, Nothing}
 use Rattle.vt_server.proofs.Puts.{beside}
 use Rattle.vt_server.proofs.Acts.{of, of-append}
 use Rattle.vt_names.proofs.Hearing.{option_same}
@@ -86,7 +86,7 @@ module _ (law : OtherHoldersStay) (s : State) (rising : IsRising s.claims.addres
   of-claim-changes = of-left (address_of s.claims.addresses name) refl
 
 -- by any notice
-pub of-changes : OtherHoldersStay → (s : State) → IsRising s.claims.addresses → (a source : ℕ) (n : Notice)
+pub of-changes : OtherHoldersStay → (s : State) → IsRising s.claims.addresses → (a source : ℕ) (n : FrameMeaning)
     → of a (changes s source n) ≡ change (holder s a) (holder (before s source n) a)
 of-changes law s rising a source (Claim name) = of-claim-changes law s rising a source name
 of-changes law s rising a source ClaimRequest = sym (ap (λ c. cond c [] (Rebinds ∷ [])) (option_same (holder s a)))
@@ -97,7 +97,7 @@ of-changes law s rising a source Tp = sym (ap (λ c. cond c [] (Rebinds ∷ []))
 of-changes law s rising a source Etp = sym (ap (λ c. cond c [] (Rebinds ∷ [])) (option_same (holder s a)))
 of-changes law s rising a source Nothing = sym (ap (λ c. cond c [] (Rebinds ∷ [])) (option_same (holder s a)))
 
-pub own-before : (s : State) (source : ℕ) (n : Notice) → (before s source n).claims.own ≡ s.claims.own
+pub own-before : (s : State) (source : ℕ) (n : FrameMeaning) → (before s source n).claims.own ≡ s.claims.own
 own-before s source (Claim name) = refl
 own-before s source ClaimRequest = refl
 own-before s source (Master count) = refl

@@ -5,13 +5,13 @@ use Rattle.std.specs.Option.{option_map, option_eq}
 use Rattle.vt_machine.specs.Lives.{SetState}
 use Rattle.vt_can.specs.declared.frames.frame.Frame.{Frame}
 use Rattle.vt_names.specs.Registry.{Set}
-use Rattle.vt_server.specs.Choosing.{Display, alarm_in, louder, loudest, first_with_pool, selected_now, or_selected, display, display_at, display_of, pool_shown_by, with_pool_at, raised_at, events_of_change, choosing, shown_now, status, same_display, status_frame}
+use Rattle.vt_server.specs.Choosing.{ShownMasks, alarm_in, louder, loudest, first_with_pool, selected_now, or_selected, display, display_at, display_of, pool_shown_by, with_pool_at, raised_at, events_of_change, choosing, shown_now, status, same_display, status_frame}
 use Rattle.vt_server.specs.Outputs.{outputs_of}
 use Rattle.vt_server.specs.Steps.{settled, sent_by_settling}
 use Rattle.vt_server.specs.declared.output.Output.{Output}
 use Rattle.vt_server.specs.declared.output.Output.TheVariants as declared
 use Rattle.vt_server.specs.Parts.{Raises, with_place, raised_on}
-use Rattle.vt_server.specs.Places.{Place, with_pool}
+use Rattle.vt_server.specs.Places.{AddressState, with_pool}
 use Rattle.vt_server.specs.Terminals.{State, ToAll, pool_of, pool_at, part, after_acts, sent_by_act, sent_by_acts}
 use Rattle.vt_node.specs.ByAddress.{with_at}
 use Rattle.vt_server.proofs.Puts.{act-is, sent_by_one-is, acts-append, sent-append}
@@ -71,11 +71,11 @@ module _ (s : State) (none : (a : ℕ) → pool_of s a ≡ None) where
   chosen-none = λ i. record s { selected = sym selected-none i; shown = or_selected (sym (loudest-none s.sets) i) (sym selected-none i) }
 
 -- an event of the set of an address
-pub raised-place : (s : State) (a event : ℕ) (places : ℕ → Place)
+pub raised-place : (s : State) (a event : ℕ) (places : ℕ → AddressState)
     → places ≡ with_at a (with_pool (s.places a) (option_map (λ state. raised_on state event) (s.places a).content.pool)) s.places
     → record s { places = places } ≡ after_acts s (raised_at (Some a) event)
 raised-place s a event places is =
-    ap (λ (p : ℕ → Place). record s { places = p }) is
+    ap (λ (p : ℕ → AddressState). record s { places = p }) is
     ∙ sym (act-is s a (Raises event)
     ∙ put-place a s (with_place (part a s) (with_pool (s.places a) (option_map (λ state. raised_on state event) (s.places a).content.pool)) []) refl)
 
@@ -116,7 +116,7 @@ module _ (s t : State) (left : t ≡ after_acts (choosing s) (events_of_change s
   unfolding sent_by_settling
   sent-is old = ap (λ l. l ++ status s.claims.own (display old) (display (settled s))) (change-silent (choosing s) s.shown (shown_now s))
 
-  module _ (old : State) (was now : Display) (before after : List Output) (first : was ≡ display old) (is : now ≡ display t) where
+  module _ (old : State) (was now : ShownMasks) (before after : List Output) (first : was ≡ display old) (is : now ≡ display t) where
     status-by : (b : Bool) → same_display was now ≡ b → outputs_of (sent_by_settling old s) ≡ outputs_of (cond b [] (ToAll (status_frame s.claims.own now) ∷ []))
     status-by b e =
         ap outputs_of

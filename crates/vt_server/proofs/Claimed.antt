@@ -6,13 +6,13 @@ use Rattle.vt_names.specs.Claims.{Claimed, address_of, holder_of}
 use Rattle.vt_names.specs.Registry.{Set, set_at, without, binding, bound}
 use Rattle.vt_node.specs.Messages.{claim_from}
 use Rattle.vt_server.specs.Outputs.{outputs_of}
-use Rattle.vt_server.specs.Parts.{Part, Outcome, Act, Hears, Rebinds, unchanged, with_other_set, without_set, outcome, stays_under, with_holder_name, after_change, after_claim_heard}
-use Rattle.vt_server.specs.Places.{Place, no_content, with_content, heard_at}
+use Rattle.vt_server.specs.Parts.{AddressView, AddressOutcome, Act, Hears, Rebinds, unchanged, with_other_set, without_set, outcome, stays_under, with_holder_name, after_change, after_claim_heard}
+use Rattle.vt_server.specs.Places.{AddressState, no_content, with_content, heard_at}
 use Rattle.vt_server.specs.Steps.{before, changed, changed_left, left_by, left_holder, changes_by, changes, heard_at_source, acts, acted, answer_to, is_defended, defence, sent_by_frame}
 use Rattle.vt_server.specs.Terminals.{State, Sent, ToOne, ToAll, holder, part, put, refusal, after_act, after_acts, sent_by_act, sent_by_acts}
 use Rattle.vt_node.specs.ByAddress.{with_at}
 use Rattle.vt_server.specs.Transfers.{Verdict}
-use Rattle.vt_node.specs.declared.bus.Notice.TheVariants.{Claim}
+use Rattle.vt_node.specs.declared.bus.FrameMeaning.TheVariants.{Claim}
 use Rattle.vt_server.specs.declared.output.Output.{Output}
 use Rattle.vt_server.specs.declared.output.Output.TheVariants as declared
 use Rattle.vt_server.proofs.Changes.{claims-acts}
@@ -78,7 +78,7 @@ module _ (s : State) (a : ℕ) (was : Option ℕ) where
         sym (acts-changed ∙ ap (λ o. put a (after_change (part a s) o) s) (sym there)
         ∙ ap (λ b. put a (cond b (unchanged (part a s)) (without_set (part a s))) s) keeps ∙ put-kept a s (unchanged (part a s)) refl refl)
 
-    pub rebind-closed : (set : Set) (sets : List Set) (places : ℕ → Place) → Some set ≡ set_at a s.sets → stays_under set.name (holder s a) ≡ false
+    pub rebind-closed : (set : Set) (sets : List Set) (places : ℕ → AddressState) → Some set ≡ set_at a s.sets → stays_under set.name (holder s a) ≡ false
         → sets ≡ without a s.sets → places ≡ with_at a (with_content (s.places a) no_content) s.places
         → record s { sets = sets; places = places } ≡ after_acts s (changed was s a)
     rebind-closed set sets places there closes e f =
@@ -109,8 +109,8 @@ heard-claim : (v : State) (a name : ℕ) (frame : Frame) (verdict : Verdict)
 heard-claim v a name frame verdict =
     let place = heard_at v.now (v.places a) in
     let u = with_place_at a place v in
-    let p : Part = record (part a v) { place = place } in
-    ap (λ (q : Part). put a (after_claim_heard q q.set) u) (part-at a place v) ∙ put-over a place v (after_claim_heard p p.set)
+    let p : AddressView = record (part a v) { place = place } in
+    ap (λ (q : AddressView). put a (after_claim_heard q q.set) u) (part-at a place v) ∙ put-over a place v (after_claim_heard p p.set)
     ∙ sym (act-is v a (Hears (Claim name) frame verdict))
 
 module _ (s v : State) (source name : ℕ) (frame : Frame) (verdict : Verdict)
@@ -138,22 +138,22 @@ module _ (s v : State) (source name : ℕ) (frame : Frame) (verdict : Verdict)
 
 -- ---- nothing goes out at an address
 
-record IsSilent (o : Outcome) : Type 0 where
+record IsSilent (o : AddressOutcome) : Type 0 where
   pub frames : o.frames ≡ []
   pub refused : o.refused ≡ None
 
 sent-none : (s : State) (a : ℕ) (h : Act) → IsSilent (outcome s.now a (part a s) h) → sent_by_act s a h ≡ []
 sent-none s a h silent = sent_by_one-is s a h ∙ (λ i. map (ToOne a) (silent.frames i) ++ refusal (silent.refused i))
 
-cond-silent : (b : Bool) (p : Part) → IsSilent (cond b (unchanged p) (without_set p))
+cond-silent : (b : Bool) (p : AddressView) → IsSilent (cond b (unchanged p) (without_set p))
 cond-silent true p = record { frames = refl; refused = refl }
 cond-silent false p = record { frames = refl; refused = refl }
 
-change-silent : (p : Part) (o : Option Set) → IsSilent (after_change p o)
+change-silent : (p : AddressView) (o : Option Set) → IsSilent (after_change p o)
 change-silent p None = record { frames = refl; refused = refl }
 change-silent p (Some set) = cond-silent (stays_under set.name p.holder) p
 
-claim-silent : (p : Part) (o : Option Set) → IsSilent (after_claim_heard p o)
+claim-silent : (p : AddressView) (o : Option Set) → IsSilent (after_claim_heard p o)
 claim-silent p None = record { frames = refl; refused = refl }
 claim-silent p (Some set) = record { frames = refl; refused = refl }
 
@@ -171,7 +171,7 @@ sent-left was s t (Some left) = sent-changed was s t left
 sent-heard : (own source name : ℕ) (frame : Frame) (verdict : Verdict) (s : State) → sent_by_acts s (heard_at_source own source (Claim name) frame verdict) ≡ []
 sent-heard own source name frame verdict s = cases (eqb source own)
   where
-    p : Part
+    p : AddressView
     p = record (part source s) { place = heard_at s.now (s.places source) }
 
     cases : (b : Bool) → sent_by_acts s (cond b [] ((source, Hears (Claim name) frame verdict) ∷ [])) ≡ []

@@ -1,13 +1,13 @@
 -- What the end of an upload comes to.
 use Rattle.std.proofs.Common.{◌≡◌, ℕ, List, []}
 use Rattle.vt_server.specs.Ends.{CarriesOut, IsJudgement, IsEnded}
-use Rattle.vt_server.specs.Places.{Content}
+use Rattle.vt_server.specs.Places.{SetPool}
 use Rattle.vt_node.specs.ByAddress.{with_at}
 use Rattle.vt_server.specs.Transfers.{Verdict, Accepts, Faulty, Refuses, IsVerdict}
 use Rattle.vt_server.specs.declared.ending.Judgement.TheVariants as judgements
 
 -- A pool that is refused leaves the one that is there.
-pub ends-refused : (old new : ℕ → Content) (a : ℕ) (reply : List ℕ) → IsJudgement (old a) (judgements.Refused reply)
+pub ends-refused : (old new : ℕ → SetPool) (a : ℕ) (reply : List ℕ) → IsJudgement (old a) (judgements.Refused reply)
     → new ≡ with_at a (record (old a) { transfer = [] }) old → IsEnded old a (judgements.Refused reply) reply new
 ends-refused old new a reply is left = cases is.verdict is.right is.carried_out
   where

@@ -7,8 +7,8 @@ use Rattle.vt_can.proofs.lemmas.transport.Overdue.{session_removed, first_expire
 use Rattle.vt_node.specs.ByAddress.{with_at}
 use Rattle.vt_node.specs.Nodes.{NodeState, HasExpired}
 use Rattle.vt_server.specs.Outputs.{outputs_of}
-use Rattle.vt_server.specs.Parts.{Act, Outcome, with_place}
-use Rattle.vt_server.specs.Places.{Place}
+use Rattle.vt_server.specs.Parts.{Act, AddressOutcome, with_place}
+use Rattle.vt_server.specs.Places.{AddressState}
 use Rattle.vt_server.specs.States.{state_of}
 use Rattle.vt_server.specs.Terminals.{State, ToOne, part, put, to_address, after_act, after_acts, sent_by_act, sent_by_acts}
 use Rattle.vt_server.specs.declared.output.Output.{Output}
@@ -68,7 +68,7 @@ module _ {S : Type 0} (lane : Lane S) (now : Terminal) (node : NodeState) (rest 
   next-is : next ≡ record current { places = with_at address (lane.with_session None (current.places address)) current.places }
   next-is =
       ap (λ (n : NodeState). state_of (record now { node = n })) rest ∙ lane.placed now (lane.sessions node)
-      ∙ ap (λ (places : ℕ → Place). record current { places = places })
+      ∙ ap (λ (places : ℕ → AddressState). record current { places = places })
       (places-written address current.places (λ b. lane.with_session (finite.get (lane.sessions node) b) (current.places b)) (lane.with_session None (current.places address))
       (ap (λ session. lane.with_session session (current.places address)) (gone expired.expired))
       (λ b ne. ap (λ session. lane.with_session session (current.places b)) (others-stay expired.expired b ne) ∙ stays b))
@@ -76,7 +76,7 @@ module _ {S : Type 0} (lane : Lane S) (now : Terminal) (node : NodeState) (rest 
   after-is : after_act current address lane.act ≡ next
   after-is =
       act-is current address lane.act
-      ∙ ap (λ (o : Outcome). put address o current) (lane.ends current.now address (part address current))
+      ∙ ap (λ (o : AddressOutcome). put address o current) (lane.ends current.now address (part address current))
       ∙ put-place address current (with_place (part address current) (lane.with_session None (current.places address)) (abort_of lane.abort current.claims.own address (lane.session (current.places address)))) refl
       ∙ sym next-is
 

@@ -7,16 +7,16 @@ use Rattle.vt_names.specs.Registry.{set_at}
 use Rattle.vt_server.specs.Findings.{IsJudged, ends_transfer}
 use Rattle.vt_server.specs.Hearings.{TakesNotice, TakesMessage, TakesFrame, IsNoClaim}
 use Rattle.vt_server.specs.Outputs.{frames_of, outputs_of}
-use Rattle.vt_server.specs.Parts.{Part, Outcome, Hears, after_message, after_came, after_notice, behind}
-use Rattle.vt_server.specs.Places.{Place, heard_at}
+use Rattle.vt_server.specs.Parts.{AddressView, AddressOutcome, Hears, after_message, after_came, after_notice, behind}
+use Rattle.vt_server.specs.Places.{AddressState, heard_at}
 use Rattle.vt_server.specs.Sessions.{Came, came}
 use Rattle.vt_server.specs.Steps.{acted, sent_by_frame, defence, heard_at_source}
 use Rattle.vt_server.specs.Terminals.{State, Sent, ToOne, part, put, refusal, to_address, after_acts, sent_by_act, sent_by_acts}
 use Rattle.vt_node.specs.ByAddress.{with_at}
 use Rattle.vt_server.specs.Transfers.{Verdict, Faulty, IsVerdict}
 use Rattle.vt_records.specs.declared.fault.PoolFault.TheVariants as faults
-use Rattle.vt_node.specs.declared.bus.Notice.{Notice}
-use Rattle.vt_node.specs.declared.bus.Notice.TheVariants as notices
+use Rattle.vt_node.specs.declared.bus.FrameMeaning.{FrameMeaning}
+use Rattle.vt_node.specs.declared.bus.FrameMeaning.TheVariants as notices
 use Rattle.vt_server.specs.declared.output.Output.{Output}
 use Rattle.vt_server.specs.declared.output.Output.TheVariants as declared
 use Rattle.vt_server.proofs.Puts.{act-is, sent_by_one-is}
@@ -32,19 +32,19 @@ frames-append xs ys = map-append _ xs ys
 
 -- ---- what is written over a place that was written
 
-abbrev pub with_place_at : ℕ → Place → State → State
+abbrev pub with_place_at : ℕ → AddressState → State → State
 with_place_at a place s = record s { places = with_at a place s.places }
 
-pub part-at : (a : ℕ) (place : Place) (s : State) → part a (with_place_at a place s) ≡ record (part a s) { place = place }
+pub part-at : (a : ℕ) (place : AddressState) (s : State) → part a (with_place_at a place s) ≡ record (part a s) { place = place }
 part-at a place s = ap (λ p. record (part a s) { place = p }) (at-own a s.places place)
 
-pub put-over : (a : ℕ) (place : Place) (s : State) (after : Outcome) → put a after (with_place_at a place s) ≡ put a after s
-put-over a place s after = ap (λ (p : ℕ → Place). record (put a after s) { places = p }) (places-twice a s.places after.place place)
+pub put-over : (a : ℕ) (place : AddressState) (s : State) (after : AddressOutcome) → put a after (with_place_at a place s) ≡ put a after s
+put-over a place s after = ap (λ (p : ℕ → AddressState). record (put a after s) { places = p }) (places-twice a s.places after.place place)
 
 -- ---- a frame of a session, or a message
 
-module _ (s : State) (frame : Frame) (notice : Notice) (c : Came) (is : came s.now s.claims.own (source_of frame) (s.places (source_of frame)) notice frame ≡ c)
-    (after-is : (p : Part) (v : Verdict) → after_notice s.now (source_of frame) p notice frame v
+module _ (s : State) (frame : Frame) (notice : FrameMeaning) (c : Came) (is : came s.now s.claims.own (source_of frame) (s.places (source_of frame)) notice frame ≡ c)
+    (after-is : (p : AddressView) (v : Verdict) → after_notice s.now (source_of frame) p notice frame v
     ≡ after_came (source_of frame) p v (came s.now p.terminal (source_of frame) p.place notice frame))
     (same : c.place.content ≡ (s.places (source_of frame)).content) where
   abbrev a : ℕ
@@ -56,23 +56,23 @@ module _ (s : State) (frame : Frame) (notice : Notice) (c : Came) (is : came s.n
   after-came : (v : Verdict) → after_notice s.now a (part a s) notice frame v ≡ behind c.frames (after_message a (part a u) v (part a u).set c.message)
   after-came v =
       after-is (part a s) v ∙ ap (after_came a (part a s) v) is
-      ∙ ap (λ (p : Part). behind c.frames (after_message a p v p.set c.message)) (sym (part-at a c.place s))
+      ∙ ap (λ (p : AddressView). behind c.frames (after_message a p v p.set c.message)) (sym (part-at a c.place s))
 
   pub takes-came : (t : State) (before after : List Output) → TakesMessage u a c.frames c.message t before after → TakesNotice s notice frame t before after
   takes-came t before after takes =
       let v = takes.verdict in record {
         verdict = v;
         judged = λ ends.
-            subst (λ x. IsVerdict x v) (ap (λ (p : Place). p.content) (at-own a s.places c.place) ∙ same)
+            subst (λ x. IsVerdict x v) (ap (λ (p : AddressState). p.content) (at-own a s.places c.place) ∙ same)
             (takes.judged (ap (λ (d : Came). ends_transfer (set_at a s.sets) d.message) (sym is) ∙ ends));
         state =
             takes.state ∙ put-over a c.place s (after_message a (part a u) v (part a u).set c.message)
-            ∙ ap (λ (o : Outcome). put a o s) (sym (after-came v));
+            ∙ ap (λ (o : AddressOutcome). put a o s) (sym (after-came v));
         sent =
             takes.sent
             ∙ append_assoc before (frames_of c.frames) (frames_of (after_message a (part a u) v (part a u).set c.message).frames)
             ∙ ap (λ l. before ++ l) (sym (frames-append c.frames (after_message a (part a u) v (part a u).set c.message).frames))
-            ∙ ap (λ (o : Outcome). before ++ frames_of o.frames) (sym (after-came v));
+            ∙ ap (λ (o : AddressOutcome). before ++ frames_of o.frames) (sym (after-came v));
       }
 
 -- ---- frames to an address as outputs
@@ -84,7 +84,7 @@ frames-to_one a (f ∷ frames) = ap (λ l. declared.Frame f ∷ l) (frames-to_on
 pub outputs-append : (xs ys : List Sent) → outputs_of (xs ++ ys) ≡ outputs_of xs ++ outputs_of ys
 outputs-append xs ys = map-append _ xs ys
 
-pub accepted-frames : (a : ℕ) (o : Outcome) → o.refused ≡ None → outputs_of (to_address a o) ≡ frames_of o.frames
+pub accepted-frames : (a : ℕ) (o : AddressOutcome) → o.refused ≡ None → outputs_of (to_address a o) ≡ frames_of o.frames
 accepted-frames a o none =
     outputs-append (map (ToOne a) o.frames) (refusal o.refused)
     ∙ ap (λ r. outputs_of (map (ToOne a) o.frames) ++ outputs_of (refusal r)) none
@@ -93,7 +93,7 @@ accepted-frames a o none =
 -- ---- a frame that is no claim, from the terminal's own address or another one
 
 -- whether it was heard before says nothing of its message
-came-heard : (now own a : ℕ) (place : Place) (notice : Notice) (frame : Frame)
+came-heard : (now own a : ℕ) (place : AddressState) (notice : FrameMeaning) (frame : Frame)
     → (came now own a (heard_at now place) notice frame).message ≡ (came now own a place notice frame).message
 came-heard now own a place (notices.Claim name) frame = refl
 came-heard now own a place notices.ClaimRequest frame = refl
@@ -104,7 +104,7 @@ came-heard now own a place notices.Tp frame = refl
 came-heard now own a place notices.Etp frame = refl
 came-heard now own a place notices.Nothing frame = refl
 
-module _ (s : State) (frame : Frame) (notice : Notice) (no : IsNoClaim notice) where
+module _ (s : State) (frame : Frame) (notice : FrameMeaning) (no : IsNoClaim notice) where
   abbrev from : ℕ
   from = source_of frame
 
@@ -113,7 +113,7 @@ module _ (s : State) (frame : Frame) (notice : Notice) (no : IsNoClaim notice) w
       × (sent_by_frame s from notice frame v ≡ defence s from notice ++ sent_by_acts s (heard_at_source s.claims.own from notice frame v))
   acts-are v = cases notice no
     where
-      cases : (n : Notice) → IsNoClaim n → (acted s from n frame v ≡ after_acts s (heard_at_source s.claims.own from n frame v))
+      cases : (n : FrameMeaning) → IsNoClaim n → (acted s from n frame v ≡ after_acts s (heard_at_source s.claims.own from n frame v))
           × (sent_by_frame s from n frame v ≡ defence s from n ++ sent_by_acts s (heard_at_source s.claims.own from n frame v))
       cases (notices.Claim name) none = absurd (none name refl)
       cases notices.ClaimRequest none = (refl, refl)
@@ -142,26 +142,26 @@ module _ (s : State) (frame : Frame) (notice : Notice) (no : IsNoClaim notice) w
   heard = with_place_at from (heard_at s.now (s.places from)) s
 
   pub takes-heard : (t : State) (before middle after : List Output) → from ≢ s.claims.own → middle ≡ before ++ outputs_of (defence s from notice)
-      → TakesNotice heard notice frame t middle after → ((p : Part) (v : Verdict) → (after_notice s.now from p notice frame v).refused ≡ None) → TakesFrame s notice frame t before after
+      → TakesNotice heard notice frame t middle after → ((p : AddressView) (v : Verdict) → (after_notice s.now from p notice frame v).refused ≡ None) → TakesFrame s notice frame t before after
   takes-heard t before middle after ne first takes accepted =
       let v = takes.verdict in
-      let p : Part = record (part from s) { place = heard_at s.now (s.places from) } in
+      let p : AddressView = record (part from s) { place = heard_at s.now (s.places from) } in
       let one : heard_at_source s.claims.own from notice frame v ≡ (from, Hears notice frame v) ∷ [] =
       ap (λ b. cond b [] ((from, Hears notice frame v) ∷ [])) (ne_eqb from s.claims.own ne) in
       let alike : part from heard ≡ p = part-at from (heard_at s.now (s.places from)) s in
       let o = after_notice s.now from p notice frame v in record {
         verdict = v;
         judged = λ ends.
-            subst (λ (q : Part). IsVerdict q.place.content v) alike
+            subst (λ (q : AddressView). IsVerdict q.place.content v) alike
             (takes.judged
             ((λ i. ends_transfer (set_at from s.sets) (came s.now s.claims.own from (alike i).place notice frame).message)
             ∙ ap (λ m. ends_transfer (set_at from s.sets) m) (came-heard s.now s.claims.own from (s.places from) notice frame) ∙ ends));
         state =
-            takes.state ∙ ap (λ (q : Part). put from (after_notice s.now from q notice frame v) heard) alike
+            takes.state ∙ ap (λ (q : AddressView). put from (after_notice s.now from q notice frame v) heard) alike
             ∙ put-over from (heard_at s.now (s.places from)) s o
             ∙ sym ((acts-are v).0 ∙ ap (after_acts s) one ∙ act-is s from (Hears notice frame v));
         sent =
-            takes.sent ∙ ap (λ (q : Part). middle ++ frames_of (after_notice s.now from q notice frame v).frames) alike
+            takes.sent ∙ ap (λ (q : AddressView). middle ++ frames_of (after_notice s.now from q notice frame v).frames) alike
             ∙ ap (λ l. l ++ frames_of o.frames) first
             ∙ append_assoc before (outputs_of (defence s from notice)) (frames_of o.frames)
             ∙ ap (λ l. before ++ (outputs_of (defence s from notice) ++ l))

@@ -2,7 +2,7 @@
 use Rattle.std.proofs.Common.{◌≡◌, ◌<◌, ℕ, Bool, true, false, cond, List, [], ◌++◌, Option, Some, None, is_some, inl, inr, true≢false, refl, sym, ap, subst, ◌∙◌, append_assoc, append-nil}
 use Rattle.vt_can.specs.declared.frames.frame.Frame.{Frame}
 use Rattle.vt_can.specs.frames.Frame.{source_of}
-use Rattle.vt_can.specs.transport.Receivers.{IsReadyFor}
+use Rattle.vt_can.specs.transport.Receivers.{HasCapacityFor}
 use Rattle.vt_names.specs.Claims.{Claimed}
 use Rattle.vt_names.specs.Registry.{Set, set_at, registering, joining, mastered, joined, has_place, with_set}
 use Rattle.vt_transport.specs.Protocol as tp
@@ -11,13 +11,13 @@ use Rattle.vt_extended.specs.Protocol as etp
 use Rattle.vt_extended.specs.Wire.{etp_frame}
 use Rattle.vt_node.specs.Bus.{notice_of}
 use Rattle.vt_server.specs.Findings.{IsJudged, ends_transfer}
-use Rattle.vt_server.specs.Hearings.{IsReadyWith, IsReadyNow, IsReadyForMessage, IsReadyBy, HasRoom, HasUpload, IsNoClaim, TakesNotice, TakesFrame, TakesClaim, Hears, timely, message_by}
+use Rattle.vt_server.specs.Hearings.{FitsMessage, FitsOneFrame, FitsCompleted, FitsMeaning, HasRoom, HasUpload, IsNoClaim, TakesNotice, TakesFrame, TakesClaim, Hears, timely, message_by}
 use Rattle.vt_server.specs.Holders.{AreFormer}
 use Rattle.vt_server.specs.Lapses.{at_time, lapsed, sent_by_lapses}
 use Rattle.vt_server.specs.Outputs.{outputs_of, frames_of}
-use Rattle.vt_server.specs.Parts.{Part, Outcome, unchanged, after_message, after_master, after_member, after_notice, behind, with_other_set}
+use Rattle.vt_server.specs.Parts.{AddressView, AddressOutcome, unchanged, after_message, after_master, after_member, after_notice, behind, with_other_set}
 use Rattle.vt_node.specs.Registries.{Watched}
-use Rattle.vt_server.specs.Places.{Content, Place, heard_at}
+use Rattle.vt_server.specs.Places.{SetPool, AddressState, heard_at}
 use Rattle.vt_node.specs.Receiving.{taken}
 use Rattle.vt_server.specs.Rooms.{HasLapsed}
 use Rattle.vt_server.specs.Sessions.{came, message_to_terminal}
@@ -29,21 +29,21 @@ use Rattle.vt_node.specs.ByAddress.{with_at}
 use Rattle.vt_server.specs.Transfers.{Verdict, IsVerdict}
 use Rattle.vt_server.specs.Uploads.{content_of, room_of}
 use Rattle.vt_node.specs.Watches.{heard_of}
-use Rattle.vt_node.specs.declared.bus.Notice.{Notice}
-use Rattle.vt_node.specs.declared.bus.Notice.TheVariants as notices
+use Rattle.vt_node.specs.declared.bus.FrameMeaning.{FrameMeaning}
+use Rattle.vt_node.specs.declared.bus.FrameMeaning.TheVariants as notices
 use Rattle.vt_server.specs.declared.claiming.FormerHolders.{FormerHolders}
 use Rattle.vt_server.specs.declared.input.Input.TheVariants as inputs
 use Rattle.vt_server.specs.declared.output.Output.{Output}
 use Rattle.vt_server.specs.declared.terminal.Terminal.{Terminal}
-use Rattle.vt_server.specs.declared.uploading.Upload.{Upload}
-use Rattle.vt_server.specs.declared.uploading.Upload.TheVariants as uploads
+use Rattle.vt_server.specs.declared.uploading.PreparedMessage.{PreparedMessage}
+use Rattle.vt_server.specs.declared.uploading.PreparedMessage.TheVariants as uploads
 use Rattle.vt_server.proofs.Answered.{piece-ends_none, other-ends_none}
 use Rattle.vt_server.proofs.Framed.{any_verdict, outputs-append, with_place_at}
 use Rattle.vt_server.proofs.Writes.{put-kept, put-set, heard-placed}
 
 -- ---- where no message comes
 
-pub none-left : (a : ℕ) (p : Part) (v : Verdict) (o : Option Set) → after_message a p v o None ≡ unchanged p
+pub none-left : (a : ℕ) (p : AddressView) (v : Verdict) (o : Option Set) → after_message a p v o None ≡ unchanged p
 none-left a p v None = refl
 none-left a p v (Some set) = refl
 
@@ -52,26 +52,26 @@ none-ends None ends P = absurd (true≢false (sym ends))
 none-ends (Some set) ends P = absurd (true≢false (sym ends))
 
 -- a notice that only asks, or says nothing
-abbrev pub IsIdle : Notice → Type 0
+abbrev pub IsIdle : FrameMeaning → Type 0
 IsIdle notices.ClaimRequest = Unit {0}
 IsIdle notices.Nothing = Unit {0}
 IsIdle notice = ⊥
 
-pub takes-nothing : (s : State) (n : Notice) (frame : Frame) (outputs : List Output) → IsIdle n → TakesNotice s n frame s outputs outputs
+pub takes-nothing : (s : State) (n : FrameMeaning) (frame : Frame) (outputs : List Output) → IsIdle n → TakesNotice s n frame s outputs outputs
 takes-nothing s n frame outputs idle = record {
   verdict = any_verdict;
   judged = judged n idle;
-  state = sym (ap (λ (o : Outcome). put a o s) (left n idle) ∙ put-kept a s (unchanged p) refl refl);
-  sent = sym (ap (λ (o : Outcome). outputs ++ frames_of o.frames) (left n idle) ∙ append-nil outputs);
+  state = sym (ap (λ (o : AddressOutcome). put a o s) (left n idle) ∙ put-kept a s (unchanged p) refl refl);
+  sent = sym (ap (λ (o : AddressOutcome). outputs ++ frames_of o.frames) (left n idle) ∙ append-nil outputs);
 }
   where
     a : ℕ
     a = source_of frame
 
-    p : Part
+    p : AddressView
     p = part a s
 
-    left : (n : Notice) → IsIdle n → after_notice s.now a p n frame any_verdict ≡ unchanged p
+    left : (n : FrameMeaning) → IsIdle n → after_notice s.now a p n frame any_verdict ≡ unchanged p
     left notices.ClaimRequest _ = ap (behind []) (none-left a p any_verdict p.set)
     left notices.Nothing _ = ap (behind []) (none-left a p any_verdict p.set)
     left (notices.Claim name) is = absurd is
@@ -81,7 +81,7 @@ takes-nothing s n frame outputs idle = record {
     left notices.Tp is = absurd is
     left notices.Etp is = absurd is
 
-    judged : (n : Notice) → IsIdle n → IsJudged s.now a p n frame any_verdict
+    judged : (n : FrameMeaning) → IsIdle n → IsJudged s.now a p n frame any_verdict
     judged notices.ClaimRequest _ = λ ends. none-ends p.set ends (IsVerdict p.place.content any_verdict)
     judged notices.Nothing _ = λ ends. none-ends p.set ends (IsVerdict p.place.content any_verdict)
     judged (notices.Claim name) is = absurd is
@@ -92,7 +92,7 @@ takes-nothing s n frame outputs idle = record {
     judged notices.Etp is = absurd is
 
 -- a notice that is none of those that ask for more
-pub idle-by : (n : Notice) → IsNoClaim n → ((count : ℕ) → n ≡ notices.Master count → ⊥) → ((name : ℕ) → n ≡ notices.Member name → ⊥)
+pub idle-by : (n : FrameMeaning) → IsNoClaim n → ((count : ℕ) → n ≡ notices.Master count → ⊥) → ((name : ℕ) → n ≡ notices.Member name → ⊥)
     → (n ≡ notices.Message → ⊥) → (n ≡ notices.Tp → ⊥) → (n ≡ notices.Etp → ⊥) → IsIdle n
 idle-by (notices.Claim name) claim master member message tp etp = absurd (claim name refl)
 idle-by notices.ClaimRequest claim master member message tp etp = tt
@@ -107,7 +107,7 @@ pub request-unclaimed : IsNoClaim notices.ClaimRequest
 request-unclaimed name e = subst IsIdle e tt
 
 -- the terminal defends its address where it is asked for, and against claims
-pub defence-none : (s : State) (a : ℕ) (n : Notice) → IsNoClaim n → (n ≡ notices.ClaimRequest → ⊥) → defence s a n ≡ []
+pub defence-none : (s : State) (a : ℕ) (n : FrameMeaning) → IsNoClaim n → (n ≡ notices.ClaimRequest → ⊥) → defence s a n ≡ []
 defence-none s a (notices.Claim name) unclaimed other = absurd (unclaimed name refl)
 defence-none s a notices.ClaimRequest unclaimed other = absurd (other refl)
 defence-none s a (notices.Master count) unclaimed other = refl
@@ -123,7 +123,7 @@ pub heard-state : (t : Terminal) (registry : Watched) (a b : ℕ) → a ≡ b �
     → state_of (record t { registry = registry }) ≡ with_place_at b (heard_at t.time ((state_of t).places b)) (state_of t)
 heard-state t registry a b is sets left =
     (λ i. record (state_of t) { sets = sets i; places = places_by (content_of t.contents) t.node (heard_of registry.watch) })
-    ∙ ap (λ (places : ℕ → Place). record (state_of t) { places = places })
+    ∙ ap (λ (places : ℕ → AddressState). record (state_of t) { places = places })
     (ap (places_by (content_of t.contents) t.node) (left ∙ ap (λ c. with_at c (Some t.time) (heard_of t.registry.watch)) is)
     ∙ heard-placed (content_of t.contents) t.node (heard_of t.registry.watch) b (Some t.time))
 
@@ -184,14 +184,14 @@ takes-member s name frame outputs sets is = record {
 
 -- ---- what was made ready judges the upload that a message ends
 
-now-with : (content : Content) (room : ℕ) (bytes : List ℕ) (upload : Upload) → IsReadyNow content room bytes upload → IsReadyWith content room bytes upload
+now-with : (content : SetPool) (room : ℕ) (bytes : List ℕ) (upload : PreparedMessage) → FitsOneFrame content room bytes upload → FitsMessage content room bytes upload
 now-with content room bytes uploads.Nothing is = is
 now-with content room bytes uploads.Room is = absurd is
 now-with content room bytes (uploads.Piece piece) is = is
 now-with content room bytes (uploads.End judgement) is = is
 
-by-message : (n : Notice) (content : Content) (room now own a : ℕ) (place : Place) (frame : Frame) (upload : Upload)
-    → IsReadyBy n content room (came now own a place n frame).message upload → IsReadyForMessage content room (came now own a place n frame).message upload
+by-message : (n : FrameMeaning) (content : SetPool) (room now own a : ℕ) (place : AddressState) (frame : Frame) (upload : PreparedMessage)
+    → FitsMeaning n content room (came now own a place n frame).message upload → FitsCompleted content room (came now own a place n frame).message upload
 by-message (notices.Claim name) content room now own a place frame upload is = tt
 by-message notices.ClaimRequest content room now own a place frame upload is = tt
 by-message (notices.Master count) content room now own a place frame upload is = tt
@@ -201,19 +201,19 @@ by-message notices.Tp content room now own a place frame upload is = is
 by-message notices.Etp content room now own a place frame upload is = is
 by-message notices.Nothing content room now own a place frame upload is = tt
 
-ready-judges : (o : Option Set) (m : Option (List ℕ)) (content : Content) (room : ℕ) (upload : Upload)
-    → (is_some o ≡ true → IsReadyForMessage content room m upload) → (v : Verdict) × (ends_transfer o m ≡ true → IsVerdict content v)
+ready-judges : (o : Option Set) (m : Option (List ℕ)) (content : SetPool) (room : ℕ) (upload : PreparedMessage)
+    → (is_some o ≡ true → FitsCompleted content room m upload) → (v : Verdict) × (ends_transfer o m ≡ true → IsVerdict content v)
 ready-judges None m content room upload ready = (any_verdict, λ ends. absurd (true≢false (sym ends)))
 ready-judges (Some set) None content room upload ready = (any_verdict, λ ends. absurd (true≢false (sym ends)))
 ready-judges (Some set) (Some bytes) content room upload ready = cases upload (ready refl)
   where
-    cases : (u : Upload) → IsReadyWith content room bytes u → (v : Verdict) × (ends_transfer (Some set) (Some bytes) ≡ true → IsVerdict content v)
+    cases : (u : PreparedMessage) → FitsMessage content room bytes u → (v : Verdict) × (ends_transfer (Some set) (Some bytes) ≡ true → IsVerdict content v)
     cases uploads.Nothing is = (any_verdict, λ ends. other-ends_none (Some set) bytes is ends (IsVerdict content any_verdict))
     cases uploads.Room is = (any_verdict, λ ends. piece-ends_none (Some set) bytes is.0 ends (IsVerdict content any_verdict))
     cases (uploads.Piece piece) is = (any_verdict, λ ends. piece-ends_none (Some set) bytes is.0 ends (IsVerdict content any_verdict))
     cases (uploads.End judgement) is = (is.1.verdict, λ ends. is.1.right)
 
-pub upload-judges : (t : Terminal) (n : Notice) (frame : Frame) (upload : Upload) → HasUpload t n frame upload
+pub upload-judges : (t : Terminal) (n : FrameMeaning) (frame : Frame) (upload : PreparedMessage) → HasUpload t n frame upload
     → (v : Verdict) × IsJudged t.time (source_of frame) (part (source_of frame) (state_of t)) n frame v
 upload-judges t n frame upload has =
     let a = source_of frame in
@@ -222,7 +222,7 @@ upload-judges t n frame upload has =
 
 -- ---- the message of a frame, by the sessions alone
 
-pub came-reads : (now own a : ℕ) (p q : Place) (n : Notice) (frame : Frame) → p.tp ≡ q.tp → p.etp ≡ q.etp
+pub came-reads : (now own a : ℕ) (p q : AddressState) (n : FrameMeaning) (frame : Frame) → p.tp ≡ q.tp → p.etp ≡ q.etp
     → (came now own a p n frame).message ≡ (came now own a q n frame).message
 came-reads now own a p q (notices.Claim name) frame d e = refl
 came-reads now own a p q notices.ClaimRequest frame d e = refl
@@ -234,43 +234,43 @@ came-reads now own a p q notices.Etp frame d e = ap (λ x. message_to_terminal (
 came-reads now own a p q notices.Nothing frame d e = refl
 
 -- What is the same of two terminals keeps what was made ready.
-module _ (t u : Terminal) (n : Notice) (frame : Frame) where
+module _ (t u : Terminal) (n : FrameMeaning) (frame : Frame) where
   abbrev a : ℕ
   a = source_of frame
 
   pub room-kept : u.node.claims ≡ t.node.claims → u.node.tp_room ≡ t.node.tp_room → u.node.etp_room ≡ t.node.etp_room
       → (0 < t.registry.room → 0 < u.registry.room) → HasRoom t n frame → HasRoom u n frame
   room-kept claims tp_room etp_room sets has = record {
-    tp = λ is. subst (λ (x : Claimed × ℕ). IsReadyFor tp.protocol (tp_frame x.0.own frame) x.1) (λ i. (sym claims i, sym tp_room i)) (has.tp is);
-    etp = λ is. subst (λ (x : Claimed × ℕ). IsReadyFor etp.protocol (etp_frame x.0.own frame) x.1) (λ i. (sym claims i, sym etp_room i)) (has.etp is);
+    tp = λ is. subst (λ (x : Claimed × ℕ). HasCapacityFor tp.protocol (tp_frame x.0.own frame) x.1) (λ i. (sym claims i, sym tp_room i)) (has.tp is);
+    etp = λ is. subst (λ (x : Claimed × ℕ). HasCapacityFor etp.protocol (etp_frame x.0.own frame) x.1) (λ i. (sym claims i, sym etp_room i)) (has.etp is);
     sets = λ count is. sets (has.sets count is);
   }
 
-  pub upload-kept : (now : ℕ) (place : Place) (upload : Upload) → u.node.claims ≡ t.node.claims → u.time ≡ now
+  pub upload-kept : (now : ℕ) (place : AddressState) (upload : PreparedMessage) → u.node.claims ≡ t.node.claims → u.time ≡ now
       → ((state_of u).places a).tp ≡ place.tp → ((state_of u).places a).etp ≡ place.etp
       → content_of u.contents a ≡ content_of t.contents a → room_of u.contents a ≡ room_of t.contents a
-      → IsReadyBy n (content_of t.contents a) (room_of t.contents a) (message_by t now place n frame) upload
-      → IsReadyBy n (content_of u.contents a) (room_of u.contents a) (message_by u u.time ((state_of u).places a) n frame) upload
+      → FitsMeaning n (content_of t.contents a) (room_of t.contents a) (message_by t now place n frame) upload
+      → FitsMeaning n (content_of u.contents a) (room_of u.contents a) (message_by u u.time ((state_of u).places a) n frame) upload
   upload-kept now place upload claims time d e content room is =
       let message : message_by t now place n frame ≡ message_by u u.time ((state_of u).places a) n frame =
       (λ i. (came (sym time i) (sym claims i).own a place n frame).message)
       ∙ sym (came-reads u.time u.node.claims.own a ((state_of u).places a) place n frame d e) in
-      subst (λ (x : Content × (ℕ × Option (List ℕ))). IsReadyBy n x.0 x.1.0 x.1.1 upload) (λ i. (sym content i, (sym room i, message i))) is
+      subst (λ (x : SetPool × (ℕ × Option (List ℕ))). FitsMeaning n x.0 x.1.0 x.1.1 upload) (λ i. (sym content i, (sym room i, message i))) is
 
 -- after what the time of the frame ended
-pub lapsed-upload : (t u : Terminal) (n : Notice) (frame : Frame) (now : ℕ) (upload : Upload) → HasLapsed t u now → u.time ≡ now
-    → IsReadyBy n (content_of t.contents (source_of frame)) (room_of t.contents (source_of frame))
+pub lapsed-upload : (t u : Terminal) (n : FrameMeaning) (frame : Frame) (now : ℕ) (upload : PreparedMessage) → HasLapsed t u now → u.time ≡ now
+    → FitsMeaning n (content_of t.contents (source_of frame)) (room_of t.contents (source_of frame))
     (message_by t now (timely now ((state_of t).places (source_of frame))) n frame) upload
     → HasUpload u n frame upload
 lapsed-upload t u n frame now upload ended time is some =
-    let a = source_of frame in elim (ended.uploads a) as (λ _. IsReadyBy n (content_of u.contents a) (room_of u.contents a) (message_by u u.time ((state_of u).places a) n frame) upload) [
+    let a = source_of frame in elim (ended.uploads a) as (λ _. FitsMeaning n (content_of u.contents a) (room_of u.contents a) (message_by u u.time ((state_of u).places a) n frame) upload) [
       | inl none ↦ absurd (true≢false (sym some ∙ ap is_some none))
       | inr kept ↦ upload-kept t u n frame now (timely now ((state_of t).places a)) upload ended.claims time (ended.tp a) (ended.etp a) kept.0 kept.1 is
     ]
 
 -- ---- the frame in the step
 
-no-loss : (s : State) (a : ℕ) (n : Notice) → IsNoClaim n → is_lost_by (answer_to s a n) ≡ false
+no-loss : (s : State) (a : ℕ) (n : FrameMeaning) → IsNoClaim n → is_lost_by (answer_to s a n) ≡ false
 no-loss s a (notices.Claim name) unclaimed = absurd (unclaimed name refl)
 no-loss s a notices.ClaimRequest unclaimed = refl
 no-loss s a (notices.Master count) unclaimed = refl
@@ -280,7 +280,7 @@ no-loss s a notices.Tp unclaimed = refl
 no-loss s a notices.Etp unclaimed = refl
 no-loss s a notices.Nothing unclaimed = refl
 
-claim-judged : (s : State) (a : ℕ) (frame : Frame) (n : Notice) → is_lost_by (answer_to s a n) ≡ true → IsJudged s.now a (part a s) n frame any_verdict
+claim-judged : (s : State) (a : ℕ) (frame : Frame) (n : FrameMeaning) → is_lost_by (answer_to s a n) ≡ true → IsJudged s.now a (part a s) n frame any_verdict
 claim-judged s a frame (notices.Claim name) lost = λ ends. none-ends (part a s).set ends (IsVerdict (s.places a).content any_verdict)
 claim-judged s a frame notices.ClaimRequest lost = absurd (true≢false (sym lost))
 claim-judged s a frame (notices.Master count) lost = absurd (true≢false (sym lost))
@@ -290,7 +290,7 @@ claim-judged s a frame notices.Tp lost = absurd (true≢false (sym lost))
 claim-judged s a frame notices.Etp lost = absurd (true≢false (sym lost))
 claim-judged s a frame notices.Nothing lost = absurd (true≢false (sym lost))
 
-module _ (old s : State) (n : Notice) (frame : Frame) where
+module _ (old s : State) (n : FrameMeaning) (frame : Frame) where
   abbrev from : ℕ
   from = source_of frame
 
@@ -347,7 +347,7 @@ module _ (old s : State) (n : Notice) (frame : Frame) where
 -- ---- the step of a frame
 
 module _ (s : State) (time : ℕ) (frame : Frame) where
-  pub takes-line : (n : Notice) (t : State) (before middle after : List Output) → s.lost ≡ false → n ≡ notice_of s.claims.own s.claims.name frame
+  pub takes-line : (n : FrameMeaning) (t : State) (before middle after : List Output) → s.lost ≡ false → n ≡ notice_of s.claims.own s.claims.name frame
       → middle ≡ before ++ outputs_of (sent_by_lapses (at_time s time))
       → Hears s (lapsed (at_time s time)) n frame t middle after → TakesInput s (inputs.Frame time frame) t before after
   takes-line n t before middle after kept is sent hears =

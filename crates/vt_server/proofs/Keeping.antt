@@ -7,17 +7,17 @@ use Rattle.vt_can.specs.lines.Actions.{ActionValue, Press, Release, Select, Numb
 use Rattle.vt_can.specs.lines.Actions as actions
 use Rattle.vt_names.specs.Claims.{Claimed, OtherHoldersStay}
 use Rattle.vt_names.specs.Registry.{AreApart, Set, set_at, with_set, is_of}
-use Rattle.vt_stores.specs.Stores.{Contents}
+use Rattle.vt_stores.specs.Stores.{ObjectMap}
 use Rattle.vt_node.specs.Bus.{notice_of}
 use Rattle.vt_server.specs.Choosing.{choosing, shown_now, selected_now, events_of_change}
 use Rattle.vt_server.specs.Orderly.{IsOrderly, IsOther}
 use Rattle.vt_server.specs.Lapses.{at_time, lapsed, silences, tp_due, etp_due, sending_due, after_tp_timeouts, after_etp_timeouts, after_timeouts}
 use Rattle.vt_server.specs.Parts.{Act, Operates, Preloads, outcome}
-use Rattle.vt_server.specs.Steps.{Event, FrameAt, ActionAt, step, before, acts, answer_to, is_lost_by, settled, losing, acted, acting, hearing, no_step, step_frame, selecting, at_shown, step_action, preloading}
+use Rattle.vt_server.specs.Steps.{JudgedInput, FrameAt, ActionAt, step, before, acts, answer_to, is_lost_by, settled, losing, acted, acting, hearing, no_step, step_frame, selecting, at_shown, step_action, preloading}
 use Rattle.vt_server.specs.Terminals.{State, pool_of, pool_at, part, after_act, after_acts, with_set_at}
 use Rattle.vt_server.specs.Transfers.{Verdict}
-use Rattle.vt_node.specs.declared.bus.Notice.{Notice}
-use Rattle.vt_node.specs.declared.bus.Notice.TheVariants.{Claim, ClaimRequest, Master, Member, Message, Tp, Etp, Nothing}
+use Rattle.vt_node.specs.declared.bus.FrameMeaning.{FrameMeaning}
+use Rattle.vt_node.specs.declared.bus.FrameMeaning.TheVariants.{Claim, ClaimRequest, Master, Member, Message, Tp, Etp, Nothing}
 use Rattle.vt_server.proofs.Puts.{act-is}
 use Rattle.vt_node.proofs.Sets.{at-with_other}
 use Rattle.vt_names.proofs.Filing.{set_at-first, set_at-later, with_set-first, with_set-later}
@@ -26,7 +26,7 @@ use Rattle.vt_names.proofs.Holding.{by_eq, none-some}
 -- what the parts of a step keep
 pub record IsKept (P : State → Type 0) : Type 0 where
   pub act : (s : State) (a : ℕ) (h : Act) → P s → P (after_act s a h)
-  pub heard : (s : State) (source : ℕ) (n : Notice) → P s → P (before s source n)
+  pub heard : (s : State) (source : ℕ) (n : FrameMeaning) → P s → P (before s source n)
   pub timed : (s : State) (time : ℕ) → P s → P (at_time s time)
   pub chosen : (s : State) (selected shown : Option ℕ) (lost : Bool) → P s → P (record s { selected = selected; shown = shown; lost = lost })
 
@@ -48,7 +48,7 @@ module _ (P : State → Type 0) (kept : IsKept P) where
   unfolding settled
   settled-keeps s is = acts-keep P kept.act (choosing s) (events_of_change s.shown (shown_now s)) (kept.chosen s (selected_now s) (shown_now s) s.lost is)
 
-  hearing-keeps : (old s : State) (source : ℕ) (n : Notice) (f : Frame) (verdict : Verdict) → P s → P (hearing old s source n f verdict).after
+  hearing-keeps : (old s : State) (source : ℕ) (n : FrameMeaning) (f : Frame) (verdict : Verdict) → P s → P (hearing old s source n f verdict).after
   hearing-keeps old s source n f verdict is = cases (is_lost_by (answer_to s source n))
     where
       cases : (b : Bool) → P (cond b (losing s) (acting old s source n f verdict)).after
@@ -67,7 +67,7 @@ module _ (P : State → Type 0) (kept : IsKept P) where
       cases true = kept.chosen s (Some a) s.shown s.lost is
       cases false = is
 
-  pub step-keeps : (s : State) (e : Event) → P s → P (step s e).after
+  pub step-keeps : (s : State) (e : JudgedInput) → P s → P (step s e).after
   step-keeps s (FrameAt time f verdict) is = cases s.lost
     where
       cases : (b : Bool) → P (cond b (no_step s) (step_frame s time f verdict)).after
@@ -82,7 +82,7 @@ module _ (P : State → Type 0) (kept : IsKept P) where
           let hs = at_shown s.shown (Operates action shown) in
           settled-keeps (after_acts u hs) (acts-keep P kept.act u hs (selecting-keeps s action is))
 
-  pub preloading-keeps : (a : ℕ) (s : State) (contents : Contents) → P s → P (preloading s a contents)
+  pub preloading-keeps : (a : ℕ) (s : State) (contents : ObjectMap) → P s → P (preloading s a contents)
   preloading-keeps a s contents is =
       let t = after_act s a (Preloads contents) in
       kept.chosen t (selected_now t) (shown_now t) t.lost (kept.act s a (Preloads contents) is)
@@ -129,7 +129,7 @@ act-orderly s a h orderly = subst IsOrderly (sym (act-is s a h)) (record {
   apart = apart-put a (outcome s.now a (part a s) h).set s.sets orderly.apart;
 })
 
-before-orderly : OtherHoldersStay → (s : State) (source : ℕ) (n : Notice) → IsOrderly s → IsOrderly (before s source n)
+before-orderly : OtherHoldersStay → (s : State) (source : ℕ) (n : FrameMeaning) → IsOrderly s → IsOrderly (before s source n)
 before-orderly law s source (Claim name) orderly = record { rising = law.rising s.claims.addresses source name orderly.rising; apart = orderly.apart }
 before-orderly law s source ClaimRequest orderly = orderly
 before-orderly law s source (Master count) orderly = orderly
@@ -156,7 +156,7 @@ own-kept Q = record {
   chosen = λ s selected shown lost is. is;
 }
   where
-    heard : (s : State) (source : ℕ) (n : Notice) → Q s.claims.own s.claims.name → Q (before s source n).claims.own (before s source n).claims.name
+    heard : (s : State) (source : ℕ) (n : FrameMeaning) → Q s.claims.own s.claims.name → Q (before s source n).claims.own (before s source n).claims.name
     heard s source (Claim name) is = is
     heard s source ClaimRequest is = is
     heard s source (Master count) is = is
@@ -166,10 +166,10 @@ own-kept Q = record {
     heard s source Etp is = is
     heard s source Nothing is = is
 
-pub own-step : (s : State) (e : Event) → (step s e).after.claims.own ≡ s.claims.own
+pub own-step : (s : State) (e : JudgedInput) → (step s e).after.claims.own ≡ s.claims.own
 own-step s e = step-keeps (λ t. t.claims.own ≡ s.claims.own) (own-kept (λ own name. own ≡ s.claims.own)) s e refl
 
-pub other-step : (a : ℕ) (s : State) (e : Event) → IsOther a s → IsOther a (step s e).after
+pub other-step : (a : ℕ) (s : State) (e : JudgedInput) → IsOther a s → IsOther a (step s e).after
 other-step a s e other = record { small = other.small; other = λ h. other.other (h ∙ own-step s e) }
 
 pub claims-lapsed : (s : State) → (lapsed s).claims ≡ s.claims

@@ -12,8 +12,8 @@ use Rattle.vt_transport.specs.SessionState as tp_session
 use Rattle.vt_extended.specs.Protocol as etp
 use Rattle.vt_extended.specs.SessionState as etp_session
 use Rattle.vt_node.specs.Nodes.{NodeState, abort_by}
-use Rattle.vt_server.specs.Parts.{Act, TpExpires, EtpExpires, SendingExpires, Part, outcome, with_place}
-use Rattle.vt_server.specs.Places.{Place}
+use Rattle.vt_server.specs.Parts.{Act, TpExpires, EtpExpires, SendingExpires, AddressView, outcome, with_place}
+use Rattle.vt_server.specs.Places.{AddressState}
 use Rattle.vt_server.specs.States.{state_of}
 use Rattle.vt_server.specs.Terminals.{State}
 use Rattle.vt_server.specs.declared.terminal.Terminal.{Terminal}
@@ -25,15 +25,15 @@ abort_of abort own address session = option_to_list (option_map (λ timed. abort
 pub record Lane (S : Type 0) : Type 0 where
   pub sessions : NodeState → ByAddress S
   pub with_sessions : ByAddress S → NodeState → NodeState
-  pub session : Place → Option (Timed S)
-  pub with_session : Option (Timed S) → Place → Place
+  pub session : AddressState → Option (Timed S)
+  pub with_session : Option (Timed S) → AddressState → AddressState
   pub act : Act
   pub abort : ℕ → ℕ → S → Frame
   -- how these fit together
   pub found : (t : Terminal) (address : ℕ) → session ((state_of t).places address) ≡ finite.get (sessions t.node) address
   pub placed : (t : Terminal) (m : ByAddress S)
       → state_of (record t { node = with_sessions m t.node }) ≡ record (state_of t) { places = λ address. with_session (finite.get m address) ((state_of t).places address) }
-  pub ends : (now address : ℕ) (p : Part)
+  pub ends : (now address : ℕ) (p : AddressView)
       → outcome now address p act ≡ with_place p (with_session None p.place) (abort_of abort p.terminal address (session p.place))
   pub same : (node : NodeState) → with_sessions (sessions node) node ≡ node
   pub twice : (m n : ByAddress S) (node : NodeState) → with_sessions m (with_sessions n node) ≡ with_sessions m node

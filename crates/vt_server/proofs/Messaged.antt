@@ -70,20 +70,20 @@ comes-acts p q message start raised (Some (Ok acted)) h = acted-is start q raise
 pub not-long : (message : List ℕ) → length message ≤ 8 → is_long message ≡ false
 not-long message short = grind (arith, nat_tests)
 
-pub short-came : (now a : ℕ) (p : parts.Part) (message : List ℕ) (start : SetState) (raised : List Raised) → is_long message ≡ false
+pub short-came : (now a : ℕ) (p : parts.AddressView) (message : List ℕ) (start : SetState) (raised : List Raised) → is_long message ≡ false
     → after_action now a p (Some (Acts message start raised)) ≡ with_place p (with_pool p.place (Some (ran start raised))) (message_frames p.terminal a message)
 short-came now a p message start raised e =
     ap (λ (b : Bool). cond (b && is_some p.place.sending) (refused_by p faults.Busy)
     (with_place p (record (with_pool p.place (Some (ran start raised))) { sending = cond b (Some (record { last = now; session = record { pgn = VT_TO_ECU; bytes = message } })) p.place.sending })
     (message_frames p.terminal a message))) e
 
-pub busy-came : (now a : ℕ) (p : parts.Part) (message : List ℕ) (start : SetState) (raised : List Raised) → is_long message ≡ true → is_some p.place.sending ≡ true
+pub busy-came : (now a : ℕ) (p : parts.AddressView) (message : List ℕ) (start : SetState) (raised : List Raised) → is_long message ≡ true → is_some p.place.sending ≡ true
     → after_action now a p (Some (Acts message start raised)) ≡ refused_by p faults.Busy
 busy-came now a p message start raised long busy =
     λ i. cond (long i && busy i) (refused_by p faults.Busy)
     (with_place p (record (with_pool p.place (Some (ran start raised))) { sending = sending_after now message p.place.sending }) (message_frames p.terminal a message))
 
-pub long-came : (now a : ℕ) (p : parts.Part) (message : List ℕ) (start : SetState) (raised : List Raised) → is_long message ≡ true → is_some p.place.sending ≡ false
+pub long-came : (now a : ℕ) (p : parts.AddressView) (message : List ℕ) (start : SetState) (raised : List Raised) → is_long message ≡ true → is_some p.place.sending ≡ false
     → after_action now a p (Some (Acts message start raised))
     ≡ with_place p (record (with_pool p.place (Some (ran start raised))) { sending = Some (record { last = now; session = record { pgn = VT_TO_ECU; bytes = message } }) })
     (rts_frame p.terminal a (length message) VT_TO_ECU ∷ [])

@@ -28,7 +28,7 @@ use Rattle.vt_server.specs.Operators.{action_on, object_of, fault_of, is_long, m
 use Rattle.vt_server.specs.Outputs.{outputs_of}
 use Rattle.vt_server.specs.Parts as parts
 use Rattle.vt_server.specs.Parts.{Act, Operates, unchanged, refused_by, with_place, after_action, outcome}
-use Rattle.vt_server.specs.Places.{Content, Place, with_pool}
+use Rattle.vt_server.specs.Places.{SetPool, AddressState, with_pool}
 use Rattle.vt_server.specs.States.{places_by, TakesInput}
 use Rattle.vt_server.specs.Steps.{ActionAt, selecting, has_no_set, no_set, at_shown, settled, sent_by_settling, no_step, step_action}
 use Rattle.vt_server.specs.Terminals.{State, part, pool_of, pool_at, put, to_address, after_acts, sent_by_acts}
@@ -93,14 +93,14 @@ idle-shown : (u : State) (o : Option ℕ) (act : Act) → ((a : ℕ) → o ≡ S
     → (after_acts u (at_shown o act) ≡ u) × (sent_by_acts u (at_shown o act) ≡ [])
 idle-shown u None act idle = (refl, refl)
 idle-shown u (Some a) act idle = (
-  act-is u a act ∙ ap (λ (after : parts.Outcome). put a after u) (idle a refl) ∙ put-kept a u (unchanged (part a u)) refl refl,
-  ap (λ l. l ++ []) (sent_by_one-is u a act ∙ ap (λ (after : parts.Outcome). to_address a after) (idle a refl)),
+  act-is u a act ∙ ap (λ (after : parts.AddressOutcome). put a after u) (idle a refl) ∙ put-kept a u (unchanged (part a u)) refl refl,
+  ap (λ l. l ++ []) (sent_by_one-is u a act ∙ ap (λ (after : parts.AddressOutcome). to_address a after) (idle a refl)),
 )
 
-no-action : (now a : ℕ) (p : parts.Part) (action : ActionValue) (shown : Bool) (pool : Option SetState) → pool ≡ None → parts.after_operator now a p action shown pool ≡ unchanged p
+no-action : (now a : ℕ) (p : parts.AddressView) (action : ActionValue) (shown : Bool) (pool : Option SetState) → pool ≡ None → parts.after_operator now a p action shown pool ≡ unchanged p
 no-action now a p action shown pool e = ap (parts.after_operator now a p action shown) e
 
-set-idle : (now a : ℕ) (p : parts.Part) (address : ℕ) (shown : Bool) (pool : Option SetState) → parts.after_operator now a p (actions.Set address) shown pool ≡ unchanged p
+set-idle : (now a : ℕ) (p : parts.AddressView) (address : ℕ) (shown : Bool) (pool : Option SetState) → parts.after_operator now a p (actions.Set address) shown pool ≡ unchanged p
 set-idle now a p address shown None = refl
 set-idle now a p address shown (Some state) = refl
 
@@ -167,7 +167,7 @@ module _ (s : State) (action : ActionValue) (kept : (selecting s action ≡ s) �
 
   -- what the action comes to there
   module _ (a : ℕ) (there : IsShownAt (pool_of s) s.shown a) (shown : Bool) (seen : IsSeenIn there.state (object_of action) shown) where
-    abbrev pub came : parts.Outcome
+    abbrev pub came : parts.AddressOutcome
     came = after_action s.now a (part a s) (action_on there.state shown action)
 
     at-pool : pool_at s s.shown ≡ Some there.state
@@ -176,17 +176,17 @@ module _ (s : State) (action : ActionValue) (kept : (selecting s action ≡ s) �
     act-came : outcome s.now a (part a s) (Operates action shown) ≡ came
     act-came = ap (parts.after_operator s.now a (part a s) action shown) there.pool
 
-    pub takes : (after : parts.Outcome) → came ≡ after → (t : State) → t ≡ put a after s → (before out : List Output) → out ≡ before ++ outputs_of (to_address a after)
+    pub takes : (after : parts.AddressOutcome) → came ≡ after → (t : State) → t ≡ put a after s → (before out : List Output) → out ≡ before ++ outputs_of (to_address a after)
         → TakesAction s action t before out
     takes after is t state before out sent = record {
       shown = shown;
       seen = subst (λ (q : Option SetState). IfSome (object_of action) (λ id. IfSome q (λ p. Decides shown (IsShown p.objects (active_in p.objects) id)))) (sym at-pool) seen;
       state =
-          state ∙ ap (λ (o : parts.Outcome). put a o s) (sym (act-came ∙ is)) ∙ sym (act-is s a (Operates action shown))
+          state ∙ ap (λ (o : parts.AddressOutcome). put a o s) (sym (act-came ∙ is)) ∙ sym (act-is s a (Operates action shown))
           ∙ (λ i. after_acts (sym kept.0 i) (at_shown (sym there.at i) (Operates action shown)));
       sent =
           sent ∙ ap (λ l. before ++ outputs_of l)
-          (sym (append-nil (to_address a after)) ∙ ap (λ (o : parts.Outcome). to_address a o ++ []) (sym (act-came ∙ is))
+          (sym (append-nil (to_address a after)) ∙ ap (λ (o : parts.AddressOutcome). to_address a o ++ []) (sym (act-came ∙ is))
           ∙ ap (λ l. l ++ []) (sym (sent_by_one-is s a (Operates action shown)))
           ∙ (λ i. no_set (sym (kept.1 ∙ ap (λ (q : Option SetState). not (is_some q)) at-pool) i)
           ++ sent_by_acts (sym kept.0 i) (at_shown (sym there.at i) (Operates action shown))));
@@ -296,13 +296,13 @@ pools-written pools transfers a n pool is within =
     (λ i. record (content_by pools transfers a) { pool = (ap (λ (f : ℕ → Option SetState). f a) written ∙ at-own a (λ q. get_or pools q None) pool) i })
     (λ b ne. λ i. record (content_by pools transfers b) { pool = (ap (λ (f : ℕ → Option SetState). f b) written ∙ at-other a b (λ q. get_or pools q None) pool ne) i })
 
-module _ (s : State) (contents new : ℕ → Content) (node : NodeState) (heard : ℕ → Option ℕ) (is : s.places ≡ places_by contents node heard)
+module _ (s : State) (contents new : ℕ → SetPool) (node : NodeState) (heard : ℕ → Option ℕ) (is : s.places ≡ places_by contents node heard)
     (a : ℕ) (pool : Option SetState) (written : new ≡ with_at a (record (contents a) { pool = pool }) contents) where
   pub performed-places : places_by new node heard ≡ with_at a (with_pool (s.places a) pool) s.places
   performed-places =
-      ap (λ (c : ℕ → Content). places_by c node heard) written
+      ap (λ (c : ℕ → SetPool). places_by c node heard) written
       ∙ content-placed contents node heard a (record (contents a) { pool = pool })
-      ∙ ap (λ (p : ℕ → Place). with_at a (with_pool (p a) pool) p) (sym is)
+      ∙ ap (λ (p : ℕ → AddressState). with_at a (with_pool (p a) pool) p) (sym is)
 
   pub kept-places : pool ≡ pool_of s a → places_by new node heard ≡ s.places
   kept-places e = performed-places ∙ places-same a s.places (with_pool (s.places a) pool) (λ i. with_pool (s.places a) (sym e i))
@@ -312,27 +312,27 @@ module _ (s : State) (contents new : ℕ → Content) (node : NodeState) (heard 
   started-places timed =
       places-written a s.places (places_by new (record node { sending = finite.insert node.sending a timed }) heard) (record (with_pool (s.places a) pool) { sending = Some timed })
       ((λ i. record (places_by contents node heard a) {
-        content = (ap (λ (c : ℕ → Content). c a) written ∙ at-own a contents (record (contents a) { pool = pool })) i;
+        content = (ap (λ (c : ℕ → SetPool). c a) written ∙ at-own a contents (record (contents a) { pool = pool })) i;
         sending = get-put node.sending a timed i;
       })
-      ∙ ap (λ (p : ℕ → Place). record (with_pool (p a) pool) { sending = Some timed }) (sym is))
+      ∙ ap (λ (p : ℕ → AddressState). record (with_pool (p a) pool) { sending = Some timed }) (sym is))
       (λ b ne. (λ i. record (places_by contents node heard b) {
-        content = (ap (λ (c : ℕ → Content). c b) written ∙ at-other a b contents (record (contents a) { pool = pool }) ne) i;
+        content = (ap (λ (c : ℕ → SetPool). c b) written ∙ at-other a b contents (record (contents a) { pool = pool }) ne) i;
         sending = get-put_other node.sending a b timed ne i;
       })
-      ∙ ap (λ (p : ℕ → Place). p b) (sym is))
+      ∙ ap (λ (p : ℕ → AddressState). p b) (sym is))
 
 -- ---- a call on the contents
 
 -- where an action was done at the set that is shown
-module _ (s : State) (contents new : ℕ → Content) (node : NodeState) (heard : ℕ → Option ℕ) (is : s.places ≡ places_by contents node heard)
+module _ (s : State) (contents new : ℕ → SetPool) (node : NodeState) (heard : ℕ → Option ℕ) (is : s.places ≡ places_by contents node heard)
     (action : ActionValue) (short : IsShort action) (a : ℕ) (there : IsShownAt (pool_of s) s.shown a)
     (result : Option (Result Acted OperatorRefusal)) (acted : IsActedOn contents a action result new) where
   abbrev kept : (selecting s action ≡ s) × (has_no_set s action ≡ not (is_some (pool_at s s.shown)))
   kept = short-selects s action short
 
   same-pool : (contents a).pool ≡ Some there.state
-  same-pool = ap (λ (p : ℕ → Place). (p a).content.pool) (sym is) ∙ there.pool
+  same-pool = ap (λ (p : ℕ → AddressState). (p a).content.pool) (sym is) ∙ there.pool
 
   pub takes-act-refused : (refusal : OperatorRefusal) → result ≡ Some (Err refusal) → (before out : List Output) → out ≡ before ++ declared.Refused (fault_of refusal) ∷ []
       → TakesAction s action (record s { places = places_by new node heard }) before out
@@ -342,7 +342,7 @@ module _ (s : State) (contents new : ℕ → Content) (node : NodeState) (heard 
       let r = refused-is there.state h.after (action_on there.state h.performs.shown action) refusal h.performs.comes in
       takes-refused s action kept a there h.performs.shown h.performs.seen (fault_of refusal) (ap (after_action s.now a (part a s)) r.0)
       (record s { places = places_by new node heard })
-      (ap (λ (p : ℕ → Place). record s { places = p }) (kept-places s contents new node heard is a acted.pool acted.content (h.is ∙ ap Some r.1 ∙ sym there.pool)))
+      (ap (λ (p : ℕ → AddressState). record s { places = p }) (kept-places s contents new node heard is a acted.pool acted.content (h.is ∙ ap Some r.1 ∙ sym there.pool)))
       before out sent
 
   pub takes-act-done : (done : Acted) → result ≡ Some (Ok done) → (frames : List Frame) → (length done.message.items ≤ 8 → frames ≡ message_frames s.claims.own a done.message.items)
@@ -355,7 +355,7 @@ module _ (s : State) (contents new : ℕ → Content) (node : NodeState) (heard 
       let fits = short-message there.state h.performs.shown action done.message.items x.start x.raised short x.is in
       takes-acts s action kept a there h.performs.shown h.performs.seen done.message.items x.start x.raised x.is fits h.after x.left
       (record s { places = places_by new node heard })
-      (ap (λ (p : ℕ → Place). record s { places = p })
+      (ap (λ (p : ℕ → AddressState). record s { places = p })
       (performed-places s contents new node heard is a acted.pool acted.content ∙ (λ i. with_at a (with_pool (s.places a) (h.is i)) s.places)))
       frames (frames-are fits) before out sent
 

@@ -5,14 +5,14 @@ use Rattle.vt_can.specs.declared.frames.frame.Frame.{Frame}
 use Rattle.vt_machine.specs.Lives.{SetState}
 use Rattle.vt_names.specs.Registry.{Set}
 use Rattle.vt_server.specs.Choosing.{alarm_in, choosing, events_of_change, first_with_pool, louder, loudest, or_selected, selected_now, shown_now}
-use Rattle.vt_server.specs.Parts.{Act, Part, Raises, outcome, raised_on}
-use Rattle.vt_server.specs.Places.{Place}
+use Rattle.vt_server.specs.Parts.{Act, AddressView, Raises, outcome, raised_on}
+use Rattle.vt_server.specs.Places.{AddressState}
 use Rattle.vt_server.specs.Steps.{acted, acting, answer_to, hearing, is_lost_by, losing, settled}
 use Rattle.vt_server.specs.Terminals.{State, pool_of, pool_at, part, after_act, after_acts}
 use Rattle.vt_server.specs.Transfers.{Verdict}
 use Rattle.vt_server.specs.declared.choosing.Alarm.{Alarm}
 use Rattle.vt_node.specs.ByAddress.{with_at}
-use Rattle.vt_node.specs.declared.bus.Notice.{Notice}
+use Rattle.vt_node.specs.declared.bus.FrameMeaning.{FrameMeaning}
 use Rattle.vt_server.proofs.ActsAt.{AllAt, at-change}
 use Rattle.vt_server.proofs.Changes.{shown-acts}
 use Rattle.vt_server.proofs.Chosen.{some-mapped}
@@ -85,20 +85,20 @@ module _ (s : State) where
 -- ---- the events of its change
 
 abbrev KeepsPool : Act → Type 0
-KeepsPool act = (now a : ℕ) (p : Part) → is_some p.place.content.pool ≡ true → is_some (outcome now a p act).place.content.pool ≡ true
+KeepsPool act = (now a : ℕ) (p : AddressView) → is_some p.place.content.pool ≡ true → is_some (outcome now a p act).place.content.pool ≡ true
 
 raises-keeps : (event : ℕ) → KeepsPool (Raises event)
 raises-keeps event now a p is = some-mapped (λ state. raised_on state event) p.place.content.pool ∙ is
 
 act-keeps : (s : State) (a b : ℕ) (h : Act) → KeepsPool h → is_some (pool_of s b) ≡ true → is_some (pool_of (after_act s a h) b) ≡ true
 act-keeps s a b h keeps is =
-    let place : Place = (outcome s.now a (part a s) h).place in
+    let place : AddressState = (outcome s.now a (part a s) h).place in
     subst (λ (t : State). is_some (pool_of t b) ≡ true) (sym (act-is s a h))
     (by_eq b a
     (λ here. ap (λ q. is_some (with_at a place s.places q).content.pool) here
-    ∙ ap (λ (x : Place). is_some x.content.pool) (at-own a s.places place)
+    ∙ ap (λ (x : AddressState). is_some x.content.pool) (at-own a s.places place)
     ∙ keeps s.now a (part a s) (ap (λ q. is_some (pool_of s q)) (sym here) ∙ is))
-    (λ ne. ap (λ (x : Place). is_some x.content.pool) (at-other a b s.places place ne) ∙ is))
+    (λ ne. ap (λ (x : AddressState). is_some x.content.pool) (at-other a b s.places place ne) ∙ is))
 
 acts-keep : (s : State) (b : ℕ) (hs : List (ℕ × Act)) → AllAt (λ a h. KeepsPool h) hs → is_some (pool_of s b) ≡ true → is_some (pool_of (after_acts s hs) b) ≡ true
 acts-keep s b [] all is = is
@@ -118,7 +118,7 @@ settled-pooled s =
     acts-pooled (choosing s) hs (at-change (λ a h. KeepsPool h) (λ a event. raises-keeps event) s.shown (shown_now s)) (chosen-pooled s)
 
 -- after a frame
-pub hearing-pooled : (old s : State) (source : ℕ) (n : Notice) (f : Frame) (verdict : Verdict) → ShownHasPool (hearing old s source n f verdict).after
+pub hearing-pooled : (old s : State) (source : ℕ) (n : FrameMeaning) (f : Frame) (verdict : Verdict) → ShownHasPool (hearing old s source n f verdict).after
 hearing-pooled old s source n f verdict = cases (is_lost_by (answer_to s source n))
   where
     cases : (b : Bool) → ShownHasPool (cond b (losing s) (acting old s source n f verdict)).after

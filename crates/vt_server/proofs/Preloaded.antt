@@ -3,11 +3,11 @@ use Rattle.std.proofs.Common.{◌≡◌, ℕ, List, [], Option, Some, None, sym,
 use Rattle.std.specs.FinMap as finite
 use Rattle.vt_machine.specs.Lives.{SetState}
 use Rattle.vt_names.specs.Registry.{Set, with_set, preloaded}
-use Rattle.vt_stores.specs.Stores.{Contents}
+use Rattle.vt_stores.specs.Stores.{ObjectMap}
 use Rattle.vt_server.specs.Commands.{fresh}
 use Rattle.vt_node.specs.Nodes.{NodeState}
 use Rattle.vt_server.specs.Parts.{Preloads}
-use Rattle.vt_server.specs.Places.{Content, Place}
+use Rattle.vt_server.specs.Places.{SetPool, AddressState}
 use Rattle.vt_server.specs.States.{places_by}
 use Rattle.vt_server.specs.Terminals.{State, after_act}
 use Rattle.vt_node.specs.ByAddress.{with_at}
@@ -15,11 +15,11 @@ use Rattle.vt_server.proofs.Puts.{act-is}
 use Rattle.vt_node.proofs.ByAddress.{at-own, at-other}
 use Rattle.vt_node.proofs.ByAddress.{places-written}
 
-module _ (contents : ℕ → Content) (node : NodeState) (heard : ℕ → Option ℕ) (a : ℕ) (objects : Contents) (pool : SetState) (is : pool ≡ fresh objects) where
-  abbrev pub content_then : Content
+module _ (contents : ℕ → SetPool) (node : NodeState) (heard : ℕ → Option ℕ) (a : ℕ) (objects : ObjectMap) (pool : SetState) (is : pool ≡ fresh objects) where
+  abbrev pub content_then : SetPool
   content_then = record { pool = Some pool; transfer = [] }
 
-  abbrev pub place_then : Place
+  abbrev pub place_then : AddressState
   place_then = record (places_by contents node heard a) { content = record { pool = Some (fresh objects); transfer = [] }; heard = None }
 
   pub preloaded-place : places_by (with_at a content_then contents) node (with_at a None heard) ≡ with_at a place_then (places_by contents node heard)

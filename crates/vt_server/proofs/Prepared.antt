@@ -5,7 +5,7 @@ use Rattle.vt_can.specs.Assigned.{ECU_TO_VT}
 use Rattle.vt_can.specs.declared.frames.frame.Frame.{Frame}
 use Rattle.vt_can.specs.frames.Frame.{source_of}
 use Rattle.vt_can.specs.transport.Messages.{Message, size_and_first_byte}
-use Rattle.vt_can.specs.transport.Receivers.{IsReadyFor}
+use Rattle.vt_can.specs.transport.Receivers.{HasCapacityFor}
 use Rattle.vt_can.specs.transport.Sessions.{alive}
 use Rattle.vt_can.specs.transport.Steps.{stepped}
 use Rattle.vt_names.specs.Claims.{Claimed, heard, answer, address_of, holder_of}
@@ -14,24 +14,24 @@ use Rattle.vt_transport.specs.Protocol as tp
 use Rattle.vt_transport.specs.Wire.{tp_frame}
 use Rattle.vt_extended.specs.Protocol as etp
 use Rattle.vt_extended.specs.Wire.{etp_frame}
-use Rattle.vt_server.specs.Hearings.{IsPrepared, IsReady, IsReadyWith, IsReadyForMessage, RoomsStay}
+use Rattle.vt_server.specs.Hearings.{FitsBeforeTimeouts, FitsAfterTimeouts, FitsMessage, FitsCompleted, RoomsStay}
 use Rattle.vt_server.specs.Holders.{AreFormer}
 use Rattle.vt_server.specs.Lapses.{at_time, lapsed, sent_by_lapses}
 use Rattle.vt_node.specs.Nodes.{NodeState}
-use Rattle.vt_server.specs.Places.{Content, watched}
+use Rattle.vt_server.specs.Places.{SetPool, watched}
 use Rattle.vt_server.specs.Rooms.{HasLapsed}
 use Rattle.vt_server.specs.Sessions.{message_to_terminal}
 use Rattle.vt_server.specs.States.{state_of}
 use Rattle.vt_server.specs.Steps.{hear_claim, answer_to, is_lost_by, is_defended, left_by, left_holder}
 use Rattle.vt_server.specs.Terminals.{State}
 use Rattle.vt_server.specs.Uploads.{content_of, room_of}
-use Rattle.vt_node.specs.declared.bus.Notice.{Notice}
-use Rattle.vt_node.specs.declared.bus.Notice.TheVariants as notices
+use Rattle.vt_node.specs.declared.bus.FrameMeaning.{FrameMeaning}
+use Rattle.vt_node.specs.declared.bus.FrameMeaning.TheVariants as notices
 use Rattle.vt_server.specs.declared.claiming.FormerHolders.{FormerHolders}
-use Rattle.vt_server.specs.declared.hearing.Ready.{Ready}
-use Rattle.vt_server.specs.declared.hearing.Ready.TheVariants as readies
+use Rattle.vt_server.specs.declared.hearing.PreparedFrame.{PreparedFrame}
+use Rattle.vt_server.specs.declared.hearing.PreparedFrame.TheVariants as readies
 use Rattle.vt_server.specs.declared.terminal.Terminal.{Terminal}
-use Rattle.vt_server.specs.declared.uploading.Upload.{Upload}
+use Rattle.vt_server.specs.declared.uploading.PreparedMessage.{PreparedMessage}
 use Rattle.vt_server.proofs.Changes.{own-before}
 use Rattle.vt_server.proofs.Heard.{room-kept, lapsed-upload}
 use Rattle.vt_server.proofs.Keeping.{lapsed-keeps, claims-lapsed}
@@ -41,7 +41,7 @@ use Rattle.vt_server.proofs.Unclaimed.{with_claims, lapsed-unclaimed, lapses-unc
 -- ---- what is read of the claims alone
 
 module _ (s u : State) (same : u.claims ≡ s.claims) where
-  answer-same : (a : ℕ) (n : Notice) → answer_to s a n ≡ answer_to u a n
+  answer-same : (a : ℕ) (n : FrameMeaning) → answer_to s a n ≡ answer_to u a n
   answer-same a (notices.Claim name) = ap (λ c. answer c a name) (sym same)
   answer-same a notices.ClaimRequest = refl
   answer-same a (notices.Master count) = refl
@@ -51,7 +51,7 @@ module _ (s u : State) (same : u.claims ≡ s.claims) where
   answer-same a notices.Etp = refl
   answer-same a notices.Nothing = refl
 
-  claim-same : (a : ℕ) (n : Notice) → hear_claim s a n ≡ hear_claim u a n
+  claim-same : (a : ℕ) (n : FrameMeaning) → hear_claim s a n ≡ hear_claim u a n
   claim-same a (notices.Claim name) = ap (λ c. heard c a name) (sym same)
   claim-same a notices.ClaimRequest = sym same
   claim-same a (notices.Master count) = sym same
@@ -77,73 +77,73 @@ now-lapsed s = lapsed-keeps (λ t. t.now ≡ s.now) (λ t a h is. ap (λ (u : St
 
 -- ---- what a message in packets wants
 
-abbrev IsTp : Notice → Type 0
+abbrev IsTp : FrameMeaning → Type 0
 IsTp notices.Tp = Unit {0}
 IsTp notice = ⊥
 
-abbrev IsEtp : Notice → Type 0
+abbrev IsEtp : FrameMeaning → Type 0
 IsEtp notices.Etp = Unit {0}
 IsEtp notice = ⊥
 
-told-ready : (m : Option Message) (content : Content) (room : ℕ) (upload : Upload)
-    → ((message : Message) → size_and_first_byte m ≡ size_and_first_byte (Some message) → IsReadyWith content room message.bytes upload)
-    → IsReadyForMessage content room (message_to_terminal m) upload
+told-ready : (m : Option Message) (content : SetPool) (room : ℕ) (upload : PreparedMessage)
+    → ((message : Message) → size_and_first_byte m ≡ size_and_first_byte (Some message) → FitsMessage content room message.bytes upload)
+    → FitsCompleted content room (message_to_terminal m) upload
 told-ready None content room upload ready = tt
 told-ready (Some message) content room upload ready = cases (eqb message.pgn ECU_TO_VT)
   where
-    cases : (b : Bool) → IsReadyForMessage content room (cond b (Some message.bytes) None) upload
+    cases : (b : Bool) → FitsCompleted content room (cond b (Some message.bytes) None) upload
     cases true = ready message refl
     cases false = tt
 
 -- the terminal, as its node is once room was made, and as it is once the upload was made ready
-module _ (t : Terminal) (node : NodeState) (u : Terminal) (now q : ℕ) (n : Notice) (frame : Frame) (told : Option (ℕ × ℕ)) (upload : Upload)
+module _ (t : Terminal) (node : NodeState) (u : Terminal) (now q : ℕ) (n : FrameMeaning) (frame : Frame) (told : Option (ℕ × ℕ)) (upload : PreparedMessage)
     (same : state_of u ≡ state_of (record t { node = node })) (rooms : RoomsStay (record t { node = node }) u) (at : q ≡ source_of frame)
-    (ready : (message : Message) → told ≡ size_and_first_byte (Some message) → IsReadyWith (content_of u.contents q) (room_of u.contents q) message.bytes upload) where
+    (ready : (message : Message) → told ≡ size_and_first_byte (Some message) → FitsMessage (content_of u.contents q) (room_of u.contents q) message.bytes upload) where
   abbrev b : ℕ
   b = source_of frame
 
-  message-ready : (m : Option Message) → told ≡ size_and_first_byte m → IsReadyForMessage (content_of u.contents b) (room_of u.contents b) (message_to_terminal m) upload
+  message-ready : (m : Option Message) → told ≡ size_and_first_byte m → FitsCompleted (content_of u.contents b) (room_of u.contents b) (message_to_terminal m) upload
   message-ready m is =
       told-ready m (content_of u.contents b) (room_of u.contents b) upload
-      (λ message e. subst (λ c. IsReadyWith (content_of u.contents c) (room_of u.contents c) message.bytes upload) at (ready message (is ∙ e)))
+      (λ message e. subst (λ c. FitsMessage (content_of u.contents c) (room_of u.contents c) message.bytes upload) at (ready message (is ∙ e)))
 
-  pub prepared-tp : n ≡ notices.Tp → node ≡ record t.node { tp_room = node.tp_room } → IsReadyFor tp.protocol (tp_frame t.node.claims.own frame) node.tp_room
+  pub prepared-tp : n ≡ notices.Tp → node ≡ record t.node { tp_room = node.tp_room } → HasCapacityFor tp.protocol (tp_frame t.node.claims.own frame) node.tp_room
       → told ≡ size_and_first_byte (stepped tp.protocol now (alive now (finite.get t.node.tp b)) (tp_frame t.node.claims.own frame)).message
-      → IsPrepared (state_of t) u now n frame (readies.Prepared upload)
+      → FitsBeforeTimeouts (state_of t) u now n frame (readies.Prepared upload)
   prepared-tp is rest room told-is =
-      subst (λ m. IsPrepared (state_of t) u now m frame (readies.Prepared upload)) (sym is) (
+      subst (λ m. FitsBeforeTimeouts (state_of t) u now m frame (readies.Prepared upload)) (sym is) (
         same ∙ ap (λ (k : NodeState). state_of (record t { node = k })) rest,
         (λ name e. subst IsTp e tt),
         record {
-          tp = λ _. subst (λ (k : NodeState). IsReadyFor tp.protocol (tp_frame k.claims.own frame) k.tp_room) (sym (rooms.node ∙ rest)) room;
+          tp = λ _. subst (λ (k : NodeState). HasCapacityFor tp.protocol (tp_frame k.claims.own frame) k.tp_room) (sym (rooms.node ∙ rest)) room;
           etp = λ e. absurd (subst IsTp e tt);
           sets = λ count e. absurd (subst IsTp e tt);
         },
-        subst (λ (k : NodeState). IsReadyForMessage (content_of u.contents b) (room_of u.contents b)
+        subst (λ (k : NodeState). FitsCompleted (content_of u.contents b) (room_of u.contents b)
             (message_to_terminal (stepped tp.protocol now (alive now (finite.get k.tp b)) (tp_frame k.claims.own frame)).message) upload) (sym (rooms.node ∙ rest))
             (message-ready (stepped tp.protocol now (alive now (finite.get t.node.tp b)) (tp_frame t.node.claims.own frame)).message told-is),
       )
 
-  pub prepared-etp : n ≡ notices.Etp → node ≡ record t.node { etp_room = node.etp_room } → IsReadyFor etp.protocol (etp_frame t.node.claims.own frame) node.etp_room
+  pub prepared-etp : n ≡ notices.Etp → node ≡ record t.node { etp_room = node.etp_room } → HasCapacityFor etp.protocol (etp_frame t.node.claims.own frame) node.etp_room
       → told ≡ size_and_first_byte (stepped etp.protocol now (alive now (finite.get t.node.etp b)) (etp_frame t.node.claims.own frame)).message
-      → IsPrepared (state_of t) u now n frame (readies.Prepared upload)
+      → FitsBeforeTimeouts (state_of t) u now n frame (readies.Prepared upload)
   prepared-etp is rest room told-is =
-      subst (λ m. IsPrepared (state_of t) u now m frame (readies.Prepared upload)) (sym is) (
+      subst (λ m. FitsBeforeTimeouts (state_of t) u now m frame (readies.Prepared upload)) (sym is) (
         same ∙ ap (λ (k : NodeState). state_of (record t { node = k })) rest,
         (λ name e. subst IsEtp e tt),
         record {
           tp = λ e. absurd (subst IsEtp e tt);
-          etp = λ _. subst (λ (k : NodeState). IsReadyFor etp.protocol (etp_frame k.claims.own frame) k.etp_room) (sym (rooms.node ∙ rest)) room;
+          etp = λ _. subst (λ (k : NodeState). HasCapacityFor etp.protocol (etp_frame k.claims.own frame) k.etp_room) (sym (rooms.node ∙ rest)) room;
           sets = λ count e. absurd (subst IsEtp e tt);
         },
-        subst (λ (k : NodeState). IsReadyForMessage (content_of u.contents b) (room_of u.contents b)
+        subst (λ (k : NodeState). FitsCompleted (content_of u.contents b) (room_of u.contents b)
             (message_to_terminal (stepped etp.protocol now (alive now (finite.get k.etp b)) (etp_frame k.claims.own frame)).message) upload) (sym (rooms.node ∙ rest))
             (message-ready (stepped etp.protocol now (alive now (finite.get t.node.etp b)) (etp_frame t.node.claims.own frame)).message told-is),
       )
 
 -- ---- from before the lapses to after them
 
-module _ (s : State) (t : Terminal) (time now : ℕ) (n : Notice) (frame : Frame) (is : now ≡ max s.now time) where
+module _ (s : State) (t : Terminal) (time now : ℕ) (n : FrameMeaning) (frame : Frame) (is : now ≡ max s.now time) where
   abbrev a : ℕ
   a = source_of frame
 
@@ -162,13 +162,13 @@ module _ (s : State) (t : Terminal) (time now : ℕ) (n : Notice) (frame : Frame
   abbrev with_claim : Claimed
   with_claim = hear_claim s a n
 
-  pub prepared-display : (ready : Ready) → IsPrepared s t now n frame ready → display (state_of t) ≡ display s
+  pub prepared-display : (ready : PreparedFrame) → FitsBeforeTimeouts s t now n frame ready → display (state_of t) ≡ display s
   unfolding display
   prepared-display readies.Loses it = ap display it.0
   prepared-display (readies.Claimed former) it = ap display it.5
   prepared-display (readies.Prepared upload) it = ap display it.0
 
-  pub prepared-sent : (ready : Ready) → IsPrepared s t now n frame ready → sent_by_lapses (at_time (state_of t) now) ≡ sent_by_lapses (at_time s time)
+  pub prepared-sent : (ready : PreparedFrame) → FitsBeforeTimeouts s t now n frame ready → sent_by_lapses (at_time (state_of t) now) ≡ sent_by_lapses (at_time s time)
   prepared-sent readies.Loses it = ap (λ x. sent_by_lapses (at_time x now)) it.0 ∙ ap sent_by_lapses timed
   prepared-sent (readies.Claimed former) it =
       ap (λ x. sent_by_lapses (at_time x now)) it.5
@@ -185,7 +185,7 @@ module _ (s : State) (t : Terminal) (time now : ℕ) (n : Notice) (frame : Frame
     rooms : 0 < t.registry.room → 0 < u.registry.room
     rooms some = let more = ended.sets in omega arith
 
-    pub ready-then : (ready : Ready) → IsPrepared s t now n frame ready → IsReady then u n frame ready
+    pub ready-then : (ready : PreparedFrame) → FitsBeforeTimeouts s t now n frame ready → FitsAfterTimeouts then u n frame ready
     ready-then readies.Loses it = (same it.0, ap is_lost_by (sym (answer-same s then claims a n)) ∙ it.1)
     ready-then (readies.Claimed former) it = (
       it.0,

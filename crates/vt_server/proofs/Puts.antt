@@ -2,7 +2,7 @@
 use Rattle.std.proofs.Common.{◌≡◌, ℕ, List, [], ◌∷◌, ◌++◌, Option, Some, None, refl, sym, ap, ◌∙◌, append_assoc}
 use Rattle.vt_names.specs.Registry.{Set, set_at}
 use Rattle.vt_node.proofs.Sets.{none-same}
-use Rattle.vt_server.specs.Parts.{Outcome, Act, outcome}
+use Rattle.vt_server.specs.Parts.{AddressOutcome, Act, outcome}
 use Rattle.vt_server.specs.Terminals.{State, part, put, after_act, after_acts, sent_by_act, sent_by_acts, to_address, with_set_at}
 use Rattle.vt_names.proofs.Filing.{with_set-same}
 
@@ -33,9 +33,9 @@ sent-append s (h ∷ hs) ks =
     ∙ sym (append_assoc (sent_by_act s h.0 h.1) (sent_by_acts t hs) (sent_by_acts (after_acts t hs) ks))
 
 -- what no act writes
-pub beside-act : {X : Type 0} (read : State → X) → ((a : ℕ) (o : Outcome) (s : State) → read (put a o s) ≡ read s) → (s : State) (a : ℕ) (h : Act) → read (after_act s a h) ≡ read s
+pub beside-act : {X : Type 0} (read : State → X) → ((a : ℕ) (o : AddressOutcome) (s : State) → read (put a o s) ≡ read s) → (s : State) (a : ℕ) (h : Act) → read (after_act s a h) ≡ read s
 beside-act read stays s a h = ap read (act-is s a h) ∙ stays a (outcome s.now a (part a s) h) s
 
-pub beside : {X : Type 0} (read : State → X) → ((a : ℕ) (o : Outcome) (s : State) → read (put a o s) ≡ read s) → (s : State) (hs : List (ℕ × Act)) → read (after_acts s hs) ≡ read s
+pub beside : {X : Type 0} (read : State → X) → ((a : ℕ) (o : AddressOutcome) (s : State) → read (put a o s) ≡ read s) → (s : State) (hs : List (ℕ × Act)) → read (after_acts s hs) ≡ read s
 beside read stays s [] = refl
 beside read stays s (h ∷ hs) = beside read stays (after_act s h.0 h.1) hs ∙ beside-act read stays s h.0 h.1

@@ -4,27 +4,27 @@ use Rattle.std.proofs.Math.Seq.{take-suc}
 use Rattle.vt_server.specs.Findings.{IsEventOf, AreEventsOf, IsFound, AreFound}
 use Rattle.vt_server.specs.Outputs.{outputs_of}
 use Rattle.vt_server.specs.States.{TakesInput, TakesInputs}
-use Rattle.vt_server.specs.Steps.{Event, FrameAt, ActionAt, step, no_step, step_frame, step_action, after_all, sent_by_all}
+use Rattle.vt_server.specs.Steps.{JudgedInput, FrameAt, ActionAt, step, no_step, step_frame, step_action, after_all, sent_by_all}
 use Rattle.vt_server.specs.Terminals.{State}
 use Rattle.vt_server.specs.declared.input.Input.{Input}
 use Rattle.vt_server.specs.declared.output.Output.{Output}
 use Rattle.vt_server.proofs.Framed.{outputs-append}
 
-after-more : (s : State) (es : List Event) (e : Event) → after_all s (es ++ e ∷ []) ≡ (step (after_all s es) e).after
+after-more : (s : State) (es : List JudgedInput) (e : JudgedInput) → after_all s (es ++ e ∷ []) ≡ (step (after_all s es) e).after
 after-more s [] e = refl
 after-more s (d ∷ es) e = after-more (step s d).after es e
 
-sent-more : (s : State) (es : List Event) (e : Event) → sent_by_all s (es ++ e ∷ []) ≡ sent_by_all s es ++ (step (after_all s es) e).sent
+sent-more : (s : State) (es : List JudgedInput) (e : JudgedInput) → sent_by_all s (es ++ e ∷ []) ≡ sent_by_all s es ++ (step (after_all s es) e).sent
 sent-more s [] e = append-nil (step s e).sent
 sent-more s (d ∷ es) e =
     ap (λ l. (step s d).sent ++ l) (sent-more (step s d).after es e)
     ∙ sym (append_assoc (step s d).sent (sent_by_all (step s d).after es) (step (after_all (step s d).after es) e).sent)
 
-found-more : (s : State) (es : List Event) (e : Event) → AreFound s es → IsFound (after_all s es) e → AreFound s (es ++ e ∷ [])
+found-more : (s : State) (es : List JudgedInput) (e : JudgedInput) → AreFound s es → IsFound (after_all s es) e → AreFound s (es ++ e ∷ [])
 found-more s [] e are is = (is, tt)
 found-more s (d ∷ es) e are is = (are.0, found-more (step s d).after es e are.1 is)
 
-events-more : (xs : List Input) (es : List Event) (x : Input) (e : Event) → AreEventsOf xs es → IsEventOf x e → AreEventsOf (xs ++ x ∷ []) (es ++ e ∷ [])
+events-more : (xs : List Input) (es : List JudgedInput) (x : Input) (e : JudgedInput) → AreEventsOf xs es → IsEventOf x e → AreEventsOf (xs ++ x ∷ []) (es ++ e ∷ [])
 events-more [] [] x e are is = (is, tt)
 events-more [] (d ∷ es) x e are is = absurd are
 events-more (y ∷ xs) [] x e are is = absurd are
@@ -38,7 +38,7 @@ run-none s outputs = record { events = []; are_inputs = tt; found = tt; state = 
 pub lost-stays : (s t : State) (x : Input) (old new : List Output) → s.lost ≡ true → TakesInput s x t old new → t.lost ≡ true
 lost-stays s t x old new lost takes = ap (λ (r : State). r.lost) (takes.state ∙ still takes.event) ∙ lost
   where
-    still : (e : Event) → (step s e).after ≡ s
+    still : (e : JudgedInput) → (step s e).after ≡ s
     still (FrameAt time frame verdict) = ap (λ b. (cond b (no_step s) (step_frame s time frame verdict)).after) lost
     still (ActionAt action shown) = ap (λ b. (cond b (no_step s) (step_action s action shown)).after) lost
 

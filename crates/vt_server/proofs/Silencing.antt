@@ -6,7 +6,7 @@ use Rattle.vt_names.specs.Registry.{Set, is_of, set_at, without}
 use Rattle.vt_server.specs.Lapses.{first_silent, silent, silences}
 use Rattle.vt_node.specs.Watches.{is_silent}
 use Rattle.vt_server.specs.Parts.{Act, FallsSilent}
-use Rattle.vt_server.specs.Places.{Content, Place, no_content, with_content}
+use Rattle.vt_server.specs.Places.{SetPool, AddressState, no_content, with_content}
 use Rattle.vt_node.specs.Registries.{Watched}
 use Rattle.vt_server.specs.Rooms.{ClosesSets}
 use Rattle.vt_server.specs.States.{state_of, places_by}
@@ -14,7 +14,7 @@ use Rattle.vt_server.specs.Terminals.{State, after_act, after_acts}
 use Rattle.vt_node.specs.ByAddress.{with_at}
 use Rattle.vt_server.specs.Uploads.{content_of, room_of}
 use Rattle.vt_node.specs.Watches.{heard_of}
-use Rattle.vt_server.specs.declared.contents.Contents.{Contents}
+use Rattle.vt_server.specs.declared.contents.PoolTable.{PoolTable}
 use Rattle.vt_server.specs.declared.terminal.Terminal.{Terminal}
 use Rattle.vt_server.proofs.Puts.{act-is}
 use Rattle.vt_node.proofs.Sets.{none-same}
@@ -84,7 +84,7 @@ pub record IsOut (a : ℕ) (s : State) : Type 0 where
 out-own : (a : ℕ) (s : State) → IsOut a (closed a s)
 out-own a s = record {
   set = without-own a s.sets;
-  content = ap (λ (p : Place). p.content) (at-own a s.places (with_content (s.places a) no_content));
+  content = ap (λ (p : AddressState). p.content) (at-own a s.places (with_content (s.places a) no_content));
 }
 
 out-after : (a b : ℕ) (s : State) → IsOut a s → IsOut a (closed b s)
@@ -93,8 +93,8 @@ out-after a b s out = record {
   content =
       by_eq a b
       (λ is. ap (λ c. (with_at b (with_content (s.places b) no_content) s.places c).content) is
-      ∙ ap (λ (p : Place). p.content) (at-own b s.places (with_content (s.places b) no_content)))
-      (λ ne. ap (λ (p : Place). p.content) (at-other b a s.places (with_content (s.places b) no_content) ne) ∙ out.content);
+      ∙ ap (λ (p : AddressState). p.content) (at-own b s.places (with_content (s.places b) no_content)))
+      (λ ne. ap (λ (p : AddressState). p.content) (at-other b a s.places (with_content (s.places b) no_content) ne) ∙ out.content);
 }
 
 out-closed : (a : ℕ) (s : State) → IsOut a s → closed a s ≡ s
@@ -107,8 +107,8 @@ heard-kept : (a : ℕ) (s : State) (b : ℕ) → ((closed a s).places b).heard �
 heard-kept a s b =
     by_eq b a
     (λ is. ap (λ c. (with_at a (with_content (s.places a) no_content) s.places c).heard) is
-    ∙ ap (λ (p : Place). p.heard) (at-own a s.places (with_content (s.places a) no_content)) ∙ ap (λ c. (s.places c).heard) (sym is))
-    (λ ne. ap (λ (p : Place). p.heard) (at-other a b s.places (with_content (s.places a) no_content) ne))
+    ∙ ap (λ (p : AddressState). p.heard) (at-own a s.places (with_content (s.places a) no_content)) ∙ ap (λ c. (s.places c).heard) (sym is))
+    (λ ne. ap (λ (p : AddressState). p.heard) (at-other a b s.places (with_content (s.places a) no_content) ne))
 
 -- ---- several
 
@@ -185,7 +185,7 @@ module _ (s : State) where
 
 -- ---- terminals
 
-module _ (t : Terminal) (a : ℕ) (registry : Watched) (contents : Contents) where
+module _ (t : Terminal) (a : ℕ) (registry : Watched) (contents : PoolTable) where
   abbrev pub closing : Terminal
   closing = record t { registry = registry; contents = contents }
 
@@ -209,7 +209,7 @@ module _ (t : Terminal) (a : ℕ) (registry : Watched) (contents : Contents) whe
         (λ ne. elim (before.uploads b) [
           | inl none ↦ inl (ap (set_at b) sets ∙ without-none b a t.registry.sets none)
           | inr same ↦ inr ((
-            ap (λ (c : ℕ → Content). c b) content ∙ at-other a b (content_of t.contents) no_content ne ∙ same.0,
+            ap (λ (c : ℕ → SetPool). c b) content ∙ at-other a b (content_of t.contents) no_content ne ∙ same.0,
             rooms b ne ∙ same.1,
           ))
         ]);

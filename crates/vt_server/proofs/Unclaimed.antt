@@ -2,7 +2,7 @@
 use Rattle.std.proofs.Common.{◌≡◌, ℕ, List, [], ◌∷◌, ◌++◌, refl, sym, ap, ◌∙◌}
 use Rattle.vt_names.specs.Claims.{Claimed}
 use Rattle.vt_server.specs.Lapses.{lapsed, sent_by_lapses, tp_due, etp_due, sending_due, silences, silent, after_tp_timeouts, after_etp_timeouts, after_timeouts}
-use Rattle.vt_server.specs.Parts.{Act, TpExpires, EtpExpires, SendingExpires, FallsSilent, Outcome, outcome}
+use Rattle.vt_server.specs.Parts.{Act, TpExpires, EtpExpires, SendingExpires, FallsSilent, AddressOutcome, outcome}
 use Rattle.vt_server.specs.Terminals.{State, part, put, to_address, after_act, after_acts, sent_by_act, sent_by_acts}
 use Rattle.vt_server.proofs.Acts.{AllActs, all-below, all-silences}
 use Rattle.vt_server.proofs.Puts.{act-is, sent_by_one-is}
@@ -29,7 +29,7 @@ silent-unclaimed c s a own = refl
 module _ (c : Claimed) where
   act-unclaimed : (s : State) (a : ℕ) (h : Act) → IsUnclaimed h → c.own ≡ s.claims.own → after_act (with_claims c s) a h ≡ with_claims c (after_act s a h)
   act-unclaimed s a h is own =
-      act-is (with_claims c s) a h ∙ ap (λ (o : Outcome). put a o (with_claims c s)) (is c s a own) ∙ sym (ap (with_claims c) (act-is s a h))
+      act-is (with_claims c s) a h ∙ ap (λ (o : AddressOutcome). put a o (with_claims c s)) (is c s a own) ∙ sym (ap (with_claims c) (act-is s a h))
 
   sent-unclaimed : (s : State) (a : ℕ) (h : Act) → IsUnclaimed h → c.own ≡ s.claims.own → sent_by_act (with_claims c s) a h ≡ sent_by_act s a h
   sent-unclaimed s a h is own =

@@ -12,16 +12,16 @@ use Rattle.vt_machine.specs.Lives.{SetState, with_objects}
 use Rattle.vt_macros.specs.Machines.{events_of}
 use Rattle.vt_machine.specs.declared.operator.OperatorRefusal.{OperatorRefusal}
 use Rattle.vt_names.specs.Registry.{Set}
-use Rattle.vt_stores.specs.Stores.{Contents}
+use Rattle.vt_stores.specs.Stores.{ObjectMap}
 use Rattle.vt_commands.specs.declared.command.Command.{Command}
 use Rattle.vt_commands.specs.declared.raising.Raised.{Raised}
 use Rattle.vt_server.specs.Acting.{PerformsAt}
 use Rattle.vt_server.specs.Commands.{after_done, content_after, deletes, error_after, error_in, error_of, state_after}
-use Rattle.vt_server.specs.Hearings.{IsPrepared}
+use Rattle.vt_server.specs.Hearings.{FitsBeforeTimeouts}
 use Rattle.vt_server.specs.Lapses.{at_time, lapsed, silences, silent, tp_due, etp_due, sending_due, after_tp_timeouts, after_etp_timeouts, after_timeouts}
 use Rattle.vt_server.specs.Operators.{action_on}
-use Rattle.vt_server.specs.Parts.{Act, Part, Hears, Rebinds, TpExpires, EtpExpires, SendingExpires, FallsSilent, outcome, unchanged, without_set, stays_under, after_change, after_claim_heard}
-use Rattle.vt_server.specs.Places.{Content, Place, heard_at, no_content}
+use Rattle.vt_server.specs.Parts.{Act, AddressView, Hears, Rebinds, TpExpires, EtpExpires, SendingExpires, FallsSilent, outcome, unchanged, without_set, stays_under, after_change, after_claim_heard}
+use Rattle.vt_server.specs.Places.{SetPool, AddressState, heard_at, no_content}
 use Rattle.vt_server.specs.Screens.{IsScreenAt, IsScreenOfShown, KeepsScreen, ShowsSame, ShowsWhatIsLeft, TellsChanges}
 use Rattle.vt_server.specs.States.{state_of}
 use Rattle.vt_server.specs.Steps.{before, changes, heard_at_source, acts, acted}
@@ -29,11 +29,11 @@ use Rattle.vt_server.specs.Terminals.{State, pool_of, pool_at, part, put, after_
 use Rattle.vt_node.specs.ByAddress.{with_at}
 use Rattle.vt_server.specs.Transfers.{Verdict, Accepts, Faulty, Refuses, ended, end_of_pool, end_reply}
 use Rattle.vt_server.specs.Uploads.{content_of}
-use Rattle.vt_node.specs.declared.bus.Notice.{Notice}
-use Rattle.vt_node.specs.declared.bus.Notice.TheVariants.{Claim}
-use Rattle.vt_server.specs.declared.contents.Contents as declared
-use Rattle.vt_server.specs.declared.hearing.Ready.{Ready}
-use Rattle.vt_server.specs.declared.hearing.Ready.TheVariants as readies
+use Rattle.vt_node.specs.declared.bus.FrameMeaning.{FrameMeaning}
+use Rattle.vt_node.specs.declared.bus.FrameMeaning.TheVariants.{Claim}
+use Rattle.vt_server.specs.declared.contents.PoolTable as declared
+use Rattle.vt_server.specs.declared.hearing.PreparedFrame.{PreparedFrame}
+use Rattle.vt_server.specs.declared.hearing.PreparedFrame.TheVariants as readies
 use Rattle.vt_server.specs.declared.terminal.Terminal.{Terminal}
 use Rattle.vt_server.proofs.ActsAt.{AllAt, at-append, at-below, at-changes, at-heard}
 use Rattle.vt_server.proofs.Changes.{shown-acts}
@@ -72,21 +72,21 @@ same-at s t shown each = record { shown = shown; pool = ap (pool_at t) shown ∙
 same-by : (s t : State) → t.shown ≡ s.shown → ((b : ℕ) → pool_of t b ≡ pool_of s b) → ShowsSame s t
 same-by s t shown each = same-at s t shown (λ b is. each b)
 
-pools-kept : (old new : ℕ → Content) (a : ℕ) (x : Content) → new ≡ with_at a x old → x.pool ≡ (old a).pool → (b : ℕ) → (new b).pool ≡ (old b).pool
+pools-kept : (old new : ℕ → SetPool) (a : ℕ) (x : SetPool) → new ≡ with_at a x old → x.pool ≡ (old a).pool → (b : ℕ) → (new b).pool ≡ (old b).pool
 pools-kept old new a x is same b =
-    ap (λ (k : ℕ → Content). (k b).pool) is
+    ap (λ (k : ℕ → SetPool). (k b).pool) is
     ∙ by_eq b a
-    (λ here. ap (λ q. (with_at a x old q).pool) here ∙ ap (λ (k : Content). k.pool) (at-own a old x) ∙ same ∙ ap (λ q. (old q).pool) (sym here))
-    (λ ne. ap (λ (k : Content). k.pool) (at-other a b old x ne))
+    (λ here. ap (λ q. (with_at a x old q).pool) here ∙ ap (λ (k : SetPool). k.pool) (at-own a old x) ∙ same ∙ ap (λ q. (old q).pool) (sym here))
+    (λ ne. ap (λ (k : SetPool). k.pool) (at-other a b old x ne))
 
-pools-other : (old new : ℕ → Content) (a : ℕ) (x : Content) → new ≡ with_at a x old → (b : ℕ) → b ≢ a → (new b).pool ≡ (old b).pool
-pools-other old new a x is b ne = ap (λ (k : ℕ → Content). (k b).pool) is ∙ ap (λ (k : Content). k.pool) (at-other a b old x ne)
+pools-other : (old new : ℕ → SetPool) (a : ℕ) (x : SetPool) → new ≡ with_at a x old → (b : ℕ) → b ≢ a → (new b).pool ≡ (old b).pool
+pools-other old new a x is b ne = ap (λ (k : ℕ → SetPool). (k b).pool) is ∙ ap (λ (k : SetPool). k.pool) (at-other a b old x ne)
 
 other-shown : (shown : Option ℕ) (a b : ℕ) → option_eq nat_eq shown (Some a) ≡ false → shown ≡ Some b → b ≢ a
 other-shown shown a b other is here =
     true≢false (sym (option_same (Some a)) ∙ ap (λ o. option_eq nat_eq o (Some a)) (sym (is ∙ ap Some here)) ∙ other)
 
-module _ (t : Terminal) (contents : declared.Contents) (a : ℕ) (x : Content) (is : content_of contents ≡ with_at a x (content_of t.contents)) where
+module _ (t : Terminal) (contents : declared.PoolTable) (a : ℕ) (x : SetPool) (is : content_of contents ≡ with_at a x (content_of t.contents)) where
   -- the content of an address is another, with the pool that it had
   pub same-pool : x.pool ≡ (content_of t.contents a).pool → ShowsSame (state_of t) (state_of (record t { contents = contents }))
   same-pool same =
@@ -100,17 +100,17 @@ module _ (t : Terminal) (contents : declared.Contents) (a : ℕ) (x : Content) (
 
 -- ---- commands, ends of uploads and actions that change nothing
 
-refused-objects : (old : Contents) (raised : List Raised) (result : Result Contents ℕ) → error_in result ≢ 0 → after_done old raised result ≡ old
+refused-objects : (old : ObjectMap) (raised : List Raised) (result : Result ObjectMap ℕ) → error_in result ≢ 0 → after_done old raised result ≡ old
 refused-objects old raised (Ok middle) other = absurd (other refl)
 refused-objects old raised (Err bits) other = refl
 
 refused-command : (command : Command) (pool : Option SetState) → option_map (error_of command) pool ≢ Some 0 → option_map (state_after command) pool ≡ pool
 refused-command command None other = refl
 refused-command command (Some state) other =
-    ap (λ (objects : Contents). Some (with_objects state objects))
+    ap (λ (objects : ObjectMap). Some (with_objects state objects))
     (refused-objects state.objects (events_of state.objects command) (effect state.objects command) (λ h. other (ap Some h)))
 
-pub command-same : (command : Command) (content : Content) → error_after command content.pool ≢ Some 0 → (content_after command content).pool ≡ content.pool
+pub command-same : (command : Command) (content : SetPool) → error_after command content.pool ≢ Some 0 → (content_after command content).pool ≡ content.pool
 command-same command content other = cases (deletes command) other
   where
     cases : (b : Bool) → cond b (Some 0) (option_map (error_of command) content.pool) ≢ Some 0
@@ -118,7 +118,7 @@ command-same command content other = cases (deletes command) other
     cases true other = absurd (other refl)
     cases false other = refused-command command content.pool other
 
-pub end-same : (content : Content) (verdict : Verdict) → end_reply verdict ≢ end_of_pool 0 0xFFFF 0xFFFF 0 → (ended content verdict).pool ≡ content.pool
+pub end-same : (content : SetPool) (verdict : Verdict) → end_reply verdict ≢ end_of_pool 0 0xFFFF 0xFFFF 0 → (ended content verdict).pool ≡ content.pool
 end-same content (Accepts objects) other = absurd (other refl)
 end-same content (Faulty fault) other = refl
 end-same content (Refuses refusal) other = refl
@@ -173,9 +173,9 @@ left-all s t left has = record { shown = left.shown; pool = cases t.shown refl h
 -- ---- acts that leave pools or take them away
 
 abbrev pub ActStays : Act → Type 0
-ActStays act = (now a : ℕ) (p : Part) → Stays p.place.content.pool (outcome now a p act).place.content.pool
+ActStays act = (now a : ℕ) (p : AddressView) → Stays p.place.content.pool (outcome now a p act).place.content.pool
 
-change-stays : (p : Part) (o : Option Set) → Stays p.place.content.pool (after_change p o).place.content.pool
+change-stays : (p : AddressView) (o : Option Set) → Stays p.place.content.pool (after_change p o).place.content.pool
 change-stays p None = λ some. refl
 change-stays p (Some set) = cases (stays_under set.name p.holder)
   where
@@ -183,7 +183,7 @@ change-stays p (Some set) = cases (stays_under set.name p.holder)
     cases true = λ some. refl
     cases false = gone p.place.content.pool
 
-claim-stays : (p : Part) (o : Option Set) → Stays p.place.content.pool (after_claim_heard p o).place.content.pool
+claim-stays : (p : AddressView) (o : Option Set) → Stays p.place.content.pool (after_claim_heard p o).place.content.pool
 claim-stays p None = λ some. refl
 claim-stays p (Some set) = λ some. refl
 
@@ -195,12 +195,12 @@ claim-heard-stays name f verdict now a p = claim-stays (record p { place = heard
 
 act-stays : (s : State) (a b : ℕ) (h : Act) → ActStays h → Stays (pool_of s b) (pool_of (after_act s a h) b)
 act-stays s a b h stays =
-    let place : Place = (outcome s.now a (part a s) h).place in
+    let place : AddressState = (outcome s.now a (part a s) h).place in
     subst (λ (t : State). Stays (pool_of s b) (pool_of t b)) (sym (act-is s a h))
     (by_eq b a
     (λ is. subst (λ q. Stays (pool_of s q) (pool_of (put a (outcome s.now a (part a s) h) s) q)) (sym is)
-    (subst (λ (x : Place). Stays (pool_of s a) x.content.pool) (sym (at-own a s.places place)) (stays s.now a (part a s))))
-    (λ ne. λ some. ap (λ (x : Place). x.content.pool) (at-other a b s.places place ne)))
+    (subst (λ (x : AddressState). Stays (pool_of s a) x.content.pool) (sym (at-own a s.places place)) (stays s.now a (part a s))))
+    (λ ne. λ some. ap (λ (x : AddressState). x.content.pool) (at-other a b s.places place ne)))
 
 acts-stay : (s : State) (b : ℕ) (hs : List (ℕ × Act)) → AllAt (λ a h. ActStays h) hs → Stays (pool_of s b) (pool_of (after_acts s hs) b)
 acts-stay s b [] all = λ some. refl
@@ -247,7 +247,7 @@ claim-left s source name f verdict =
     (at-heard (λ a h. ActStays h) s.claims.own source n f verdict (claim-heard-stays name f verdict))))
 
 -- a claim that is recorded, its effect, and the choice of the shown set
-pub claimed-left : (s t u v : State) (f : Frame) (n : Notice) (name : ℕ) → t ≡ before s (source_of f) n → u ≡ acted s (source_of f) (Claim name) f any_verdict
+pub claimed-left : (s t u v : State) (f : Frame) (n : FrameMeaning) (name : ℕ) → t ≡ before s (source_of f) n → u ≡ acted s (source_of f) (Claim name) f any_verdict
     → ShowsSame u v → ShowsWhatIsLeft t v
 claimed-left s t u v f n name recorded took settles =
     let first : ShowsWhatIsLeft s u = subst (ShowsWhatIsLeft s) (sym took) (claim-left s (source_of f) name f any_verdict) in
@@ -257,7 +257,7 @@ claimed-left s t u v f n name recorded took settles =
 -- ---- an input
 
 -- what was made ready for a frame is no change of a pool
-pub prepared-shows : (s : State) (t : Terminal) (now : ℕ) (n : Notice) (f : Frame) (ready : Ready) → IsPrepared s t now n f ready → ShowsSame s (state_of t)
+pub prepared-shows : (s : State) (t : Terminal) (now : ℕ) (n : FrameMeaning) (f : Frame) (ready : PreparedFrame) → FitsBeforeTimeouts s t now n f ready → ShowsSame s (state_of t)
 prepared-shows s t now n f readies.Loses it = subst (ShowsSame s) (sym it.0) (record { shown = refl; pool = refl })
 prepared-shows s t now n f (readies.Claimed former) it = subst (ShowsSame s) (sym it.5) (record { shown = refl; pool = refl })
 prepared-shows s t now n f (readies.Prepared upload) it = subst (ShowsSame s) (sym it.0) (record { shown = refl; pool = refl })

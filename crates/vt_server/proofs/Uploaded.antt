@@ -13,12 +13,12 @@ use Rattle.vt_transport.specs.Wire.{tp_frame}
 use Rattle.vt_server.specs.Ends.{IsEnded}
 use Rattle.vt_server.specs.Findings.{ends_transfer}
 use Rattle.vt_server.specs.Handling.{asked, transferred, end_handled, TRANSFER, END_OF_POOL}
-use Rattle.vt_server.specs.Hearings.{Answers, IsReplyTo, TakesMessage, TakesNotice, begins_with, is_other, with_content_at}
+use Rattle.vt_server.specs.Hearings.{HandlesMessage, IsReplyTo, TakesMessage, TakesNotice, begins_with, is_other, with_content_at}
 use Rattle.vt_node.specs.Messages.{message_to, technical_reply}
 use Rattle.vt_node.specs.Nodes.{NodeState, HasTaken, HasAnswered, tp_taken, etp_taken, sender_answer}
 use Rattle.vt_server.specs.Outputs.{frames_of}
 use Rattle.vt_server.specs.Parts.{unchanged, after_message}
-use Rattle.vt_server.specs.Places.{Content, Place, with_piece}
+use Rattle.vt_server.specs.Places.{SetPool, AddressState, with_piece}
 use Rattle.vt_node.specs.Receiving.{frames_in, message_in}
 use Rattle.vt_server.specs.Sessions.{Came, came_tp, came_etp, message_to_terminal}
 use Rattle.vt_server.specs.States.{state_of, places_by}
@@ -27,9 +27,9 @@ use Rattle.vt_node.specs.ByAddress.{with_at}
 use Rattle.vt_server.specs.Transfers.{ended}
 use Rattle.vt_server.specs.Uploads.{content_of}
 use Rattle.vt_node.specs.Watches.{heard_of}
-use Rattle.vt_server.specs.declared.contents.Contents.{Contents}
+use Rattle.vt_server.specs.declared.contents.PoolTable.{PoolTable}
 use Rattle.vt_server.specs.declared.ending.Judgement.{Judgement}
-use Rattle.vt_node.specs.declared.bus.Notice.TheVariants as notices
+use Rattle.vt_node.specs.declared.bus.FrameMeaning.TheVariants as notices
 use Rattle.vt_server.specs.declared.output.Output.{Output}
 use Rattle.vt_server.specs.declared.output.Output.TheVariants as declared
 use Rattle.vt_server.specs.declared.terminal.Terminal.{Terminal}
@@ -42,33 +42,33 @@ use Rattle.vt_names.proofs.Holding.{none-some}
 -- ---- the content of one address
 
 -- where the pools and the uploads alone are others
-abbrev pub with_contents : Terminal → Contents → Terminal
+abbrev pub with_contents : Terminal → PoolTable → Terminal
 with_contents t contents = record t { contents = contents }
 
-pub contents-state : (t : Terminal) (contents : Contents) (a : ℕ) (x : Content) → content_of contents ≡ with_at a x (content_of t.contents)
+pub contents-state : (t : Terminal) (contents : PoolTable) (a : ℕ) (x : SetPool) → content_of contents ≡ with_at a x (content_of t.contents)
     → state_of (with_contents t contents) ≡ with_content_at a x (state_of t)
 contents-state t contents a x is =
-    ap (λ (f : ℕ → Content). record (state_of t) { places = places_by f t.node (heard_of t.registry.watch) }) is
-    ∙ ap (λ (p : ℕ → Place). record (state_of t) { places = p }) (content-placed (content_of t.contents) t.node (heard_of t.registry.watch) a x)
+    ap (λ (f : ℕ → SetPool). record (state_of t) { places = places_by f t.node (heard_of t.registry.watch) }) is
+    ∙ ap (λ (p : ℕ → AddressState). record (state_of t) { places = p }) (content-placed (content_of t.contents) t.node (heard_of t.registry.watch) a x)
 
 -- ---- the three kinds of messages
 
 module _ (s : State) (a : ℕ) (bytes : List ℕ) (some : true ≡ is_some (set_at a s.sets)) where
-  pub piece-answered : (t : State) → begins_with TRANSFER bytes → t ≡ with_content_at a (with_piece (s.places a).content (drop 1 bytes)) s → Answers s a bytes None t
+  pub piece-answered : (t : State) → begins_with TRANSFER bytes → t ≡ with_content_at a (with_piece (s.places a).content (drop 1 bytes)) s → HandlesMessage s a bytes None t
   piece-answered t begins left =
       answers-by s a bytes some any_verdict (transferred (s.places a).content (drop 1 bytes)) (piece-handled (s.places a).content any_verdict bytes begins) t None
       (λ ends. piece-ends_none (set_at a s.sets) bytes begins ends _) left refl
 
-  pub end-answered : (t : State) (judgement : Judgement) (reply : List ℕ) (new : ℕ → Content) → begins_with END_OF_POOL bytes
+  pub end-answered : (t : State) (judgement : Judgement) (reply : List ℕ) (new : ℕ → SetPool) → begins_with END_OF_POOL bytes
       → (is : IsEnded (λ q. (s.places q).content) a judgement reply new) → t ≡ with_content_at a (ended (s.places a).content is.verdict) s
-      → Answers s a bytes (Some (message_to s.claims.own a reply)) t
+      → HandlesMessage s a bytes (Some (message_to s.claims.own a reply)) t
   end-answered t judgement reply new begins is left =
       answers-by s a bytes some is.verdict (end_handled (s.places a).content is.verdict) (end-handled (s.places a).content is.verdict bytes begins) t
       (Some (message_to s.claims.own a reply)) (λ _. is.right) left
       (ap (λ (r : List ℕ). option_to_list (Some (message_to s.claims.own a r))) is.reply_is)
 
   pub other-answered : (t : State) (reply : Option (List ℕ)) → is_other bytes → IsReplyTo s a bytes reply t
-      → Answers s a bytes (option_map (message_to s.claims.own a) reply) t
+      → HandlesMessage s a bytes (option_map (message_to s.claims.own a) reply) t
   other-answered t reply other is =
       answers-by s a bytes some any_verdict (asked (s.places a).content bytes (technical_reply bytes)) (other-handled (s.places a).content any_verdict bytes other) t
       (option_map (message_to s.claims.own a) reply) (λ ends. other-ends_none (set_at a s.sets) bytes other ends _) is.state

@@ -3,8 +3,8 @@ use Rattle.std.proofs.Common.{◌≡◌, ℕ, List, length, get_or, ◌<◌, Opt
 use Rattle.std.specs.Prelude.{slice_set}
 use Rattle.vt_names.specs.Registry.{Set, set_at}
 use Rattle.vt_node.specs.Nodes.{NodeState}
-use Rattle.vt_server.specs.Parts.{Outcome, Act, unchanged, outcome}
-use Rattle.vt_server.specs.Places.{Content, Place, with_content}
+use Rattle.vt_server.specs.Parts.{AddressOutcome, Act, unchanged, outcome}
+use Rattle.vt_server.specs.Places.{SetPool, AddressState, with_content}
 use Rattle.vt_machine.specs.Lives.{SetState}
 use Rattle.vt_pool.specs.Arriving.{Arrived}
 use Rattle.vt_node.proofs.ByAddress.{places-same, places-written, place-written}
@@ -38,14 +38,14 @@ upload-written pools transfers a n transfer is within =
 
 -- ---- places, where one thing at one address is another
 
-pub content-placed : (contents : ℕ → Content) (node : NodeState) (heard : ℕ → Option ℕ) (a : ℕ) (x : Content)
+pub content-placed : (contents : ℕ → SetPool) (node : NodeState) (heard : ℕ → Option ℕ) (a : ℕ) (x : SetPool)
     → places_by (with_at a x contents) node heard ≡ with_at a (with_content (places_by contents node heard a) x) (places_by contents node heard)
 content-placed contents node heard a x =
     places-written a (places_by contents node heard) (places_by (with_at a x contents) node heard) (with_content (places_by contents node heard a) x)
     (ap (λ c. with_content (places_by contents node heard a) c) (at-own a contents x))
     (λ b ne. ap (λ c. with_content (places_by contents node heard b) c) (at-other a b contents x ne))
 
-pub heard-placed : (contents : ℕ → Content) (node : NodeState) (heard : ℕ → Option ℕ) (a : ℕ) (x : Option ℕ)
+pub heard-placed : (contents : ℕ → SetPool) (node : NodeState) (heard : ℕ → Option ℕ) (a : ℕ) (x : Option ℕ)
     → places_by contents node (with_at a x heard) ≡ with_at a (record (places_by contents node heard a) { heard = x }) (places_by contents node heard)
 heard-placed contents node heard a x =
     places-written a (places_by contents node heard) (places_by contents node (with_at a x heard)) (record (places_by contents node heard a) { heard = x })
@@ -54,19 +54,19 @@ heard-placed contents node heard a x =
 
 -- ---- states
 
-pub state-is : (s : State) (sets : List Set) (places : ℕ → Place) → sets ≡ s.sets → places ≡ s.places → record s { sets = sets; places = places } ≡ s
+pub state-is : (s : State) (sets : List Set) (places : ℕ → AddressState) → sets ≡ s.sets → places ≡ s.places → record s { sets = sets; places = places } ≡ s
 state-is s sets places e f = λ i. record s { sets = e i; places = f i }
 
 -- where the place alone is another
-pub put-place : (a : ℕ) (s : State) (after : Outcome) → after.set ≡ set_at a s.sets → put a after s ≡ record s { places = with_at a after.place s.places }
+pub put-place : (a : ℕ) (s : State) (after : AddressOutcome) → after.set ≡ set_at a s.sets → put a after s ≡ record s { places = with_at a after.place s.places }
 put-place a s after e = ap (λ (sets : List Set). record s { sets = sets; places = with_at a after.place s.places }) (sets-same a s.sets after.set (sym e))
 
-pub put-kept : (a : ℕ) (s : State) (after : Outcome) → after.set ≡ set_at a s.sets → after.place ≡ s.places a → put a after s ≡ s
-put-kept a s after e f = put-place a s after e ∙ ap (λ (places : ℕ → Place). record s { places = places }) (places-same a s.places after.place (sym f))
+pub put-kept : (a : ℕ) (s : State) (after : AddressOutcome) → after.set ≡ set_at a s.sets → after.place ≡ s.places a → put a after s ≡ s
+put-kept a s after e f = put-place a s after e ∙ ap (λ (places : ℕ → AddressState). record s { places = places }) (places-same a s.places after.place (sym f))
 
 -- where the set alone is another
-pub put-set : (a : ℕ) (s : State) (after : Outcome) → after.place ≡ s.places a → put a after s ≡ record s { sets = with_set_at a after.set s.sets }
-put-set a s after f = ap (λ (places : ℕ → Place). record s { sets = with_set_at a after.set s.sets; places = places }) (places-same a s.places after.place (sym f))
+pub put-set : (a : ℕ) (s : State) (after : AddressOutcome) → after.place ≡ s.places a → put a after s ≡ record s { sets = with_set_at a after.set s.sets }
+put-set a s after f = ap (λ (places : ℕ → AddressState). record s { sets = with_set_at a after.set s.sets; places = places }) (places-same a s.places after.place (sym f))
 
 -- nothing comes of what leaves the part as it was
 pub idle : (s : State) (a : ℕ) (h : Act) → outcome s.now a (part a s) h ≡ unchanged (part a s) → after_act s a h ≡ s

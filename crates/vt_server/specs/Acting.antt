@@ -12,7 +12,7 @@ use Rattle.vt_machine.specs.declared.operator.OperatorRefusal.{OperatorRefusal}
 use Rattle.vt_machine.specs.Lives.{SetState}
 use Rattle.vt_machine.specs.Entering.{enter_text}
 use Rattle.vt_machine.specs.Operating.{Action, ComesTo, WouldRefuse}
-use Rattle.vt_server.specs.Places.{Content}
+use Rattle.vt_server.specs.Places.{SetPool}
 use Rattle.vt_server.specs.Terminals.{State, after_acts, sent_by_acts}
 use Rattle.vt_node.specs.ByAddress.{with_at}
 use Rattle.vt_shown.specs.Showing.{IsShown}
@@ -39,7 +39,7 @@ PerformsAt (Some old) action result (Some new) = Performs old action result new
 PerformsAt None action result None = result ≡ None
 PerformsAt _ action result _ = ⊥
 
-pub record IsActedOn (old : ℕ → Content) (address : ℕ) (action : ActionValue) (result : Option (Result Acted OperatorRefusal)) (new : ℕ → Content) : Type 0 where
+pub record IsActedOn (old : ℕ → SetPool) (address : ℕ) (action : ActionValue) (result : Option (Result Acted OperatorRefusal)) (new : ℕ → SetPool) : Type 0 where
   pub pool : Option SetState
   pub performs : PerformsAt (old address).pool action result pool
   pub content : new ≡ with_at address (record (old address) { pool = pool }) old

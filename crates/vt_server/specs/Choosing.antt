@@ -91,12 +91,12 @@ events_of_change was now = if option_eq nat_eq was now then [] else raised_at wa
 -- ---- the status
 
 -- the set that is shown with its pool, its active mask and that mask's soft key mask
-pub record Display : Type 0 where
+pub record ShownMasks : Type 0 where
   pub address : ℕ
   pub mask : ℕ
   pub soft_keys : ℕ
 
-abbrev pub display_of : ℕ → Option SetState → Display
+abbrev pub display_of : ℕ → Option SetState → ShownMasks
 display_of address None = record { address = NULL_ADDRESS; mask = 0xFFFF; soft_keys = 0xFFFF }
 display_of address (Some state) = record {
   address = address;
@@ -104,20 +104,20 @@ display_of address (Some state) = record {
   soft_keys = soft_key_mask_of (finite.get state.objects (active_in state.objects));
 }
 
-abbrev pub display_at : (ℕ → Option SetState) → Option ℕ → Display
+abbrev pub display_at : (ℕ → Option SetState) → Option ℕ → ShownMasks
 display_at pools None = display_of 0 None
 display_at pools (Some address) = display_of address (pools address)
 
-unfoldable pub display : State → Display
+unfoldable pub display : State → ShownMasks
 display s = display_at (pool_of s) s.shown
 
-abbrev pub same_display : Display → Display → Bool
+abbrev pub same_display : ShownMasks → ShownMasks → Bool
 same_display a b = (a.address == b.address) && ((a.mask == b.mask) && (a.soft_keys == b.soft_keys))
 
-abbrev pub status_frame : ℕ → Display → Frame
+abbrev pub status_frame : ℕ → ShownMasks → Frame
 status_frame own shown =
     message_to own GLOBAL_ADDRESS ((0xFE ∷ shown.address ∷ little_bytes 2 shown.mask) ++ little_bytes 2 shown.soft_keys ++ 0 ∷ FILL ∷ [])
 
 -- where another set or another mask is shown than before
-abbrev pub status : ℕ → Display → Display → List Sent
+abbrev pub status : ℕ → ShownMasks → ShownMasks → List Sent
 status own was now = if same_display was now then [] else ToAll (status_frame own now) ∷ []

@@ -4,33 +4,33 @@ use Rattle.std.specs.Option.{option_map}
 use Rattle.vt_commands.specs.declared.command.Command.{Command}
 use Rattle.vt_commands.specs.declared.command.Command.TheVariants.{DeletePool}
 use Rattle.vt_commands.specs.declared.raising.Raised.{Raised}
-use Rattle.vt_stores.specs.Stores.{Contents}
+use Rattle.vt_stores.specs.Stores.{ObjectMap}
 use Rattle.vt_machine.specs.declared.live.Outcome.{Outcome}
 use Rattle.vt_machine.specs.declared.live.Outcome.TheVariants.{Done, Refused}
 use Rattle.vt_effects.specs.Effects.{effect}
 use Rattle.vt_machine.specs.Lives.{SetState, with_objects}
-use Rattle.vt_server.specs.Places.{Content, no_content}
+use Rattle.vt_server.specs.Places.{SetPool, no_content}
 use Rattle.vt_macros.specs.Machines.{End, Ended, Sticks, run_of, events_of}
 
 -- a pool in whose set no key is held and no input is selected
-abbrev pub fresh : Contents → SetState
+abbrev pub fresh : ObjectMap → SetState
 fresh objects = record { objects = objects; key = None; input = None }
 
 -- the objects that a run leaves; runs on the objects of an accepted pool never stick
-abbrev pub store_of : End → Contents
+abbrev pub store_of : End → ObjectMap
 store_of (Ended store left) = store
 store_of (Sticks why store) = store
 
 -- A command that is done leaves what the macros leave of the events that it raises, and a refused one changes nothing.
-abbrev pub after_done : Contents → List Raised → Result Contents ℕ → Contents
+abbrev pub after_done : ObjectMap → List Raised → Result ObjectMap ℕ → ObjectMap
 after_done old raised (Ok middle) = store_of (run_of middle raised)
 after_done old raised (Err bits) = old
 
-abbrev pub objects_after : Command → Contents → Contents
+abbrev pub objects_after : Command → ObjectMap → ObjectMap
 objects_after command old = after_done old (events_of old command) (effect old command)
 
 -- the error byte
-abbrev pub error_in : Result Contents ℕ → ℕ
+abbrev pub error_in : Result ObjectMap ℕ → ℕ
 error_in (Ok middle) = 0
 error_in (Err bits) = bits
 
@@ -51,7 +51,7 @@ deletes DeletePool = true
 deletes _ = false
 
 -- the pool of a set after a command, and the error byte of its reply, if it has one; with the pool its transfer goes too
-abbrev pub content_after : Command → Content → Content
+abbrev pub content_after : Command → SetPool → SetPool
 content_after command content = if deletes command then no_content else record content { pool = option_map (state_after command) content.pool }
 
 abbrev pub error_after : Command → Option SetState → Option ℕ

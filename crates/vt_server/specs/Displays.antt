@@ -3,9 +3,9 @@ use Rattle.std.specs.Prelude.{ℕ}
 use Rattle.std.specs.Borrow.{Bor}
 use Rattle.vt_machine.specs.Lives.{SetState}
 use Rattle.vt_server.specs.Choosing as choosing
-use Rattle.vt_server.specs.declared.choosing.Display.{Display}
+use Rattle.vt_server.specs.declared.choosing.ShownMasks.{ShownMasks}
 
-abbrev pub display_value : Display → choosing.Display
+abbrev pub display_value : ShownMasks → choosing.ShownMasks
 display_value d = record { address = d.address; mask = d.mask; soft_keys = d.soft_keys }
 
 abbrev pub found_pool : ℕ × Bor SetState → ℕ × SetState

@@ -1,25 +1,25 @@
 -- What the end of an upload comes to in the code (docs/PROFILE.md, "End of Object Pool (12)").
 use Rattle.std.specs.Prelude.{◌≡◌, ℕ, List}
-use Rattle.vt_server.specs.Places.{Content}
+use Rattle.vt_server.specs.Places.{SetPool}
 use Rattle.vt_server.specs.Transfers.{Verdict, Accepts, Faulty, Refuses, IsVerdict, ended, with_objects_of, end_reply}
 use Rattle.vt_node.specs.ByAddress.{with_at}
 use Rattle.vt_server.specs.declared.ending.Judgement.{Judgement}
 use Rattle.vt_server.specs.declared.ending.Judgement.TheVariants as judgements
 
 -- a verdict as it is carried out: with the pool that the set has from then on, or with the reply that refuses it
-abbrev pub CarriesOut : Content → Verdict → Judgement → Type 0
+abbrev pub CarriesOut : SetPool → Verdict → Judgement → Type 0
 CarriesOut content (Accepts objects) (judgements.Accepted pool) = pool.value ≡ with_objects_of content.pool objects
 CarriesOut content (Faulty fault) (judgements.Refused reply) = reply ≡ end_reply (Faulty fault)
 CarriesOut content (Refuses refusal) (judgements.Refused reply) = reply ≡ end_reply (Refuses refusal)
 CarriesOut content verdict judgement = ⊥
 
-pub record IsJudgement (content : Content) (judgement : Judgement) : Type 0 where
+pub record IsJudgement (content : SetPool) (judgement : Judgement) : Type 0 where
   pub verdict : Verdict
   pub right : IsVerdict content verdict
   pub carried_out : CarriesOut content verdict judgement
 
 -- The verdict is carried out at an address, and this is the reply.
-pub record IsEnded (old : ℕ → Content) (address : ℕ) (judgement : Judgement) (reply : List ℕ) (new : ℕ → Content) : Type 0 where
+pub record IsEnded (old : ℕ → SetPool) (address : ℕ) (judgement : Judgement) (reply : List ℕ) (new : ℕ → SetPool) : Type 0 where
   pub verdict : Verdict
   pub right : IsVerdict (old address) verdict
   pub content : new ≡ with_at address (ended (old address) verdict) old

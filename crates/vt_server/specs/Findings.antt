@@ -12,12 +12,12 @@ use Rattle.vt_node.specs.Bus.{notice_of}
 use Rattle.vt_server.specs.Handling.{ends_pool}
 use Rattle.vt_server.specs.Lapses.{at_time, lapsed}
 use Rattle.vt_server.specs.Operators.{object_of}
-use Rattle.vt_server.specs.Parts.{Part}
+use Rattle.vt_server.specs.Parts.{AddressView}
 use Rattle.vt_server.specs.Sessions.{came}
-use Rattle.vt_server.specs.Steps.{Event, FrameAt, ActionAt, step}
+use Rattle.vt_server.specs.Steps.{JudgedInput, FrameAt, ActionAt, step}
 use Rattle.vt_server.specs.Terminals.{State, part, pool_at}
 use Rattle.vt_server.specs.Transfers.{Verdict, IsVerdict}
-use Rattle.vt_node.specs.declared.bus.Notice.{Notice}
+use Rattle.vt_node.specs.declared.bus.FrameMeaning.{FrameMeaning}
 use Rattle.vt_server.specs.declared.input.Input.{Input}
 use Rattle.vt_server.specs.declared.input.Input.TheVariants as inputs
 
@@ -27,7 +27,7 @@ ends_transfer (Some set) (Some bytes) = ends_pool bytes
 ends_transfer _ _ = false
 
 -- Where a frame ends a transfer, the verdict on that is right.
-abbrev pub IsJudged : ℕ → ℕ → Part → Notice → Frame → Verdict → Type 0
+abbrev pub IsJudged : ℕ → ℕ → AddressView → FrameMeaning → Frame → Verdict → Type 0
 IsJudged now address p notice frame verdict =
     ends_transfer p.set (came now p.terminal address p.place notice frame).message ≡ true → IsVerdict p.place.content verdict
 
@@ -37,23 +37,23 @@ IsSeen s object shown =
     IfSome object (λ id. IfSome (pool_at s s.shown) (λ state. Decides shown (IsShown state.objects (active_in state.objects) id)))
 
 -- of the state after what the time of the frame ended
-abbrev pub IsFound : State → Event → Type 0
+abbrev pub IsFound : State → JudgedInput → Type 0
 IsFound s (FrameAt time frame verdict) =
     s.lost ≡ false
     → IsJudged (lapsed (at_time s time)).now (source_of frame) (part (source_of frame) (lapsed (at_time s time)))
     (notice_of s.claims.own s.claims.name frame) frame verdict
 IsFound s (ActionAt action shown) = s.lost ≡ false → IsSeen s (object_of action) shown
 
-abbrev pub AreFound : State → List Event → Type 0
+abbrev pub AreFound : State → List JudgedInput → Type 0
 AreFound s [] = Unit {0}
 AreFound s (e ∷ events) = IsFound s e × AreFound (step s e).after events
 
 -- ---- inputs as events
 
-abbrev pub IsEventOf : Input → Event → Type 0
+abbrev pub IsEventOf : Input → JudgedInput → Type 0
 IsEventOf (inputs.Frame time frame) (FrameAt at heard verdict) = (at ≡ time) × (heard ≡ frame)
 IsEventOf (inputs.Operator action) (ActionAt value shown) = value ≡ action_value action
 IsEventOf _ _ = ⊥
 
-abbrev pub AreEventsOf : List Input → List Event → Type 0
+abbrev pub AreEventsOf : List Input → List JudgedInput → Type 0
 AreEventsOf inputs events = AllZip IsEventOf inputs events

@@ -5,25 +5,25 @@ use Rattle.vt_commands.specs.declared.command.Command.{Command}
 use Rattle.vt_commands.specs.Commands.{command_at}
 use Rattle.vt_server.specs.Commands.{content_after, error_after}
 use Rattle.vt_node.specs.Messages.{technical_reply}
-use Rattle.vt_server.specs.Places.{Content, with_piece}
+use Rattle.vt_server.specs.Places.{SetPool, with_piece}
 use Rattle.vt_server.specs.Replies.{reply_to}
 use Rattle.vt_server.specs.Transfers.{Verdict, ended, end_reply}
 
 pub record Handled : Type 0 where
-  pub content : Content
+  pub content : SetPool
   pub reply : Option (List ℕ)
 
-abbrev pub ignored : Content → Handled
+abbrev pub ignored : SetPool → Handled
 ignored content = record { content = content; reply = None }
 
 -- A command without a pool is ignored, but Delete Object Pool.
-abbrev pub commanded : Content → Option Command → Handled
+abbrev pub commanded : SetPool → Option Command → Handled
 commanded content None = ignored content
 commanded content (Some command) =
     record { content = content_after command content; reply = option_map (reply_to command) (error_after command content.pool) }
 
 -- a message that asks what the terminal is, or else a command
-abbrev pub asked : Content → List ℕ → Option (List ℕ) → Handled
+abbrev pub asked : SetPool → List ℕ → Option (List ℕ) → Handled
 asked content bytes (Some reply) = record { content = content; reply = Some reply }
 asked content bytes None = commanded content (command_at bytes)
 
@@ -34,14 +34,14 @@ TRANSFER = 0x11
 abbrev pub END_OF_POOL : ℕ
 END_OF_POOL = 0x12
 
-abbrev pub transferred : Content → List ℕ → Handled
+abbrev pub transferred : SetPool → List ℕ → Handled
 transferred content bytes = ignored (with_piece content bytes)
 
-abbrev pub end_handled : Content → Verdict → Handled
+abbrev pub end_handled : SetPool → Verdict → Handled
 end_handled content verdict = record { content = ended content verdict; reply = Some (end_reply verdict) }
 
 -- by the verdict on the transfer, of which the end of a pool alone speaks
-abbrev pub handled : Content → Verdict → List ℕ → Handled
+abbrev pub handled : SetPool → Verdict → List ℕ → Handled
 handled content verdict [] = ignored content
 handled content verdict (function ∷ bytes) =
     if function == TRANSFER then transferred content bytes

@@ -6,7 +6,7 @@ use Rattle.vt_can.specs.lines.Actions.{ActionValue}
 use Rattle.vt_transport.specs.Protocol as tp
 use Rattle.vt_extended.specs.Protocol as etp
 use Rattle.vt_names.specs.Registry.{Set, mastered, has_place, joined, preloaded, bound}
-use Rattle.vt_stores.specs.Stores.{Contents}
+use Rattle.vt_stores.specs.Stores.{ObjectMap}
 use Rattle.vt_verify.specs.Triggers.{listing}
 use Rattle.vt_verify.specs.Budgets.{budget}
 use Rattle.vt_machine.specs.Lives.{SetState, with_objects}
@@ -18,27 +18,27 @@ use Rattle.vt_server.specs.Commands.{fresh, store_of}
 use Rattle.vt_server.specs.Handling.{Handled, handled}
 use Rattle.vt_node.specs.Messages.{message_to}
 use Rattle.vt_server.specs.Operators.{action_on, fault_of, is_busy, message_frames, sending_after, ran}
-use Rattle.vt_server.specs.Places.{Place, no_content, with_content, with_pool, heard_at, untimed_place}
+use Rattle.vt_server.specs.Places.{AddressState, no_content, with_content, with_pool, heard_at, untimed_place}
 use Rattle.vt_server.specs.Sessions.{Came, came, timeout_of, sending_timeout}
 use Rattle.vt_server.specs.Transfers.{Verdict}
-use Rattle.vt_node.specs.declared.bus.Notice.{Notice}
-use Rattle.vt_node.specs.declared.bus.Notice.TheVariants.{Claim, Master, Member}
+use Rattle.vt_node.specs.declared.bus.FrameMeaning.{FrameMeaning}
+use Rattle.vt_node.specs.declared.bus.FrameMeaning.TheVariants.{Claim, Master, Member}
 use Rattle.vt_server.specs.declared.output.OperatorFault.{OperatorFault}
 use Rattle.vt_server.specs.declared.output.OperatorFault.TheVariants.{Busy}
 
 -- The part of an address: the terminal's own address and whether that was lost, the holder of this address,
 -- its set, and what is kept of it beside that.
-pub record Part : Type 0 where
+pub record AddressView : Type 0 where
   pub terminal : ℕ
   pub lost : Bool
   pub holder : Option ℕ
   pub set : Option Set
-  pub place : Place
+  pub place : AddressState
 
 -- what comes of it, the frames to the address, and why an action of the operator was refused there
-pub record Outcome : Type 0 where
+pub record AddressOutcome : Type 0 where
   pub set : Option Set
-  pub place : Place
+  pub place : AddressState
   pub frames : List Frame
   pub refused : Option OperatorFault
 
@@ -46,9 +46,9 @@ pub record Outcome : Type 0 where
 -- session is silent for too long, or the set; the operator acts on the set, whose object is shown or not; an event of the
 -- set is raised.
 pub data Act : Type 0 where
-  Hears : Notice → Frame → Verdict → Act
+  Hears : FrameMeaning → Frame → Verdict → Act
   Rebinds : Act
-  Preloads : Contents → Act
+  Preloads : ObjectMap → Act
   TpExpires : Act
   EtpExpires : Act
   SendingExpires : Act
@@ -56,17 +56,17 @@ pub data Act : Type 0 where
   Operates : ActionValue → Bool → Act
   Raises : ℕ → Act
 
-abbrev pub unchanged : Part → Outcome
+abbrev pub unchanged : AddressView → AddressOutcome
 unchanged p = record { set = p.set; place = p.place; frames = []; refused = None }
 
-abbrev pub with_other_set : Part → Option Set → Outcome
+abbrev pub with_other_set : AddressView → Option Set → AddressOutcome
 with_other_set p set = record { set = set; place = p.place; frames = []; refused = None }
 
-abbrev pub with_place : Part → Place → List Frame → Outcome
+abbrev pub with_place : AddressView → AddressState → List Frame → AddressOutcome
 with_place p place frames = record { set = p.set; place = place; frames = frames; refused = None }
 
 -- the sessions stay
-abbrev pub without_set : Part → Outcome
+abbrev pub without_set : AddressView → AddressOutcome
 without_set p = record { set = None; place = with_content p.place no_content; frames = []; refused = None }
 
 -- ---- claims and registration
@@ -76,7 +76,7 @@ abbrev pub stays_under : Option ℕ → Option ℕ → Bool
 stays_under name holder = (option_eq nat_eq name None) || option_eq nat_eq name holder
 
 -- A set with a NAME that isn't the holder's is closed.
-abbrev pub after_change : Part → Option Set → Outcome
+abbrev pub after_change : AddressView → Option Set → AddressOutcome
 after_change p None = unchanged p
 after_change p (Some set) = if stays_under set.name p.holder then unchanged p else without_set p
 
@@ -85,37 +85,37 @@ abbrev pub with_holder_name : Set → Option ℕ → Option ℕ → Set
 with_holder_name set None (Some holder) = bound set holder
 with_holder_name set _ _ = set
 
-abbrev pub after_claim_heard : Part → Option Set → Outcome
+abbrev pub after_claim_heard : AddressView → Option Set → AddressOutcome
 after_claim_heard p None = unchanged p
 after_claim_heard p (Some set) = with_other_set p (Some (with_holder_name set set.name p.holder))
 
-abbrev pub after_master : ℕ → Part → Option ℕ → ℕ → Outcome
+abbrev pub after_master : ℕ → AddressView → Option ℕ → ℕ → AddressOutcome
 after_master address p None count = unchanged p
 after_master address p (Some holder) count = with_other_set p (Some (mastered address holder count))
 
-abbrev pub after_member : Part → Option Set → ℕ → Outcome
+abbrev pub after_member : AddressView → Option Set → ℕ → AddressOutcome
 after_member p None name = unchanged p
 after_member p (Some set) name = with_other_set p (Some (if has_place set then joined set name else set))
 
 -- ---- messages
 
-abbrev pub answered : ℕ → Part → Handled → Outcome
+abbrev pub answered : ℕ → AddressView → Handled → AddressOutcome
 answered address p done =
     with_place p (with_content p.place done.content) (option_to_list (option_map (message_to p.terminal address) done.reply))
 
 -- Only the master of a set is heard.
-abbrev pub after_message : ℕ → Part → Verdict → Option Set → Option (List ℕ) → Outcome
+abbrev pub after_message : ℕ → AddressView → Verdict → Option Set → Option (List ℕ) → AddressOutcome
 after_message address p verdict (Some set) (Some bytes) = answered address p (handled p.place.content verdict bytes)
 after_message address p verdict _ _ = unchanged p
 
 -- The end of a session goes out before the reply to its message.
-abbrev pub behind : List Frame → Outcome → Outcome
+abbrev pub behind : List Frame → AddressOutcome → AddressOutcome
 behind frames after = record after { frames = frames ++ after.frames }
 
-abbrev pub after_came : ℕ → Part → Verdict → Came → Outcome
+abbrev pub after_came : ℕ → AddressView → Verdict → Came → AddressOutcome
 after_came address p verdict c = behind c.frames (after_message address (record p { place = c.place }) verdict p.set c.message)
 
-abbrev pub after_notice : ℕ → ℕ → Part → Notice → Frame → Verdict → Outcome
+abbrev pub after_notice : ℕ → ℕ → AddressView → FrameMeaning → Frame → Verdict → AddressOutcome
 after_notice now address p (Claim name) frame verdict = after_claim_heard p p.set
 after_notice now address p (Master count) frame verdict = after_master address p p.holder count
 after_notice now address p (Member name) frame verdict = after_member p p.set name
@@ -123,10 +123,10 @@ after_notice now address p notice frame verdict = after_came address p verdict (
 
 -- ---- the operator
 
-abbrev pub refused_by : Part → OperatorFault → Outcome
+abbrev pub refused_by : AddressView → OperatorFault → AddressOutcome
 refused_by p fault = record (unchanged p) { refused = Some fault }
 
-abbrev pub after_action : ℕ → ℕ → Part → Option operating.Action → Outcome
+abbrev pub after_action : ℕ → ℕ → AddressView → Option operating.Action → AddressOutcome
 after_action now address p None = unchanged p
 after_action now address p (Some (operating.Refused refusal)) = refused_by p (fault_of refusal)
 after_action now address p (Some (operating.Acts message start raised)) =
@@ -134,7 +134,7 @@ after_action now address p (Some (operating.Acts message start raised)) =
     else with_place p (record (with_pool p.place (Some (ran start raised))) { sending = sending_after now message p.place.sending })
     (message_frames p.terminal address message)
 
-abbrev pub after_operator : ℕ → ℕ → Part → ActionValue → Bool → Option SetState → Outcome
+abbrev pub after_operator : ℕ → ℕ → AddressView → ActionValue → Bool → Option SetState → AddressOutcome
 after_operator now address p action shown None = unchanged p
 after_operator now address p action shown (Some state) = after_action now address p (action_on state shown action)
 
@@ -148,7 +148,7 @@ raised_on state event =
 
 -- ---- what an address makes of what happens there
 
-abbrev pub outcome : ℕ → ℕ → Part → Act → Outcome
+abbrev pub outcome : ℕ → ℕ → AddressView → Act → AddressOutcome
 outcome now address p (Hears notice frame verdict) = after_notice now address (record p { place = heard_at now p.place }) notice frame verdict
 outcome now address p Rebinds = after_change p p.set
 outcome now address p (Preloads contents) = record {
@@ -166,8 +166,8 @@ outcome now address p (Raises event) = with_place p (with_pool p.place (option_m
 
 -- ---- without times
 
-abbrev pub untimed_part : Part → Part
+abbrev pub untimed_part : AddressView → AddressView
 untimed_part p = record p { place = untimed_place p.place }
 
-abbrev pub untimed_outcome : Outcome → Outcome
+abbrev pub untimed_outcome : AddressOutcome → AddressOutcome
 untimed_outcome after = record after { place = untimed_place after.place }

@@ -11,14 +11,14 @@ use Rattle.vt_transport.specs.Senders as sender
 use Rattle.vt_transport.specs.Senders.{timeout_frame}
 use Rattle.vt_transport.specs.Wire.{tp_frame}
 use Rattle.vt_extended.specs.Protocol as etp
-use Rattle.vt_server.specs.Places.{Place}
+use Rattle.vt_server.specs.Places.{AddressState}
 use Rattle.vt_node.specs.Receiving.{taken}
-use Rattle.vt_node.specs.declared.bus.Notice.{Notice}
-use Rattle.vt_node.specs.declared.bus.Notice.TheVariants.{Message, Tp, Etp}
+use Rattle.vt_node.specs.declared.bus.FrameMeaning.{FrameMeaning}
+use Rattle.vt_node.specs.declared.bus.FrameMeaning.TheVariants.{Message, Tp, Etp}
 
 -- what the frame leaves of the place, the frames to the address, and the bytes of a message to the terminal that is whole
 pub record Came : Type 0 where
-  pub place : Place
+  pub place : AddressState
   pub frames : List Frame
   pub message : Option (List ℕ)
 
@@ -28,7 +28,7 @@ message_to_terminal None = None
 message_to_terminal (Some message) = if message.pgn == ECU_TO_VT then Some message.bytes else None
 
 -- A frame of the transport protocol is the receiver's and the sender's.
-abbrev pub came_tp : ℕ → ℕ → ℕ → Place → Frame → Came
+abbrev pub came_tp : ℕ → ℕ → ℕ → AddressState → Frame → Came
 came_tp now own address place frame =
     let received = taken tp.protocol now own address place.tp frame in
     let sent = sender.answered own address now place.sending (tp_frame own frame) in
@@ -38,7 +38,7 @@ came_tp now own address place frame =
       message = message_to_terminal received.message;
     }
 
-abbrev pub came_etp : ℕ → ℕ → ℕ → Place → Frame → Came
+abbrev pub came_etp : ℕ → ℕ → ℕ → AddressState → Frame → Came
 came_etp now own address place frame =
     let received = taken etp.protocol now own address place.etp frame in
     record {
@@ -48,7 +48,7 @@ came_etp now own address place frame =
     }
 
 -- from the terminal's own address, that of the source, and its place
-abbrev pub came : ℕ → ℕ → ℕ → Place → Notice → Frame → Came
+abbrev pub came : ℕ → ℕ → ℕ → AddressState → FrameMeaning → Frame → Came
 came now own address place Message frame = record { place = place; frames = []; message = Some frame.bytes.items }
 came now own address place Tp frame = came_tp now own address place frame
 came now own address place Etp frame = came_etp now own address place frame

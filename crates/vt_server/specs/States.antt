@@ -4,8 +4,8 @@ use Rattle.std.specs.FinMap as finite
 use Rattle.vt_server.specs.Findings.{IsEventOf, AreEventsOf, IsFound, AreFound}
 use Rattle.vt_node.specs.Nodes.{NodeState}
 use Rattle.vt_server.specs.Outputs.{outputs_of}
-use Rattle.vt_server.specs.Places.{Content, Place}
-use Rattle.vt_server.specs.Steps.{Event, step, after_all, sent_by_all}
+use Rattle.vt_server.specs.Places.{SetPool, AddressState}
+use Rattle.vt_server.specs.Steps.{JudgedInput, step, after_all, sent_by_all}
 use Rattle.vt_server.specs.Terminals.{State}
 use Rattle.vt_server.specs.Uploads.{content_of}
 use Rattle.vt_node.specs.Watches.{heard_of}
@@ -14,7 +14,7 @@ use Rattle.vt_server.specs.declared.output.Output.{Output}
 use Rattle.vt_server.specs.declared.terminal.Terminal.{Terminal}
 
 -- what is kept of each address
-abbrev pub places_by : (ℕ → Content) → NodeState → (ℕ → Option ℕ) → ℕ → Place
+abbrev pub places_by : (ℕ → SetPool) → NodeState → (ℕ → Option ℕ) → ℕ → AddressState
 places_by contents node heard address = record {
   content = contents address;
   tp = finite.get node.tp address;
@@ -39,7 +39,7 @@ state_of t = record {
 -- A terminal takes an input: what it finds of pools in its course is right, and by that it makes the step of the input, and
 -- adds what the step sends to the outputs.
 pub record TakesInput (old : State) (input : Input) (new : State) (before after : List Output) : Type 0 where
-  pub event : Event
+  pub event : JudgedInput
   pub is_input : IsEventOf input event
   pub found : IsFound old event
   pub state : new ≡ (step old event).after
@@ -47,7 +47,7 @@ pub record TakesInput (old : State) (input : Input) (new : State) (before after 
 
 -- So too for inputs one after the other.
 pub record TakesInputs (old : State) (inputs : List Input) (new : State) (before after : List Output) : Type 0 where
-  pub events : List Event
+  pub events : List JudgedInput
   pub are_inputs : AreEventsOf inputs events
   pub found : AreFound old events
   pub state : new ≡ after_all old events

@@ -6,25 +6,25 @@ use Rattle.vt_can.specs.Assigned.{NULL_ADDRESS}
 use Rattle.vt_can.specs.frames.Frame.{source_of}
 use Rattle.vt_can.specs.lines.Actions.{ActionValue, Set}
 use Rattle.vt_names.specs.Claims.{Claimed, heard, address_of, answer}
-use Rattle.vt_names.specs.declared.claims.Heard.{Heard}
-use Rattle.vt_names.specs.declared.claims.Heard.TheVariants as claims
+use Rattle.vt_names.specs.declared.claims.ClaimMeaning.{ClaimMeaning}
+use Rattle.vt_names.specs.declared.claims.ClaimMeaning.TheVariants as claims
 use Rattle.vt_node.specs.Bus.{notice_of}
 use Rattle.vt_server.specs.Choosing.{choosing, shown_now, events_of_change, display, status}
 use Rattle.vt_server.specs.Lapses.{at_time, lapsed, sent_by_lapses}
 use Rattle.vt_node.specs.Messages.{claim_from}
-use Rattle.vt_stores.specs.Stores.{Contents}
+use Rattle.vt_stores.specs.Stores.{ObjectMap}
 use Rattle.vt_server.specs.Parts.{Act, Hears, Rebinds, Operates, Preloads}
 use Rattle.vt_server.specs.Terminals.{State, Sent, ToAll, Refused, holder, pool_of, pool_at, after_act, after_acts, sent_by_acts}
 use Rattle.vt_server.specs.Transfers.{Verdict}
-use Rattle.vt_node.specs.declared.bus.Notice.{Notice}
-use Rattle.vt_node.specs.declared.bus.Notice.TheVariants.{Claim, ClaimRequest}
+use Rattle.vt_node.specs.declared.bus.FrameMeaning.{FrameMeaning}
+use Rattle.vt_node.specs.declared.bus.FrameMeaning.TheVariants.{Claim, ClaimRequest}
 use Rattle.vt_server.specs.declared.output.OperatorFault.TheVariants.{NoSet}
 
 -- What comes to the terminal, with what is found of the pools: the verdict on the transfer that a frame ends, and whether
 -- the object that an action names is shown. Which finding is right Findings says.
-pub data Event : Type 0 where
-  FrameAt : (time : ℕ) (frame : Frame) (verdict : Verdict) → Event
-  ActionAt : (action : ActionValue) (shown : Bool) → Event
+pub data JudgedInput : Type 0 where
+  FrameAt : (time : ℕ) (frame : Frame) (verdict : Verdict) → JudgedInput
+  ActionAt : (action : ActionValue) (shown : Bool) → JudgedInput
 
 pub record Step : Type 0 where
   pub after : State
@@ -35,12 +35,12 @@ no_step s = record { after = s; sent = [] }
 
 -- ---- what a frame makes happen
 
-abbrev pub hear_claim : State → ℕ → Notice → Claimed
+abbrev pub hear_claim : State → ℕ → FrameMeaning → Claimed
 hear_claim s source (Claim name) = heard s.claims source name
 hear_claim s source _ = s.claims
 
 -- with the claim recorded, before anything happens at an address
-abbrev pub before : State → ℕ → Notice → State
+abbrev pub before : State → ℕ → FrameMeaning → State
 before s source notice = record s { claims = hear_claim s source notice }
 
 -- the address has another holder than before
@@ -64,35 +64,35 @@ changed_left was s (Some left) = changed was s left
 abbrev pub changes_by : State → State → Option ℕ → ℕ → List (ℕ × Act)
 changes_by s t left source = changed_left (left_holder s left) t left ++ changed (holder s source) t source
 
-abbrev pub changes : State → ℕ → Notice → List (ℕ × Act)
+abbrev pub changes : State → ℕ → FrameMeaning → List (ℕ × Act)
 changes s source (Claim name) =
     changes_by s (before s source (Claim name)) (left_by source (address_of s.claims.addresses name)) source
 changes s source _ = []
 
 -- The terminal hears no frame from its own address.
-abbrev pub heard_at_source : ℕ → ℕ → Notice → Frame → Verdict → List (ℕ × Act)
+abbrev pub heard_at_source : ℕ → ℕ → FrameMeaning → Frame → Verdict → List (ℕ × Act)
 heard_at_source own source notice frame verdict = if source == own then [] else (source, Hears notice frame verdict) ∷ []
 
 -- in order: each change of a holder, and the frame at its source
-abbrev pub acts : State → ℕ → Notice → Frame → Verdict → List (ℕ × Act)
+abbrev pub acts : State → ℕ → FrameMeaning → Frame → Verdict → List (ℕ × Act)
 acts s source notice frame verdict = changes s source notice ++ heard_at_source s.claims.own source notice frame verdict
 
-abbrev pub answer_to : State → ℕ → Notice → Heard
+abbrev pub answer_to : State → ℕ → FrameMeaning → ClaimMeaning
 answer_to s source (Claim name) = answer s.claims source name
 answer_to s source _ = claims.Nothing
 
 -- a lower NAME claims the own address
-abbrev pub is_lost_by : Heard → Bool
+abbrev pub is_lost_by : ClaimMeaning → Bool
 is_lost_by claims.Lost = true
 is_lost_by _ = false
 
 -- the terminal's claim, where another claims its address or asks for it
-abbrev pub is_defended : Notice → Heard → Bool
+abbrev pub is_defended : FrameMeaning → ClaimMeaning → Bool
 is_defended ClaimRequest _ = true
 is_defended _ claims.Defend = true
 is_defended _ _ = false
 
-abbrev pub defence : State → ℕ → Notice → List Sent
+abbrev pub defence : State → ℕ → FrameMeaning → List Sent
 defence s source notice =
     if is_defended notice (answer_to s source notice) then ToAll (claim_from s.claims.own s.claims.name) ∷ [] else []
 
@@ -116,21 +116,21 @@ losing s = record {
   sent = ToAll (claim_from NULL_ADDRESS s.claims.name) ∷ [];
 }
 
-abbrev pub acted : State → ℕ → Notice → Frame → Verdict → State
+abbrev pub acted : State → ℕ → FrameMeaning → Frame → Verdict → State
 acted s source notice frame verdict = after_acts (before s source notice) (acts s source notice frame verdict)
 
-abbrev pub sent_by_frame : State → ℕ → Notice → Frame → Verdict → List Sent
+abbrev pub sent_by_frame : State → ℕ → FrameMeaning → Frame → Verdict → List Sent
 sent_by_frame s source notice frame verdict =
     defence s source notice ++ sent_by_acts (before s source notice) (acts s source notice frame verdict)
 
 -- from the state before the input, and that after what its time ended
-abbrev pub acting : State → State → ℕ → Notice → Frame → Verdict → Step
+abbrev pub acting : State → State → ℕ → FrameMeaning → Frame → Verdict → Step
 acting old s source notice frame verdict = let t = acted s source notice frame verdict in record {
   after = settled t;
   sent = sent_by_frame s source notice frame verdict ++ sent_by_settling old t;
 }
 
-abbrev pub hearing : State → State → ℕ → Notice → Frame → Verdict → Step
+abbrev pub hearing : State → State → ℕ → FrameMeaning → Frame → Verdict → Step
 hearing old s source notice frame verdict =
     if is_lost_by (answer_to s source notice) then losing s else acting old s source notice frame verdict
 
@@ -170,20 +170,20 @@ step_action s action shown =
 -- ---- the step
 
 -- After the loss nothing has effect.
-abbrev pub step : State → Event → Step
+abbrev pub step : State → JudgedInput → Step
 step s (FrameAt time frame verdict) = if s.lost then no_step s else step_frame s time frame verdict
 step s (ActionAt action shown) = if s.lost then no_step s else step_action s action shown
 
-abbrev pub after_all : State → List Event → State
+abbrev pub after_all : State → List JudgedInput → State
 after_all s [] = s
 after_all s (e ∷ events) = after_all (step s e).after events
 
-abbrev pub sent_by_all : State → List Event → List Sent
+abbrev pub sent_by_all : State → List JudgedInput → List Sent
 sent_by_all s [] = []
 sent_by_all s (e ∷ events) = (step s e).sent ++ sent_by_all (step s e).after events
 
 -- ---- a pool that is there from the start
 
 -- A set with a pool is added, and the shown set chosen. No event is raised, and nothing is sent.
-abbrev pub preloading : State → ℕ → Contents → State
+abbrev pub preloading : State → ℕ → ObjectMap → State
 preloading s address contents = choosing (after_act s address (Preloads contents))

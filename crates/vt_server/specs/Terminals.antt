@@ -5,8 +5,8 @@ use Rattle.vt_names.specs.Claims.{Claimed, holder_of}
 use Rattle.vt_names.specs.Registry.{Set, set_at, with_set, without}
 use Rattle.vt_machine.specs.Lives.{SetState}
 use Rattle.vt_node.specs.ByAddress.{with_at}
-use Rattle.vt_server.specs.Places.{Place}
-use Rattle.vt_server.specs.Parts.{Part, Outcome, Act, outcome}
+use Rattle.vt_server.specs.Places.{AddressState}
+use Rattle.vt_server.specs.Parts.{AddressView, AddressOutcome, Act, outcome}
 use Rattle.vt_server.specs.declared.output.OperatorFault.{OperatorFault}
 
 -- what was heard of the addresses, the sets in order of registration, what is kept of each address, the set that is
@@ -15,7 +15,7 @@ use Rattle.vt_server.specs.declared.output.OperatorFault.{OperatorFault}
 pub record State : Type 0 where
   pub claims : Claimed
   pub sets : List Set
-  pub places : ℕ → Place
+  pub places : ℕ → AddressState
   pub selected : Option ℕ
   pub shown : Option ℕ
   pub lost : Bool
@@ -32,7 +32,7 @@ pub data Sent : Type 0 where
 abbrev pub holder : State → ℕ → Option ℕ
 holder s address = holder_of s.claims.addresses address
 
-abbrev pub part : ℕ → State → Part
+abbrev pub part : ℕ → State → AddressView
 part address s = record {
   terminal = s.claims.own;
   lost = s.lost;
@@ -53,14 +53,14 @@ abbrev pub with_set_at : ℕ → Option Set → List Set → List Set
 with_set_at address None sets = without address sets
 with_set_at address (Some set) sets = with_set set sets
 
-abbrev pub put : ℕ → Outcome → State → State
+abbrev pub put : ℕ → AddressOutcome → State → State
 put address after s = record s { sets = with_set_at address after.set s.sets; places = with_at address after.place s.places }
 
 abbrev pub refusal : Option OperatorFault → List Sent
 refusal None = []
 refusal (Some fault) = Refused fault ∷ []
 
-abbrev pub to_address : ℕ → Outcome → List Sent
+abbrev pub to_address : ℕ → AddressOutcome → List Sent
 to_address address after = map (ToOne address) after.frames ++ refusal after.refused
 
 -- ---- what happens at addresses, in turn

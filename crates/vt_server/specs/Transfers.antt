@@ -1,7 +1,7 @@
 -- The end of an upload: what the bytes of a transfer come to (docs/PROFILE.md, "End of Object Pool (12)", "Updates of a pool").
 use Rattle.std.specs.Prelude.{◌≡◌, ℕ, List, [], ◌∷◌, ◌++◌, slice_index, Option, Some, None}
 use Rattle.byteorder.specs.Endian.{little_bytes}
-use Rattle.vt_stores.specs.Stores.{Contents, Objects, by_rising_id, map_of}
+use Rattle.vt_stores.specs.Stores.{ObjectMap, Objects, by_rising_id, map_of}
 use Rattle.vt_records.specs.declared.fault.PoolFault.{PoolFault}
 use Rattle.vt_records.specs.declared.fault.PoolFault.TheVariants as faults
 use Rattle.vt_pool.specs.Pools as pools
@@ -14,11 +14,11 @@ use Rattle.vt_chains.specs.Limits.{terminal}
 use Rattle.vt_verify.specs.Updates.{updated}
 use Rattle.vt_machine.specs.Lives.{SetState, renewed}
 use Rattle.vt_server.specs.Commands.{fresh}
-use Rattle.vt_server.specs.Places.{Content}
+use Rattle.vt_server.specs.Places.{SetPool}
 
 -- the objects that the set has from then on, or why its pool stays as it is
 pub data Verdict : Type 0 where
-  Accepts : (objects : Contents) → Verdict
+  Accepts : (objects : ObjectMap) → Verdict
   Faulty : (fault : PoolFault) → Verdict
   Refuses : (refusal : Refusal) → Verdict
 
@@ -36,24 +36,24 @@ abbrev pub merged : Option SetState → List Entry → Objects
 merged None pool = by_rising_id pool
 merged (Some state) pool = updated state.objects pool
 
-pub record IsAccepted (content : Content) (objects : Contents) : Type 0 where
+pub record IsAccepted (content : SetPool) (objects : ObjectMap) : Type 0 where
   pub pool : List Entry
   pub read : IsPool content.transfer pool
   pub verified : IsVerified (merged content.pool pool)
   pub objects_are : objects ≡ map_of (merged content.pool pool)
 
 -- Want of memory is neither a fault nor a refusal.
-pub record IsFaulty (content : Content) (fault : PoolFault) : Type 0 where
+pub record IsFaulty (content : SetPool) (fault : PoolFault) : Type 0 where
   pub faulty : IsFault content.transfer fault
   pub named : pools.IsWantOfMemory fault → ⊥
 
-pub record IsRefusedBy (content : Content) (refusal : Refusal) : Type 0 where
+pub record IsRefusedBy (content : SetPool) (refusal : Refusal) : Type 0 where
   pub pool : List Entry
   pub read : IsPool content.transfer pool
   pub refused : IsRefused terminal (merged content.pool pool) refusal
   pub named : rules.IsWantOfMemory refusal → ⊥
 
-abbrev pub IsVerdict : Content → Verdict → Type 0
+abbrev pub IsVerdict : SetPool → Verdict → Type 0
 IsVerdict content (Accepts objects) = IsAccepted content objects
 IsVerdict content (Faulty fault) = IsFaulty content fault
 IsVerdict content (Refuses refusal) = IsRefusedBy content refusal
@@ -61,12 +61,12 @@ IsVerdict content (Refuses refusal) = IsRefusedBy content refusal
 -- ---- what it leaves
 
 -- The first pool of a set is new; an update keeps the key held and the input selected where their objects stay of their kind.
-abbrev pub with_objects_of : Option SetState → Contents → SetState
+abbrev pub with_objects_of : Option SetState → ObjectMap → SetState
 with_objects_of None objects = fresh objects
 with_objects_of (Some state) objects = renewed state objects
 
 -- Either way the transfer is empty then.
-abbrev pub ended : Content → Verdict → Content
+abbrev pub ended : SetPool → Verdict → SetPool
 ended content (Accepts objects) = record { pool = Some (with_objects_of content.pool objects); transfer = [] }
 ended content (Faulty fault) = record content { transfer = [] }
 ended content (Refuses refusal) = record content { transfer = [] }

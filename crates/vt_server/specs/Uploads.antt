@@ -3,7 +3,7 @@ use Rattle.std.specs.Prelude.{◌≡◌, ℕ, Bool, false, List, [], Option, Som
 use Rattle.std.specs.Coded.{Coded, code_by, coded×, coded_list, coded_option}
 use Rattle.vt_machine.specs.Lives.{SetState, state_code}
 use Rattle.vt_pool.specs.Arriving.{Arrived, arrived_code}
-use Rattle.vt_server.specs.Places.{Content}
+use Rattle.vt_server.specs.Places.{SetPool}
 
 -- the pool and the upload of each address, where it has one
 pub record Kept : Type 0 where
@@ -30,10 +30,10 @@ room_in None = 0
 room_in (Some transfer) = transfer.room
 
 -- the pool and the upload of each address
-abbrev pub content_by : List (Option SetState) → List (Option Arrived) → ℕ → Content
+abbrev pub content_by : List (Option SetState) → List (Option Arrived) → ℕ → SetPool
 content_by pools transfers address = record { pool = get_or pools address None; transfer = bytes_of (get_or transfers address None) }
 
-abbrev pub content_of : Kept → ℕ → Content
+abbrev pub content_of : Kept → ℕ → SetPool
 content_of contents = content_by contents.pools contents.transfers
 
 -- the bytes for which the upload of an address has room

@@ -34,7 +34,7 @@ pub(crate) struct Alarm {
 
 /// What is shown: a working set, its active mask, and that mask's soft key mask.
 #[derive(Clone, Copy, PartialEq, Eq)]
-pub(crate) struct Display {
+pub(crate) struct ShownMasks {
     pub(crate) address: u8,
     pub(crate) mask: ObjectId,
     pub(crate) soft_keys: ObjectId,
@@ -43,7 +43,7 @@ pub(crate) struct Display {
 impl Terminal {
     /// Chooses the set that is shown, runs the events of its change, and sends the status where another display is shown than
     /// before the input.
-    pub(crate) fn settle(&mut self, before: &Display, outputs: &mut Vec<Output>)
+    pub(crate) fn settle(&mut self, before: &ShownMasks, outputs: &mut Vec<Output>)
         requires room { vec_len outputs.old + 1 ≤ vec_capacity outputs.old }
         ensures state { state_of self.new ≡ settled (state_of self.old) }
         ensures sent { (s : spec.State) → display_value before.now ≡ choosing.display s
@@ -109,16 +109,16 @@ impl Terminal {
     }
 
     /// What is shown.
-    pub(crate) fn display(&self) -> Display
+    pub(crate) fn display(&self) -> ShownMasks
         ensures { display_value result ≡ choosing.display (state_of self.now) }
     {
         match self.shown_pool() {
-            None => Display {
+            None => ShownMasks {
                 address: NULL_ADDRESS,
                 mask: ObjectId::from_raw(0xFFFF),
                 soft_keys: ObjectId::from_raw(0xFFFF),
             },
-            Some((address, live)) => Display {
+            Some((address, live)) => ShownMasks {
                 address,
                 mask: live.active_mask(),
                 soft_keys: live.soft_key_mask(),

@@ -10,7 +10,7 @@ ghost use Rattle.vt_server.specs.States.{state_of};
 ghost use Rattle.vt_server.specs.Holders.{AreFormer};
 ghost use Rattle.vt_server.specs.Steps as steps;
 ghost use Rattle.vt_server.specs.Terminals as spec;
-ghost use Rattle.vt_node.specs.declared.bus.Notice.TheVariants as notices;
+ghost use Rattle.vt_node.specs.declared.bus.FrameMeaning.TheVariants as notices;
 
 use crate::OutOfMemory;
 use crate::output::{Output, send};

@@ -25,14 +25,14 @@ use vt_pool::Reading;
 
 /// At most one pool, and one upload, for each of the 256 addresses.
 #[derive(Drop)]
-pub(crate) struct Contents {
+pub(crate) struct PoolTable {
     pools: [Option<Live<SortedStore>>; 256],
     transfers: [Option<Reading>; 256],
     // Whether some address may have a pool.
     may_have_pools: bool,
 }
 
-impl Model for Contents {
+impl Model for PoolTable {
     ghost use Rattle.vt_server.specs.Uploads.{Kept, kept_code, AreKept};
 
     ghost Value = { Kept };
@@ -44,11 +44,11 @@ impl Model for Contents {
     ghost invariant = { λ c. AreKept c.pools c.transfers c.may_have_pools };
 }
 
-impl Contents {
-    pub(crate) fn new() -> Contents
+impl PoolTable {
+    pub(crate) fn new() -> PoolTable
         ensures { (address : ℕ) → content_of result address ≡ no_content }
     {
-        Contents {
+        PoolTable {
             pools: Default::default(),
             transfers: Default::default(),
             may_have_pools: false,

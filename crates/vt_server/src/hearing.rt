@@ -5,26 +5,26 @@ ghost use Rattle.vt_can.specs.frames.Frame.{source_of};
 ghost use Rattle.vt_node.specs.Bus.{notice_of};
 ghost use Rattle.vt_server.specs.Choosing.{display};
 ghost use Rattle.vt_server.specs.Displays.{display_value};
-ghost use Rattle.vt_server.specs.Hearings.{IsPrepared, IsReady, IsNoClaim, HasRoom, HasUpload, Hears, TakesFrame, TakesNotice};
+ghost use Rattle.vt_server.specs.Hearings.{FitsBeforeTimeouts, FitsAfterTimeouts, IsNoClaim, HasRoom, HasUpload, Hears, TakesFrame, TakesNotice};
 ghost use Rattle.vt_server.specs.Outputs.{outputs_of};
 ghost use Rattle.vt_server.specs.Parts as parts;
 ghost use Rattle.vt_server.specs.Screens.{KeepsScreen, ShowsWhatIsLeft, TellsChanges, redraws};
 ghost use Rattle.vt_server.specs.States.{state_of, TakesInput};
 ghost use Rattle.vt_server.specs.Steps as steps;
 ghost use Rattle.vt_server.specs.Terminals as spec;
-ghost use Rattle.vt_node.specs.declared.bus.Notice.TheVariants as notices;
+ghost use Rattle.vt_node.specs.declared.bus.FrameMeaning.TheVariants as notices;
 ghost use Rattle.vt_server.specs.declared.input.Input.TheVariants as inputs;
 
 use crate::OutOfMemory;
-use crate::choosing::Display;
+use crate::choosing::ShownMasks;
 use crate::claiming::FormerHolders;
 use crate::output::{Output, send};
 use crate::terminal::Terminal;
-use crate::uploading::Upload;
+use crate::uploading::PreparedMessage;
 use vt_can::Frame;
 use vt_can::assigned::NULL_ADDRESS;
-use vt_names::Heard;
-use vt_node::{Notice, claim_from, notice_of};
+use vt_names::ClaimMeaning;
+use vt_node::{FrameMeaning, claim_from, notice_of};
 
 /// Room for the outputs of one input, of which there are at most 1,024: a frame is never answered by a receiver and by the sender
 /// at once, but there is room for both.
@@ -32,13 +32,13 @@ pub(crate) const MOST_OUTPUTS: usize = 1026;
 
 /// What was made ready for a frame before anything is changed, so that memory for it is not refused any more.
 #[derive(Drop)]
-pub(crate) enum Ready {
+pub(crate) enum PreparedFrame {
     /// The terminal loses its address by the frame.
     Loses,
     /// A claim is recorded, and these were the holders before.
     Claimed(FormerHolders),
     /// There is room for the set, the session or the upload that the frame may bring.
-    Prepared(Upload),
+    Prepared(PreparedMessage),
 }
 
 impl Terminal {
@@ -72,70 +72,75 @@ impl Terminal {
     }
 
     /// Makes the room that a frame may want, and records a claim, so that nothing is refused after it.
-    fn prepare(&mut self, now: u64, notice: &Notice, frame: &Frame) -> Result<Ready, OutOfMemory>
+    fn prepare(
+        &mut self,
+        now: u64,
+        notice: &FrameMeaning,
+        frame: &Frame,
+    ) -> Result<PreparedFrame, OutOfMemory>
         requires { notice.now ≡ notice_of (state_of self.old).claims.own (state_of self.old).claims.name frame.now }
-        ensures ok { IfOk result (IsPrepared (state_of self.old) self.new now notice.now frame.now) }
+        ensures ok { IfOk result (FitsBeforeTimeouts (state_of self.old) self.new now notice.now frame.now) }
         ensures err { OnErr result (state_of self.new ≡ state_of self.old) }
         ensures redraws { redraws self.new ≡ redraws self.old }
     {
         let source = frame.id.source();
         match *notice {
-            Notice::Claim(name) => match self.node.answer(source, name) {
-                Heard::Lost => Ok(Ready::Loses),
+            FrameMeaning::Claim(name) => match self.node.answer(source, name) {
+                ClaimMeaning::Lost => Ok(PreparedFrame::Loses),
                 meaning => {
-                    let former = self.record(source, name, meaning == Heard::Defend)?;
-                    Ok(Ready::Claimed(former))
+                    let former = self.record(source, name, meaning == ClaimMeaning::Defend)?;
+                    Ok(PreparedFrame::Claimed(former))
                 }
             },
-            Notice::Master { .. } => {
+            FrameMeaning::Master { .. } => {
                 self.registry.reserve(source)?;
-                Ok(Ready::Prepared(Upload::Nothing))
+                Ok(PreparedFrame::Prepared(PreparedMessage::Nothing))
             }
-            Notice::Message => {
+            FrameMeaning::Message => {
                 let upload = self.prepare_frame(source, frame.bytes.as_slice())?;
-                Ok(Ready::Prepared(upload))
+                Ok(PreparedFrame::Prepared(upload))
             }
-            Notice::Tp => {
+            FrameMeaning::Tp => {
                 let told = self.node.prepare_tp(now, frame)?;
                 let upload = self.prepare_told(source, told)?;
-                Ok(Ready::Prepared(upload))
+                Ok(PreparedFrame::Prepared(upload))
             }
-            Notice::Etp => {
+            FrameMeaning::Etp => {
                 let told = self.node.prepare_etp(now, frame)?;
                 let upload = self.prepare_told(source, told)?;
-                Ok(Ready::Prepared(upload))
+                Ok(PreparedFrame::Prepared(upload))
             }
-            _ => Ok(Ready::Prepared(Upload::Nothing)),
+            _ => Ok(PreparedFrame::Prepared(PreparedMessage::Nothing)),
         }
     }
 
     /// Does what a frame asks for, after what its time ended.
     fn finish(
         &mut self,
-        notice: &Notice,
+        notice: &FrameMeaning,
         frame: &Frame,
-        ready: Ready,
-        before: &Display,
+        ready: PreparedFrame,
+        before: &ShownMasks,
         outputs: &mut Vec<Output>,
     )
         requires room { vec_len outputs.old + 258 ≤ vec_capacity outputs.old }
-        requires ready { (s : spec.State) × IsReady s self.old notice.now frame.now ready }
-        ensures hears { (old s : spec.State) → display_value before.now ≡ display old → IsReady s self.old notice.now frame.now ready
+        requires ready { (s : spec.State) × FitsAfterTimeouts s self.old notice.now frame.now ready }
+        ensures hears { (old s : spec.State) → display_value before.now ≡ display old → FitsAfterTimeouts s self.old notice.now frame.now ready
             → Hears old s notice.now frame.now (state_of self.new) outputs.old.items outputs.new.items }
         ensures tells { redraws self.new ≡ false → ShowsWhatIsLeft (state_of self.old) (state_of self.new) }
     {
         match ready {
-            Ready::Loses => {
+            PreparedFrame::Loses => {
                 self.lose(outputs);
                 self.redraws = true;
             }
-            Ready::Claimed(former) => {
+            PreparedFrame::Claimed(former) => {
                 self.take_claim(frame.id.source(), &former, outputs);
                 // A claim may close a set, but no pool is another by it.
                 self.redraws = false;
                 self.settle(before, outputs);
             }
-            Ready::Prepared(upload) => {
+            PreparedFrame::Prepared(upload) => {
                 self.redraws = false;
                 self.take(notice, frame, upload, outputs);
                 self.settle(before, outputs);
@@ -157,7 +162,13 @@ impl Terminal {
     }
 
     /// Takes a frame that is no claim.
-    fn take(&mut self, notice: &Notice, frame: &Frame, upload: Upload, outputs: &mut Vec<Output>)
+    fn take(
+        &mut self,
+        notice: &FrameMeaning,
+        frame: &Frame,
+        upload: PreparedMessage,
+        outputs: &mut Vec<Output>,
+    )
         requires room { vec_len outputs.old + 257 ≤ vec_capacity outputs.old }
         requires no_claim { IsNoClaim notice.now }
         requires rooms { HasRoom self.old notice.now frame.now }
@@ -166,7 +177,7 @@ impl Terminal {
         ensures tells { TellsChanges self.old self.new }
         ensures left { vec_capacity outputs.old + vec_len outputs.new ≤ vec_capacity outputs.new + vec_len outputs.old + 257 }
     {
-        if matches!(*notice, Notice::ClaimRequest) {
+        if matches!(*notice, FrameMeaning::ClaimRequest) {
             self.answer_request(frame, outputs);
             return;
         }
@@ -196,9 +207,9 @@ impl Terminal {
     /// Does what a frame of another node says.
     fn take_notice(
         &mut self,
-        notice: &Notice,
+        notice: &FrameMeaning,
         frame: &Frame,
-        upload: Upload,
+        upload: PreparedMessage,
         outputs: &mut Vec<Output>,
     )
         requires room { vec_len outputs.old + 257 ≤ vec_capacity outputs.old }
@@ -211,13 +222,13 @@ impl Terminal {
     {
         let source = frame.id.source();
         match *notice {
-            Notice::Master { count } => self.register(source, count),
-            Notice::Member(name) => {
+            FrameMeaning::Master { count } => self.register(source, count),
+            FrameMeaning::Member(name) => {
                 let _refused = self.registry.member(source, name);
             }
-            Notice::Message => self.take_message(frame, upload, outputs),
-            Notice::Tp => self.take_tp(frame, upload, outputs),
-            Notice::Etp => self.take_etp(frame, upload, outputs),
+            FrameMeaning::Message => self.take_message(frame, upload, outputs),
+            FrameMeaning::Tp => self.take_tp(frame, upload, outputs),
+            FrameMeaning::Etp => self.take_etp(frame, upload, outputs),
             _ => {}
         }
     }

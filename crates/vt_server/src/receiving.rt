@@ -2,13 +2,13 @@
 
 ghost use Rattle.std.specs.Prelude.{◌≡◌, ◌++◌, ◌+◌, ◌≤◌, ℕ, List, [], Option, Some, None, true, is_some, length, vec_len, vec_capacity};
 ghost use Rattle.vt_can.specs.frames.Frame.{source_of};
-ghost use Rattle.vt_can.specs.transport.Receivers.{IsReadyFor};
+ghost use Rattle.vt_can.specs.transport.Receivers.{HasCapacityFor};
 ghost use Rattle.vt_names.specs.Registry.{set_at};
 ghost use Rattle.vt_transport.specs.Protocol as tp;
 ghost use Rattle.vt_transport.specs.Wire.{tp_frame};
 ghost use Rattle.vt_extended.specs.Protocol as etp;
 ghost use Rattle.vt_extended.specs.Wire.{etp_frame};
-ghost use Rattle.vt_server.specs.Hearings.{IsReadyForMessage, IsReadyWith, IsReadyNow, Answers, begins_with, TakesNotice, TakesMessage, message_by};
+ghost use Rattle.vt_server.specs.Hearings.{FitsCompleted, FitsMessage, FitsOneFrame, HandlesMessage, begins_with, TakesNotice, TakesMessage, message_by};
 ghost use Rattle.vt_server.specs.Handling.{TRANSFER};
 ghost use Rattle.vt_node.specs.Receiving.{frames_in, message_in};
 ghost use Rattle.vt_server.specs.Sessions.{message_to_terminal};
@@ -16,21 +16,26 @@ ghost use Rattle.vt_server.specs.Screens.{TellsChanges};
 ghost use Rattle.vt_server.specs.States.{state_of};
 ghost use Rattle.vt_server.specs.Terminals as spec;
 ghost use Rattle.vt_server.specs.Uploads.{content_of, room_of};
-ghost use Rattle.vt_node.specs.declared.bus.Notice.TheVariants as notices;
+ghost use Rattle.vt_node.specs.declared.bus.FrameMeaning.TheVariants as notices;
 
 use crate::output::{Output, send, send_all};
 use crate::terminal::Terminal;
-use crate::uploading::Upload;
+use crate::uploading::PreparedMessage;
 use arrayvec::ArrayVec;
 use vt_can::assigned::ECU_TO_VT;
 use vt_can::{Bytes, Frame, Heard};
 
 impl Terminal {
     /// Takes a message of one frame.
-    pub(crate) fn take_message(&mut self, frame: &Frame, upload: Upload, outputs: &mut Vec<Output>)
+    pub(crate) fn take_message(
+        &mut self,
+        frame: &Frame,
+        upload: PreparedMessage,
+        outputs: &mut Vec<Output>,
+    )
         requires room { vec_len outputs.old + 1 ≤ vec_capacity outputs.old }
         requires ready { is_some (set_at (source_of frame.now) (state_of self.old).sets) ≡ true
-            → IsReadyNow (content_of self.old.contents (source_of frame.now)) (room_of self.old.contents (source_of frame.now)) frame.now.bytes.items upload }
+            → FitsOneFrame (content_of self.old.contents (source_of frame.now)) (room_of self.old.contents (source_of frame.now)) frame.now.bytes.items upload }
         ensures takes { TakesNotice (state_of self.old) notices.Message frame.now (state_of self.new) outputs.old.items outputs.new.items }
         ensures tells { TellsChanges self.old self.new }
         ensures left { vec_capacity outputs.old + vec_len outputs.new ≤ vec_capacity outputs.new + vec_len outputs.old + 1 }
@@ -41,11 +46,16 @@ impl Terminal {
     }
 
     /// Takes a frame of the transport protocol, as the one that receives and as the one that sends.
-    pub(crate) fn take_tp(&mut self, frame: &Frame, upload: Upload, outputs: &mut Vec<Output>)
+    pub(crate) fn take_tp(
+        &mut self,
+        frame: &Frame,
+        upload: PreparedMessage,
+        outputs: &mut Vec<Output>,
+    )
         requires room { vec_len outputs.old + 257 ≤ vec_capacity outputs.old }
-        requires session { IsReadyFor tp.protocol (tp_frame self.old.node.claims.own frame.now) self.old.node.tp_room }
+        requires session { HasCapacityFor tp.protocol (tp_frame self.old.node.claims.own frame.now) self.old.node.tp_room }
         requires ready { is_some (set_at (source_of frame.now) (state_of self.old).sets) ≡ true
-            → IsReadyForMessage (content_of self.old.contents (source_of frame.now)) (room_of self.old.contents (source_of frame.now))
+            → FitsCompleted (content_of self.old.contents (source_of frame.now)) (room_of self.old.contents (source_of frame.now))
             (message_by self.old self.old.time ((state_of self.old).places (source_of frame.now)) notices.Tp frame.now) upload }
         ensures takes { TakesNotice (state_of self.old) notices.Tp frame.now (state_of self.new) outputs.old.items outputs.new.items }
         ensures tells { TellsChanges self.old self.new }
@@ -62,11 +72,16 @@ impl Terminal {
 
     // Takes a frame of an address to which a message is being sent: what answers it has places for 255 frames, and only here
     // are they paid for.
-    fn take_tp_as_sender(&mut self, frame: &Frame, upload: Upload, outputs: &mut Vec<Output>)
+    fn take_tp_as_sender(
+        &mut self,
+        frame: &Frame,
+        upload: PreparedMessage,
+        outputs: &mut Vec<Output>,
+    )
         requires room { vec_len outputs.old + 257 ≤ vec_capacity outputs.old }
-        requires session { IsReadyFor tp.protocol (tp_frame self.old.node.claims.own frame.now) self.old.node.tp_room }
+        requires session { HasCapacityFor tp.protocol (tp_frame self.old.node.claims.own frame.now) self.old.node.tp_room }
         requires ready { is_some (set_at (source_of frame.now) (state_of self.old).sets) ≡ true
-            → IsReadyForMessage (content_of self.old.contents (source_of frame.now)) (room_of self.old.contents (source_of frame.now))
+            → FitsCompleted (content_of self.old.contents (source_of frame.now)) (room_of self.old.contents (source_of frame.now))
             (message_by self.old self.old.time ((state_of self.old).places (source_of frame.now)) notices.Tp frame.now) upload }
         ensures tells { TellsChanges self.old self.new }
         ensures takes { TakesNotice (state_of self.old) notices.Tp frame.now (state_of self.new) outputs.old.items outputs.new.items }
@@ -79,11 +94,16 @@ impl Terminal {
     }
 
     /// Takes a frame of the extended transport protocol.
-    pub(crate) fn take_etp(&mut self, frame: &Frame, upload: Upload, outputs: &mut Vec<Output>)
+    pub(crate) fn take_etp(
+        &mut self,
+        frame: &Frame,
+        upload: PreparedMessage,
+        outputs: &mut Vec<Output>,
+    )
         requires room { vec_len outputs.old + 2 ≤ vec_capacity outputs.old }
-        requires session { IsReadyFor etp.protocol (etp_frame self.old.node.claims.own frame.now) self.old.node.etp_room }
+        requires session { HasCapacityFor etp.protocol (etp_frame self.old.node.claims.own frame.now) self.old.node.etp_room }
         requires ready { is_some (set_at (source_of frame.now) (state_of self.old).sets) ≡ true
-            → IsReadyForMessage (content_of self.old.contents (source_of frame.now)) (room_of self.old.contents (source_of frame.now))
+            → FitsCompleted (content_of self.old.contents (source_of frame.now)) (room_of self.old.contents (source_of frame.now))
             (message_by self.old self.old.time ((state_of self.old).places (source_of frame.now)) notices.Etp frame.now) upload }
         ensures takes { TakesNotice (state_of self.old) notices.Etp frame.now (state_of self.new) outputs.old.items outputs.new.items }
         ensures tells { TellsChanges self.old self.new }
@@ -94,10 +114,16 @@ impl Terminal {
     }
 
     /// Sends what a receiver answers where the sender answers nothing, and handles the message that is whole.
-    fn receive_alone(&mut self, source: u8, heard: Heard, upload: Upload, outputs: &mut Vec<Output>)
+    fn receive_alone(
+        &mut self,
+        source: u8,
+        heard: Heard,
+        upload: PreparedMessage,
+        outputs: &mut Vec<Output>,
+    )
         requires room { vec_len outputs.old + 2 ≤ vec_capacity outputs.old }
         requires ready { is_some (set_at source (state_of self.old).sets) ≡ true
-            → IsReadyForMessage (content_of self.old.contents source) (room_of self.old.contents source) (message_to_terminal (message_in heard)) upload }
+            → FitsCompleted (content_of self.old.contents source) (room_of self.old.contents source) (message_to_terminal (message_in heard)) upload }
         ensures tells { TellsChanges self.old self.new }
         ensures takes { TakesMessage (state_of self.old) source (frames_in heard) (message_to_terminal (message_in heard)) (state_of self.new) outputs.old.items outputs.new.items }
         ensures left { vec_capacity outputs.old + vec_len outputs.new ≤ vec_capacity outputs.new + vec_len outputs.old + 2 }
@@ -126,12 +152,12 @@ impl Terminal {
         source: u8,
         heard: Heard,
         sent: ArrayVec<Frame, 255>,
-        upload: Upload,
+        upload: PreparedMessage,
         outputs: &mut Vec<Output>,
     )
         requires room { vec_len outputs.old + length sent.items + 2 ≤ vec_capacity outputs.old }
         requires ready { is_some (set_at source (state_of self.old).sets) ≡ true
-            → IsReadyForMessage (content_of self.old.contents source) (room_of self.old.contents source) (message_to_terminal (message_in heard)) upload }
+            → FitsCompleted (content_of self.old.contents source) (room_of self.old.contents source) (message_to_terminal (message_in heard)) upload }
         ensures takes { TakesMessage (state_of self.old) source (frames_in heard ++ sent.items) (message_to_terminal (message_in heard)) (state_of self.new) outputs.old.items outputs.new.items }
         ensures tells { TellsChanges self.old self.new }
         ensures left { vec_capacity outputs.old + vec_len outputs.new ≤ vec_capacity outputs.new + vec_len outputs.old + length sent.items + 2 }
@@ -158,17 +184,23 @@ impl Terminal {
     }
 
     /// Handles a message that came in packets. A piece of a pool is taken over as it is.
-    fn take_whole(&mut self, source: u8, bytes: Bytes, upload: Upload, outputs: &mut Vec<Output>)
+    fn take_whole(
+        &mut self,
+        source: u8,
+        bytes: Bytes,
+        upload: PreparedMessage,
+        outputs: &mut Vec<Output>,
+    )
         requires room { vec_len outputs.old + 1 ≤ vec_capacity outputs.old }
         requires ready { is_some (set_at source (state_of self.old).sets) ≡ true
-            → IsReadyWith (content_of self.old.contents source) (room_of self.old.contents source) bytes upload }
+            → FitsMessage (content_of self.old.contents source) (room_of self.old.contents source) bytes upload }
         ensures takes { TakesMessage (state_of self.old) source [] (Some bytes) (state_of self.new) outputs.old.items outputs.new.items }
         ensures tells { TellsChanges self.old self.new }
         ensures left { vec_capacity outputs.old + vec_len outputs.new ≤ vec_capacity outputs.new + vec_len outputs.old + 1 }
     {
         let bytes = bytes.into_vec();
         match upload {
-            Upload::Room => self.take_piece(source, bytes),
+            PreparedMessage::Room => self.take_piece(source, bytes),
             upload => {
                 if let Some(reply) = self.answer(source, &bytes, upload) {
                     send(outputs, reply);
@@ -181,7 +213,7 @@ impl Terminal {
     fn take_piece(&mut self, source: u8, piece: Vec<u8>)
         requires { is_some (set_at source (state_of self.old).sets) ≡ true
             → begins_with TRANSFER piece.items × (length piece.items ≤ 1 + room_of self.old.contents source) }
-        ensures answers { Answers (state_of self.old) source piece.items None (state_of self.new) }
+        ensures answers { HandlesMessage (state_of self.old) source piece.items None (state_of self.new) }
         ensures tells { TellsChanges self.old self.new }
     {
         if self.registered(source) {

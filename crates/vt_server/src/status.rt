@@ -4,14 +4,14 @@ ghost use Rattle.std.specs.Prelude.{◌≡◌};
 ghost use Rattle.vt_server.specs.Choosing.{status_frame};
 ghost use Rattle.vt_server.specs.Displays.{display_value};
 
-use crate::choosing::Display;
+use crate::choosing::ShownMasks;
 use byteorder::{ByteOrder, LittleEndian};
 use vt_can::Frame;
 use vt_can::assigned::GLOBAL_ADDRESS;
 use vt_node::message_to;
 
 /// The status message: the set that is shown, its active mask and that mask's soft key mask.
-pub(crate) fn status_frame(own: u8, shown: &Display) -> Frame
+pub(crate) fn status_frame(own: u8, shown: &ShownMasks) -> Frame
     ensures { result ≡ status_frame own (display_value shown.now) }
 {
     let mut bytes = [0xFE, shown.address, 0, 0, 0, 0, 0, 0xFF];

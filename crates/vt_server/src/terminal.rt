@@ -10,7 +10,7 @@ ghost use Rattle.vt_server.specs.States.{state_of, TakesInput, TakesInputs};
 ghost use Rattle.vt_server.specs.Steps.{preloading};
 
 use crate::OutOfMemory;
-use crate::contents::Contents;
+use crate::contents::PoolTable;
 use crate::input::Input;
 use crate::output::Output;
 use std::alloc::Global;
@@ -28,7 +28,7 @@ pub struct Terminal {
     pub(crate) alloc: Global,
     pub(crate) node: Node,
     pub(crate) registry: WatchedRegistry,
-    pub(crate) contents: Contents,
+    pub(crate) contents: PoolTable,
     // The working set that the operator has chosen, and the one that is shown, by their addresses.
     pub(crate) selected: Option<u8>,
     pub(crate) shown: Option<u8>,
@@ -83,7 +83,7 @@ impl Terminal {
             alloc,
             node: Node::new(alloc, own, name),
             registry: WatchedRegistry::new(alloc),
-            contents: Contents::new(),
+            contents: PoolTable::new(),
             selected: None,
             shown: None,
             lost: false,

@@ -3,7 +3,7 @@
 ghost use Rattle.std.specs.Prelude.{◌≡◌, ℕ, List, true, is_some, IfOk, OnOk, length, slice_index, Some};
 ghost use Rattle.vt_can.specs.transport.Messages.{size_and_first_byte, Message};
 ghost use Rattle.vt_names.specs.Registry.{set_at};
-ghost use Rattle.vt_server.specs.Hearings.{IsReadyWith, IsReadyNow, IsEnd, Answers, IsReplyTo, RoomsStay};
+ghost use Rattle.vt_server.specs.Hearings.{FitsMessage, FitsOneFrame, IsEnd, HandlesMessage, IsReplyTo, RoomsStay};
 ghost use Rattle.vt_server.specs.Screens.{TellsChanges, redraws};
 ghost use Rattle.vt_server.specs.States.{state_of};
 ghost use Rattle.vt_server.specs.Terminals as spec;
@@ -25,7 +25,7 @@ const END_OF_POOL: u8 = 0x12;
 
 /// What was made ready for the message that a frame completes.
 #[derive(Drop)]
-pub(crate) enum Upload {
+pub(crate) enum PreparedMessage {
     /// Nothing.
     Nothing,
     /// Room for a piece of a pool.
@@ -38,20 +38,24 @@ pub(crate) enum Upload {
 
 impl Terminal {
     /// Makes ready what a message of one frame wants. Nothing is changed but room.
-    pub(crate) fn prepare_frame(&mut self, source: u8, bytes: &[u8]) -> Result<Upload, OutOfMemory>
+    pub(crate) fn prepare_frame(
+        &mut self,
+        source: u8,
+        bytes: &[u8],
+    ) -> Result<PreparedMessage, OutOfMemory>
         ensures same { state_of self.new ≡ state_of self.old }
         ensures rooms { RoomsStay self.old self.new }
         ensures redraws { redraws self.new ≡ redraws self.old }
-        ensures ready { IfOk result (IsReadyNow (content_of self.new.contents source) (room_of self.new.contents source) bytes.now) }
+        ensures ready { IfOk result (FitsOneFrame (content_of self.new.contents source) (room_of self.new.contents source) bytes.now) }
     {
         match bytes.first() {
             Some(&TRANSFER) => {
                 let piece = Vec::from_slice(self.alloc, bytes)?;
                 self.contents.reserve(self.alloc, source, bytes.len())?;
-                Ok(Upload::Piece(piece))
+                Ok(PreparedMessage::Piece(piece))
             }
             Some(&END_OF_POOL) => self.prepare_end(source),
-            _ => Ok(Upload::Nothing),
+            _ => Ok(PreparedMessage::Nothing),
         }
     }
 
@@ -60,35 +64,40 @@ impl Terminal {
         &mut self,
         source: u8,
         told: Option<(usize, u8)>,
-    ) -> Result<Upload, OutOfMemory>
+    ) -> Result<PreparedMessage, OutOfMemory>
         ensures same { state_of self.new ≡ state_of self.old }
         ensures rooms { RoomsStay self.old self.new }
         ensures redraws { redraws self.new ≡ redraws self.old }
         ensures ready { (message : Message) → told ≡ size_and_first_byte (Some message)
-            → IfOk result (IsReadyWith (content_of self.new.contents source) (room_of self.new.contents source) message.bytes) }
+            → IfOk result (FitsMessage (content_of self.new.contents source) (room_of self.new.contents source) message.bytes) }
     {
         match told {
             Some((size, TRANSFER)) => {
                 self.contents.reserve(self.alloc, source, size)?;
-                Ok(Upload::Room)
+                Ok(PreparedMessage::Room)
             }
             Some((_, END_OF_POOL)) => self.prepare_end(source),
-            _ => Ok(Upload::Nothing),
+            _ => Ok(PreparedMessage::Nothing),
         }
     }
 
     /// Judges the upload of an address.
-    fn prepare_end(&self, source: u8) -> Result<Upload, OutOfMemory>
+    fn prepare_end(&self, source: u8) -> Result<PreparedMessage, OutOfMemory>
         ensures { IfOk result (IsEnd (content_of self.now.contents source)) }
     {
         let judgement = self.contents.judge(self.alloc, source)?;
-        Ok(Upload::End(judgement))
+        Ok(PreparedMessage::End(judgement))
     }
 
     /// The reply to a message from the master of a set, if it has one.
-    pub(crate) fn answer(&mut self, source: u8, bytes: &[u8], upload: Upload) -> Option<Frame>
-        requires { is_some (set_at source (state_of self.old).sets) ≡ true → IsReadyNow (content_of self.old.contents source) (room_of self.old.contents source) bytes.now upload }
-        ensures answers { Answers (state_of self.old) source bytes.now result (state_of self.new) }
+    pub(crate) fn answer(
+        &mut self,
+        source: u8,
+        bytes: &[u8],
+        upload: PreparedMessage,
+    ) -> Option<Frame>
+        requires { is_some (set_at source (state_of self.old).sets) ≡ true → FitsOneFrame (content_of self.old.contents source) (room_of self.old.contents source) bytes.now upload }
+        ensures answers { HandlesMessage (state_of self.old) source bytes.now result (state_of self.new) }
         ensures tells { TellsChanges self.old self.new }
     {
         if !self.registered(source) {
@@ -96,16 +105,16 @@ impl Terminal {
         }
         let own = self.node.own();
         match upload {
-            Upload::Nothing => {
+            PreparedMessage::Nothing => {
                 let reply = self.reply(source, bytes)?;
                 Some(message_to(own, source, reply))
             }
-            Upload::Room => unreachable!(),
-            Upload::Piece(piece) => {
+            PreparedMessage::Room => unreachable!(),
+            PreparedMessage::Piece(piece) => {
                 self.contents.feed(source, piece, 1);
                 None
             }
-            Upload::End(judgement) => {
+            PreparedMessage::End(judgement) => {
                 let reply = self.contents.end(source, judgement);
                 self.redraws |= reply == ACCEPTED && self.shown == Some(source);
                 Some(message_to(own, source, reply))

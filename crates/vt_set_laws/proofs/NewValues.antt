@@ -23,7 +23,7 @@ use Rattle.vt_kinds.specs.Records.{Seen, kind_of}
 use Rattle.vt_kinds.specs.References.{allowed, slot}
 use Rattle.vt_kinds.specs.Texts.{filled_up}
 use Rattle.vt_commands.specs.declared.raising.Raised.{Raised}
-use Rattle.vt_stores.specs.Stores.{Contents}
+use Rattle.vt_stores.specs.Stores.{ObjectMap}
 use Rattle.vt_effects.specs.Fields.{byte}
 use Rattle.vt_effects.specs.Changes.{is_one_of}
 use Rattle.vt_effects.specs.Effects.{kind_in, pointer_value}
@@ -40,7 +40,7 @@ use Rattle.vt_set_laws.proofs.FilledTexts.{filled_decides}
 -- ---- objects that are put where others stand
 
 -- to put an object where it stands changes nothing
-insert_same : (m : Contents) (id : ℕ) (o : Seen) → finite.get m id ≡ Some o → finite.insert m id o ≡ m
+insert_same : (m : ObjectMap) (id : ℕ) (o : Seen) → finite.get m id ≡ Some o → finite.insert m id o ≡ m
 insert_same m id o at = finite.same_map nat_cmp_total finite.nat_cmp-IsAntisymmetric _ _ (λ q. by q (eqb q id) refl)
   where
     by : (q : ℕ) (b : Bool) → eqb q id ≡ b → finite.get (finite.insert m id o) q ≡ finite.get m q
@@ -48,12 +48,12 @@ insert_same m id o at = finite.same_map nat_cmp_total finite.nat_cmp-IsAntisymme
     by q false other = get_other m id o q other
 
 -- another object leaves another store
-inserted_is : (m : Contents) (id : ℕ) (o new : Seen) → finite.get m id ≡ Some o → finite.insert m id new ≡ m → new ≡ o
+inserted_is : (m : ObjectMap) (id : ℕ) (o new : Seen) → finite.get m id ≡ Some o → finite.insert m id new ≡ m → new ≡ o
 inserted_is m id o new at is =
-    same_Some new o (sym (get_there m id new id (eq-eqb id id refl)) ∙ ap (λ (n : Contents). finite.get n id) is ∙ at)
+    same_Some new o (sym (get_there m id new id (eq-eqb id id refl)) ∙ ap (λ (n : ObjectMap). finite.get n id) is ∙ at)
 
 -- a test whether a change leaves the object as it is decides whether it leaves another store
-decides_put : (m : Contents) (id : ℕ) (change : Seen → Seen) (o : Seen) (b : Bool) → finite.get m id ≡ Some o → Decides b (change o ≡ o)
+decides_put : (m : ObjectMap) (id : ℕ) (change : Seen → Seen) (o : Seen) (b : Bool) → finite.get m id ≡ Some o → Decides b (change o ≡ o)
     → Decides (not b) (put_at m id change (finite.get m id) ≢ m)
 decides_put m id change o b at decides =
     subst (λ (found : Option Seen). Decides (not b) (put_at m id change found ≢ m)) (sym at) (
@@ -70,7 +70,7 @@ acts_raised : (first message : List ℕ) (state start : SetState) (raised others
 acts_raised first message state start raised others is = cc
 
 -- the object at a place, and what decides whether a change leaves it as it is
-record IsKept (m : Contents) (at : ℕ) (change : Seen → Seen) (test : Option Seen → Bool) : Type 0 where
+record IsKept (m : ObjectMap) (at : ℕ) (change : Seen → Seen) (test : Option Seen → Bool) : Type 0 where
   object : Seen
   there : finite.get m at ≡ Some object
   decides : Decides (test (Some object)) (change object ≡ object)
@@ -143,7 +143,7 @@ number_variable (Some (objects.NumberVariable o)) is = (o, refl)
 number_variable (Some o) is = absurd cc
 
 -- a number is kept in the input, or in the Number Variable that it names
-number_kept : (m : Contents) (id n : ℕ) (input : Seen) (kind : Kind) (variable at : ℕ) → finite.get m id ≡ Some input
+number_kept : (m : ObjectMap) (id n : ℕ) (input : Seen) (kind : Kind) (variable at : ℕ) → finite.get m id ≡ Some input
     → Decides (is_number n (Some input)) (with_number n input ≡ input) → allowed kind places.Variable ≡ sets.NumberVariables
     → IsTrue (is_in_order m (slot kind places.Variable variable)) → kept_at id variable ≡ at → IsKept m at (with_number n) (is_number n)
 number_kept m id n input kind variable at there decides allows order is = by (variable == 0xFFFF) order is
@@ -165,7 +165,7 @@ few n le = omega (arith, le)
 within : (n count : ℕ) → n < count → count ≤ 255 → n < 256
 within n count lt le = omega (arith, lt, le)
 
-number_placed : (m : Contents) (id n at : ℕ) (found : Option Seen) → finite.get m id ≡ found → IsSound m → IsCounted found
+number_placed : (m : ObjectMap) (id n at : ℕ) (found : Option Seen) → finite.get m id ≡ found → IsSound m → IsCounted found
     → number_place id n found ≡ Ok at → IsKept m at (with_number n) (is_number n)
 number_placed m id n at (Some (objects.InputBoolean o)) there sound counted is =
     let place = placed (not (o.enabled == 0)) (nat_le n 1) refusals.Range (kept_at id o.variable) at is in
@@ -208,7 +208,7 @@ string_variable_decides text o le =
     Decides-like (same_text text (Some o.text)) (λ e. ap (λ (t : List ℕ). objects.StringVariable (record o { text = t })) e)
     (λ e. same_Some (filled_up (length o.text) text) o.text (ap text_of e)) (filled_decides text o.text le)
 
-text_kept : (m : Contents) (at : ℕ) (text : List ℕ) (found : Option Seen) → finite.get m at ≡ found → text_fits text (text_in found) ≡ true
+text_kept : (m : ObjectMap) (at : ℕ) (text : List ℕ) (found : Option Seen) → finite.get m at ≡ found → text_fits text (text_in found) ≡ true
     → IsKept m at (with_text text) (λ o. same_text text (text_in o))
 text_kept m at text (Some (objects.InputString o)) there fits =
     record { object = objects.InputString o; there = there; decides = string_decides text o (leb-true (length text) (length o.text) fits) }
@@ -217,7 +217,7 @@ text_kept m at text (Some (objects.StringVariable o)) there fits =
 text_kept m at text None there fits = absurd cc
 text_kept m at text (Some o) there fits = absurd cc
 
-text_placed : (m : Contents) (id at : ℕ) (text : List ℕ) (found : Option Seen) → text_place m id text found ≡ Ok at
+text_placed : (m : ObjectMap) (id at : ℕ) (text : List ℕ) (found : Option Seen) → text_place m id text found ≡ Ok at
     → text_fits text (text_at m at) ≡ true
 text_placed m id at text (Some (objects.InputString o)) is =
     let kept = text_fits text (text_at m (kept_at id o.variable)) in

@@ -3,12 +3,12 @@ use Rattle.std.proofs.Common.{◌≡◌, ℕ, ◌+◌, List, [], ◌∷◌, ◌+
 use Rattle.std.proofs.lemmas.List.{length-append}
 use Rattle.std.proofs.lemmas.Option.{same_Some}
 use Rattle.vt_kinds.specs.declared.kind.Kind.{Kind}
-use Rattle.vt_kinds.specs.Layout.{Field, Value, ScaleBytes, DecimalPlaces, field_spelling, no_counts}
+use Rattle.vt_kinds.specs.Layout.{RecordField, Value, ScaleBytes, DecimalPlaces, field_spelling, no_counts}
 use Rattle.vt_kinds.specs.Records.{fields_of, record_of}
 use Rattle.vt_records.specs.declared.fault.PoolFault.{PoolFault}
 use Rattle.vt_records.specs.declared.fault.PoolFault.TheVariants as faults
-use Rattle.vt_records.specs.declared.stop.Stop.{Stop}
-use Rattle.vt_records.specs.declared.stop.Stop.TheVariants as stops
+use Rattle.vt_records.specs.declared.stop.RecordFault.{RecordFault}
+use Rattle.vt_records.specs.declared.stop.RecordFault.TheVariants as stops
 use Rattle.vt_records.specs.Faults.{NoRecordBegins, HasNullId, HasOtherType, HasValues, IsTruncated, IsImproper, IsFirstImproper}
 use Rattle.vt_records.specs.Reading.{values_at}
 use Rattle.vt_records.specs.Stops.{IsStop, fault_at}
@@ -48,11 +48,11 @@ values-one rest kind other vs ws is too =
     let same = same_Some {A = List Value × List ℕ} (vs, is.tail) (ws, too.tail) (sym read ∙ second) in
     record { kinds = kinds; values = ap (λ (x : List Value × List ℕ). x.0) same }
 
-record SameField (sort other : Field) (a b : ℕ) : Type 0 where
+record SameField (sort other : RecordField) (a b : ℕ) : Type 0 where
   pub sorts : sort ≡ other
   pub places : a ≡ b
 
-first-one : (sort other : Field) (a b : ℕ) (fs : List Field) (vs : List Value) → IsFirstImproper sort a fs vs → IsFirstImproper other b fs vs
+first-one : (sort other : RecordField) (a b : ℕ) (fs : List RecordField) (vs : List Value) → IsFirstImproper sort a fs vs → IsFirstImproper other b fs vs
     → SameField sort other a b
 first-one sort other a b [] vs is too = absurd is
 first-one sort other a b (f ∷ fs) [] is too = absurd is
@@ -63,7 +63,7 @@ first-one sort other a b (f ∷ fs) (v ∷ vs) (inr is) (inr too) =
     let rest = first-one sort other is.1.0 too.1.0 fs vs is.1.2 too.1.2 in
     record { sorts = rest.sorts; places = is.1.1 ∙ ap (λ (n : ℕ). length (field_spelling f v) + n) rest.places ∙ sym too.1.1 }
 
-improper-one : (sort other : Field) (rest : List ℕ) (a b : ℕ) → IsImproper sort rest a → IsImproper other rest b → SameField sort other a b
+improper-one : (sort other : RecordField) (rest : List ℕ) (a b : ℕ) → IsImproper sort rest a → IsImproper other rest b → SameField sort other a b
 improper-one sort other rest a b is too =
     let same = values-one rest is.kind too.kind is.values too.values is.read too.read in
     let first : IsFirstImproper sort is.later (fields_of too.kind) too.values =
@@ -86,25 +86,25 @@ module _ {P : Type 0} (rest : List ℕ) where
   other-cut (inl lt) other = let head = other.head in absurd (omega arith)
   other-cut (inr cut) other = absurd (cut.known other.no_kind)
 
-  improper-cut : (sort : Field) (at : ℕ) → IsTruncated rest → IsImproper sort rest at → P
+  improper-cut : (sort : RecordField) (at : ℕ) → IsTruncated rest → IsImproper sort rest at → P
   improper-cut sort at (inl lt) is = let head = is.head in absurd (omega arith)
   improper-cut sort at (inr cut) is = absurd (cut.cut is.kind is.values is.read)
 
   other-null : HasNullId rest → HasOtherType rest → P
   other-null null other = absurd (other.named null.null)
 
-  improper-null : (sort : Field) (at : ℕ) → HasNullId rest → IsImproper sort rest at → P
+  improper-null : (sort : RecordField) (at : ℕ) → HasNullId rest → IsImproper sort rest at → P
   improper-null sort at null is = absurd (is.named null.null)
 
-  improper-other : (sort : Field) (at : ℕ) → HasOtherType rest → IsImproper sort rest at → P
+  improper-other : (sort : RecordField) (at : ℕ) → HasOtherType rest → IsImproper sort rest at → P
   improper-other sort at other is = let no = sym is.read.known ∙ other.no_kind in absurd cc
 
 -- a stop that says something of the bytes
-abbrev SaysWhy : Stop → Type 0
+abbrev SaysWhy : RecordFault → Type 0
 SaysWhy stops.OutOfMemory = ⊥
 SaysWhy stop = Unit {0}
 
-truncated-one : (rest : List ℕ) (t : Stop) → SaysWhy t → IsTruncated rest → IsStop rest t → stops.Truncated ≡ t
+truncated-one : (rest : List ℕ) (t : RecordFault) → SaysWhy t → IsTruncated rest → IsStop rest t → stops.Truncated ≡ t
 truncated-one rest stops.Truncated why is too = refl
 truncated-one rest stops.NullId why is too = null-cut rest is too
 truncated-one rest stops.LeftOutType why is too = other-cut rest is too.0
@@ -113,7 +113,7 @@ truncated-one rest (stops.Scale at) why is too = improper-cut rest ScaleBytes at
 truncated-one rest (stops.Decimals at) why is too = improper-cut rest DecimalPlaces at is too
 truncated-one rest stops.OutOfMemory why is too = absurd why
 
-null-one : (rest : List ℕ) (t : Stop) → SaysWhy t → HasNullId rest → IsStop rest t → stops.NullId ≡ t
+null-one : (rest : List ℕ) (t : RecordFault) → SaysWhy t → HasNullId rest → IsStop rest t → stops.NullId ≡ t
 null-one rest stops.Truncated why is too = null-cut rest too is
 null-one rest stops.NullId why is too = refl
 null-one rest stops.LeftOutType why is too = other-null rest is too.0
@@ -123,7 +123,7 @@ null-one rest (stops.Decimals at) why is too = improper-null rest DecimalPlaces 
 null-one rest stops.OutOfMemory why is too = absurd why
 
 -- of a type that no kind has, what is said by whether it is one of those that are left out
-other-one : (rest : List ℕ) (s t : Stop) → SaysWhy t → HasOtherType rest → (IsStop rest stops.LeftOutType → s ≡ stops.LeftOutType)
+other-one : (rest : List ℕ) (s t : RecordFault) → SaysWhy t → HasOtherType rest → (IsStop rest stops.LeftOutType → s ≡ stops.LeftOutType)
     → (IsStop rest stops.UnknownType → s ≡ stops.UnknownType) → IsStop rest t → s ≡ t
 other-one rest s stops.Truncated why is left unknown too = other-cut rest too is
 other-one rest s stops.NullId why is left unknown too = other-null rest too is
@@ -134,7 +134,7 @@ other-one rest s (stops.Decimals at) why is left unknown too = improper-other re
 other-one rest s stops.OutOfMemory why is left unknown too = absurd why
 
 -- of a value that is not proper, what is said by its field
-field-one : (rest : List ℕ) (sort : Field) (at : ℕ) (s t : Stop) → SaysWhy t → IsImproper sort rest at
+field-one : (rest : List ℕ) (sort : RecordField) (at : ℕ) (s t : RecordFault) → SaysWhy t → IsImproper sort rest at
     → ((other : ℕ) → SameField sort ScaleBytes at other → s ≡ stops.Scale other)
     → ((other : ℕ) → SameField sort DecimalPlaces at other → s ≡ stops.Decimals other) → IsStop rest t → s ≡ t
 field-one rest sort at s stops.Truncated why is scale decimals too = improper-cut rest sort at too is
@@ -146,7 +146,7 @@ field-one rest sort at s (stops.Decimals other) why is scale decimals too = deci
 field-one rest sort at s stops.OutOfMemory why is scale decimals too = absurd why
 
 -- what is said of the bytes of a record is one
-stops-one : (rest : List ℕ) (s t : Stop) → SaysWhy s → SaysWhy t → IsStop rest s → IsStop rest t → s ≡ t
+stops-one : (rest : List ℕ) (s t : RecordFault) → SaysWhy s → SaysWhy t → IsStop rest s → IsStop rest t → s ≡ t
 stops-one rest stops.Truncated t why so is too = truncated-one rest t so is too
 stops-one rest stops.NullId t why so is too = null-one rest t so is too
 stops-one rest stops.LeftOutType t why so is too =
@@ -162,7 +162,7 @@ stops-one rest (stops.Decimals at) t why so is too =
     (λ other same. ap (λ (n : ℕ). stops.Decimals n) same.places) too
 stops-one rest stops.OutOfMemory t why so is too = absurd why
 
-never-begins : (rest : List ℕ) (s : Stop) → SaysWhy s → IsStop rest s → NoRecordBegins rest
+never-begins : (rest : List ℕ) (s : RecordFault) → SaysWhy s → IsStop rest s → NoRecordBegins rest
 never-begins rest stops.Truncated why is = truncated_none rest is
 never-begins rest stops.NullId why is = null_none rest is
 never-begins rest stops.LeftOutType why is = other_none rest is.0
@@ -178,7 +178,7 @@ record Stands (bytes : List ℕ) (fault : PoolFault) : Type 0 where
   pub whole : AreRecords records
   pub rest : List ℕ
   pub parts : bytes ≡ joined records ++ rest
-  pub stop : Stop
+  pub stop : RecordFault
   pub why : SaysWhy stop
   pub says : IsStop rest stop
   pub fault_is : fault ≡ fault_at stop (length (joined records))
@@ -187,7 +187,7 @@ record Stands (bytes : List ℕ) (fault : PoolFault) : Type 0 where
 at-first : (bytes : List ℕ) (at : ℕ) (IsFaulty : List ℕ → Type 0) (is : IsFaultAt bytes at (AtFirst IsFaulty)) → at ≡ length (joined is.records)
 at-first bytes at IsFaulty is = let none = is.faulty.0 in let place = is.place in omega arith
 
-stands-at : (bytes : List ℕ) (at : ℕ) (IsFaulty : List ℕ → ℕ → Type 0) (fault : PoolFault) (is : IsFaultAt bytes at IsFaulty) (s : Stop)
+stands-at : (bytes : List ℕ) (at : ℕ) (IsFaulty : List ℕ → ℕ → Type 0) (fault : PoolFault) (is : IsFaultAt bytes at IsFaulty) (s : RecordFault)
     → SaysWhy s → IsStop is.rest s → fault ≡ fault_at s (length (joined is.records)) → Stands bytes fault
 stands-at bytes at IsFaulty fault is s why says same = record {
   records = is.records;
@@ -227,4 +227,4 @@ faults-one bytes fault other is too named also =
     let second = ap length b.parts ∙ length-append (joined b.records) b.rest in
     let left = ap length rest in
     let place : length (joined a.records) ≡ length (joined b.records) = omega (arith, first, second, left) in
-    a.fault_is ∙ ap₂ (λ (s : Stop) (n : ℕ). fault_at s n) stop place ∙ sym b.fault_is
+    a.fault_is ∙ ap₂ (λ (s : RecordFault) (n : ℕ). fault_at s n) stop place ∙ sym b.fault_is

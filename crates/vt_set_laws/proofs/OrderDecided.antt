@@ -11,7 +11,7 @@ use Rattle.vt_kinds.specs.Records.{Seen}
 use Rattle.vt_commands.specs.declared.command.Command.{Command}
 use Rattle.vt_commands.specs.declared.command.Command.TheVariants.{ChangeNumericValue, ChangeAttribute, ChangeListItem}
 use Rattle.vt_commands.specs.Targets.{object_of}
-use Rattle.vt_stores.specs.Stores.{Contents}
+use Rattle.vt_stores.specs.Stores.{ObjectMap}
 use Rattle.vt_stores.proofs.Rising.{true_both}
 use Rattle.vt_effects.specs.Fields.{word}
 use Rattle.vt_effects.specs.Changes.{if_passed, left, other_id, change_item, change_value, change_attribute, changed}
@@ -23,14 +23,14 @@ use Rattle.vt_set_laws.proofs.ShortByShallow.{short_by_shallow}
 
 -- ---- objects in order where the test is passed
 
-done_for : (m n : Contents) (command : Command) (object : Option ℕ)
-    → ◌≡◌ {A = Result Contents ℕ} (changed_for m command (other_kind m (other_id command)) object) (Ok n)
+done_for : (m n : ObjectMap) (command : Command) (object : Option ℕ)
+    → ◌≡◌ {A = Result ObjectMap ℕ} (changed_for m command (other_kind m (other_id command)) object) (Ok n)
     → keeps_order m command n ≡ true → left m (effect_on m command object) ≡ n
 done_for m n command None made kept = ap (left m) made
 done_for m n command (Some id) made kept =
-    ap (λ (r : Result Contents ℕ). left m (in_order m command r)) made ∙ ap (λ (b : Bool). left m (if_passed b (value_error command) n)) kept
+    ap (λ (r : Result ObjectMap ℕ). left m (in_order m command r)) made ∙ ap (λ (b : Bool). left m (if_passed b (value_error command) n)) kept
 
-done : (m n : Contents) (command : Command) → ◌≡◌ {A = Result Contents ℕ} (changed_by m command (other_kind m (other_id command))) (Ok n)
+done : (m n : ObjectMap) (command : Command) → ◌≡◌ {A = Result ObjectMap ℕ} (changed_by m command (other_kind m (other_id command))) (Ok n)
     → keeps_order m command n ≡ true
     → after m command ≡ n
 unfolding effect
@@ -38,12 +38,12 @@ done m n command made kept = done_for m n command (object_of command) made kept
 
 -- ---- what a command has made of its object
 
-record IsPut (m n : Contents) (id : ℕ) (made : Result Seen ℕ) : Type 0 where
+record IsPut (m n : ObjectMap) (id : ℕ) (made : Result Seen ℕ) : Type 0 where
   new : Seen
   is : made ≡ Ok new
   store : finite.insert m id new ≡ n
 
-is_put : (m n : Contents) (id : ℕ) (made : Result Seen ℕ) → ◌≡◌ {A = Result Contents ℕ} (put m id made) (Ok n) → IsPut m n id made
+is_put : (m n : ObjectMap) (id : ℕ) (made : Result Seen ℕ) → ◌≡◌ {A = Result ObjectMap ℕ} (put m id made) (Ok n) → IsPut m n id made
 is_put m n id (Ok new) is = record { new = new; is = refl; store = cc }
 is_put m n id (Err error) is = absurd cc
 
@@ -77,9 +77,9 @@ item_of_list named index item o new made =
 
 -- ---- the test is passed where the objects are in order
 
-pointer_kept : (m n : Contents) (id value : ℕ) (command : Command) (named : Option Kind) → finite.get m 0xFFFF ≡ None → IsSound m → IsSound n
+pointer_kept : (m n : ObjectMap) (id value : ℕ) (command : Command) (named : Option Kind) → finite.get m 0xFFFF ≡ None → IsSound m → IsSound n
     → ((p : ObjectPointer) (new : Seen) → ◌≡◌ {A = Result Seen ℕ} (changed command named (objects.ObjectPointer p)) (Ok new) → objects.ObjectPointer (record p { value = value }) ≡ new)
-    → (found : Option Seen) → finite.get m id ≡ found → ◌≡◌ {A = Result Contents ℕ} (changed_at m id command named found) (Ok n)
+    → (found : Option Seen) → finite.get m id ≡ found → ◌≡◌ {A = Result ObjectMap ℕ} (changed_at m id command named found) (Ok n)
     → pointer_may m id value (pointer_value found) n ≡ true
 pointer_kept m n id value command named null sound ordered of (Some (objects.ObjectPointer p)) at made =
     let here = is_put m n id (changed command named (objects.ObjectPointer p)) made in
@@ -89,16 +89,16 @@ pointer_kept m n id value command named null sound ordered of (Some (objects.Obj
     (short_by_shallow n (IsSound.shallow ordered))
 pointer_kept m n id value command named null sound ordered of _ at made = refl
 
-item_kept : (m n : Contents) (list index item : ℕ) (named : Option Kind) → finite.get m 0xFFFF ≡ None → IsSound n → (found : Option Seen) → finite.get m list ≡ found
-    → ◌≡◌ {A = Result Contents ℕ} (changed_at m list (ChangeListItem list index item) named found) (Ok n) → value_drawn m (pointer_value (finite.get m item)) ≡ true
+item_kept : (m n : ObjectMap) (list index item : ℕ) (named : Option Kind) → finite.get m 0xFFFF ≡ None → IsSound n → (found : Option Seen) → finite.get m list ≡ found
+    → ◌≡◌ {A = Result ObjectMap ℕ} (changed_at m list (ChangeListItem list index item) named found) (Ok n) → value_drawn m (pointer_value (finite.get m item)) ≡ true
 item_kept m n list index item named null ordered (Some (objects.InputList o)) at made =
     let here = is_put m n list (change_item named index item (objects.InputList o)) made in
     let parts = item_of_list named index item o here.new here.is in
     item_drawn m list index item o null at parts.0 (subst IsSound (sym (ap (finite.insert m list) parts.1 ∙ here.store)) ordered)
 item_kept m n list index item named null ordered _ at made = absurd cc
 
-kept : (m n : Contents) (command : Command) → IsSound m → finite.get m 0xFFFF ≡ None
-    → ◌≡◌ {A = Result Contents ℕ} (changed_by m command (other_kind m (other_id command))) (Ok n) → IsSound n → keeps_order m command n ≡ true
+kept : (m n : ObjectMap) (command : Command) → IsSound m → finite.get m 0xFFFF ≡ None
+    → ◌≡◌ {A = Result ObjectMap ℕ} (changed_by m command (other_kind m (other_id command))) (Ok n) → IsSound n → keeps_order m command n ≡ true
 kept m n (ChangeListItem list index item) sound null made ordered =
     true_both (value_drawn m (pointer_value (finite.get m item))) (chains_are_short n)
     (item_kept m n list index item (kind_in m item) null ordered (finite.get m list) refl made) (short_by_shallow n (IsSound.shallow ordered))
@@ -110,25 +110,25 @@ kept m n (ChangeAttribute id number value) sound null made ordered =
     (finite.get m id) refl made
 kept m n _ sound null made ordered = refl
 
-order_decided : CommandsKeepOrder → (m n : Contents) (command : Command) → IsSound m → finite.get m 0xFFFF ≡ None
-    → ◌≡◌ {A = Result Contents ℕ} (changed_by m command (other_kind m (other_id command))) (Ok n) → IsTrue (keeps_order m command n) ↔ IsSound n
+order_decided : CommandsKeepOrder → (m n : ObjectMap) (command : Command) → IsSound m → finite.get m 0xFFFF ≡ None
+    → ◌≡◌ {A = Result ObjectMap ℕ} (changed_by m command (other_kind m (other_id command))) (Ok n) → IsTrue (keeps_order m command n) ↔ IsSound n
 order_decided keep m n command sound null made = (λ is. subst IsSound (done m n command made is) (keep m command sound), kept m n command sound null made)
 
 -- what is made is the effect where the tests are passed
-effect_by : (m n : Contents) (command : Command) (o : Option ℕ)
-    → ◌≡◌ {A = Result Contents ℕ} (changed_for m command (other_kind m (other_id command)) o) (Ok n) → keeps_order m command n ≡ true
-    → ◌≡◌ {A = Result Contents ℕ} (effect_on m command o) (Ok n)
+effect_by : (m n : ObjectMap) (command : Command) (o : Option ℕ)
+    → ◌≡◌ {A = Result ObjectMap ℕ} (changed_for m command (other_kind m (other_id command)) o) (Ok n) → keeps_order m command n ≡ true
+    → ◌≡◌ {A = Result ObjectMap ℕ} (effect_on m command o) (Ok n)
 effect_by m n command None made is = made
 effect_by m n command (Some id) made is =
     ap (in_order m command) made ∙ ap (λ (b : Bool). if_passed b (value_error command) n) is
 
 -- a command that is done leaves what it has made
-left_of : (m n : Contents) (command : Command) → ◌≡◌ {A = Result Contents ℕ} (effect m command) (Ok n) → after m command ≡ n
+left_of : (m n : ObjectMap) (command : Command) → ◌≡◌ {A = Result ObjectMap ℕ} (effect m command) (Ok n) → after m command ≡ n
 left_of m n command is = ap (left m) is
 
-effect_decided : CommandsKeepOrder → (m n : Contents) (command : Command) → IsSound m → finite.get m 0xFFFF ≡ None
-    → ◌≡◌ {A = Result Contents ℕ} (changed_by m command (other_kind m (other_id command))) (Ok n)
-    → (◌≡◌ {A = Result Contents ℕ} (effect m command) (Ok n)) ↔ IsSound n
+effect_decided : CommandsKeepOrder → (m n : ObjectMap) (command : Command) → IsSound m → finite.get m 0xFFFF ≡ None
+    → ◌≡◌ {A = Result ObjectMap ℕ} (changed_by m command (other_kind m (other_id command))) (Ok n)
+    → (◌≡◌ {A = Result ObjectMap ℕ} (effect m command) (Ok n)) ↔ IsSound n
 unfolding effect
 effect_decided keep m n command sound null made = (
   λ is. subst IsSound (left_of m n command is) (keep m command sound),

@@ -2,7 +2,7 @@
 use Rattle.std.proofs.Common.{◌≡◌, ◌≤◌, ℕ, zero, suc, Bool, true, false, ◌==◌, ◌&&◌, List, [], ◌∷◌, length, refl, arith}
 use Rattle.std.specs.Prelude.{Contains}
 use Rattle.std.specs.List.{list_all}
-use Rattle.vt_stores.specs.Stores.{Contents}
+use Rattle.vt_stores.specs.Stores.{ObjectMap}
 use Rattle.vt_chains.specs.Inclusions.{IsChain, IsShallow}
 use Rattle.vt_chains.specs.Depths.{ids_of, inclusions_of}
 use Rattle.vt_chains.specs.Limits.{terminal}
@@ -27,7 +27,7 @@ short_from next zero id short = no_elements (next id) (λ b h. omega (arith, sho
 short_from next (suc most) id short =
     all_pass (is_short most next) (next id) (λ b h. short_from next most b (λ rest chain. let le = short (b ∷ rest) (h, chain) in omega (arith, le)))
 
-pub short_by_shallow : (m : Contents) → IsShallow terminal.inclusions (inclusions_of m) → chains_are_short m ≡ true
+pub short_by_shallow : (m : ObjectMap) → IsShallow terminal.inclusions (inclusions_of m) → chains_are_short m ≡ true
 short_by_shallow m shallow =
     all_pass (is_short terminal.inclusions (inclusions_of m)) (ids_of m)
     (λ id h. short_from (inclusions_of m) 32 id (λ rest chain. let le = shallow (id ∷ rest) chain in omega (arith, le)))

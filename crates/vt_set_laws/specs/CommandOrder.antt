@@ -3,7 +3,7 @@
 use Rattle.std.specs.Prelude.{◌≡◌, ◌↔◌, IsTrue, None, Ok}
 use Rattle.std.specs.FinMap as finite
 use Rattle.vt_commands.specs.declared.command.Command.{Command}
-use Rattle.vt_stores.specs.Stores.{Contents}
+use Rattle.vt_stores.specs.Stores.{ObjectMap}
 use Rattle.vt_effects.specs.Changes.{other_id}
 use Rattle.vt_effects.specs.Effects.{changed_by, effect, keeps_order, other_kind}
 use Rattle.vt_effects.specs.Soundness.{IsSound}
@@ -11,7 +11,7 @@ use Rattle.vt_effects.specs.Soundness.{IsSound}
 -- A store with what a command makes of its object passes the tests of that order exactly where it is in order; and exactly then is the
 -- command done, with this store.
 pub record OrderDecides : Type 0 where
-  pub tested : (store new : Contents) (command : Command) → IsSound store → finite.get store 0xFFFF ≡ None
+  pub tested : (store new : ObjectMap) (command : Command) → IsSound store → finite.get store 0xFFFF ≡ None
       → changed_by store command (other_kind store (other_id command)) ≡ Ok new → IsTrue (keeps_order store command new) ↔ IsSound new
-  pub done : (store new : Contents) (command : Command) → IsSound store → finite.get store 0xFFFF ≡ None
+  pub done : (store new : ObjectMap) (command : Command) → IsSound store → finite.get store 0xFFFF ≡ None
       → changed_by store command (other_kind store (other_id command)) ≡ Ok new → (effect store command ≡ Ok new) ↔ IsSound new

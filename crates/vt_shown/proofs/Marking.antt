@@ -17,8 +17,8 @@ use Rattle.vt_kinds.specs.declared.slot.Slot.{Slot}
 use Rattle.vt_kinds.specs.declared.object.Object.TheVariants as objects
 use Rattle.vt_kinds.specs.Records.{Seen}
 use Rattle.vt_kinds.specs.References.{listed, slot}
-use Rattle.vt_stores.specs.Stores.{Contents, IsPlace}
-use Rattle.vt_chains.specs.Depths.{Stands, IsBelow, ids_of, inclusions_of}
+use Rattle.vt_stores.specs.Stores.{ObjectMap, IsPlace}
+use Rattle.vt_chains.specs.Depths.{IsAt, IsBelow, ids_of, inclusions_of}
 use Rattle.vt_chains.specs.Inclusions.{is_inclusion, includes, included_by}
 use Rattle.vt_chains.proofs.Including.{stands}
 use Rattle.vt_chains.proofs.Elements.{Contains-nil, Contains-head, Contains-tail, cons_case}
@@ -31,17 +31,17 @@ use Rattle.vt_chains.proofs.Slots.{in_first}
 
 -- ---- names
 
-named_case : (P : Type 0) (m : Contents) (xs ys : List ℕ) (id : ℕ) → IsNamed m (xs ++ ys) id → (IsNamed m xs id → P) → (IsNamed m ys id → P) → P
+named_case : (P : Type 0) (m : ObjectMap) (xs ys : List ℕ) (id : ℕ) → IsNamed m (xs ++ ys) id → (IsNamed m xs id → P) → (IsNamed m ys id → P) → P
 named_case P m xs ys id is left right =
     elim (Contains-append_cases xs ys is.name is.among) as (λ _. P) [
       | inl one ↦ left (record { name = is.name; among = one; stands = is.stands; element = is.element })
       | inr other ↦ right (record { name = is.name; among = other; stands = is.stands; element = is.element })
     ]
 
-named_left : (m : Contents) (xs ys : List ℕ) (id : ℕ) → IsNamed m xs id → IsNamed m (xs ++ ys) id
+named_left : (m : ObjectMap) (xs ys : List ℕ) (id : ℕ) → IsNamed m xs id → IsNamed m (xs ++ ys) id
 named_left m xs ys id is = record { name = is.name; among = Contains-append_left xs ys is.name is.among; stands = is.stands; element = is.element }
 
-named_right : (m : Contents) (xs ys : List ℕ) (id : ℕ) → IsNamed m ys id → IsNamed m (xs ++ ys) id
+named_right : (m : ObjectMap) (xs ys : List ℕ) (id : ℕ) → IsNamed m ys id → IsNamed m (xs ++ ys) id
 named_right m xs ys id is = record { name = is.name; among = Contains-append_right xs ys is.name is.among; stands = is.stands; element = is.element }
 
 -- the only name among one
@@ -53,7 +53,7 @@ only_name x y h = cons_case (x ≡ y) x y [] h (λ is. is) (λ none. absurd (Con
 pub no_mark : (b : Bool) → b ≡ false → b ≡ true → ⊥
 no_mark b clear set = cc
 
-pub marks_none : (m : Contents) (marks : List Bool) → Marks m [] marks marks
+pub marks_none : (m : ObjectMap) (marks : List Bool) → Marks m [] marks marks
 marks_none m marks = record {
   each = refl;
   kept = λ id is. is;
@@ -61,7 +61,7 @@ marks_none m marks = record {
   only = λ id is. inl is;
 }
 
-pub marks_more : (m : Contents) (xs ys : List ℕ) (a b c : List Bool) → Marks m xs a b → Marks m ys b c → Marks m (xs ++ ys) a c
+pub marks_more : (m : ObjectMap) (xs ys : List ℕ) (a b c : List Bool) → Marks m xs a b → Marks m ys b c → Marks m (xs ++ ys) a c
 marks_more m xs ys a b c one other = record {
   each = other.each ∙ one.each;
   kept = λ id is. other.kept id (one.kept id is);
@@ -76,14 +76,14 @@ marks_more m xs ys a b c one other = record {
 }
 
 -- the next of some names
-pub marks_next : (m : Contents) (names : List ℕ) (i name : ℕ) (a b c : List Bool) → i < length names → name ≡ get_or names i 0 → Marks m (take i names) a b
+pub marks_next : (m : ObjectMap) (names : List ℕ) (i name : ℕ) (a b c : List Bool) → i < length names → name ≡ get_or names i 0 → Marks m (take i names) a b
     → Marks m (name ∷ []) b c → Marks m (take (i + 1) names) a c
 marks_next m names i name a b c lt is before next =
     subst (λ (xs : List ℕ). Marks m xs a c) (sym (take_more names i 0 lt))
     (marks_more m (take i names) (get_or names i 0 ∷ []) a b c before (subst (λ (n : ℕ). Marks m (n ∷ []) b c) is next))
 
 -- a name that stands for no element
-pub marks_passed : (m : Contents) (name : ℕ) (marks : List Bool) → ((id : ℕ) → stands_for m name ≡ Some id → IsTrue (is_element (finite.get m id)) → ⊥)
+pub marks_passed : (m : ObjectMap) (name : ℕ) (marks : List Bool) → ((id : ℕ) → stands_for m name ≡ Some id → IsTrue (is_element (finite.get m id)) → ⊥)
     → Marks m (name ∷ []) marks marks
 marks_passed m name marks none = record {
   each = refl;
@@ -93,7 +93,7 @@ marks_passed m name marks none = record {
 }
 
 -- a name that stands for an element
-pub marks_one : (m : Contents) (name id place : ℕ) (marks : List Bool) → length marks ≡ length (ids_of m) → stands_for m name ≡ Some id
+pub marks_one : (m : ObjectMap) (name id place : ℕ) (marks : List Bool) → length marks ≡ length (ids_of m) → stands_for m name ≡ Some id
     → IsTrue (is_element (finite.get m id)) → IsPlace (finite.entries m) id place → Marks m (name ∷ []) marks (set marks place true)
 marks_one m name id place marks long is element at =
     let there = stands_of (finite.entries m) place id at.object at.there in
@@ -107,7 +107,7 @@ marks_one m name id place marks long is element at =
           subst (IsMarked m (set marks place true)) (same_Some id other (sym is ∙ stands)) (record { place = place; there = there; set = get_or-set_same marks place true false lt });
       only = λ other now. elim (cases_eq now.place place) as (λ _. IsMarked m marks other ⊎ IsNamed m (name ∷ []) other) [
         | inl same ↦ inr (
-            let same_one : id ≡ other = same_id (ids_of m) place id other there (subst (λ (p : ℕ). Stands (ids_of m) p other) same now.there) in
+            let same_one : id ≡ other = same_id (ids_of m) place id other there (subst (λ (p : ℕ). IsAt (ids_of m) p other) same now.there) in
             subst (IsNamed m (name ∷ [])) same_one (record { name = name; among = Contains-head name []; stands = is; element = element }))
         | inr differs ↦ inl (record { place = now.place; there = now.there; set = sym (get_or-set_other marks place now.place true false differs) ∙ now.set })
       ];
@@ -162,7 +162,7 @@ shown_within : (b : Bool) (xs : List ℕ) (name : ℕ) → Contains (cond b xs [
 shown_within true xs name h = h
 shown_within false xs name h = absurd (Contains-nil name h)
 
-pub drawn_included : (m : Contents) (o : Option Seen) (name : ℕ) → eqb name 65535 ≡ false → Contains (drawn_in m o) name → Contains (included_by o) name
+pub drawn_included : (m : ObjectMap) (o : Option Seen) (name : ℕ) → eqb name 65535 ≡ false → Contains (drawn_in m o) name → Contains (included_by o) name
 drawn_included m (Some (objects.WorkingSet o)) name there h = children_included kinds.WorkingSet o.children name there h
 drawn_included m (Some (objects.DataMask o)) name there h = children_included kinds.DataMask o.children name there h
 drawn_included m (Some (objects.AlarmMask o)) name there h = children_included kinds.AlarmMask o.children name there h
@@ -177,7 +177,7 @@ drawn_included m _ name there h = absurd (Contains-nil name h)
 -- ---- what is drawn stands lower
 
 -- the value of a pointer is included by it
-value_of : (m : Contents) (value other : ℕ) → finite.get m 65535 ≡ None → option_map (λ o. value) (finite.get m value) ≡ Some other → (eqb other 65535 ≡ false) × (value ≡ other)
+value_of : (m : ObjectMap) (value other : ℕ) → finite.get m 65535 ≡ None → option_map (λ o. value) (finite.get m value) ≡ Some other → (eqb other 65535 ≡ false) × (value ≡ other)
 value_of m value other null is = from (finite.get m value) refl is
   where
     from : (o : Option Seen) → finite.get m value ≡ o → option_map (λ x. value) o ≡ Some other → (eqb other 65535 ≡ false) × (value ≡ other)
@@ -186,7 +186,7 @@ value_of m value other null is = from (finite.get m value) refl is
         let same : value ≡ other = same_Some value other is in
         (ne_eqb other 65535 (λ e. let never = sym null ∙ ap (finite.get m) (sym (same ∙ e)) ∙ at in absurd cc), same)
 
-pub behind_case : (P : Type 0) (m : Contents) (name other : ℕ) (o : Option Seen) → finite.get m 65535 ≡ None → behind m name o ≡ Some other
+pub behind_case : (P : Type 0) (m : ObjectMap) (name other : ℕ) (o : Option Seen) → finite.get m 65535 ≡ None → behind m name o ≡ Some other
     → (name ≡ other → P) → (Contains (included_by o) other → P) → P
 behind_case P m name other None null is here later = absurd cc
 behind_case P m name other (Some (objects.ObjectPointer o)) null is here later =
@@ -196,11 +196,11 @@ behind_case P m name other (Some (objects.ObjectPointer o)) null is here later =
 behind_case P m name other (Some _) null is here later = here (same_Some name other is)
 
 -- an element that is named itself
-itself : (m : Contents) (name : ℕ) (o : Seen) → is_element (Some o) ≡ true → behind m name (Some o) ≡ Some name
+itself : (m : ObjectMap) (name : ℕ) (o : Seen) → is_element (Some o) ≡ true → behind m name (Some o) ≡ Some name
 itself m name (objects.ObjectPointer o) is = absurd cc
 itself m name _ is = refl
 
-pub stands_itself : (m : Contents) (name place : ℕ) (at : IsPlace (finite.entries m) name place) → is_element (Some at.object) ≡ true
+pub stands_itself : (m : ObjectMap) (name place : ℕ) (at : IsPlace (finite.entries m) name place) → is_element (Some at.object) ≡ true
     → IsTrue (is_element (finite.get m name)) × (stands_for m name ≡ Some name)
 stands_itself m name place at drawn =
     let got : finite.get m name ≡ Some at.object = finite.get-entries m name ∙ at.found in (
@@ -208,15 +208,15 @@ stands_itself m name place at drawn =
       ap (behind m name) got ∙ itself m name at.object drawn,
     )
 
-pub is_there : (m : Contents) (name other : ℕ) (o : Option Seen) → finite.get m name ≡ o → behind m name o ≡ Some other → finite.get m 65535 ≡ None → eqb name 65535 ≡ false
+pub is_there : (m : ObjectMap) (name other : ℕ) (o : Option Seen) → finite.get m name ≡ o → behind m name o ≡ Some other → finite.get m 65535 ≡ None → eqb name 65535 ≡ false
 is_there m name other None at is null = absurd cc
 is_there m name other (Some o) at is null = ne_eqb name 65535 (λ e. let never = sym null ∙ ap (finite.get m) (sym e) ∙ at in absurd cc)
 
-pub included_at : (m : Contents) (id other : ℕ) → Contains (included_by (finite.get m id)) other → Contains (inclusions_of m id) other
+pub included_at : (m : ObjectMap) (id other : ℕ) → Contains (included_by (finite.get m id)) other → Contains (inclusions_of m id) other
 included_at m id other h = subst (λ (o : Option Seen). Contains (included_by o) other) (finite.get-entries m id) h
 
-pub named_falls : (m : Contents) (levels : List ℕ) (place id other : ℕ) → IsCertificate (ids_of m) (inclusions_of m) levels → finite.get m 65535 ≡ None
-    → Stands (ids_of m) place id → IsNamed m (drawn_in m (finite.get m id)) other → IsBelow (ids_of m) levels other (slice_index levels place)
+pub named_falls : (m : ObjectMap) (levels : List ℕ) (place id other : ℕ) → IsCertificate (ids_of m) (inclusions_of m) levels → finite.get m 65535 ≡ None
+    → IsAt (ids_of m) place id → IsNamed m (drawn_in m (finite.get m id)) other → IsBelow (ids_of m) levels other (slice_index levels place)
 named_falls m levels place id other certificate null stands named =
     let name = named.name in
     let lower = certificate.falls place id stands name
@@ -230,7 +230,7 @@ named_falls m levels place id other certificate null stands named =
     record { place = last.place; there = last.there; less = omega (arith, one, two) })
 
 -- NULL is no object's ID
-pub null_nowhere : (m : Contents) → All (λ id. id < 65535) (ids_of m) → finite.get m 65535 ≡ None
+pub null_nowhere : (m : ObjectMap) → All (λ id. id < 65535) (ids_of m) → finite.get m 65535 ≡ None
 null_nowhere m named = from (finite.get m 65535) refl
   where
     from : (o : Option Seen) → finite.get m 65535 ≡ o → finite.get m 65535 ≡ None
@@ -244,15 +244,15 @@ null_nowhere m named = from (finite.get m 65535) refl
 -- ---- level by level
 
 -- the marked objects of a level before a place are done as well
-pub record ArePassed (m : Contents) (levels : List ℕ) (mask level place : ℕ) (marks : List Bool) : Type 0 where
+pub record ArePassed (m : ObjectMap) (levels : List ℕ) (mask level place : ℕ) (marks : List Bool) : Type 0 where
   pub marked : AreMarked m levels mask (level + 1) marks
-  pub passed : (at id : ℕ) → Stands (ids_of m) at id → at < place → slice_index_or marks at false ≡ true → slice_index levels at ≡ level
+  pub passed : (at id : ℕ) → IsAt (ids_of m) at id → at < place → slice_index_or marks at false ≡ true → slice_index levels at ≡ level
       → (other : ℕ) → IsNamed m (drawn_in m (finite.get m id)) other → IsMarked m marks other
 
-pub pass_begins : (m : Contents) (levels : List ℕ) (mask level : ℕ) (marks : List Bool) → AreMarked m levels mask (level + 1) marks → ArePassed m levels mask level 0 marks
+pub pass_begins : (m : ObjectMap) (levels : List ℕ) (mask level : ℕ) (marks : List Bool) → AreMarked m levels mask (level + 1) marks → ArePassed m levels mask level 0 marks
 pass_begins m levels mask level marks are = record { marked = are; passed = λ at id there lt. absurd (omega (arith, lt)) }
 
-pub pass_on : (m : Contents) (levels : List ℕ) (mask level place : ℕ) (marks : List Bool)
+pub pass_on : (m : ObjectMap) (levels : List ℕ) (mask level place : ℕ) (marks : List Bool)
     → (slice_index_or marks place false ≡ true → slice_index levels place ≡ level → ⊥) → ArePassed m levels mask level place marks
     → ArePassed m levels mask level (place + 1) marks
 pass_on m levels mask level place marks none are = record {
@@ -263,7 +263,7 @@ pass_on m levels mask level place marks none are = record {
   ];
 }
 
-pub pass_ends : (m : Contents) (levels : List ℕ) (mask level place : ℕ) (marks : List Bool) → length (ids_of m) ≤ place → ArePassed m levels mask level place marks
+pub pass_ends : (m : ObjectMap) (levels : List ℕ) (mask level place : ℕ) (marks : List Bool) → length (ids_of m) ≤ place → ArePassed m levels mask level place marks
     → AreMarked m levels mask level marks
 pass_ends m levels mask level place marks end are = record {
   each = are.marked.each;
@@ -277,8 +277,8 @@ pass_ends m levels mask level place marks end are = record {
 }
 
 -- what an object draws marks nothing of its level or above
-still_set : (m : Contents) (levels : List ℕ) (place id : ℕ) (marks new : List Bool) → IsCertificate (ids_of m) (inclusions_of m) levels → finite.get m 65535 ≡ None
-    → Stands (ids_of m) place id → Marks m (drawn_in m (finite.get m id)) marks new → (at other : ℕ) → Stands (ids_of m) at other
+still_set : (m : ObjectMap) (levels : List ℕ) (place id : ℕ) (marks new : List Bool) → IsCertificate (ids_of m) (inclusions_of m) levels → finite.get m 65535 ≡ None
+    → IsAt (ids_of m) place id → Marks m (drawn_in m (finite.get m id)) marks new → (at other : ℕ) → IsAt (ids_of m) at other
     → slice_index_or new at false ≡ true → slice_index levels place ≤ slice_index levels at → slice_index_or marks at false ≡ true
 still_set m levels place id marks new certificate null stands draws at other there set le =
     elim (draws.only other (record { place = at; there = there; set = set })) as (λ _. slice_index_or marks at false ≡ true) [
@@ -290,8 +290,8 @@ still_set m levels place id marks new certificate null stands draws at other the
           absurd (omega (arith, le, less, same))
     ]
 
-pub pass_more : (m : Contents) (levels : List ℕ) (mask level place id : ℕ) (marks new : List Bool) → IsCertificate (ids_of m) (inclusions_of m) levels
-    → finite.get m 65535 ≡ None → Stands (ids_of m) place id → slice_index_or marks place false ≡ true → slice_index levels place ≡ level
+pub pass_more : (m : ObjectMap) (levels : List ℕ) (mask level place id : ℕ) (marks new : List Bool) → IsCertificate (ids_of m) (inclusions_of m) levels
+    → finite.get m 65535 ≡ None → IsAt (ids_of m) place id → slice_index_or marks place false ≡ true → slice_index levels place ≡ level
     → Marks m (drawn_in m (finite.get m id)) marks new → ArePassed m levels mask level place marks → ArePassed m levels mask level (place + 1) new
 pass_more m levels mask level place id marks new certificate null stands set is draws are = record {
   marked = record {
@@ -307,19 +307,19 @@ pass_more m levels mask level place id marks new certificate null stands set is 
   };
   passed = λ at x there lt now level_is other named. elim (cases_eq at place) as (λ _. IsMarked m new other) [
     | inl same ↦
-        let same_one : x ≡ id = same_id (ids_of m) place x id (subst (λ (p : ℕ). Stands (ids_of m) p x) same there) stands in
+        let same_one : x ≡ id = same_id (ids_of m) place x id (subst (λ (p : ℕ). IsAt (ids_of m) p x) same there) stands in
         draws.added other (subst (λ (k : ℕ). IsNamed m (drawn_in m (finite.get m k)) other) same_one named)
     | inr differs ↦ draws.kept other (are.passed at x there (omega (arith, lt, differs)) (was at x there now (omega (arith, level_is, is))) level_is other named)
   ];
 }
   where
-    was : (at other : ℕ) → Stands (ids_of m) at other → slice_index_or new at false ≡ true → slice_index levels place ≤ slice_index levels at → slice_index_or marks at false ≡ true
+    was : (at other : ℕ) → IsAt (ids_of m) at other → slice_index_or new at false ≡ true → slice_index levels place ≤ slice_index levels at → slice_index_or marks at false ≡ true
     was = still_set m levels place id marks new certificate null stands draws
 
 -- ---- first and last
 
 -- nothing is marked yet, and then what the mask draws and its soft keys
-pub marking_begins : (m : Contents) (levels : List ℕ) (mask : ℕ) (none drawn new : List Bool) → IsCertificate (ids_of m) (inclusions_of m) levels
+pub marking_begins : (m : ObjectMap) (levels : List ℕ) (mask : ℕ) (none drawn new : List Bool) → IsCertificate (ids_of m) (inclusions_of m) levels
     → length none ≡ length (ids_of m) → ((at : ℕ) → slice_index_or none at false ≡ false) → Marks m (drawn_in m (finite.get m mask)) none drawn
     → Marks m (soft_keys m mask) drawn new → AreMarked m levels mask 33 new
 marking_begins m levels mask none drawn new certificate each clear draws keys = record {
@@ -336,24 +336,24 @@ marking_begins m levels mask none drawn new certificate each clear draws keys = 
   within = λ at id there set le. let most = certificate.within at in absurd (omega (arith, le, most));
 }
 
-pub all_marked : (m : Contents) (levels : List ℕ) (mask : ℕ) (marks : List Bool) → AreMarked m levels mask 0 marks → (id : ℕ) → IsShown m mask id → IsMarked m marks id
+pub all_marked : (m : ObjectMap) (levels : List ℕ) (mask : ℕ) (marks : List Bool) → AreMarked m levels mask 0 marks → (id : ℕ) → IsShown m mask id → IsMarked m marks id
 all_marked m levels mask marks are id (InMask _ named) = are.in_mask id named
 all_marked m levels mask marks are id (AmongKeys _ named) = are.keys id named
 all_marked m levels mask marks are other (Within id _ shown named) =
     let is = all_marked m levels mask marks are id shown in
     are.within is.place id is.there is.set (omega arith) other named
 
-pub shown_element : (m : Contents) (mask id : ℕ) → IsShown m mask id → IsTrue (is_element (finite.get m id))
+pub shown_element : (m : ObjectMap) (mask id : ℕ) → IsShown m mask id → IsTrue (is_element (finite.get m id))
 shown_element m mask id (InMask _ named) = named.element
 shown_element m mask id (AmongKeys _ named) = named.element
 shown_element m mask other (Within id _ shown named) = named.element
 
 -- the mark of an object says whether it is shown
-pub shown_by_mark : (m : Contents) (levels : List ℕ) (mask id place : ℕ) (marks : List Bool) → AreMarked m levels mask 0 marks → IsPlace (finite.entries m) id place
+pub shown_by_mark : (m : ObjectMap) (levels : List ℕ) (mask id place : ℕ) (marks : List Bool) → AreMarked m levels mask 0 marks → IsPlace (finite.entries m) id place
     → slice_index_or marks place false ≡ true → IsShown m mask id
 shown_by_mark m levels mask id place marks are at set = are.shown id (record { place = place; there = stands_of (finite.entries m) place id at.object at.there; set = set })
 
-pub hidden_by_mark : (m : Contents) (levels : List ℕ) (mask id place : ℕ) (marks : List Bool) → AreMarked m levels mask 0 marks → IsPlace (finite.entries m) id place
+pub hidden_by_mark : (m : ObjectMap) (levels : List ℕ) (mask id place : ℕ) (marks : List Bool) → AreMarked m levels mask 0 marks → IsPlace (finite.entries m) id place
     → slice_index_or marks place false ≡ false → IsShown m mask id → ⊥
 hidden_by_mark m levels mask id place marks are at clear shown =
     let is = all_marked m levels mask marks are id shown in
@@ -363,11 +363,11 @@ hidden_by_mark m levels mask id place marks are at clear shown =
 
 -- ---- places
 
-pub placed_is : (m : Contents) (place id other : ℕ) (o : Seen) → slice_get (finite.entries m) place ≡ Some (other, o) → Stands (ids_of m) place id → finite.get m id ≡ Some o
+pub placed_is : (m : ObjectMap) (place id other : ℕ) (o : Seen) → slice_get (finite.entries m) place ≡ Some (other, o) → IsAt (ids_of m) place id → finite.get m id ≡ Some o
 placed_is m place id other o at there =
     subst (λ (k : ℕ). finite.get m k ≡ Some o) (same_id (ids_of m) place other id (stands_of (finite.entries m) place other o at) there) (get_placed m place other o at)
 
-pub never_past : (m : Contents) (place id : ℕ) → slice_get (finite.entries m) place ≡ None → Stands (ids_of m) place id → ⊥
+pub never_past : (m : ObjectMap) (place id : ℕ) → slice_get (finite.entries m) place ≡ None → IsAt (ids_of m) place id → ⊥
 never_past m place id none there = let at = object_of (finite.entries m) place id there in let never = sym none ∙ at.1 in absurd cc
 
 pub cleared : (n : ℕ) (marks : List Bool) → marks ≡ replicate n false → (at : ℕ) → slice_index_or marks at false ≡ false
@@ -379,7 +379,7 @@ cleared n marks is at = ap (λ (xs : List Bool). slice_index_or xs at false) is 
     all_clear (suc n) (suc at) = all_clear n at
 
 -- no object is of a level from the count of the levels on
-pub none_above : (m : Contents) (levels : List ℕ) (mask count : ℕ) (marks : List Bool) → length levels ≡ length (ids_of m)
+pub none_above : (m : ObjectMap) (levels : List ℕ) (mask count : ℕ) (marks : List Bool) → length levels ≡ length (ids_of m)
     → ((at : ℕ) → at < length levels → slice_index levels at < count) → AreMarked m levels mask 33 marks → AreMarked m levels mask count marks
 none_above m levels mask count marks long below are = record {
   each = are.each;

@@ -1,32 +1,32 @@
 -- Marks of the objects of a store, at their places by rising ID.
 use Rattle.std.specs.Prelude.{◌≡◌, ◌≤◌, ◌⊎◌, ℕ, Bool, true, false, List, [], ◌∷◌, length, slice_index, slice_index_or}
 use Rattle.std.specs.FinMap as finite
-use Rattle.vt_stores.specs.Stores.{Contents}
-use Rattle.vt_chains.specs.Depths.{ids_of, Stands}
+use Rattle.vt_stores.specs.Stores.{ObjectMap}
+use Rattle.vt_chains.specs.Depths.{ids_of, IsAt}
 use Rattle.vt_shown.specs.Showing.{drawn_in, soft_keys, IsNamed, IsShown}
 
 -- the object of an ID is marked
-pub record IsMarked (store : Contents) (marks : List Bool) (id : ℕ) : Type 0 where
+pub record IsMarked (store : ObjectMap) (marks : List Bool) (id : ℕ) : Type 0 where
   pub place : ℕ
-  pub there : Stands (ids_of store) place id
+  pub there : IsAt (ids_of store) place id
   pub set : slice_index_or marks place false ≡ true
 
 -- the elements that names stand for are marked, and else what was
-pub record Marks (store : Contents) (names : List ℕ) (old new : List Bool) : Type 0 where
+pub record Marks (store : ObjectMap) (names : List ℕ) (old new : List Bool) : Type 0 where
   pub each : length new ≡ length old
   pub kept : (id : ℕ) → IsMarked store old id → IsMarked store new id
   pub added : (id : ℕ) → IsNamed store names id → IsMarked store new id
   pub only : (id : ℕ) → IsMarked store new id → IsMarked store old id ⊎ IsNamed store names id
 
 -- The elements that some names stand for are marked: the names are done.
-abbrev pub AreDone : Contents → List Bool → List Bool → Type 0
+abbrev pub AreDone : ObjectMap → List Bool → List Bool → Type 0
 AreDone store named marks = (name : ℕ) → slice_index_or named name false ≡ true → (id : ℕ) → IsNamed store (name ∷ []) id → IsMarked store marks id
 
 -- What a mask draws and its soft keys are marked, and of what is shown whatever an object of at least a level draws.
-pub record AreMarked (store : Contents) (levels : List ℕ) (mask level : ℕ) (marks : List Bool) : Type 0 where
+pub record AreMarked (store : ObjectMap) (levels : List ℕ) (mask level : ℕ) (marks : List Bool) : Type 0 where
   pub each : length marks ≡ length (ids_of store)
   pub shown : (id : ℕ) → IsMarked store marks id → IsShown store mask id
   pub in_mask : (id : ℕ) → IsNamed store (drawn_in store (finite.get store mask)) id → IsMarked store marks id
   pub keys : (id : ℕ) → IsNamed store (soft_keys store mask) id → IsMarked store marks id
-  pub within : (place id : ℕ) → Stands (ids_of store) place id → slice_index_or marks place false ≡ true → level ≤ slice_index levels place
+  pub within : (place id : ℕ) → IsAt (ids_of store) place id → slice_index_or marks place false ≡ true → level ≤ slice_index levels place
       → (other : ℕ) → IsNamed store (drawn_in store (finite.get store id)) other → IsMarked store marks other

@@ -5,17 +5,17 @@ use Rattle.std.specs.FinMap as finite
 use Rattle.vt_kinds.specs.declared.entries.Child.{Child}
 use Rattle.vt_kinds.specs.declared.object.Object.TheVariants as objects
 use Rattle.vt_kinds.specs.Records.{Seen}
-use Rattle.vt_stores.specs.Stores.{Contents}
+use Rattle.vt_stores.specs.Stores.{ObjectMap}
 
 -- ---- what an ID in a list stands for: a pointer for its value
 
-abbrev pub behind : Contents → ℕ → Option Seen → Option ℕ
+abbrev pub behind : ObjectMap → ℕ → Option Seen → Option ℕ
 behind store id None = None
 behind store id (Some (objects.ObjectPointer o)) = option_map (λ value. o.value) (finite.get store o.value)
 behind store id (Some o) = Some id
 
 -- none where nothing is there, as under NULL
-abbrev pub stands_for : Contents → ℕ → Option ℕ
+abbrev pub stands_for : ObjectMap → ℕ → Option ℕ
 stands_for store id = behind store id (finite.get store id)
 
 -- neither a pointer nor a hidden container
@@ -36,7 +36,7 @@ number_in (Some (objects.NumberVariable o)) = Some o.value
 number_in _ = None
 
 -- the value that an object shows: that of its variable, if it has one
-abbrev pub number_shown : Contents → ℕ → ℕ → Option ℕ
+abbrev pub number_shown : ObjectMap → ℕ → ℕ → Option ℕ
 number_shown store variable own = if variable == 0xFFFF then Some own else number_in (finite.get store variable)
 
 -- the item of an index
@@ -45,7 +45,7 @@ item_of items None = []
 item_of items (Some index) = option_to_list (slice_get items index)
 
 -- the children, and of an input list the item of its index; a hidden container is not entered
-abbrev pub drawn_in : Contents → Option Seen → List ℕ
+abbrev pub drawn_in : ObjectMap → Option Seen → List ℕ
 drawn_in store (Some (objects.WorkingSet o)) = ids_in o.children
 drawn_in store (Some (objects.DataMask o)) = ids_in o.children
 drawn_in store (Some (objects.AlarmMask o)) = ids_in o.children
@@ -68,20 +68,20 @@ keys_of (Some (objects.SoftKeyMask o)) = o.keys
 keys_of _ = []
 
 -- the keys of the soft key mask of a mask
-abbrev pub soft_keys : Contents → ℕ → List ℕ
+abbrev pub soft_keys : ObjectMap → ℕ → List ℕ
 soft_keys store mask = keys_of (finite.get store (soft_key_mask_of (finite.get store mask)))
 
 -- ---- what is shown
 
 -- an ID among these stands for an element
-pub record IsNamed (store : Contents) (names : List ℕ) (id : ℕ) : Type 0 where
+pub record IsNamed (store : ObjectMap) (names : List ℕ) (id : ℕ) : Type 0 where
   pub name : ℕ
   pub among : Contains names name
   pub stands : stands_for store name ≡ Some id
   pub element : IsTrue (is_element (finite.get store id))
 
 -- in the mask, among its soft keys, or within what is shown
-pub data IsShown (store : Contents) (mask : ℕ) : ℕ → Type 0 where
+pub data IsShown (store : ObjectMap) (mask : ℕ) : ℕ → Type 0 where
   InMask : (id : ℕ) → IsNamed store (drawn_in store (finite.get store mask)) id → IsShown store mask id
   AmongKeys : (id : ℕ) → IsNamed store (soft_keys store mask) id → IsShown store mask id
   Within : (id other : ℕ) → IsShown store mask id → IsNamed store (drawn_in store (finite.get store id)) other → IsShown store mask other

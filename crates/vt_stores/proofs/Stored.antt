@@ -14,7 +14,7 @@ use Rattle.std.specs.FinMap.Entries.{put, is_sorted-put, below_all}
 use Rattle.std.specs.declared.cmp.Ordering.TheVariants.{Equal}
 use Rattle.vt_kinds.specs.declared.object.Object.{Object}
 use Rattle.vt_kinds.specs.Records.{Seen, seen}
-use Rattle.vt_stores.specs.Stores.{Objects, Contents, AreNamed, AreStored, IsRising, IsPlace, shown, ids, by_rising_id, object_at, map_of, contents_of, with_object, replaced}
+use Rattle.vt_stores.specs.Stores.{Objects, ObjectMap, AreNamed, AreStored, IsRising, IsPlace, shown, ids, by_rising_id, object_at, map_of, contents_of, with_object, replaced}
 use Rattle.vt_stores.proofs.Rising.{T_of, both_true, equal, greater, three, ids_shown, distinct_rising}
 use Rattle.vt_stores.proofs.Searching.{other_id, above_at, get_at}
 
@@ -33,7 +33,7 @@ len_from s rising = finite.len-entries (finite.from_sorted s) ∙ ap length (ent
 pub map_of_rising : (s : Objects) → finite.from_sorted {R = nat_cmp} (by_rising_id s) ≡ finite.from_entries s
 unfolding by_rising_id
 map_of_rising s =
-    let m : Contents = finite.from_entries s in
+    let m : ObjectMap = finite.from_entries s in
     finite.same_entries_map (finite.from_sorted (finite.entries m)) m (finite.entries-from_sorted nat_cmp (finite.entries m) (finite.entries_sorted m))
 
 -- ---- NULL
@@ -106,7 +106,7 @@ module _ {B : Type 0} where
   pub wrote : (es : List (ℕ × Object B)) (q p : ℕ) (x : ℕ × Object B) (w : Object B) → AreStored (map shown es) → IsPlace (map shown es) q p → p < length es → x ≡ get_or es p x → x.0 ≡ q
       → finite.from_sorted (map shown (set es p (x.0, w))) ≡ with_object (finite.from_sorted (map shown es)) q (seen w)
   wrote es q p x w stored at lt is same =
-      let m : Contents = finite.from_sorted (map shown es) in
+      let m : ObjectMap = finite.from_sorted (map shown es) in
       let rising = rising_set es p x w stored.rising lt is in
       let inserted : finite.from_sorted (map shown (set es p (x.0, w))) ≡ finite.insert m x.0 (seen w) =
       finite.same_entries_map (finite.from_sorted (map shown (set es p (x.0, w)))) (finite.insert m x.0 (seen w))

@@ -48,21 +48,21 @@ pub record IsPlace (objects : Objects) (id place : ℕ) : Type 0 where
 
 -- ---- the map
 
-abbrev pub Contents : Type 0
-Contents = finite.FinMap nat_cmp Seen
+abbrev pub ObjectMap : Type 0
+ObjectMap = finite.FinMap nat_cmp Seen
 
 -- the map of objects by rising ID
-abbrev pub map_of : Objects → Contents
+abbrev pub map_of : Objects → ObjectMap
 map_of objects = finite.from_sorted objects
 
 -- the map of a list of objects under their IDs: of an ID that stands twice the first object
-abbrev pub contents_of : {B : Type 0} → List (ℕ × Object B) → Contents
+abbrev pub contents_of : {B : Type 0} → List (ℕ × Object B) → ObjectMap
 contents_of es = finite.from_entries (map shown es)
 
-abbrev pub replaced : Option Seen → Contents → ℕ → Seen → Contents
+abbrev pub replaced : Option Seen → ObjectMap → ℕ → Seen → ObjectMap
 replaced None m id o = m
 replaced (Some old) m id o = finite.insert m id o
 
 -- the map with another object under an ID that is there, and else the map as it is
-abbrev pub with_object : Contents → ℕ → Seen → Contents
+abbrev pub with_object : ObjectMap → ℕ → Seen → ObjectMap
 with_object m id o = replaced (finite.get m id) m id o

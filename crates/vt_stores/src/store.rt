@@ -6,7 +6,7 @@ ghost use Rattle.std.specs.List.{All};
 ghost use Rattle.std.specs.FinMap as finite;
 ghost use Rattle.std.specs.Borrow.{sem, LendsSo};
 ghost use Rattle.vt_kinds.specs.Records.{seen};
-ghost use Rattle.vt_stores.specs.Stores.{Contents, AreNamed, IsPlace, ids, shown, contents_of, with_object};
+ghost use Rattle.vt_stores.specs.Stores.{ObjectMap, AreNamed, IsPlace, ids, shown, contents_of, with_object};
 ghost use Rattle.vt_stores.specs.Rows.{object_row};
 
 use std::alloc::{AllocError, Global};
@@ -14,7 +14,7 @@ use vt_kinds::{Object, ObjectId};
 
 /// A finite map from IDs to objects. Its IDs stay as they were made, and none is NULL.
 pub trait Store: Drop {
-    ghost contents: { Self → Contents };
+    ghost contents: { Self → ObjectMap };
 
     /// A store of copies of these objects, in any order. No ID stands twice, and none is NULL.
     fn from_objects(

@@ -10,9 +10,9 @@ use Rattle.vt_can.proofs.lemmas.transport.Standing.{last_of}
 use Rattle.vt_transport.specs.declared.messages.Opening.{Opening}
 use Rattle.vt_transport.specs.declared.messages.TpFrame.TheVariants.{Rts, Cts, EndOfMessage, Aborted, Data, Other}
 use Rattle.vt_transport.specs.declared.messages.Reply.TheVariants.{Abort}
-use Rattle.vt_transport.specs.Messages.{SessionEvent, spelling, Stands, IsWhole, IsAnswered, reply_to, packet_reply}
+use Rattle.vt_transport.specs.Messages.{SessionEvent, spelling, IsOpen, IsWhole, IsAnswered, reply_to, packet_reply}
 use Rattle.vt_transport.specs.SessionState.{SessionState}
-use Rattle.vt_transport.specs.Steps.{Outcome, after_packet, HasPackets}
+use Rattle.vt_transport.specs.Steps.{SessionOutcome, after_packet, HasPackets}
 use Rattle.vt_transport.specs.Protocol.{protocol, StepsAssembleMessages}
 use Rattle.vt_transport.proofs.Assembly.{packet_more, packet_whole, packet_wrong, IsNext, packet_last, sent_packet, Matches, IsStanding, grown_bytes, matches}
 
@@ -39,17 +39,17 @@ whole_at : (now number : ℕ) (packet : List ℕ) (hs : List SessionEvent) (curr
     → (after_packet now (Some current) number packet).message ≡ Some message → IsWhole hs (Came (Data number packet)) message
 whole_at now number packet hs current message true all next k is =
     let some : Some (record { pgn = current.session.opening.pgn; bytes = take current.session.opening.size (current.session.bytes ++ packet) }) ≡ Some message =
-    sym (ap (λ (out : Outcome). out.message) (packet_whole now number packet current next (eqb-true _ _ all))) ∙ is in
+    sym (ap (λ (out : SessionOutcome). out.message) (packet_whole now number packet current next (eqb-true _ _ all))) ∙ is in
     whole_of_packets hs number packet current message k next (eqb-true _ _ all) cc
 whole_at now number packet hs current message false all next k is =
-    let none = ap (λ (out : Outcome). out.message) (packet_more now number packet current next (λ e. false≢true (sym all ∙ eq-eqb _ _ e))) in absurd cc
+    let none = ap (λ (out : SessionOutcome). out.message) (packet_more now number packet current next (λ e. false≢true (sym all ∙ eq-eqb _ _ e))) in absurd cc
 
 whole_number : (now number : ℕ) (packet : List ℕ) (hs : List SessionEvent) (current : Timed SessionState) (message : Message) (next : Bool)
     → eqb number (current.session.received + 1) ≡ next → IsStanding hs current
     → (after_packet now (Some current) number packet).message ≡ Some message → IsWhole hs (Came (Data number packet)) message
 whole_number now number packet hs current message true next k is = whole_at now number packet hs current message _ refl (eqb-true _ _ next) k is
 whole_number now number packet hs current message false next k is =
-    let none = ap (λ (out : Outcome). out.message) (packet_wrong now number packet current (λ e. false≢true (sym next ∙ eq-eqb _ _ e))) in absurd cc
+    let none = ap (λ (out : SessionOutcome). out.message) (packet_wrong now number packet current (λ e. false≢true (sym next ∙ eq-eqb _ _ e))) in absurd cc
 
 whole_packet : (now number : ℕ) (packet : List ℕ) (hs : List SessionEvent) (session : Option (Timed SessionState)) (message : Message) → Matches hs session
     → (after_packet now session number packet).message ≡ Some message → IsWhole hs (Came (Data number packet)) message
@@ -75,7 +75,7 @@ message_of now number packet None o packets message h next all pgn bytes = absur
 message_of now number packet (Some current) o packets message h next all pgn bytes =
     let count = h.2 in
     let every : current.session.opening.packets ≡ o.packets = ap (λ (q : Opening). q.packets) h.0 in
-    ap (λ (out : Outcome). out.message) (packet_whole now number packet current (omega arith) (omega arith))
+    ap (λ (out : SessionOutcome). out.message) (packet_whole now number packet current (omega arith) (omega arith))
     ∙ ap₂ (λ (p : ℕ) (bs : List ℕ). Some (record { pgn = p; bytes = bs })) (ap (λ (q : Opening). q.pgn) h.0 ∙ sym pgn)
     (grown_bytes current packet o packets h ∙ sym bytes)
 
@@ -103,9 +103,9 @@ message_step now hs session x message m whole =
 
 reply_at : (now number : ℕ) (packet : List ℕ) (current : Timed SessionState) (whole : Bool) → eqb (current.session.received + 1) current.session.opening.packets ≡ whole
     → number ≡ current.session.received + 1 → (after_packet now (Some current) number packet).reply ≡ reply_to current.session.opening (current.session.received + 1)
-reply_at now number packet current true all next = ap (λ (out : Outcome). out.reply) (packet_whole now number packet current next (eqb-true _ _ all))
+reply_at now number packet current true all next = ap (λ (out : SessionOutcome). out.reply) (packet_whole now number packet current next (eqb-true _ _ all))
 reply_at now number packet current false all next =
-    ap (λ (out : Outcome). out.reply) (packet_more now number packet current next (λ e. false≢true (sym all ∙ eq-eqb _ _ e)))
+    ap (λ (out : SessionOutcome). out.reply) (packet_more now number packet current next (λ e. false≢true (sym all ∙ eq-eqb _ _ e)))
 
 reply_number : (now number : ℕ) (packet : List ℕ) (current : Timed SessionState) (next : Bool) → eqb number (current.session.received + 1) ≡ next
     → (after_packet now (Some current) number packet).reply ≡ packet_reply current.session.opening current.session.received number
@@ -114,7 +114,7 @@ reply_number now number packet current true next =
     reply_at now number packet current _ refl same ∙ ap (reply_to current.session.opening) (sym same)
     ∙ sym (ap (λ (b : Bool). cond b (reply_to current.session.opening number) (Some (Abort Disorder current.session.opening.pgn))) next)
 reply_number now number packet current false next =
-    ap (λ (out : Outcome). out.reply) (packet_wrong now number packet current (λ e. false≢true (sym next ∙ eq-eqb _ _ e)))
+    ap (λ (out : SessionOutcome). out.reply) (packet_wrong now number packet current (λ e. false≢true (sym next ∙ eq-eqb _ _ e)))
     ∙ sym (ap (λ (b : Bool). cond b (reply_to current.session.opening number) (Some (Abort Disorder current.session.opening.pgn))) next)
 
 reply_packet : (now number : ℕ) (packet : List ℕ) (session : Option (Timed SessionState)) (o : Opening) (packets : List (List ℕ)) → HasPackets session o packets
@@ -125,7 +125,7 @@ reply_packet now number packet (Some current) o packets h =
     ∙ ap₂ (λ (q : Opening) (count : ℕ). packet_reply q count number) h.0 h.2
 
 no_reply : (now number : ℕ) (packet : List ℕ) (hs : List SessionEvent) (session : Option (Timed SessionState)) → Matches hs session
-    → ((o : Opening) (packets : List (List ℕ)) → Stands hs o packets → ⊥) → (after_packet now session number packet).reply ≡ None
+    → ((o : Opening) (packets : List (List ℕ)) → IsOpen hs o packets → ⊥) → (after_packet now session number packet).reply ≡ None
 no_reply now number packet hs None m never = refl
 no_reply now number packet hs (Some current) m never = let k = m.only current refl in absurd (never current.session.opening k.0 k.1)
 

@@ -16,7 +16,7 @@ use Rattle.vt_transport.specs.declared.messages.TpFrame.TheVariants.{Rts, Cts, E
 use Rattle.vt_transport.specs.declared.messages.Reply.TheVariants.{Abort}
 use Rattle.vt_transport.specs.Messages.{SessionEvent, opens, packets_in, numbered, spelling, reply_to}
 use Rattle.vt_transport.specs.SessionState.{SessionState}
-use Rattle.vt_transport.specs.Steps.{Outcome, after_packet, HasPackets}
+use Rattle.vt_transport.specs.Steps.{SessionOutcome, after_packet, HasPackets}
 use Rattle.vt_transport.specs.Protocol.{protocol}
 use Rattle.vt_transport.proofs.Openings.{opened_packets}
 
@@ -34,7 +34,7 @@ IsStanding = steps.IsStanding spelling opening_of HasPackets
 
 pub packet_more : (now number : ℕ) (packet : List ℕ) (current : Timed SessionState) → number ≡ current.session.received + 1
     → (current.session.received + 1 ≡ current.session.opening.packets → ⊥)
-    → ◌≡◌ {A = Outcome} (after_packet now (Some current) number packet) (record {
+    → ◌≡◌ {A = SessionOutcome} (after_packet now (Some current) number packet) (record {
       session = Some (record { last = max now current.last; session = record { opening = current.session.opening; bytes = take current.session.opening.size (current.session.bytes ++ packet); received = current.session.received + 1 } });
       reply = reply_to current.session.opening (current.session.received + 1);
       message = None;
@@ -46,7 +46,7 @@ packet_more now number packet current next more =
 
 pub packet_whole : (now number : ℕ) (packet : List ℕ) (current : Timed SessionState) → number ≡ current.session.received + 1
     → current.session.received + 1 ≡ current.session.opening.packets
-    → ◌≡◌ {A = Outcome} (after_packet now (Some current) number packet) (record {
+    → ◌≡◌ {A = SessionOutcome} (after_packet now (Some current) number packet) (record {
       session = None;
       reply = reply_to current.session.opening (current.session.received + 1);
       message = Some (record { pgn = current.session.opening.pgn; bytes = take current.session.opening.size (current.session.bytes ++ packet) });
@@ -142,7 +142,7 @@ has_packet now number packet None o packets h next more = absurd h
 has_packet now number packet (Some current) o packets h next more =
     let count = h.2 in
     let all : current.session.opening.packets ≡ o.packets = ap (λ (q : Opening). q.packets) h.0 in
-    subst (λ (out : Outcome). HasPackets out.session o (packet ∷ packets)) (sym (packet_more now number packet current (omega arith) (λ e. omega arith)))
+    subst (λ (out : SessionOutcome). HasPackets out.session o (packet ∷ packets)) (sym (packet_more now number packet current (omega arith) (λ e. omega arith)))
     (has_grown now current packet o packets h)
 
 stands_packet : (now number : ℕ) (packet : List ℕ) (hs : List SessionEvent) (session : Option (Timed SessionState)) (o : Opening) (packets : List (List ℕ))
@@ -167,11 +167,11 @@ standing_at : (now number : ℕ) (packet : List ℕ) (hs : List SessionEvent) (c
     → eqb (current.session.received + 1) current.session.opening.packets ≡ whole → number ≡ current.session.received + 1 → IsStanding hs current
     → (after_packet now (Some current) number packet).session ≡ Some current' → IsStanding (Came (Data number packet) ∷ hs) current'
 standing_at now number packet hs current current' true all next k is =
-    let none = ap (λ (out : Outcome). out.session) (packet_whole now number packet current next (eqb-true _ _ all)) in absurd cc
+    let none = ap (λ (out : SessionOutcome). out.session) (packet_whole now number packet current next (eqb-true _ _ all)) in absurd cc
 standing_at now number packet hs current current' false all next k is =
     let more : current.session.received + 1 ≡ current.session.opening.packets → ⊥ = λ e. false≢true (sym all ∙ eq-eqb _ _ e) in
     let some : Some (grown now current packet) ≡ Some current' =
-    sym (ap (λ (out : Outcome). out.session) (packet_more now number packet current next more)) ∙ is in
+    sym (ap (λ (out : SessionOutcome). out.session) (packet_more now number packet current next more)) ∙ is in
     let same : grown now current packet ≡ current' = cc in
     subst (IsStanding (Came (Data number packet) ∷ hs)) same (standing_grown now number packet hs current k next more)
 
@@ -180,7 +180,7 @@ standing_number : (now number : ℕ) (packet : List ℕ) (hs : List SessionEvent
 standing_number now number packet hs current current' true next k is =
     standing_at now number packet hs current current' _ refl (eqb-true _ _ next) k is
 standing_number now number packet hs current current' false next k is =
-    let none = ap (λ (out : Outcome). out.session) (packet_wrong now number packet current (λ e. false≢true (sym next ∙ eq-eqb _ _ e))) in absurd cc
+    let none = ap (λ (out : SessionOutcome). out.session) (packet_wrong now number packet current (λ e. false≢true (sym next ∙ eq-eqb _ _ e))) in absurd cc
 
 standing_packet : (now number : ℕ) (packet : List ℕ) (hs : List SessionEvent) (session : Option (Timed SessionState)) (current' : Timed SessionState) → Matches hs session
     → (after_packet now session number packet).session ≡ Some current' → IsStanding (Came (Data number packet) ∷ hs) current'

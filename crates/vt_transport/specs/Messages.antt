@@ -59,8 +59,8 @@ spelling = record {
 }
 
 -- a session is open, with packets still to come
-abbrev pub Stands : List SessionEvent → Opening → List (List ℕ) → Type 0
-Stands = histories.Stands spelling
+abbrev pub IsOpen : List SessionEvent → Opening → List (List ℕ) → Type 0
+IsOpen = histories.IsOpen spelling
 
 -- an event is the last packet of a message
 abbrev pub IsWhole : List SessionEvent → SessionEvent → Message → Type 0
@@ -87,6 +87,6 @@ abbrev pub IsAnswered : List SessionEvent → SessionEvent → Option Reply → 
 IsAnswered hs TimedOut reply = reply ≡ None
 IsAnswered hs (Came (Rts o)) reply = reply ≡ Some (first_reply o)
 IsAnswered hs (Came (Data number bytes)) reply =
-    ((o : Opening) (packets : List (List ℕ)) → Stands hs o packets → reply ≡ packet_reply o (length packets) number)
-    × (((o : Opening) (packets : List (List ℕ)) → Stands hs o packets → ⊥) → reply ≡ None)
+    ((o : Opening) (packets : List (List ℕ)) → IsOpen hs o packets → reply ≡ packet_reply o (length packets) number)
+    × (((o : Opening) (packets : List (List ℕ)) → IsOpen hs o packets → ⊥) → reply ≡ None)
 IsAnswered hs (Came _) reply = reply ≡ None

@@ -14,10 +14,10 @@ use Rattle.vt_transport.specs.declared.messages.Reply.TheVariants.{Abort}
 use Rattle.vt_transport.specs.Messages.{opens, first_reply, reply_to}
 use Rattle.vt_transport.specs.SessionState.{SessionState}
 
-abbrev pub Outcome : Type 0
-Outcome = protocols.Outcome SessionState Reply
+abbrev pub SessionOutcome : Type 0
+SessionOutcome = protocols.SessionOutcome SessionState Reply
 
-abbrev pub after_rts : ℕ → Opening → Outcome
+abbrev pub after_rts : ℕ → Opening → SessionOutcome
 after_rts now o = record {
   session = if opens o then Some (record { last = now; session = record { opening = o; bytes = []; received = 0 } }) else None;
   reply = Some (first_reply o);
@@ -25,7 +25,7 @@ after_rts now o = record {
 }
 
 -- the next packet of a session: the last one, or one with more to come
-abbrev pub next_packet : ℕ → Timed SessionState → List ℕ → Outcome
+abbrev pub next_packet : ℕ → Timed SessionState → List ℕ → SessionOutcome
 next_packet now current packet =
     let o = current.session.opening in
     let bytes = take o.size (current.session.bytes ++ packet) in
@@ -38,7 +38,7 @@ next_packet now current packet =
       message = None;
     }
 
-abbrev pub after_packet : ℕ → Option (Timed SessionState) → ℕ → List ℕ → Outcome
+abbrev pub after_packet : ℕ → Option (Timed SessionState) → ℕ → List ℕ → SessionOutcome
 after_packet now None number packet = silent None
 after_packet now (Some current) number packet =
     if number == current.session.received + 1
@@ -46,7 +46,7 @@ after_packet now (Some current) number packet =
     else ended (Abort Disorder current.session.opening.pgn)
 
 -- the step of one frame
-abbrev pub step : ℕ → Option (Timed SessionState) → TpFrame → Outcome
+abbrev pub step : ℕ → Option (Timed SessionState) → TpFrame → SessionOutcome
 step now current (Rts o) = after_rts now o
 step now current (Data number packet) = after_packet now current number packet
 step now current (Aborted pgn) = silent (if pgn == VT_TO_ECU then current else None)

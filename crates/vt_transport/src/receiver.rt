@@ -5,7 +5,7 @@ ghost use Rattle.std.specs.FinMap as finite;
 ghost use Rattle.vt_can.specs.transport.Sessions.{is_overdue, alive, AreOfAddresses};
 ghost use Rattle.vt_can.specs.frames.Frame.{source_of};
 ghost use Rattle.vt_can.specs.transport.Messages.{size_and_first_byte};
-ghost use Rattle.vt_can.specs.transport.Receivers.{outcome, timely_outcome, AnswersWith, MakesStep, OthersStay, IsReadyFor, OpensNone, TimesOut};
+ghost use Rattle.vt_can.specs.transport.Receivers.{outcome, timely_outcome, AnswersWith, MakesStep, OthersStay, HasCapacityFor, OpensNone, TimesOut};
 ghost use Rattle.vt_transport.specs.Wire.{tp_frame};
 ghost use Rattle.vt_transport.specs.Messages.{opens};
 ghost use Rattle.vt_transport.specs.Steps.{after_rts, after_packet, step};
@@ -81,7 +81,7 @@ impl Receiver {
             (λ heard. MakesStep protocol self.old self.new (source_of frame.now) (outcome protocol self.old now frame.now) heard) }
         ensures others { OthersStay self.old self.new (source_of frame.now) }
         ensures err { OnErr result (self.new ≡ self.old) }
-        ensures ready { IsReadyFor protocol (tp_frame self.old.own_address frame.now) self.old.room → IsOk result }
+        ensures ready { HasCapacityFor protocol (tp_frame self.old.own_address frame.now) self.old.room → IsOk result }
         ensures room { OpensNone protocol (tp_frame self.old.own_address frame.now) → self.new.room ≡ self.old.room }
     {
         let source = frame.id.source();
@@ -118,8 +118,8 @@ impl Receiver {
     pub fn prepare(&mut self, now: u64, frame: &Frame) -> Result<Option<(usize, u8)>, OutOfMemory>
         ensures own_address { self.new.own_address ≡ self.old.own_address }
         ensures sessions { self.new.sessions ≡ self.old.sessions }
-        ensures ready { OnOk result (IsReadyFor protocol (tp_frame self.old.own_address frame.now) self.new.room) }
-        ensures free { IsReadyFor protocol (tp_frame self.old.own_address frame.now) self.old.room → IsOk result }
+        ensures ready { OnOk result (HasCapacityFor protocol (tp_frame self.old.own_address frame.now) self.new.room) }
+        ensures free { HasCapacityFor protocol (tp_frame self.old.own_address frame.now) self.old.room → IsOk result }
         ensures room { OpensNone protocol (tp_frame self.old.own_address frame.now) → self.new.room ≡ self.old.room }
         ensures answer { IfOk result (λ answer. answer ≡ size_and_first_byte (timely_outcome protocol self.old now frame.now).message) }
     {
@@ -139,7 +139,7 @@ impl Receiver {
         ensures step { IfOk result (λ heard. MakesStep protocol self.old self.new source (after_rts now opening) heard) }
         ensures others { OthersStay self.old self.new source }
         ensures err { OnErr result (self.new ≡ self.old) }
-        ensures ready { IsReadyFor protocol (Some (declared.Rts opening)) self.old.room → IsOk result }
+        ensures ready { HasCapacityFor protocol (Some (declared.Rts opening)) self.old.room → IsOk result }
         ensures room { opens opening ≡ false → self.new.room ≡ self.old.room }
     {
         if !opening.opens() {
@@ -193,8 +193,8 @@ impl Receiver {
     fn set_aside(&mut self, opening: Opening) -> Result<(), OutOfMemory>
         ensures own_address { self.new.own_address ≡ self.old.own_address }
         ensures sessions { self.new.sessions ≡ self.old.sessions }
-        ensures ready { OnOk result (IsReadyFor protocol (Some (declared.Rts opening)) self.new.room) }
-        ensures free { IsReadyFor protocol (Some (declared.Rts opening)) self.old.room → IsOk result }
+        ensures ready { OnOk result (HasCapacityFor protocol (Some (declared.Rts opening)) self.new.room) }
+        ensures free { HasCapacityFor protocol (Some (declared.Rts opening)) self.old.room → IsOk result }
         ensures room { opens opening ≡ false → self.new.room ≡ self.old.room }
     {
         if opening.opens() {

@@ -14,12 +14,12 @@ use Rattle.std.specs.declared.cmp.Ordering.{Ordering}
 use Rattle.std.specs.FinMap as finite
 use Rattle.std.specs.FinMap.Entries.{below_all, find-append}
 use Rattle.vt_kinds.specs.Records.{Seen}
-use Rattle.vt_stores.specs.Stores.{Objects, Contents, AreNamed, IsRising, ids, object_at, by_rising_id}
+use Rattle.vt_stores.specs.Stores.{Objects, ObjectMap, AreNamed, IsRising, ids, object_at, by_rising_id}
 use Rattle.vt_stores.proofs.Rising.{three, both_true, equal, greater}
 use Rattle.vt_stores.proofs.Searching.{other_id}
 use Rattle.vt_verify.specs.Updates.{updated, or_else, unless, UpdatesReplace}
 use Rattle.vt_pool.specs.Pools.{contents}
-use Rattle.vt_chains.specs.Depths.{Stands, ids_of}
+use Rattle.vt_chains.specs.Depths.{IsAt, ids_of}
 use Rattle.vt_chains.proofs.Places.{rising, above_at, stands_of, object_of, get_placed, within}
 
 -- ---- what is found in lists that are joined
@@ -86,7 +86,7 @@ named_more es id o named none lt =
 
 -- ---- made so far
 
-pub record IsUpdating (m : Contents) (update made : Objects) (place : ℕ) : Type 0 where
+pub record IsUpdating (m : ObjectMap) (update made : Objects) (place : ℕ) : Type 0 where
   pub named : AreNamed made
   pub looks : (q : ℕ) → object_at made q ≡ or_else (object_at update q) (object_at (take place (finite.entries m)) q)
 
@@ -94,7 +94,7 @@ or_none : {A : Type 0} (o : Option A) → o ≡ or_else o None
 or_none None = refl
 or_none (Some x) = refl
 
-pub updating_begins : (m : Contents) (update : Objects) → AreNamed update → IsUpdating m update update 0
+pub updating_begins : (m : ObjectMap) (update : Objects) → AreNamed update → IsUpdating m update update 0
 updating_begins m update named = record { named = named; looks = λ q. or_none (object_at update q) }
 
 push_case : (b : Bool) (o : Seen) (u made_q took : Option Seen) → (b ≡ true → u ≡ None) → made_q ≡ or_else u took
@@ -115,7 +115,7 @@ same_by q id alike = elim (cases_eq q id) [
   | inr apart ↦ let never = sym alike ∙ other_id id q (λ e. apart (sym e)) (three q id) in absurd cc
 ]
 
-module _ (m : Contents) (update made : Objects) (place id : ℕ) (o : Seen) (there : slice_get (finite.entries m) place ≡ Some (id, o)) (is : IsUpdating m update made place) where
+module _ (m : ObjectMap) (update made : Objects) (place id : ℕ) (o : Seen) (there : slice_get (finite.entries m) place ≡ Some (id, o)) (is : IsUpdating m update made place) where
   took : (q : ℕ) → object_at (take (place + 1) (finite.entries m)) q ≡ cond (eq_by_cmp nat_cmp q id) (Some o) (object_at (take place (finite.entries m)) q)
   took q =
       ap (λ (es : Objects). object_at es q) (take_one (finite.entries m) place (id, o) there)
@@ -141,31 +141,31 @@ module _ (m : Contents) (update made : Objects) (place id : ℕ) (o : Seen) (the
   }
 
 -- an entry of the store, unless the update has another
-unless_case : (m : Contents) (update made next : Objects) (place id : ℕ) (o : Seen) (found : Option Seen) → slice_get (finite.entries m) place ≡ Some (id, o) → id < 0xFFFF
+unless_case : (m : ObjectMap) (update made next : Objects) (place id : ℕ) (o : Seen) (found : Option Seen) → slice_get (finite.entries m) place ≡ Some (id, o) → id < 0xFFFF
     → object_at update id ≡ found → next ≡ unless found made id o → IsUpdating m update made place → IsUpdating m update next (place + 1)
 unless_case m update made next place id o None there lt looks becomes is =
     subst (λ (l : Objects). IsUpdating m update l (place + 1)) (sym becomes) (updating_more m update made place id o there is looks lt)
 unless_case m update made next place id o (Some u) there lt looks becomes is =
     subst (λ (l : Objects). IsUpdating m update l (place + 1)) (sym becomes) (updating_passes m update made place id o there is u looks)
 
-there_of : (m : Contents) (place id : ℕ) (o : Seen) → Stands (ids_of m) place id → finite.get m id ≡ Some o → slice_get (finite.entries m) place ≡ Some (id, o)
+there_of : (m : ObjectMap) (place id : ℕ) (o : Seen) → IsAt (ids_of m) place id → finite.get m id ≡ Some o → slice_get (finite.entries m) place ≡ Some (id, o)
 there_of m place id o stands is =
     let at = object_of (finite.entries m) place id stands in
     let same = same_Some at.0 o (sym (get_placed m place id at.0 at.1) ∙ is) in
     at.1 ∙ ap (λ (x : Seen). Some (id, x)) same
 
-below_null : (list : List ℕ) (place id : ℕ) → All (λ (k : ℕ). k < 0xFFFF) list → Stands list place id → id < 0xFFFF
+below_null : (list : List ℕ) (place id : ℕ) → All (λ (k : ℕ). k < 0xFFFF) list → IsAt list place id → id < 0xFFFF
 below_null list place id all stands =
     subst (λ (k : ℕ). k < 0xFFFF) (get_or_from_slice_get list place id 0 stands) (all place 0 (within list place id stands))
 
-pub updating_step : (m : Contents) (update made next : Objects) (place id : ℕ) (o : Seen) → Stands (ids_of m) place id → finite.get m id ≡ Some o
+pub updating_step : (m : ObjectMap) (update made next : Objects) (place id : ℕ) (o : Seen) → IsAt (ids_of m) place id → finite.get m id ≡ Some o
     → All (λ (k : ℕ). k < 0xFFFF) (ids_of m) → next ≡ unless (finite.get (contents update) id) made id o
     → IsUpdating m update made place → IsUpdating m update next (place + 1)
 updating_step m update made next place id o stands there all becomes is =
     unless_case m update made next place id o (finite.get (contents update) id) (there_of m place id o stands there) (below_null (ids_of m) place id all stands)
     (sym (finite.get-from_entries nat_cmp_total update id)) becomes is
 
-pub updating_ends : (m : Contents) (update made : Objects) (place : ℕ) → length (finite.entries m) ≤ place → IsUpdating m update made place → by_rising_id made ≡ updated m update
+pub updating_ends : (m : ObjectMap) (update made : Objects) (place : ℕ) → length (finite.entries m) ≤ place → IsUpdating m update made place → by_rising_id made ≡ updated m update
 unfolding by_rising_id
 updating_ends m update made place end is =
     let all = update ++ finite.entries m in

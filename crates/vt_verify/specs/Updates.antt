@@ -2,10 +2,10 @@
 use Rattle.std.specs.Prelude.{◌≡◌, ℕ, [], ◌∷◌, ◌++◌, Option, Some, None}
 use Rattle.std.specs.FinMap as finite
 use Rattle.vt_kinds.specs.Records.{Seen}
-use Rattle.vt_stores.specs.Stores.{Objects, Contents, object_at, by_rising_id}
+use Rattle.vt_stores.specs.Stores.{Objects, ObjectMap, object_at, by_rising_id}
 
 -- the objects of an update, and those of the store under other IDs
-abbrev pub updated : Contents → Objects → Objects
+abbrev pub updated : ObjectMap → Objects → Objects
 updated store update = by_rising_id (update ++ finite.entries store)
 
 abbrev pub or_else : {A : Type 0} → Option A → Option A → Option A
@@ -19,4 +19,4 @@ unless None entries id object = entries ++ (id, object) ∷ []
 
 -- Under each ID stands the update's object, where it has one, and else the store's.
 abbrev pub UpdatesReplace : Type 0
-UpdatesReplace = (store : Contents) (update : Objects) (id : ℕ) → object_at (updated store update) id ≡ or_else (object_at update id) (finite.get store id)
+UpdatesReplace = (store : ObjectMap) (update : Objects) (id : ℕ) → object_at (updated store update) id ≡ or_else (object_at update id) (finite.get store id)

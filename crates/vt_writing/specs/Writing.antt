@@ -1,9 +1,9 @@
 -- Bytes, and then each field of a table in turn.
 use Rattle.std.specs.Prelude.{ℕ, List, [], ◌∷◌, ◌++◌}
 use Rattle.byteorder.specs.Endian.{little_bytes}
-use Rattle.vt_kinds.specs.Layout.{Field, Value, field_spelling}
+use Rattle.vt_kinds.specs.Layout.{RecordField, Value, field_spelling}
 
-abbrev pub written : List ℕ → List Field → List Value → List ℕ
+abbrev pub written : List ℕ → List RecordField → List Value → List ℕ
 written out [] vs = out
 written out (f ∷ fs) [] = out
 written out (f ∷ fs) (v ∷ vs) = written (out ++ field_spelling f v) fs vs

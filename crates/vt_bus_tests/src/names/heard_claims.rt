@@ -6,20 +6,20 @@ use std::test::Fail;
 const OWN: u8 = 0x26;
 
 // A claim, and what it means for the node of `OWN` and `NAME`.
-const ANSWERS: [(u8, u64, Heard); 9] = [
-    (OWN, 0, Heard::Lost),
-    (OWN, 0x2000_1D00_0000_0000, Heard::Lost),
-    (OWN, NAME, Heard::Nothing),
-    (OWN, 0x2000_1D00_0000_0002, Heard::Defend),
-    (OWN, u64::MAX, Heard::Defend),
-    (0x80, 0, Heard::Nothing),
-    (0x80, NAME, Heard::Nothing),
-    (254, 0, Heard::Nothing),
-    (255, u64::MAX, Heard::Nothing),
+const ANSWERS: [(u8, u64, ClaimMeaning); 9] = [
+    (OWN, 0, ClaimMeaning::Lost),
+    (OWN, 0x2000_1D00_0000_0000, ClaimMeaning::Lost),
+    (OWN, NAME, ClaimMeaning::Nothing),
+    (OWN, 0x2000_1D00_0000_0002, ClaimMeaning::Defend),
+    (OWN, u64::MAX, ClaimMeaning::Defend),
+    (0x80, 0, ClaimMeaning::Nothing),
+    (0x80, NAME, ClaimMeaning::Nothing),
+    (254, 0, ClaimMeaning::Nothing),
+    (255, u64::MAX, ClaimMeaning::Nothing),
 ];
 
 /// Whether a first claim means this, before it is heard and then, and records its address.
-fn means(alloc: Global, address: u8, raw: u64, wanted: Heard) -> Result<bool, OutOfMemory> {
+fn means(alloc: Global, address: u8, raw: u64, wanted: ClaimMeaning) -> Result<bool, OutOfMemory> {
     let mut claims = Claims::new(alloc, OWN, Name::from_raw(NAME));
     let name = Name::from_raw(raw);
     let is_new = claims.answer(address, name) == wanted && claims.address_of(name).is_none();

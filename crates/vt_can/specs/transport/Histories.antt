@@ -47,7 +47,7 @@ module _ {F O P : Type 0} (spelling : Spelling F O P) where
     pub brought : spelling.Brings o later packets
 
   -- a session is open, with packets still to come
-  pub record Stands (hs : List (SessionEvent F)) (o : O) (packets : P) : Type 0 where
+  pub record IsOpen (hs : List (SessionEvent F)) (o : O) (packets : P) : Type 0 where
     pub sent : Sent hs o packets
     pub more : spelling.count packets < spelling.total o
 

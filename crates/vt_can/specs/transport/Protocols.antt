@@ -9,20 +9,20 @@ use Rattle.vt_can.specs.transport.Messages.{Message}
 use Rattle.vt_can.specs.transport.Sessions.{untimed_session}
 
 -- what a step leaves of a session, and what it gives
-pub record Outcome (S R : Type 0) : Type 0 where
+pub record SessionOutcome (S R : Type 0) : Type 0 where
   pub session : Option (Timed S)
   pub reply : Option R
   pub message : Option Message
 
 module _ {S R : Type 0} where
-  abbrev pub silent : Option (Timed S) → Outcome S R
+  abbrev pub silent : Option (Timed S) → SessionOutcome S R
   silent session = record { session = session; reply = None; message = None }
 
-  abbrev pub ended : R → Outcome S R
+  abbrev pub ended : R → SessionOutcome S R
   ended reply = record { session = None; reply = Some reply; message = None }
 
   -- What a frame makes of a session, as an outcome: one with more to come has this time from then on.
-  abbrev pub outcome_of : ℕ → Received S R → Outcome S R
+  abbrev pub outcome_of : ℕ → Received S R → SessionOutcome S R
   outcome_of last (Refused reply) = ended reply
   outcome_of last (More session reply) =
       record { session = Some (record { last = last; session = session }); reply = reply; message = None }
@@ -30,7 +30,7 @@ module _ {S R : Type 0} where
       record { session = None; reply = Some reply; message = Some (record { pgn = pgn; bytes = bytes }) }
 
   -- an outcome without the time of its session
-  abbrev pub untimed_outcome : Outcome S R → Outcome S R
+  abbrev pub untimed_outcome : SessionOutcome S R → SessionOutcome S R
   untimed_outcome out = record { session = untimed_session out.session; reply = out.reply; message = out.message }
 
 pub record Protocol (S F R : Type 0) : Type 0 where
@@ -40,7 +40,7 @@ pub record Protocol (S F R : Type 0) : Type 0 where
   pub opens : F → Bool
   pub size : F → ℕ
   -- its step, at a time, on the session of its source
-  pub step : ℕ → Option (Timed S) → F → Outcome S R
+  pub step : ℕ → Option (Timed S) → F → SessionOutcome S R
   -- the reply that ends a session without frames
   pub timeout : S → R
   -- the frame of a reply, from one address to another

@@ -8,7 +8,7 @@ use Rattle.vt_can.specs.declared.transport.heard.Heard.TheVariants as heard
 use Rattle.vt_can.specs.transport.Messages.{Message}
 use Rattle.vt_can.specs.frames.Frame.{source_of}
 use Rattle.vt_can.specs.transport.Sessions.{ByAddress, timed_code, alive, Expires}
-use Rattle.vt_can.specs.transport.Protocols.{Protocol, Outcome}
+use Rattle.vt_can.specs.transport.Protocols.{Protocol, SessionOutcome}
 use Rattle.vt_can.specs.transport.Steps.{stepped}
 
 -- its address, the sessions by source, and the bytes for which it has room set aside
@@ -28,12 +28,12 @@ OthersStay old new source = (other : ℕ) → (other ≡ source → ⊥) → fin
 
 module _ {S F R : Type 0} (protocol : Protocol S F R) where
   -- the step that a frame makes on the session of its source
-  abbrev pub outcome : ReceiverState S → ℕ → Frame → Outcome S R
+  abbrev pub outcome : ReceiverState S → ℕ → Frame → SessionOutcome S R
   outcome receiver now frame =
       stepped protocol now (finite.get receiver.sessions (source_of frame)) (protocol.frame_in receiver.own_address frame)
 
   -- the step that a frame makes once the sessions that are overdue have ended
-  abbrev pub timely_outcome : ReceiverState S → ℕ → Frame → Outcome S R
+  abbrev pub timely_outcome : ReceiverState S → ℕ → Frame → SessionOutcome S R
   timely_outcome receiver now frame =
       stepped protocol now (alive now (finite.get receiver.sessions (source_of frame))) (protocol.frame_in receiver.own_address frame)
 
@@ -46,15 +46,15 @@ module _ {S F R : Type 0} (protocol : Protocol S F R) where
       result ≡ heard.Message source message.pgn message.bytes (protocol.reply_frame own_address source reply)
 
   -- the session of a source has made a step, and this was answered
-  pub record MakesStep (old new : ReceiverState S) (source : ℕ) (out : Outcome S R) (result : Heard) : Type 0 where
+  pub record MakesStep (old new : ReceiverState S) (source : ℕ) (out : SessionOutcome S R) (result : Heard) : Type 0 where
     pub own_address : new.own_address ≡ old.own_address
     pub session : finite.get new.sessions source ≡ out.session
     pub answers : AnswersWith old.own_address source out.reply out.message result
 
   -- there is room for the message that the frame opens, if it opens one
-  abbrev pub IsReadyFor : Option F → ℕ → Type 0
-  IsReadyFor None room = Unit {0}
-  IsReadyFor (Some frame) room = protocol.opens frame ≡ true → protocol.size frame ≤ room
+  abbrev pub HasCapacityFor : Option F → ℕ → Type 0
+  HasCapacityFor None room = Unit {0}
+  HasCapacityFor (Some frame) room = protocol.opens frame ≡ true → protocol.size frame ≤ room
 
   -- the frame opens no session
   abbrev pub OpensNone : Option F → Type 0

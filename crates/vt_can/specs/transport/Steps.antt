@@ -2,16 +2,16 @@
 use Rattle.std.specs.Prelude.{◌≡◌, ◌↔◌, ℕ, Option, Some, None, List, [], ◌∷◌}
 use Rattle.vt_can.specs.declared.transport.sessions.Timed.{Timed}
 use Rattle.vt_can.specs.transport.Messages.{Message}
-use Rattle.vt_can.specs.transport.Histories.{SessionEvent, Came, TimedOut, Spelling, untimed, Stands, IsWhole}
-use Rattle.vt_can.specs.transport.Protocols.{Protocol, Outcome, silent}
+use Rattle.vt_can.specs.transport.Histories.{SessionEvent, Came, TimedOut, Spelling, untimed, IsOpen, IsWhole}
+use Rattle.vt_can.specs.transport.Protocols.{Protocol, SessionOutcome, silent}
 
 module _ {S F R : Type 0} (protocol : Protocol S F R) where
   -- the step of a frame, if it is one of the protocol's
-  abbrev pub stepped : ℕ → Option (Timed S) → Option F → Outcome S R
+  abbrev pub stepped : ℕ → Option (Timed S) → Option F → SessionOutcome S R
   stepped now current None = silent current
   stepped now current (Some frame) = protocol.step now current frame
 
-  abbrev pub event_step : ℕ → Option (Timed S) → SessionEvent F → Outcome S R
+  abbrev pub event_step : ℕ → Option (Timed S) → SessionEvent F → SessionOutcome S R
   event_step now current (Came frame) = protocol.step now current frame
   event_step now current TimedOut = silent None
 
@@ -24,11 +24,11 @@ module _ {S F R : Type 0} (protocol : Protocol S F R) where
 module _ {S F O P : Type 0} (spelling : Spelling F O P) (opening : S → O) (HasPackets : Option (Timed S) → O → P → Type 0) where
   -- a session, and the packets for which it stands
   abbrev pub IsStanding : List (SessionEvent F) → Timed S → Type 0
-  IsStanding hs current = (packets : P) × Stands spelling hs (opening current.session) packets × HasPackets (Some current) (opening current.session) packets
+  IsStanding hs current = (packets : P) × IsOpen spelling hs (opening current.session) packets × HasPackets (Some current) (opening current.session) packets
 
   -- the session is the one that stands
   pub record Matches (hs : List (SessionEvent F)) (session : Option (Timed S)) : Type 0 where
-    pub stands : (o : O) (packets : P) → Stands spelling hs o packets → HasPackets session o packets
+    pub stands : (o : O) (packets : P) → IsOpen spelling hs o packets → HasPackets session o packets
     pub only : (current : Timed S) → session ≡ Some current → IsStanding hs current
 
   -- By the replies to a history: the steps keep the session that stands, and at the next event x give

@@ -3,7 +3,7 @@
 ghost use Rattle.std.specs.Prelude.{◌≡◌};
 ghost use Rattle.vt_kinds.specs.Records.{seen};
 ghost use Rattle.vt_effects.specs.Changes as changes;
-ghost use Rattle.vt_effects.specs.Changes.{Answers, left};
+ghost use Rattle.vt_effects.specs.Changes.{HasResult, left};
 
 use crate::references::may_stand;
 use vt_kinds::{Kind, Object, ObjectId, Place};
@@ -16,7 +16,7 @@ pub(crate) fn change_font(
     font_type: u8,
     style: u8,
 ) -> Result<(), u8>
-    ensures result { Answers result (changes.change_font colour size font_type style (seen object.old)) }
+    ensures result { HasResult result (changes.change_font colour size font_type style (seen object.old)) }
     ensures object { seen object.new ≡ left (seen object.old) (changes.change_font colour size font_type style (seen object.old)) }
 {
     let Object::Font(font) = object else {
@@ -36,7 +36,7 @@ pub(crate) fn change_line_attributes(
     width: u8,
     line_art: u16,
 ) -> Result<(), u8>
-    ensures result { Answers result (changes.change_line_attributes colour width line_art (seen object.old)) }
+    ensures result { HasResult result (changes.change_line_attributes colour width line_art (seen object.old)) }
     ensures object { seen object.new ≡ left (seen object.old) (changes.change_line_attributes colour width line_art (seen object.old)) }
 {
     let Object::LineAttributes(line_attributes) = object else {
@@ -56,7 +56,7 @@ pub(crate) fn change_fill_attributes(
     colour: u8,
     pattern: ObjectId,
 ) -> Result<(), u8>
-    ensures result { Answers result (changes.change_fill_attributes named fill_type colour pattern (seen object.old)) }
+    ensures result { HasResult result (changes.change_fill_attributes named fill_type colour pattern (seen object.old)) }
     ensures object { seen object.new ≡ left (seen object.old) (changes.change_fill_attributes named fill_type colour pattern (seen object.old)) }
 {
     let Object::FillAttributes(fill_attributes) = object else {

@@ -3,7 +3,7 @@
 ghost use Rattle.std.specs.Prelude.{◌≡◌};
 ghost use Rattle.vt_kinds.specs.Records.{seen};
 ghost use Rattle.vt_effects.specs.Changes as changes;
-ghost use Rattle.vt_effects.specs.Changes.{Answers, left};
+ghost use Rattle.vt_effects.specs.Changes.{HasResult, left};
 
 use crate::attributes::write_field;
 use vt_commands::attribute;
@@ -17,7 +17,7 @@ pub(crate) fn change_attribute(
     number: u8,
     value: u32,
 ) -> Result<(), u8>
-    ensures result { Answers result (changes.change_attribute named number value (seen object.old)) }
+    ensures result { HasResult result (changes.change_attribute named number value (seen object.old)) }
     ensures object { seen object.new ≡ left (seen object.old) (changes.change_attribute named number value (seen object.old)) }
 {
     let kind = object.kind();
@@ -36,7 +36,7 @@ pub(crate) fn change_attribute(
 
 /// Tests a macro that is to run: it is one, and its ID is at most 255.
 pub(crate) fn execute_macro(object: &mut Object<Vec<u8>>, id: ObjectId) -> Result<(), u8>
-    ensures result { Answers result (changes.execute_macro id (seen object.old)) }
+    ensures result { HasResult result (changes.execute_macro id (seen object.old)) }
     ensures object { seen object.new ≡ left (seen object.old) (changes.execute_macro id (seen object.old)) }
 {
     let Object::Macro(_) = object else {

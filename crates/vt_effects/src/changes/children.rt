@@ -3,7 +3,7 @@
 ghost use Rattle.std.specs.Prelude.{◌≡◌, ◌==◌, ◌&&◌, not, false, IfSome, IfNone, IsTrue, IsFalse};
 ghost use Rattle.vt_kinds.specs.Records.{seen};
 ghost use Rattle.vt_effects.specs.Changes as changes;
-ghost use Rattle.vt_effects.specs.Changes.{Answers, left, in_parent, child_at, placed, fits_record, is_position};
+ghost use Rattle.vt_effects.specs.Changes.{HasResult, left, in_parent, child_at, placed, fits_record, is_position};
 
 use vt_kinds::{Child, Entries, Kind, Object, ObjectId};
 
@@ -15,7 +15,7 @@ pub(crate) fn change_location(
     dx: u8,
     dy: u8,
 ) -> Result<(), u8>
-    ensures result { Answers result (in_parent (changes.change_location named child dx dy) (seen object.old)) }
+    ensures result { HasResult result (in_parent (changes.change_location named child dx dy) (seen object.old)) }
     ensures object { seen object.new ≡ left (seen object.old) (in_parent (changes.change_location named child dx dy) (seen object.old)) }
 {
     match object {
@@ -35,7 +35,7 @@ pub(crate) fn change_position(
     named: Option<Kind>,
     entry: &Child,
 ) -> Result<(), u8>
-    ensures result { Answers result (in_parent (changes.change_position named entry.now.id entry.now.x entry.now.y) (seen object.old)) }
+    ensures result { HasResult result (in_parent (changes.change_position named entry.now.id entry.now.x entry.now.y) (seen object.old)) }
     ensures object { seen object.new ≡ left (seen object.old) (in_parent (changes.change_position named entry.now.id entry.now.x entry.now.y) (seen object.old)) }
 {
     match object {
@@ -56,7 +56,7 @@ fn shift(
     dx: u8,
     dy: u8,
 ) -> Result<(), u8>
-    ensures result { Answers result (changes.change_location named child dx dy children.old) }
+    ensures result { HasResult result (changes.change_location named child dx dy children.old) }
     ensures children { children.new ≡ left children.old (changes.change_location named child dx dy children.old) }
 {
     if named.is_none() {
@@ -77,7 +77,7 @@ fn shift(
 
 /// Puts every entry of a child where this one is.
 fn place(children: &mut Entries<Child>, named: Option<Kind>, entry: &Child) -> Result<(), u8>
-    ensures result { Answers result (changes.change_position named entry.now.id entry.now.x entry.now.y children.old) }
+    ensures result { HasResult result (changes.change_position named entry.now.id entry.now.x entry.now.y children.old) }
     ensures children { children.new ≡ left children.old (changes.change_position named entry.now.id entry.now.x entry.now.y children.old) }
 {
     if named.is_none() {

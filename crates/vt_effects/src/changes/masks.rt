@@ -3,7 +3,7 @@
 ghost use Rattle.std.specs.Prelude.{◌≡◌};
 ghost use Rattle.vt_kinds.specs.Records.{seen};
 ghost use Rattle.vt_effects.specs.Changes as changes;
-ghost use Rattle.vt_effects.specs.Changes.{Answers, left};
+ghost use Rattle.vt_effects.specs.Changes.{HasResult, left};
 
 use crate::references::{is_one_of, may_stand};
 use vt_kinds::{Kind, Kinds, Object, ObjectId, Place};
@@ -14,7 +14,7 @@ pub(crate) fn change_active_mask(
     named: Option<Kind>,
     mask: ObjectId,
 ) -> Result<(), u8>
-    ensures result { Answers result (changes.change_active_mask named mask (seen object.old)) }
+    ensures result { HasResult result (changes.change_active_mask named mask (seen object.old)) }
     ensures object { seen object.new ≡ left (seen object.old) (changes.change_active_mask named mask (seen object.old)) }
 {
     let Object::WorkingSet(working_set) = object else {
@@ -35,7 +35,7 @@ pub(crate) fn change_soft_key_mask(
     mask_type: u8,
     keys: ObjectId,
 ) -> Result<(), u8>
-    ensures result { Answers result (changes.change_soft_key_mask named mask_type keys (seen object.old)) }
+    ensures result { HasResult result (changes.change_soft_key_mask named mask_type keys (seen object.old)) }
     ensures object { seen object.new ≡ left (seen object.old) (changes.change_soft_key_mask named mask_type keys (seen object.old)) }
 {
     match object {
@@ -59,7 +59,7 @@ pub(crate) fn change_soft_key_mask(
 
 /// Sets the priority of an alarm mask, 0 to 2.
 pub(crate) fn change_priority(object: &mut Object<Vec<u8>>, priority: u8) -> Result<(), u8>
-    ensures result { Answers result (changes.change_priority priority (seen object.old)) }
+    ensures result { HasResult result (changes.change_priority priority (seen object.old)) }
     ensures object { seen object.new ≡ left (seen object.old) (changes.change_priority priority (seen object.old)) }
 {
     let Object::AlarmMask(mask) = object else {

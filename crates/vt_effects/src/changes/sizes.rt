@@ -3,13 +3,13 @@
 ghost use Rattle.std.specs.Prelude.{◌≡◌};
 ghost use Rattle.vt_kinds.specs.Records.{seen};
 ghost use Rattle.vt_effects.specs.Changes as changes;
-ghost use Rattle.vt_effects.specs.Changes.{Answers, left};
+ghost use Rattle.vt_effects.specs.Changes.{HasResult, left};
 
 use vt_kinds::Object;
 
 /// Sets width and height. Kinds without a height take the width alone.
 pub(crate) fn change_size(object: &mut Object<Vec<u8>>, width: u16, height: u16) -> Result<(), u8>
-    ensures result { Answers result (changes.change_size width height (seen object.old)) }
+    ensures result { HasResult result (changes.change_size width height (seen object.old)) }
     ensures object { seen object.new ≡ left (seen object.old) (changes.change_size width height (seen object.old)) }
 {
     match object {
@@ -76,7 +76,7 @@ pub(crate) fn change_end_point(
     height: u16,
     direction: u8,
 ) -> Result<(), u8>
-    ensures result { Answers result (changes.change_end_point width height direction (seen object.old)) }
+    ensures result { HasResult result (changes.change_end_point width height direction (seen object.old)) }
     ensures object { seen object.new ≡ left (seen object.old) (changes.change_end_point width height direction (seen object.old)) }
 {
     let Object::Line(line) = object else {
@@ -93,7 +93,7 @@ pub(crate) fn change_end_point(
 
 /// Sets the background colour.
 pub(crate) fn change_colour(object: &mut Object<Vec<u8>>, colour: u8) -> Result<(), u8>
-    ensures result { Answers result (changes.change_colour colour (seen object.old)) }
+    ensures result { HasResult result (changes.change_colour colour (seen object.old)) }
     ensures object { seen object.new ≡ left (seen object.old) (changes.change_colour colour (seen object.old)) }
 {
     match object {

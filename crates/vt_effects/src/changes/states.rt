@@ -3,13 +3,13 @@
 ghost use Rattle.std.specs.Prelude.{◌≡◌, ◌≤◌};
 ghost use Rattle.vt_kinds.specs.Records.{seen};
 ghost use Rattle.vt_effects.specs.Changes as changes;
-ghost use Rattle.vt_effects.specs.Changes.{Answers, left};
+ghost use Rattle.vt_effects.specs.Changes.{HasResult, left};
 
 use vt_kinds::Object;
 
 /// Shows a container (state 1) or hides it (state 0).
 pub(crate) fn hide_show(object: &mut Object<Vec<u8>>, state: u8) -> Result<(), u8>
-    ensures result { Answers result (changes.hide_show state (seen object.old)) }
+    ensures result { HasResult result (changes.hide_show state (seen object.old)) }
     ensures object { seen object.new ≡ left (seen object.old) (changes.hide_show state (seen object.old)) }
 {
     let Object::Container(container) = object else {
@@ -24,7 +24,7 @@ pub(crate) fn hide_show(object: &mut Object<Vec<u8>>, state: u8) -> Result<(), u
 
 /// Enables an input (state 1) or disables it (state 0).
 pub(crate) fn enable_disable(object: &mut Object<Vec<u8>>, state: u8) -> Result<(), u8>
-    ensures result { Answers result (changes.enable_disable state (seen object.old)) }
+    ensures result { HasResult result (changes.enable_disable state (seen object.old)) }
     ensures object { seen object.new ≡ left (seen object.old) (changes.enable_disable state (seen object.old)) }
 {
     match object {

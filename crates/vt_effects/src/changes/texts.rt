@@ -3,13 +3,13 @@
 ghost use Rattle.std.specs.Prelude.{◌≡◌};
 ghost use Rattle.vt_kinds.specs.Records.{seen};
 ghost use Rattle.vt_effects.specs.Changes as changes;
-ghost use Rattle.vt_effects.specs.Changes.{Answers, left};
+ghost use Rattle.vt_effects.specs.Changes.{HasResult, left};
 
 use vt_kinds::Object;
 
 /// Writes the first bytes of a text over the one that is there, and spaces over what is left of it.
 pub(crate) fn change_text(object: &mut Object<Vec<u8>>, length: u16, text: &[u8]) -> Result<(), u8>
-    ensures result { Answers result (changes.change_text length text.now (seen object.old)) }
+    ensures result { HasResult result (changes.change_text length text.now (seen object.old)) }
     ensures object { seen object.new ≡ left (seen object.old) (changes.change_text length text.now (seen object.old)) }
 {
     let length = usize::from(length);

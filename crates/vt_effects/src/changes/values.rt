@@ -3,7 +3,7 @@
 ghost use Rattle.std.specs.Prelude.{◌≡◌};
 ghost use Rattle.vt_kinds.specs.Records.{seen};
 ghost use Rattle.vt_effects.specs.Changes as changes;
-ghost use Rattle.vt_effects.specs.Changes.{Answers, left};
+ghost use Rattle.vt_effects.specs.Changes.{HasResult, left};
 
 use crate::numbers::{byte, id, word};
 use crate::references::may_stand;
@@ -16,7 +16,7 @@ pub(crate) fn change_value(
     named: Option<Kind>,
     value: u32,
 ) -> Result<(), u8>
-    ensures result { Answers result (changes.change_value named value (seen object.old)) }
+    ensures result { HasResult result (changes.change_value named value (seen object.old)) }
     ensures object { seen object.new ≡ left (seen object.old) (changes.change_value named value (seen object.old)) }
 {
     match object {
@@ -61,7 +61,7 @@ pub(crate) fn change_item(
     index: u8,
     item: ObjectId,
 ) -> Result<(), u8>
-    ensures result { Answers result (changes.change_item named index item (seen object.old)) }
+    ensures result { HasResult result (changes.change_item named index item (seen object.old)) }
     ensures object { seen object.new ≡ left (seen object.old) (changes.change_item named index item (seen object.old)) }
 {
     let Object::InputList(list) = object else {

@@ -8,11 +8,14 @@ ghost use Rattle.vt_records.specs.Reading.{head_size};
 
 use crate::entry::entries;
 use crate::reader::Reader;
-use crate::stop::Stop;
+use crate::stop::RecordFault;
 use std::alloc::Global;
 use vt_kinds::{FillAttributes, Font, InputAttributes, LineAttributes, Object};
 
-pub fn read_font<'a>(alloc: Global, reader: &mut Reader<'a>) -> Result<Object<&'a [u8]>, Stop>
+pub fn read_font<'a>(
+    alloc: Global,
+    reader: &mut Reader<'a>,
+) -> Result<Object<&'a [u8]>, RecordFault>
     requires { head_size (fields_of kinds.Font) ≤ length reader.old }
     ensures read { Reads (λ o. (values_of o, reader.new)) result (fields_at (fields_of kinds.Font) reader.old) }
     ensures kind { IfOk result (λ o. kind_of o ≡ kinds.Font) }
@@ -35,7 +38,7 @@ pub fn read_font<'a>(alloc: Global, reader: &mut Reader<'a>) -> Result<Object<&'
 pub fn read_line_attributes<'a>(
     alloc: Global,
     reader: &mut Reader<'a>,
-) -> Result<Object<&'a [u8]>, Stop>
+) -> Result<Object<&'a [u8]>, RecordFault>
     requires { head_size (fields_of kinds.LineAttributes) ≤ length reader.old }
     ensures read { Reads (λ o. (values_of o, reader.new)) result (fields_at (fields_of kinds.LineAttributes) reader.old) }
     ensures kind { IfOk result (λ o. kind_of o ≡ kinds.LineAttributes) }
@@ -56,7 +59,7 @@ pub fn read_line_attributes<'a>(
 pub fn read_fill_attributes<'a>(
     alloc: Global,
     reader: &mut Reader<'a>,
-) -> Result<Object<&'a [u8]>, Stop>
+) -> Result<Object<&'a [u8]>, RecordFault>
     requires { head_size (fields_of kinds.FillAttributes) ≤ length reader.old }
     ensures read { Reads (λ o. (values_of o, reader.new)) result (fields_at (fields_of kinds.FillAttributes) reader.old) }
     ensures kind { IfOk result (λ o. kind_of o ≡ kinds.FillAttributes) }
@@ -77,7 +80,7 @@ pub fn read_fill_attributes<'a>(
 pub fn read_input_attributes<'a>(
     alloc: Global,
     reader: &mut Reader<'a>,
-) -> Result<Object<&'a [u8]>, Stop>
+) -> Result<Object<&'a [u8]>, RecordFault>
     requires { head_size (fields_of kinds.InputAttributes) ≤ length reader.old }
     ensures read { Reads (λ o. (values_of o, reader.new)) result (fields_at (fields_of kinds.InputAttributes) reader.old) }
     ensures kind { IfOk result (λ o. kind_of o ≡ kinds.InputAttributes) }

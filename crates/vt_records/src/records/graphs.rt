@@ -8,11 +8,14 @@ ghost use Rattle.vt_records.specs.Reading.{head_size};
 
 use crate::entry::entries;
 use crate::reader::Reader;
-use crate::stop::Stop;
+use crate::stop::RecordFault;
 use std::alloc::Global;
 use vt_kinds::{ArchedBar, LinearBar, Meter, Object};
 
-pub fn read_meter<'a>(alloc: Global, reader: &mut Reader<'a>) -> Result<Object<&'a [u8]>, Stop>
+pub fn read_meter<'a>(
+    alloc: Global,
+    reader: &mut Reader<'a>,
+) -> Result<Object<&'a [u8]>, RecordFault>
     requires { head_size (fields_of kinds.Meter) ≤ length reader.old }
     ensures read { Reads (λ o. (values_of o, reader.new)) result (fields_at (fields_of kinds.Meter) reader.old) }
     ensures kind { IfOk result (λ o. kind_of o ≡ kinds.Meter) }
@@ -48,7 +51,10 @@ pub fn read_meter<'a>(alloc: Global, reader: &mut Reader<'a>) -> Result<Object<&
     }))
 }
 
-pub fn read_linear_bar<'a>(alloc: Global, reader: &mut Reader<'a>) -> Result<Object<&'a [u8]>, Stop>
+pub fn read_linear_bar<'a>(
+    alloc: Global,
+    reader: &mut Reader<'a>,
+) -> Result<Object<&'a [u8]>, RecordFault>
     requires { head_size (fields_of kinds.LinearBar) ≤ length reader.old }
     ensures read { Reads (λ o. (values_of o, reader.new)) result (fields_at (fields_of kinds.LinearBar) reader.old) }
     ensures kind { IfOk result (λ o. kind_of o ≡ kinds.LinearBar) }
@@ -84,7 +90,10 @@ pub fn read_linear_bar<'a>(alloc: Global, reader: &mut Reader<'a>) -> Result<Obj
     }))
 }
 
-pub fn read_arched_bar<'a>(alloc: Global, reader: &mut Reader<'a>) -> Result<Object<&'a [u8]>, Stop>
+pub fn read_arched_bar<'a>(
+    alloc: Global,
+    reader: &mut Reader<'a>,
+) -> Result<Object<&'a [u8]>, RecordFault>
     requires { head_size (fields_of kinds.ArchedBar) ≤ length reader.old }
     ensures read { Reads (λ o. (values_of o, reader.new)) result (fields_at (fields_of kinds.ArchedBar) reader.old) }
     ensures kind { IfOk result (λ o. kind_of o ≡ kinds.ArchedBar) }

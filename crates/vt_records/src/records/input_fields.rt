@@ -8,14 +8,14 @@ ghost use Rattle.vt_records.specs.Reading.{head_size};
 
 use crate::entry::entries;
 use crate::reader::Reader;
-use crate::stop::Stop;
+use crate::stop::RecordFault;
 use std::alloc::Global;
 use vt_kinds::{Decimals, InputBoolean, InputList, InputNumber, InputString, Object, Scale};
 
 pub fn read_input_boolean<'a>(
     alloc: Global,
     reader: &mut Reader<'a>,
-) -> Result<Object<&'a [u8]>, Stop>
+) -> Result<Object<&'a [u8]>, RecordFault>
     requires { head_size (fields_of kinds.InputBoolean) ≤ length reader.old }
     ensures read { Reads (λ o. (values_of o, reader.new)) result (fields_at (fields_of kinds.InputBoolean) reader.old) }
     ensures kind { IfOk result (λ o. kind_of o ≡ kinds.InputBoolean) }
@@ -42,7 +42,7 @@ pub fn read_input_boolean<'a>(
 pub fn read_input_string<'a>(
     alloc: Global,
     reader: &mut Reader<'a>,
-) -> Result<Object<&'a [u8]>, Stop>
+) -> Result<Object<&'a [u8]>, RecordFault>
     requires { head_size (fields_of kinds.InputString) ≤ length reader.old }
     ensures read { Reads (λ o. (values_of o, reader.new)) result (fields_at (fields_of kinds.InputString) reader.old) }
     ensures kind { IfOk result (λ o. kind_of o ≡ kinds.InputString) }
@@ -78,7 +78,7 @@ pub fn read_input_string<'a>(
 pub fn read_input_number<'a>(
     alloc: Global,
     reader: &mut Reader<'a>,
-) -> Result<Object<&'a [u8]>, Stop>
+) -> Result<Object<&'a [u8]>, RecordFault>
     requires { head_size (fields_of kinds.InputNumber) ≤ length reader.old }
     ensures read { Reads (λ o. (values_of o, reader.new)) result (fields_at (fields_of kinds.InputNumber) reader.old) }
     ensures kind { IfOk result (λ o. kind_of o ≡ kinds.InputNumber) }
@@ -101,10 +101,10 @@ pub fn read_input_number<'a>(
     let macro_count = reader.u8();
     let macros = entries(alloc, reader, macro_count)?;
     let Some(scale) = Scale::from_bytes(scale) else {
-        return Err(Stop::Scale { at: 29 });
+        return Err(RecordFault::Scale { at: 29 });
     };
     let Some(decimals) = Decimals::new(decimals) else {
-        return Err(Stop::Decimals { at: 33 });
+        return Err(RecordFault::Decimals { at: 33 });
     };
     Ok(Object::InputNumber(InputNumber {
         width,
@@ -126,7 +126,10 @@ pub fn read_input_number<'a>(
     }))
 }
 
-pub fn read_input_list<'a>(alloc: Global, reader: &mut Reader<'a>) -> Result<Object<&'a [u8]>, Stop>
+pub fn read_input_list<'a>(
+    alloc: Global,
+    reader: &mut Reader<'a>,
+) -> Result<Object<&'a [u8]>, RecordFault>
     requires { head_size (fields_of kinds.InputList) ≤ length reader.old }
     ensures read { Reads (λ o. (values_of o, reader.new)) result (fields_at (fields_of kinds.InputList) reader.old) }
     ensures kind { IfOk result (λ o. kind_of o ≡ kinds.InputList) }

@@ -8,14 +8,14 @@ ghost use Rattle.vt_records.specs.Reading.{head_size};
 
 use crate::entry::entries;
 use crate::reader::Reader;
-use crate::stop::Stop;
+use crate::stop::RecordFault;
 use std::alloc::Global;
 use vt_kinds::{Button, Key, Object, SoftKeyMask};
 
 pub fn read_soft_key_mask<'a>(
     alloc: Global,
     reader: &mut Reader<'a>,
-) -> Result<Object<&'a [u8]>, Stop>
+) -> Result<Object<&'a [u8]>, RecordFault>
     requires { head_size (fields_of kinds.SoftKeyMask) ≤ length reader.old }
     ensures read { Reads (λ o. (values_of o, reader.new)) result (fields_at (fields_of kinds.SoftKeyMask) reader.old) }
     ensures kind { IfOk result (λ o. kind_of o ≡ kinds.SoftKeyMask) }
@@ -32,7 +32,7 @@ pub fn read_soft_key_mask<'a>(
     }))
 }
 
-pub fn read_key<'a>(alloc: Global, reader: &mut Reader<'a>) -> Result<Object<&'a [u8]>, Stop>
+pub fn read_key<'a>(alloc: Global, reader: &mut Reader<'a>) -> Result<Object<&'a [u8]>, RecordFault>
     requires { head_size (fields_of kinds.Key) ≤ length reader.old }
     ensures read { Reads (λ o. (values_of o, reader.new)) result (fields_at (fields_of kinds.Key) reader.old) }
     ensures kind { IfOk result (λ o. kind_of o ≡ kinds.Key) }
@@ -51,7 +51,10 @@ pub fn read_key<'a>(alloc: Global, reader: &mut Reader<'a>) -> Result<Object<&'a
     }))
 }
 
-pub fn read_button<'a>(alloc: Global, reader: &mut Reader<'a>) -> Result<Object<&'a [u8]>, Stop>
+pub fn read_button<'a>(
+    alloc: Global,
+    reader: &mut Reader<'a>,
+) -> Result<Object<&'a [u8]>, RecordFault>
     requires { head_size (fields_of kinds.Button) ≤ length reader.old }
     ensures read { Reads (λ o. (values_of o, reader.new)) result (fields_at (fields_of kinds.Button) reader.old) }
     ensures kind { IfOk result (λ o. kind_of o ≡ kinds.Button) }

@@ -7,10 +7,10 @@ ghost use Rattle.vt_records.specs.Heads.{Reads, fields_at};
 ghost use Rattle.vt_records.specs.Reading.{head_size};
 
 use crate::reader::Reader;
-use crate::stop::Stop;
+use crate::stop::RecordFault;
 use vt_kinds::{Macro, Object};
 
-pub fn read_macro_object<'a>(reader: &mut Reader<'a>) -> Result<Object<&'a [u8]>, Stop>
+pub fn read_macro_object<'a>(reader: &mut Reader<'a>) -> Result<Object<&'a [u8]>, RecordFault>
     requires { head_size (fields_of kinds.Macro) ≤ length reader.old }
     ensures read { Reads (λ o. (values_of o, reader.new)) result (fields_at (fields_of kinds.Macro) reader.old) }
     ensures kind { IfOk result (λ o. kind_of o ≡ kinds.Macro) }

@@ -8,14 +8,14 @@ ghost use Rattle.vt_records.specs.Reading.{head_size};
 
 use crate::entry::entries;
 use crate::reader::Reader;
-use crate::stop::Stop;
+use crate::stop::RecordFault;
 use std::alloc::Global;
 use vt_kinds::{AlarmMask, Container, DataMask, Object, WorkingSet};
 
 pub fn read_working_set<'a>(
     alloc: Global,
     reader: &mut Reader<'a>,
-) -> Result<Object<&'a [u8]>, Stop>
+) -> Result<Object<&'a [u8]>, RecordFault>
     requires { head_size (fields_of kinds.WorkingSet) ≤ length reader.old }
     ensures read { Reads (λ o. (values_of o, reader.new)) result (fields_at (fields_of kinds.WorkingSet) reader.old) }
     ensures kind { IfOk result (λ o. kind_of o ≡ kinds.WorkingSet) }
@@ -39,7 +39,10 @@ pub fn read_working_set<'a>(
     }))
 }
 
-pub fn read_data_mask<'a>(alloc: Global, reader: &mut Reader<'a>) -> Result<Object<&'a [u8]>, Stop>
+pub fn read_data_mask<'a>(
+    alloc: Global,
+    reader: &mut Reader<'a>,
+) -> Result<Object<&'a [u8]>, RecordFault>
     requires { head_size (fields_of kinds.DataMask) ≤ length reader.old }
     ensures read { Reads (λ o. (values_of o, reader.new)) result (fields_at (fields_of kinds.DataMask) reader.old) }
     ensures kind { IfOk result (λ o. kind_of o ≡ kinds.DataMask) }
@@ -58,7 +61,10 @@ pub fn read_data_mask<'a>(alloc: Global, reader: &mut Reader<'a>) -> Result<Obje
     }))
 }
 
-pub fn read_alarm_mask<'a>(alloc: Global, reader: &mut Reader<'a>) -> Result<Object<&'a [u8]>, Stop>
+pub fn read_alarm_mask<'a>(
+    alloc: Global,
+    reader: &mut Reader<'a>,
+) -> Result<Object<&'a [u8]>, RecordFault>
     requires { head_size (fields_of kinds.AlarmMask) ≤ length reader.old }
     ensures read { Reads (λ o. (values_of o, reader.new)) result (fields_at (fields_of kinds.AlarmMask) reader.old) }
     ensures kind { IfOk result (λ o. kind_of o ≡ kinds.AlarmMask) }
@@ -81,7 +87,10 @@ pub fn read_alarm_mask<'a>(alloc: Global, reader: &mut Reader<'a>) -> Result<Obj
     }))
 }
 
-pub fn read_container<'a>(alloc: Global, reader: &mut Reader<'a>) -> Result<Object<&'a [u8]>, Stop>
+pub fn read_container<'a>(
+    alloc: Global,
+    reader: &mut Reader<'a>,
+) -> Result<Object<&'a [u8]>, RecordFault>
     requires { head_size (fields_of kinds.Container) ≤ length reader.old }
     ensures read { Reads (λ o. (values_of o, reader.new)) result (fields_at (fields_of kinds.Container) reader.old) }
     ensures kind { IfOk result (λ o. kind_of o ≡ kinds.Container) }

@@ -8,14 +8,14 @@ ghost use Rattle.vt_records.specs.Reading.{head_size};
 
 use crate::entry::entries;
 use crate::reader::Reader;
-use crate::stop::Stop;
+use crate::stop::RecordFault;
 use std::alloc::Global;
 use vt_kinds::{Decimals, Object, OutputNumber, OutputString, Scale};
 
 pub fn read_output_string<'a>(
     alloc: Global,
     reader: &mut Reader<'a>,
-) -> Result<Object<&'a [u8]>, Stop>
+) -> Result<Object<&'a [u8]>, RecordFault>
     requires { head_size (fields_of kinds.OutputString) ≤ length reader.old }
     ensures read { Reads (λ o. (values_of o, reader.new)) result (fields_at (fields_of kinds.OutputString) reader.old) }
     ensures kind { IfOk result (λ o. kind_of o ≡ kinds.OutputString) }
@@ -47,7 +47,7 @@ pub fn read_output_string<'a>(
 pub fn read_output_number<'a>(
     alloc: Global,
     reader: &mut Reader<'a>,
-) -> Result<Object<&'a [u8]>, Stop>
+) -> Result<Object<&'a [u8]>, RecordFault>
     requires { head_size (fields_of kinds.OutputNumber) ≤ length reader.old }
     ensures read { Reads (λ o. (values_of o, reader.new)) result (fields_at (fields_of kinds.OutputNumber) reader.old) }
     ensures kind { IfOk result (λ o. kind_of o ≡ kinds.OutputNumber) }
@@ -67,10 +67,10 @@ pub fn read_output_number<'a>(
     let macro_count = reader.u8();
     let macros = entries(alloc, reader, macro_count)?;
     let Some(scale) = Scale::from_bytes(scale) else {
-        return Err(Stop::Scale { at: 21 });
+        return Err(RecordFault::Scale { at: 21 });
     };
     let Some(decimals) = Decimals::new(decimals) else {
-        return Err(Stop::Decimals { at: 25 });
+        return Err(RecordFault::Decimals { at: 25 });
     };
     Ok(Object::OutputNumber(OutputNumber {
         width,

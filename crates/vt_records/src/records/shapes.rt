@@ -8,11 +8,14 @@ ghost use Rattle.vt_records.specs.Reading.{head_size};
 
 use crate::entry::entries;
 use crate::reader::Reader;
-use crate::stop::Stop;
+use crate::stop::RecordFault;
 use std::alloc::Global;
 use vt_kinds::{Ellipse, Line, Object, Polygon, Rectangle};
 
-pub fn read_line<'a>(alloc: Global, reader: &mut Reader<'a>) -> Result<Object<&'a [u8]>, Stop>
+pub fn read_line<'a>(
+    alloc: Global,
+    reader: &mut Reader<'a>,
+) -> Result<Object<&'a [u8]>, RecordFault>
     requires { head_size (fields_of kinds.Line) ≤ length reader.old }
     ensures read { Reads (λ o. (values_of o, reader.new)) result (fields_at (fields_of kinds.Line) reader.old) }
     ensures kind { IfOk result (λ o. kind_of o ≡ kinds.Line) }
@@ -32,7 +35,10 @@ pub fn read_line<'a>(alloc: Global, reader: &mut Reader<'a>) -> Result<Object<&'
     }))
 }
 
-pub fn read_rectangle<'a>(alloc: Global, reader: &mut Reader<'a>) -> Result<Object<&'a [u8]>, Stop>
+pub fn read_rectangle<'a>(
+    alloc: Global,
+    reader: &mut Reader<'a>,
+) -> Result<Object<&'a [u8]>, RecordFault>
     requires { head_size (fields_of kinds.Rectangle) ≤ length reader.old }
     ensures read { Reads (λ o. (values_of o, reader.new)) result (fields_at (fields_of kinds.Rectangle) reader.old) }
     ensures kind { IfOk result (λ o. kind_of o ≡ kinds.Rectangle) }
@@ -54,7 +60,10 @@ pub fn read_rectangle<'a>(alloc: Global, reader: &mut Reader<'a>) -> Result<Obje
     }))
 }
 
-pub fn read_ellipse<'a>(alloc: Global, reader: &mut Reader<'a>) -> Result<Object<&'a [u8]>, Stop>
+pub fn read_ellipse<'a>(
+    alloc: Global,
+    reader: &mut Reader<'a>,
+) -> Result<Object<&'a [u8]>, RecordFault>
     requires { head_size (fields_of kinds.Ellipse) ≤ length reader.old }
     ensures read { Reads (λ o. (values_of o, reader.new)) result (fields_at (fields_of kinds.Ellipse) reader.old) }
     ensures kind { IfOk result (λ o. kind_of o ≡ kinds.Ellipse) }
@@ -80,7 +89,10 @@ pub fn read_ellipse<'a>(alloc: Global, reader: &mut Reader<'a>) -> Result<Object
     }))
 }
 
-pub fn read_polygon<'a>(alloc: Global, reader: &mut Reader<'a>) -> Result<Object<&'a [u8]>, Stop>
+pub fn read_polygon<'a>(
+    alloc: Global,
+    reader: &mut Reader<'a>,
+) -> Result<Object<&'a [u8]>, RecordFault>
     requires { head_size (fields_of kinds.Polygon) ≤ length reader.old }
     ensures read { Reads (λ o. (values_of o, reader.new)) result (fields_at (fields_of kinds.Polygon) reader.old) }
     ensures kind { IfOk result (λ o. kind_of o ≡ kinds.Polygon) }

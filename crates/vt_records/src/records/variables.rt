@@ -7,10 +7,10 @@ ghost use Rattle.vt_records.specs.Heads.{Reads, fields_at};
 ghost use Rattle.vt_records.specs.Reading.{head_size};
 
 use crate::reader::Reader;
-use crate::stop::Stop;
+use crate::stop::RecordFault;
 use vt_kinds::{NumberVariable, Object, ObjectPointer, StringVariable};
 
-pub fn read_number_variable<'a>(reader: &mut Reader<'a>) -> Result<Object<&'a [u8]>, Stop>
+pub fn read_number_variable<'a>(reader: &mut Reader<'a>) -> Result<Object<&'a [u8]>, RecordFault>
     requires { head_size (fields_of kinds.NumberVariable) ≤ length reader.old }
     ensures read { Reads (λ o. (values_of o, reader.new)) result (fields_at (fields_of kinds.NumberVariable) reader.old) }
     ensures kind { IfOk result (λ o. kind_of o ≡ kinds.NumberVariable) }
@@ -19,7 +19,7 @@ pub fn read_number_variable<'a>(reader: &mut Reader<'a>) -> Result<Object<&'a [u
     Ok(Object::NumberVariable(NumberVariable { value }))
 }
 
-pub fn read_string_variable<'a>(reader: &mut Reader<'a>) -> Result<Object<&'a [u8]>, Stop>
+pub fn read_string_variable<'a>(reader: &mut Reader<'a>) -> Result<Object<&'a [u8]>, RecordFault>
     requires { head_size (fields_of kinds.StringVariable) ≤ length reader.old }
     ensures read { Reads (λ o. (values_of o, reader.new)) result (fields_at (fields_of kinds.StringVariable) reader.old) }
     ensures kind { IfOk result (λ o. kind_of o ≡ kinds.StringVariable) }
@@ -29,7 +29,7 @@ pub fn read_string_variable<'a>(reader: &mut Reader<'a>) -> Result<Object<&'a [u
     Ok(Object::StringVariable(StringVariable { text }))
 }
 
-pub fn read_object_pointer<'a>(reader: &mut Reader<'a>) -> Result<Object<&'a [u8]>, Stop>
+pub fn read_object_pointer<'a>(reader: &mut Reader<'a>) -> Result<Object<&'a [u8]>, RecordFault>
     requires { head_size (fields_of kinds.ObjectPointer) ≤ length reader.old }
     ensures read { Reads (λ o. (values_of o, reader.new)) result (fields_at (fields_of kinds.ObjectPointer) reader.old) }
     ensures kind { IfOk result (λ o. kind_of o ≡ kinds.ObjectPointer) }

@@ -5,7 +5,7 @@ use std::fmt::Display;
 use std::process::Abort;
 use std::test::Fail;
 use vt_logs::ReplayFault;
-use vt_program::{Refusal, Status, run};
+use vt_program::{UsageError, Status, run};
 use vt_testing::POOL;
 
 const ABOUT: &str = "Replays a CAN log to a virtual terminal and prints what it answers, or checks \
@@ -150,7 +150,7 @@ fn faults_of_a_replay_are_named(rt: HostRuntime) -> Result<(), Fail> {
         let printed = is_printed(rt.alloc(), &fault, wanted)?;
         assert!(&rt; printed, "{wanted}");
     }
-    let memory = is_printed(rt.alloc(), &Refusal::Memory, "vt_replay: out of memory\n")?;
+    let memory = is_printed(rt.alloc(), &UsageError::Memory, "vt_replay: out of memory\n")?;
     assert!(&rt; memory);
     Ok(())
 }

@@ -2,7 +2,7 @@
 
 use super::script::expect_line;
 use super::*;
-use vt_node::{Notice, WatchedRegistry, notice_of};
+use vt_node::{FrameMeaning, WatchedRegistry, notice_of};
 
 const CLAIM_80: &str = "18EEFF80#0100000000800020";
 
@@ -208,7 +208,7 @@ fn holder_of(address: u8) -> Option<Name> {
 }
 
 // What a frame says, and its source.
-fn notice_in(alloc: Global, text: &str) -> Result<(u8, Notice), Fail> {
+fn notice_in(alloc: Global, text: &str) -> Result<(u8, FrameMeaning), Fail> {
     match input_of(alloc, text)? {
         Input::Frame { frame, .. } => {
             let notice = notice_of(OWN, Name::from_raw(NAME), &frame);
@@ -223,10 +223,10 @@ fn register(alloc: Global, registry: &mut WatchedRegistry, text: &str) -> Result
     let (source, notice) = notice_in(alloc, text)?;
     registry.reserve(source)?;
     match notice {
-        Notice::Master { count } => {
+        FrameMeaning::Master { count } => {
             let _refused = registry.master(source, holder_of(source), count);
         }
-        Notice::Member(name) => {
+        FrameMeaning::Member(name) => {
             let _refused = registry.member(source, name);
         }
         _ => {}

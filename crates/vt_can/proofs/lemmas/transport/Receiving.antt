@@ -6,12 +6,12 @@ use Rattle.vt_can.specs.declared.transport.received.Received.{Received}
 use Rattle.vt_can.specs.declared.transport.heard.Heard.{Heard}
 use Rattle.vt_can.specs.declared.transport.heard.Heard.TheVariants as heard
 use Rattle.vt_can.specs.transport.Sessions.{ByAddress}
-use Rattle.vt_can.specs.transport.Protocols.{Protocol, Outcome, silent, outcome_of}
+use Rattle.vt_can.specs.transport.Protocols.{Protocol, SessionOutcome, silent, outcome_of}
 use Rattle.vt_can.specs.transport.Receivers.{ReceiverState, MakesStep, AnswersWith}
 use Rattle.vt_can.proofs.lemmas.transport.ByAddress.{get-put, get-removed}
 
 module _ {S F R : Type 0} (protocol : Protocol S F R) where
-  pub put_makes_step : (old new : ReceiverState S) (source : ℕ) (timed : Timed S) (m : ByAddress S) (out : Outcome S R) (result : Heard)
+  pub put_makes_step : (old new : ReceiverState S) (source : ℕ) (timed : Timed S) (m : ByAddress S) (out : SessionOutcome S R) (result : Heard)
       → new.own_address ≡ old.own_address → new.sessions ≡ finite.insert m source timed → out.session ≡ Some timed
       → AnswersWith protocol old.own_address source out.reply out.message result → MakesStep protocol old new source out result
   put_makes_step old new source timed m out result own_address is stays answers = record {
@@ -20,7 +20,7 @@ module _ {S F R : Type 0} (protocol : Protocol S F R) where
     answers = answers;
   }
 
-  pub removed_makes_step : (old new : ReceiverState S) (source : ℕ) (m : ByAddress S) (out : Outcome S R) (result : Heard)
+  pub removed_makes_step : (old new : ReceiverState S) (source : ℕ) (m : ByAddress S) (out : SessionOutcome S R) (result : Heard)
       → new.own_address ≡ old.own_address → new.sessions ≡ finite.remove m source → out.session ≡ None
       → AnswersWith protocol old.own_address source out.reply out.message result → MakesStep protocol old new source out result
   removed_makes_step old new source m out result own_address is none answers = record {
@@ -37,14 +37,14 @@ module _ {S F R : Type 0} (protocol : Protocol S F R) where
       is ∙ ap (λ (k : ℕ). heard.Reply (protocol.reply_frame k source reply)) address_is
       ∙ ap (λ (r : R). heard.Reply (protocol.reply_frame own_address' source r)) reply_is
 
-  pub makes_step_as : (old new : ReceiverState S) (source : ℕ) (out out' : Outcome S R) (result : Heard) → out ≡ out' → MakesStep protocol old new source out result
+  pub makes_step_as : (old new : ReceiverState S) (source : ℕ) (out out' : SessionOutcome S R) (result : Heard) → out ≡ out' → MakesStep protocol old new source out result
       → MakesStep protocol old new source out' result
-  makes_step_as old new source out out' result is makes_step = subst (λ (o : Outcome S R). MakesStep protocol old new source o result) is makes_step
+  makes_step_as old new source out out' result is makes_step = subst (λ (o : SessionOutcome S R). MakesStep protocol old new source o result) is makes_step
 
 -- the step of a frame, from the session that was removed
-module _ {S R : Type 0} (after : ℕ → Option (Timed S) → Outcome S R) where
+module _ {S R : Type 0} (after : ℕ → Option (Timed S) → SessionOutcome S R) where
   pub session_removed : (old : ByAddress S) (now source last : ℕ) (m : ByAddress S) (removed : Option (Timed S)) (timed : Timed S)
-      (received : Received S R) (out : Outcome S R) → old ≡ m → removed ≡ finite.get m source → removed ≡ Some timed → timed.last ≡ last
+      (received : Received S R) (out : SessionOutcome S R) → old ≡ m → removed ≡ finite.get m source → removed ≡ Some timed → timed.last ≡ last
       → ((now last : ℕ) → outcome_of (max now last) received ≡ after now (Some (record { last = last; session = timed.session })))
       → out ≡ outcome_of (max now last) received
       → out ≡ after now (finite.get old source)

@@ -1,7 +1,7 @@
 -- Histories of a source, the latest event first, and the sessions that stand in them.
 use Rattle.std.proofs.Common.{◌≡◌, ◌<◌, Bool, true, false, cond, List, [], ◌∷◌, ◌++◌, Option, Some, None, ap, sym, subst, ◌∙◌, refl}
 use Rattle.vt_can.specs.declared.transport.sessions.Timed.{Timed}
-use Rattle.vt_can.specs.transport.Histories.{SessionEvent, Came, Spelling, AreQuiet, Sent, Stands}
+use Rattle.vt_can.specs.transport.Histories.{SessionEvent, Came, Spelling, AreQuiet, Sent, IsOpen}
 use Rattle.vt_can.specs.transport.Steps.{Matches, IsStanding}
 
 module _ {F : Type 0} where
@@ -123,7 +123,7 @@ module _ {F O P : Type 0} (s : Spelling F O P) where
           let same : first ≡ current = cc in
           subst (IsStanding s opening HasPackets (Came (s.request o) ∷ hs)) same (
             none,
-            subst (λ (q : O). Stands s (Came (s.request o) ∷ hs) q none) (sym opening_is) (record { sent = sent_first hs o none opened begun; more = more opened }),
+            subst (λ (q : O). IsOpen s (Came (s.request o) ∷ hs) q none) (sym opening_is) (record { sent = sent_first hs o none opened begun; more = more opened }),
             subst (λ (q : O). HasPackets (Some first) q none) (sym opening_is) (has none begun),
           )
 

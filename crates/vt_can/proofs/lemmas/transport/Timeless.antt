@@ -4,7 +4,7 @@ use Rattle.vt_can.specs.declared.frames.frame.Frame.{Frame}
 use Rattle.vt_can.specs.frames.Identifier.{parts_of, pgn_of}
 use Rattle.vt_can.specs.declared.transport.sessions.Timed.{Timed}
 use Rattle.vt_can.specs.transport.Sessions.{untimed_session}
-use Rattle.vt_can.specs.transport.Protocols.{Outcome, untimed_outcome}
+use Rattle.vt_can.specs.transport.Protocols.{SessionOutcome, untimed_outcome}
 use Rattle.vt_can.specs.transport.Wire.{by_group, frame_in, is_transport_frame_to, IsOfAnotherGroup}
 
 pub opened : {T : Type 0} (b : Bool) (x y : Timed T) → untimed_session (Some x) ≡ untimed_session (Some y)
@@ -13,7 +13,7 @@ opened true x y e = e
 opened false x y e = refl
 
 module _ {S R : Type 0} where
-  pub untimed_cond : (b : Bool) (x y x' y' : Outcome S R) → untimed_outcome x ≡ untimed_outcome x' → untimed_outcome y ≡ untimed_outcome y'
+  pub untimed_cond : (b : Bool) (x y x' y' : SessionOutcome S R) → untimed_outcome x ≡ untimed_outcome x' → untimed_outcome y ≡ untimed_outcome y'
       → untimed_outcome (cond b x y) ≡ untimed_outcome (cond b x' y')
   untimed_cond true x y x' y' e f = e
   untimed_cond false x y x' y' e f = f

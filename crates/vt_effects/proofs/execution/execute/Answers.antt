@@ -1,7 +1,7 @@
 use Rattle.std.proofs.Common.{ℕ, Option, Result, ◌≡◌, ◌∙◌, sym, ap, subst}
 use Rattle.vt_kinds.specs.declared.kind.Kind.{Kind}
-use Rattle.vt_stores.specs.Stores.{Contents}
-use Rattle.vt_effects.specs.Changes.{Answers, left, other_id}
+use Rattle.vt_stores.specs.Stores.{ObjectMap}
+use Rattle.vt_effects.specs.Changes.{HasResult, left, other_id}
 use Rattle.vt_effects.specs.Effects.{changed_by, other_kind}
 use Rattle.vt_chains.specs.Certificates.{AreLevels}
 use Rattle.vt_effects.proofs.Executing.{effect_plain, levels_plain}
@@ -11,7 +11,7 @@ pub returns-in-None-clause-result : goal.returns-in-None-clause-result
 returns-in-None-clause-result g c =
     let m = g.S.Store.contents c.args.store.now in
     let named : c.other_kind-named.result ≡ other_kind m (other_id c.args.command.now) = c.other_kind-named.ensures ∙ ap (other_kind m) c.other_id.ensures in
-    subst (λ (x : Result Contents ℕ). Answers c.change_in.result x)
+    subst (λ (x : Result ObjectMap ℕ). HasResult c.change_in.result x)
     (ap (changed_by m c.args.command.now) named ∙ sym (effect_plain m c.args.command.now (sym c.in-None.ensures))) c.change_in.ensures.result
 
 pub returns-in-None-clause-objects : goal.returns-in-None-clause-objects
@@ -25,5 +25,5 @@ pub returns-in-None-clause-levels : goal.returns-in-None-clause-levels
 returns-in-None-clause-levels g c =
     let m = g.S.Store.contents c.args.store.now in
     let named : c.other_kind-named.result ≡ other_kind m (other_id c.args.command.now) = c.other_kind-named.ensures ∙ ap (other_kind m) c.other_id.ensures in
-    subst (λ (n : Contents). AreLevels n c.args.levels.now) (sym (c.change_in.ensures.objects ∙ ap (λ (k : Option Kind). left m (changed_by m c.args.command.now k)) named))
+    subst (λ (n : ObjectMap). AreLevels n c.args.levels.now) (sym (c.change_in.ensures.objects ∙ ap (λ (k : Option Kind). left m (changed_by m c.args.command.now k)) named))
     (levels_plain m c.args.command.now c.args.levels.now (sym c.in-None.ensures) c.requires.levels)

@@ -1,5 +1,5 @@
 use Rattle.std.proofs.Common.{◌∙◌, refl, sym, subst}
-use Rattle.vt_stores.specs.Stores.{Contents}
+use Rattle.vt_stores.specs.Stores.{ObjectMap}
 use Rattle.vt_chains.specs.Certificates.{AreLevels}
 use Rattle.vt_effects.proofs.Executing.{effect_replacing, effect_refused, replaces, levels_replacing, levels_back, put_back_is, done, refused, made_is, failed_is, answers_done, answers_failed, after_done, after_failed, unchanged, unfit, answers_error}
 use Rattle.vt_effects.proofs.execution.replace.Goals as goal
@@ -73,7 +73,7 @@ returns-else-is_in_order-clause-levels g c =
     let n = g.S.Store.contents c.change_in.new.store in
     let last = g.S.Store.contents c.put_back.new.store in
     let made = made_is m n c.args.command.now c.args.named c.requires.named c.in-Ok.ensures.result c.change_in.ensures.objects in
-    subst (λ (k : Contents). AreLevels k c.is_in_order.new.levels)
+    subst (λ (k : ObjectMap). AreLevels k c.is_in_order.new.levels)
     (sym (put_back_is m n last c.args.command.now c.args.replacement.now c.requires.replaces
     (replaces m n c.args.command.now c.args.replacement.now c.requires.replaces made) c.put_back.ensures))
     (levels_back m c.args.levels.now c.is_in_order.new.levels c.requires.levels (c.if-is_in_order.ensures.kept refl))

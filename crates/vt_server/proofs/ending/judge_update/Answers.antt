@@ -1,5 +1,5 @@
 use Rattle.std.proofs.Common.{◌≡◌, subst, ap, ◌∙◌}
-use Rattle.vt_stores.specs.Stores.{Contents, map_of}
+use Rattle.vt_stores.specs.Stores.{ObjectMap, map_of}
 use Rattle.vt_verify.specs.Rules.{IsVerified, IsRefused}
 use Rattle.vt_chains.specs.Limits.{terminal}
 use Rattle.vt_verify.specs.Updates.{updated}
@@ -14,8 +14,8 @@ returns-in_ok-pool-in-Ok c bytes is =
       right = record {
         pool = pool;
         read = is;
-        verified = subst (λ (o : Contents). IsVerified (updated o pool)) store (subst IsVerified c.in-Ok.ensures.accepted.0 c.in-Ok.ensures.verified);
-        objects_are = ap map_of c.in-Ok.ensures.accepted.0 ∙ ap (λ (o : Contents). map_of (updated o pool)) store;
+        verified = subst (λ (o : ObjectMap). IsVerified (updated o pool)) store (subst IsVerified c.in-Ok.ensures.accepted.0 c.in-Ok.ensures.verified);
+        objects_are = ap map_of c.in-Ok.ensures.accepted.0 ∙ ap (λ (o : ObjectMap). map_of (updated o pool)) store;
       };
       carried_out = c.in_ok-pool-in-Ok.ensures.ok ∙ c.in_ok-live-in-Ok.ensures;
     }
@@ -28,7 +28,7 @@ returns-in_ok-reply-in-Err c bytes is =
       right = record {
         pool = pool;
         read = is;
-        refused = subst (λ (o : Contents). IsRefused terminal (updated o pool) c.in-Err.refusal) store c.in-Err.ensures.refused;
+        refused = subst (λ (o : ObjectMap). IsRefused terminal (updated o pool) c.in-Err.refusal) store c.in-Err.ensures.refused;
         named = c.in_ok-reply-in-Err.ensures.named;
       };
       carried_out = c.in_ok-reply-in-Err.ensures.reply;

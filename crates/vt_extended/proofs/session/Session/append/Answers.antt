@@ -2,12 +2,12 @@ use Rattle.std.proofs.Common.{◌≡◌, ℕ, ◌+◌, ◌++◌, eqb, true, List
 use Rattle.vt_extended.specs.declared.messages.Reply.TheVariants.{End}
 use Rattle.vt_extended.specs.Messages.{packet_count_of}
 use Rattle.vt_extended.specs.SessionState.{SessionState}
-use Rattle.vt_extended.specs.Steps.{Outcome, is_next, after_packet}
+use Rattle.vt_extended.specs.Steps.{SessionOutcome, is_next, after_packet}
 use Rattle.vt_extended.proofs.session.Session.append.Goals as goal
 
 whole_of : (s : SessionState) (now last number : ℕ) (packet bytes : List ℕ) → is_next s number ≡ true → s.received + 1 ≡ packet_count_of s.opening
     → bytes ≡ take s.opening.size (s.bytes ++ packet)
-    → ◌≡◌ {A = Outcome}
+    → ◌≡◌ {A = SessionOutcome}
     (record { session = None; reply = Some (End s.opening.size s.opening.pgn); message = Some (record { pgn = s.opening.pgn; bytes = bytes }) })
     (after_packet now (record { last = last; session = s }) number packet)
 whole_of s now last number packet bytes next whole is =
@@ -16,7 +16,7 @@ whole_of s now last number packet bytes next whole is =
 
 whole_from : (s self : SessionState) (now last number : ℕ) (packet bytes : List ℕ) → s ≡ self → is_next self number ≡ true → s.received + 1 ≡ packet_count_of s.opening
     → bytes ≡ take s.opening.size (s.bytes ++ packet)
-    → ◌≡◌ {A = Outcome}
+    → ◌≡◌ {A = SessionOutcome}
     (record { session = None; reply = Some (End s.opening.size s.opening.pgn); message = Some (record { pgn = s.opening.pgn; bytes = bytes }) })
     (after_packet now (record { last = last; session = self }) number packet)
 whole_from s self now last number packet bytes same next whole is =

@@ -2,7 +2,7 @@ use Rattle.std.proofs.Common.{◌≡◌, ◌∙◌, Bool, [], if◌then◌else�
 use Rattle.std.specs.Io.KnownBytes.{Appends}
 use Rattle.std.proofs.KnownBytes.{Appends-nil}
 use Rattle.vt_logs.specs.Progress.{scene}
-use Rattle.vt_logs.specs.Taken.{Scene}
+use Rattle.vt_logs.specs.Taken.{ReplayState}
 use Rattle.vt_logs.specs.Texts.{new_screen}
 use Rattle.vt_logs.proofs.Begun.{on_any_err}
 use Rattle.vt_logs.proofs.Stepping.{input_prints, input_refused, input_taken, input_unprinted, sent_begun, shown_begun}
@@ -28,8 +28,8 @@ returns-in_err-is_new-clause-stopped g c =
 pub returns-in_err-put_outputs-clause-stopped : goal.returns-in_err-put_outputs-clause-stopped
 returns-in_err-put_outputs-clause-stopped g c =
     let held = g.W.Write.contents in
-    let from : Scene = scene c.args.terminal.now c.args.self.now.screen.items in
-    let to : Scene = scene c.step.new.self c.draw.new.self.screen.items in
+    let from : ReplayState = scene c.args.terminal.now c.args.self.now.screen.items in
+    let to : ReplayState = scene c.step.new.self c.draw.new.self.screen.items in
     let prints = input_prints from to c.args.input.now c.clear.new.self.items c.step.new.outputs.items c.clear.ensures.items c.in_ok-step.ensures.ok c.in_ok-is_new.ensures.drawn in
     on_any_err c.from_residual-in_err-put_outputs.result
     (sent_begun from to c.args.input.now c.step.new.outputs.items (held c.args.writer.now) (held c.put_outputs.new.writer) prints
@@ -38,8 +38,8 @@ returns-in_err-put_outputs-clause-stopped g c =
 pub returns-in_err-put-clause-stopped : goal.returns-in_err-put-clause-stopped
 returns-in_err-put-clause-stopped g c =
     let held = g.W.Write.contents in
-    let from : Scene = scene c.args.terminal.now c.args.self.now.screen.items in
-    let to : Scene = scene c.step.new.self c.draw.new.self.screen.items in
+    let from : ReplayState = scene c.args.terminal.now c.args.self.now.screen.items in
+    let to : ReplayState = scene c.step.new.self c.draw.new.self.screen.items in
     let prints = input_prints from to c.args.input.now c.clear.new.self.items c.step.new.outputs.items c.clear.ensures.items c.in_ok-step.ensures.ok c.in_ok-is_new.ensures.drawn in
     let told : new_screen from.screen to.screen ≡ to.screen = c.in_ok-is_new.ensures.told ∙ ap (λ (is_new : Bool). if is_new then to.screen else []) c.if-is_new.true in
     on_any_err c.from_residual-in_err-put.result
@@ -49,8 +49,8 @@ returns-in_err-put-clause-stopped g c =
 pub returns-in_ok-put-clause-takes : goal.returns-in_ok-put-clause-takes
 returns-in_ok-put-clause-takes g c =
     let held = g.W.Write.contents in
-    let from : Scene = scene c.args.terminal.now c.args.self.now.screen.items in
-    let to : Scene = scene c.step.new.self c.draw.new.self.screen.items in
+    let from : ReplayState = scene c.args.terminal.now c.args.self.now.screen.items in
+    let to : ReplayState = scene c.step.new.self c.draw.new.self.screen.items in
     let prints = input_prints from to c.args.input.now c.clear.new.self.items c.step.new.outputs.items c.clear.ensures.items c.in_ok-step.ensures.ok c.in_ok-is_new.ensures.drawn in
     let told : new_screen from.screen to.screen ≡ to.screen = c.in_ok-is_new.ensures.told ∙ ap (λ (is_new : Bool). if is_new then to.screen else []) c.if-is_new.true in
     input_taken from to c.args.input.now c.step.new.outputs.items (held c.args.writer.now) (held c.put_outputs.new.writer) (held c.put.new.writer) prints
@@ -60,8 +60,8 @@ returns-in_ok-put-clause-takes g c =
 pub returns-else-is_new-clause-takes : goal.returns-else-is_new-clause-takes
 returns-else-is_new-clause-takes g c =
     let held = g.W.Write.contents in
-    let from : Scene = scene c.args.terminal.now c.args.self.now.screen.items in
-    let to : Scene = scene c.step.new.self c.draw.new.self.screen.items in
+    let from : ReplayState = scene c.args.terminal.now c.args.self.now.screen.items in
+    let to : ReplayState = scene c.step.new.self c.draw.new.self.screen.items in
     let prints = input_prints from to c.args.input.now c.clear.new.self.items c.step.new.outputs.items c.clear.ensures.items c.in_ok-step.ensures.ok c.in_ok-is_new.ensures.drawn in
     let told : new_screen from.screen to.screen ≡ [] = c.in_ok-is_new.ensures.told ∙ ap (λ (is_new : Bool). if is_new then to.screen else []) c.if-is_new.false in
     let mid = held c.put_outputs.new.writer in

@@ -1,6 +1,6 @@
 use Rattle.std.proofs.lemmas.Result.{on_err_weaker, on_ok_weaker}
 use Rattle.vt_can.specs.lines.Readings.{reading_of}
-use Rattle.vt_logs.specs.Progress.{stand, Stand}
+use Rattle.vt_logs.specs.Progress.{stand, ReplayPoint}
 use Rattle.vt_server.specs.States.{state_of}
 use Rattle.vt_logs.proofs.Taking.{takes_one}
 use Rattle.vt_logs.proofs.Begun.{stops_one}
@@ -8,15 +8,15 @@ use Rattle.vt_logs.proofs.progress.Progress.take_line.Goals as goal
 
 pub returns-clause-takes : goal.returns-clause-takes
 returns-clause-takes g c =
-    let from : Stand = stand c.args.terminal.now c.args.self.now.screen.items c.args.self.now.counts (g.W.Write.contents c.args.writer.now) in
-    let to : Stand = stand c.take_reading.new.terminal c.take_reading.new.self.screen.items c.take_reading.new.self.counts (g.W.Write.contents c.take_reading.new.writer) in
+    let from : ReplayPoint = stand c.args.terminal.now c.args.self.now.screen.items c.args.self.now.counts (g.W.Write.contents c.args.writer.now) in
+    let to : ReplayPoint = stand c.take_reading.new.terminal c.take_reading.new.self.screen.items c.take_reading.new.self.counts (g.W.Write.contents c.take_reading.new.writer) in
     on_ok_weaker c.take_reading.result
     (takes_one from to c.args.line.now (reading_of c.parse_line-reading.result) c.parse_line-reading.ensures c.requires.short)
     c.take_reading.ensures.takes
 
 pub returns-clause-stopped : goal.returns-clause-stopped
 returns-clause-stopped g c =
-    let from : Stand = stand c.args.terminal.now c.args.self.now.screen.items c.args.self.now.counts (g.W.Write.contents c.args.writer.now) in
+    let from : ReplayPoint = stand c.args.terminal.now c.args.self.now.screen.items c.args.self.now.counts (g.W.Write.contents c.args.writer.now) in
     on_err_weaker c.take_reading.result
     (stops_one from (state_of c.take_reading.new.terminal) c.args.line.now (reading_of c.parse_line-reading.result) (g.W.Write.contents c.take_reading.new.writer) c.parse_line-reading.ensures c.requires.short)
     c.take_reading.ensures.stopped

@@ -1,5 +1,5 @@
 use Rattle.std.proofs.Common.{◌∙◌, ◌+◌, ap, subst}
-use Rattle.vt_stores.specs.Stores.{Contents}
+use Rattle.vt_stores.specs.Stores.{ObjectMap}
 use Rattle.vt_machine.specs.Lives.{IsDone}
 use Rattle.vt_machine.proofs.Living.{key_stays, after_shape, events_small, is_done, kind_stays, marks_stay}
 use Rattle.vt_macros.proofs.Nesting.{after_can}
@@ -16,7 +16,7 @@ raise_all-steps-requires-clause-small g c =
 
 pub returns-in-Ok-clause-applied : goal.returns-in-Ok-clause-applied
 returns-in-Ok-clause-applied g c =
-    subst (λ (o : Contents). IsDone o c.args.command.now (c.raise_all-steps.result + 1) (g.S.Store.contents c.raise_all-steps.new.store)) (ap (λ s. s.objects) c.self.view_is)
+    subst (λ (o : ObjectMap). IsDone o c.args.command.now (c.raise_all-steps.result + 1) (g.S.Store.contents c.raise_all-steps.new.store)) (ap (λ s. s.objects) c.self.view_is)
     (is_done c.self.inside.index (g.S.Store.contents c.self.inside.store) (g.S.Store.contents c.execute.new.store) (g.S.Store.contents c.raise_all-steps.new.store)
     c.execute.new.levels c.raise_all-steps.new.levels c.args.command.now c.deref.result.now c.raise_all-steps.result (c.deref.ensures.0 ∙ c.events_of-raised.ensures)
     c.in-Ok.ensures.result c.execute.ensures.objects c.raise_all-steps.ensures)

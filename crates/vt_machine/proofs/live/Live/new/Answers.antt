@@ -1,5 +1,5 @@
 use Rattle.std.proofs.Common.{◌≡◌, None, IfOk, ap, subst, ◌∙◌}
-use Rattle.vt_stores.specs.Stores.{Contents}
+use Rattle.vt_stores.specs.Stores.{ObjectMap}
 use Rattle.vt_effects.specs.Effects.{kind_in}
 use Rattle.vt_machine.specs.Lives.{SetState}
 use Rattle.vt_machine.proofs.Living.{stored_is, stored_closed, stored_shallow, stored_runs}
@@ -25,12 +25,12 @@ of_parts-requires-clause-runs g c =
 
 pub of_parts-requires-clause-set : goal.of_parts-requires-clause-set
 of_parts-requires-clause-set g c =
-    ap (λ (m : Contents). kind_in m c.working_set_of-working_set.result)
+    ap (λ (m : ObjectMap). kind_in m c.working_set_of-working_set.result)
     (c.in_ok-store.ensures ∙ stored_is c.objects.result.now c.args.accepted.now c.objects.ensures.all c.objects.ensures.stored)
     ∙ c.working_set_of-working_set.ensures
 
 pub returns : goal.returns
 returns g c =
-    subst (λ (m : Contents). IfOk c.of_parts.result (λ (live : SetState). live ≡ record { objects = m; key = None; input = None }))
+    subst (λ (m : ObjectMap). IfOk c.of_parts.result (λ (live : SetState). live ≡ record { objects = m; key = None; input = None }))
     (c.in_ok-store.ensures ∙ stored_is c.objects.result.now c.args.accepted.now c.objects.ensures.all c.objects.ensures.stored)
     c.of_parts.ensures

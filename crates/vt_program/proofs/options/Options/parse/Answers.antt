@@ -6,8 +6,8 @@ use Rattle.clap.specs.declared.error.Error.{Error}
 use Rattle.clap.specs.declared.parser.matches.ArgMatches.{ArgMatches}
 use Rattle.clap.proofs.WalkLemmas.{first_value-rows, one_text-rows}
 use Rattle.vt_program.specs.declared.options.Options.{Options}
-use Rattle.vt_program.specs.declared.options.Refusal.{Refusal}
-use Rattle.vt_program.specs.declared.options.Refusal.TheVariants.{Words, Address, Name, OwnerIsOwn, Alone, Memory}
+use Rattle.vt_program.specs.declared.options.UsageError.{UsageError}
+use Rattle.vt_program.specs.declared.options.UsageError.TheVariants.{Words, Address, Name, OwnerIsOwn, Alone, Memory}
 use Rattle.vt_program.specs.Words.{AreApart, Given, Gives, IsMistake, IsRefusalFor, IsRefusalOf, WordsGive, app, faults_in, given_by, given_in}
 use Rattle.vt_program.proofs.options.Options.parse.Goals as goal
 
@@ -29,7 +29,7 @@ unfolding faults_in
 faults_of_app command words r same kinds =
     subst (λ (a : App). FailsBy (fault_of a words) r) same (kinds (ap is_simple_and_free same))
 
-refused_by_clap : (words : List Text) (e : Error) (r : Refusal) → IsRefusalFor e r → HasKind (faults_in words) e → IsRefusalOf words r
+refused_by_clap : (words : List Text) (e : Error) (r : UsageError) → IsRefusalFor e r → HasKind (faults_in words) e → IsRefusalOf words r
 refused_by_clap words e (Words other) for (inl memory) = absurd (for.1 memory)
 refused_by_clap words e (Words other) for (inr among) = rw for.0 among
 refused_by_clap words e (Address option value) for kind = absurd for
@@ -38,13 +38,13 @@ refused_by_clap words e OwnerIsOwn for kind = absurd for
 refused_by_clap words e Alone for kind = absurd for
 refused_by_clap words e Memory for kind = tt
 
-words_give : (words : List Text) (given : Given) (r : Result Options Refusal) → given ≡ given_by words → faults_in words ≡ []
+words_give : (words : List Text) (given : Given) (r : Result Options UsageError) → given ≡ given_by words → faults_in words ≡ []
     → IfOk r (Gives given) → IfOk r AreApart → IfOk r (WordsGive words)
 words_give words given (Ok options) same none gives apart =
     record { no_fault = none; gives = subst (λ (g : Given). Gives g options) same gives; apart = apart }
 words_give words given (Err refusal) same none gives apart = tt
 
-words_are_refused : (words : List Text) (given : Given) (r : Result Options Refusal) → given ≡ given_by words → faults_in words ≡ []
+words_are_refused : (words : List Text) (given : Given) (r : Result Options UsageError) → given ≡ given_by words → faults_in words ≡ []
     → IfErr r (IsMistake given) → IfErr r (IsRefusalOf words)
 words_are_refused words given (Ok options) same none mistake = tt
 words_are_refused words given (Err (Words error)) same none mistake = absurd mistake

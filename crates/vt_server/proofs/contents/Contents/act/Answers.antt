@@ -5,7 +5,7 @@ use Rattle.vt_server.specs.Acting.{PerformsAt}
 use Rattle.vt_node.specs.ByAddress.{with_at}
 use Rattle.vt_server.specs.Uploads.{Kept, content_of}
 use Rattle.vt_server.proofs.Performed.{performed-at, pools-written}
-use Rattle.vt_server.proofs.contents.Contents.act.Goals as goal
+use Rattle.vt_server.proofs.contents.PoolTable.act.Goals as goal
 
 pub returns : goal.returns
 returns c =

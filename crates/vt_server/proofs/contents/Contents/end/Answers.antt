@@ -5,7 +5,7 @@ use Rattle.vt_node.specs.ByAddress.{with_at}
 use Rattle.vt_server.specs.Uploads.{Kept, content_of}
 use Rattle.vt_server.proofs.Ended.{ends-refused}
 use Rattle.vt_server.proofs.Writes.{upload-written}
-use Rattle.vt_server.proofs.contents.Contents.end.Goals as goal
+use Rattle.vt_server.proofs.contents.PoolTable.end.Goals as goal
 
 pub returns-in-Refused : goal.returns-in-Refused
 returns-in-Refused c =

@@ -1,7 +1,7 @@
 use Rattle.std.proofs.Common.{None}
 use Rattle.vt_server.specs.Uploads.{bytes_of}
 use Rattle.vt_node.proofs.ByAddress.{all-default}
-use Rattle.vt_server.proofs.contents.Contents.new.Goals as goal
+use Rattle.vt_server.proofs.contents.PoolTable.new.Goals as goal
 
 pub invariant_of-result : goal.invariant_of-result
 invariant_of-result c = record {

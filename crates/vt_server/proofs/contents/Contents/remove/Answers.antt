@@ -4,7 +4,7 @@ use Rattle.vt_node.specs.ByAddress.{with_at}
 use Rattle.vt_server.specs.Uploads.{Kept, content_of}
 use Rattle.vt_server.proofs.Kept.{kept-removed}
 use Rattle.vt_server.proofs.Writes.{contents-written}
-use Rattle.vt_server.proofs.contents.Contents.remove.Goals as goal
+use Rattle.vt_server.proofs.contents.PoolTable.remove.Goals as goal
 
 pub invariant_of-self : goal.invariant_of-self
 invariant_of-self c = kept-removed _ _ _ c.self.invariant _ _ _ (omega arith)

@@ -6,7 +6,7 @@ use Rattle.vt_machine.specs.declared.operator.OperatorRefusal.{OperatorRefusal}
 use Rattle.vt_server.specs.Acting.{PerformsAt}
 use Rattle.vt_node.specs.Messages.{message_to}
 use Rattle.vt_server.specs.Operators.{filled}
-use Rattle.vt_server.specs.Places.{Content}
+use Rattle.vt_server.specs.Places.{SetPool}
 use Rattle.vt_server.specs.States.{state_of}
 use Rattle.vt_server.specs.Terminals.{pool_of}
 use Rattle.vt_server.specs.Uploads.{content_of}
@@ -59,7 +59,7 @@ pub returns-in-Some-Err-clause-tells : goal.returns-in-Some-Err-clause-tells
 returns-in-Some-Err-clause-tells c none =
     let t = c.args.self.now in
     let a = c.in-Some.address in
-    let before : Content = content_of t.contents a in
+    let before : SetPool = content_of t.contents a in
     let action = action_value c.args.action.now in
     let acted = c.act.ensures in (
       none,

@@ -1,9 +1,9 @@
 use lib.Pointwise.{pointwise}
 use Rattle.std.proofs.Common.{◌≡◌, ℕ, List, drop, Option, Some, None, nat_eq, true≢false, refl, sym, ap, subst, ◌∙◌}
 use Rattle.vt_can.specs.declared.frames.frame.Frame.{Frame}
-use Rattle.vt_server.specs.Hearings.{Answers, IsReadyNow}
+use Rattle.vt_server.specs.Hearings.{HandlesMessage, FitsOneFrame}
 use Rattle.vt_node.specs.Messages.{message_to}
-use Rattle.vt_server.specs.Places.{Content, with_piece}
+use Rattle.vt_server.specs.Places.{SetPool, with_piece}
 use Rattle.vt_server.specs.States.{state_of}
 use Rattle.vt_node.specs.ByAddress.{with_at}
 use Rattle.vt_server.specs.Transfers.{ended, end_of_pool}
@@ -25,9 +25,9 @@ returns-in_err-reply-in-Nothing-clause-answers c =
     let a = c.args.source in
     let some = c.if-not-registered.ensures in
     let none : None ≡ c.from_residual.result = cc in
-    subst (λ (r : Option Frame). Answers (state_of t) a c.args.bytes.now r (state_of c.reply.new.self)) none
+    subst (λ (r : Option Frame). HandlesMessage (state_of t) a c.args.bytes.now r (state_of c.reply.new.self)) none
     (other-answered (state_of t) a c.args.bytes.now some (state_of c.reply.new.self) None
-    (subst (IsReadyNow (content_of t.contents a) (room_of t.contents a) c.args.bytes.now) c.in-Nothing.is (c.requires (sym some)))
+    (subst (FitsOneFrame (content_of t.contents a) (room_of t.contents a) c.args.bytes.now) c.in-Nothing.is (c.requires (sym some)))
     c.in_err-reply-in-Nothing.ensures.replies)
 
 pub returns-in_ok-reply-in-Nothing-clause-answers : goal.returns-in_ok-reply-in-Nothing-clause-answers
@@ -35,10 +35,10 @@ returns-in_ok-reply-in-Nothing-clause-answers c =
     let t = c.args.self.now in
     let a = c.args.source in
     let some = c.if-not-registered.ensures in
-    subst (λ (f : Frame). Answers (state_of t) a c.args.bytes.now (Some f) (state_of c.reply.new.self))
+    subst (λ (f : Frame). HandlesMessage (state_of t) a c.args.bytes.now (Some f) (state_of c.reply.new.self))
     (ap (λ own. message_to own a c.in_ok-reply-in-Nothing.reply) (sym c.own-own.ensures) ∙ sym c.message_to.ensures)
     (other-answered (state_of t) a c.args.bytes.now some (state_of c.reply.new.self) (Some c.in_ok-reply-in-Nothing.reply)
-    (subst (IsReadyNow (content_of t.contents a) (room_of t.contents a) c.args.bytes.now) c.in-Nothing.is (c.requires (sym some)))
+    (subst (FitsOneFrame (content_of t.contents a) (room_of t.contents a) c.args.bytes.now) c.in-Nothing.is (c.requires (sym some)))
     c.in_ok-reply-in-Nothing.ensures.replies)
 
 pub returns-in-Piece-clause-answers : goal.returns-in-Piece-clause-answers
@@ -46,7 +46,7 @@ returns-in-Piece-clause-answers c =
     let t = c.args.self.now in
     let a = c.args.source in
     let some = c.if-not-registered.ensures in
-    let ready = subst (IsReadyNow (content_of t.contents a) (room_of t.contents a) c.args.bytes.now) c.in-Piece.is (c.requires (sym some)) in
+    let ready = subst (FitsOneFrame (content_of t.contents a) (room_of t.contents a) c.args.bytes.now) c.in-Piece.is (c.requires (sym some)) in
     piece-answered (state_of t) a c.args.bytes.now some (state_of (record t { contents = c.feed.new.self })) ready.0
     (contents-state t c.feed.new.self a (with_piece (content_of t.contents a) (drop 1 c.args.bytes.now))
     (c.feed.ensures ∙ ap (λ (b : List ℕ). with_at a (with_piece (content_of t.contents a) (drop 1 b)) (content_of t.contents)) ready.1))
@@ -56,8 +56,8 @@ returns-after-eq-clause-answers c =
     let t = c.args.self.now in
     let a = c.args.source in
     let some = c.if-not-registered.ensures in
-    let ready = subst (IsReadyNow (content_of t.contents a) (room_of t.contents a) c.args.bytes.now) c.in-End.is (c.requires (sym some)) in
-    subst (λ (f : Frame). Answers (state_of t) a c.args.bytes.now (Some f) (state_of (record t { contents = c.end-reply.new.self })))
+    let ready = subst (FitsOneFrame (content_of t.contents a) (room_of t.contents a) c.args.bytes.now) c.in-End.is (c.requires (sym some)) in
+    subst (λ (f : Frame). HandlesMessage (state_of t) a c.args.bytes.now (Some f) (state_of (record t { contents = c.end-reply.new.self })))
     (ap (λ own. message_to own a c.end-reply.result) (sym c.own-own.ensures) ∙ sym c.message_to-in-End.ensures)
     (end-answered (state_of t) a c.args.bytes.now some (state_of (record t { contents = c.end-reply.new.self })) c.in-End.judgement c.end-reply.result
     (content_of c.end-reply.new.self) ready.0 c.end-reply.ensures
@@ -74,7 +74,7 @@ returns-after-eq-clause-tells c none =
     let t = c.args.self.now in
     let a = c.args.source in
     let ended-by = c.end-reply.ensures in
-    let left : Content = ended (content_of t.contents a) ended-by.verdict in
+    let left : SetPool = ended (content_of t.contents a) ended-by.verdict in
     let told = either_false t.redraws c.if-eq.self none in (
       told.0,
       elim c.if-eq.branch [

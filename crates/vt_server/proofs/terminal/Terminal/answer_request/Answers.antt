@@ -8,7 +8,7 @@ use Rattle.vt_server.specs.States.{state_of}
 use Rattle.vt_server.specs.Steps.{defence}
 use Rattle.vt_server.specs.Terminals.{State, part}
 use Rattle.vt_server.specs.Transfers.{IsVerdict}
-use Rattle.vt_node.specs.declared.bus.Notice.TheVariants as notices
+use Rattle.vt_node.specs.declared.bus.FrameMeaning.TheVariants as notices
 use Rattle.vt_server.specs.declared.output.Output.TheVariants as declared
 use Rattle.vt_server.proofs.Framed.{any_verdict, with_place_at, takes-echo, takes-heard}
 use Rattle.vt_server.proofs.Heard.{none-ends, takes-nothing, request-unclaimed, heard-state}

@@ -6,7 +6,7 @@ use Rattle.vt_machine.specs.Lives.{SetState}
 use Rattle.vt_transport.specs.Wire.{rts_frame}
 use Rattle.vt_server.specs.Acting.{PerformsAt}
 use Rattle.vt_node.specs.Nodes.{NodeState}
-use Rattle.vt_server.specs.Places.{Content, Place}
+use Rattle.vt_server.specs.Places.{SetPool, AddressState}
 use Rattle.vt_server.specs.States.{state_of, places_by}
 use Rattle.vt_server.specs.Terminals.{pool_of}
 use Rattle.vt_server.specs.Uploads.{content_of}
@@ -26,7 +26,7 @@ returns-in-Some-text_fault-clause-takes c =
     let a = c.in-Some.address in
     takes-fault s a (shown-at (pool_of s) s.shown a c.in-Some.ensures) c.args.id c.args.text.now c.in-Some-text_fault.refusal c.in-Some-text_fault.ensures.fault
     (record s { places = places_by (content_of c.text_fault.new.self) c.args.self.now.node (heard_of c.args.self.now.registry.watch) })
-    (ap (λ (k : ℕ → Content). record s { places = places_by k c.args.self.now.node (heard_of c.args.self.now.registry.watch) }) c.text_fault.ensures.same)
+    (ap (λ (k : ℕ → SetPool). record s { places = places_by k c.args.self.now.node (heard_of c.args.self.now.registry.watch) }) c.text_fault.ensures.same)
     c.args.outputs.now.items c.refuse-in-Some-text_fault.new.outputs.items
     (c.refuse-in-Some-text_fault.ensures.items ∙ ap (λ (f : OperatorFault). c.args.outputs.now.items ++ declared.Refused f ∷ []) c.from.ensures)
 
@@ -47,12 +47,12 @@ returns-in-Ok-clause-takes c =
     let pool = c.act-done.ensures.pool in
     takes-long s a there c.args.id c.args.text.now c.in_default-text_fault.ensures.fault c.requires.long c.in-Ok.ensures.ok.0
     c.act-done.result pool
-    (subst (λ (o : Option SetState). PerformsAt o (actions.Text c.args.id c.args.text.now) c.act-done.result pool) (ap (λ (k : ℕ → Content). (k a).pool) c.text_fault.ensures.same) c.act-done.ensures.performs)
+    (subst (λ (o : Option SetState). PerformsAt o (actions.Text c.args.id c.args.text.now) c.act-done.result pool) (ap (λ (k : ℕ → SetPool). (k a).pool) c.text_fault.ensures.same) c.act-done.ensures.performs)
     (record s { claims = c.start.new.self.claims; places = places_by (content_of c.act-done.new.self) c.start.new.self heard })
     (ap (λ (n : NodeState). record s { claims = n.claims; places = places_by (content_of c.act-done.new.self) n heard })
     (c.in-Ok.ensures.ok.1 ∙ ap (λ (m : List ℕ). record node { sending = finite.insert node.sending a (record { last = s.now; session = record { pgn = VT_TO_ECU; bytes = m } }) }) bytes)
-    ∙ ap (λ (p : ℕ → Place). record s { places = p })
-    (started-places s (content_of c.text_fault.new.self) (content_of c.act-done.new.self) node heard (ap (λ (k : ℕ → Content). places_by k node heard) (sym c.text_fault.ensures.same)) a pool c.act-done.ensures.content
+    ∙ ap (λ (p : ℕ → AddressState). record s { places = p })
+    (started-places s (content_of c.text_fault.new.self) (content_of c.act-done.new.self) node heard (ap (λ (k : ℕ → SetPool). places_by k node heard) (sym c.text_fault.ensures.same)) a pool c.act-done.ensures.content
     (record { last = s.now; session = record { pgn = VT_TO_ECU; bytes = _ } })))
     c.in-Ok.request (c.in-Ok.ensures.ok.2 ∙ ap (λ (m : List ℕ). rts_frame s.claims.own a (length m) VT_TO_ECU) bytes)
     c.args.outputs.now.items c.send.new.outputs.items c.send.ensures.items

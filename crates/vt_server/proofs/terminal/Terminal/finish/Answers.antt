@@ -1,21 +1,21 @@
 use Rattle.std.proofs.Common.{◌++◌, ap, subst, ◌∙◌}
-use Rattle.vt_server.specs.Hearings.{IsReady}
+use Rattle.vt_server.specs.Hearings.{FitsAfterTimeouts}
 use Rattle.vt_server.specs.Outputs.{outputs_of}
 use Rattle.vt_server.specs.States.{state_of}
 use Rattle.vt_server.specs.Steps.{losing}
 use Rattle.vt_server.specs.Terminals.{State}
-use Rattle.vt_server.specs.declared.hearing.Ready.{Ready}
+use Rattle.vt_server.specs.declared.hearing.PreparedFrame.{PreparedFrame}
 use Rattle.vt_server.proofs.Heard.{hears-loss, hears-claim, hears-other, claim-takes}
 use Rattle.vt_server.proofs.Undrawn.{claimed-left, left-same, shows-then}
 use Rattle.vt_server.proofs.terminal.Terminal.finish.Goals as goal
 
 pub take-requires-clause-no_claim : goal.take-requires-clause-no_claim
 take-requires-clause-no_claim c =
-    let it = subst (λ (r : Ready). IsReady c.requires.ready.0 c.args.self.now c.args.notice.now c.args.frame.now r) c.in-Prepared.is c.requires.ready.1 in it.1
+    let it = subst (λ (r : PreparedFrame). FitsAfterTimeouts c.requires.ready.0 c.args.self.now c.args.notice.now c.args.frame.now r) c.in-Prepared.is c.requires.ready.1 in it.1
 
 pub take-requires-clause-rooms : goal.take-requires-clause-rooms
 take-requires-clause-rooms c =
-    let it = subst (λ (r : Ready). IsReady c.requires.ready.0 c.args.self.now c.args.notice.now c.args.frame.now r) c.in-Prepared.is c.requires.ready.1 in record {
+    let it = subst (λ (r : PreparedFrame). FitsAfterTimeouts c.requires.ready.0 c.args.self.now c.args.notice.now c.args.frame.now r) c.in-Prepared.is c.requires.ready.1 in record {
       tp = it.2.tp;
       etp = it.2.etp;
       sets = it.2.sets;
@@ -23,13 +23,13 @@ take-requires-clause-rooms c =
 
 pub take-requires-clause-upload : goal.take-requires-clause-upload
 take-requires-clause-upload c =
-    let it = subst (λ (r : Ready). IsReady c.requires.ready.0 c.args.self.now c.args.notice.now c.args.frame.now r) c.in-Prepared.is c.requires.ready.1 in it.3
+    let it = subst (λ (r : PreparedFrame). FitsAfterTimeouts c.requires.ready.0 c.args.self.now c.args.notice.now c.args.frame.now r) c.in-Prepared.is c.requires.ready.1 in it.3
 
 pub returns-in-Loses-clause-hears : goal.returns-in-Loses-clause-hears
 returns-in-Loses-clause-hears c old s display ready =
     let n = c.args.notice.now in
     let frame = c.args.frame.now in
-    let it = subst (λ (r : Ready). IsReady s c.args.self.now n frame r) c.in-Loses.is ready in
+    let it = subst (λ (r : PreparedFrame). FitsAfterTimeouts s c.args.self.now n frame r) c.in-Loses.is ready in
     hears-loss old s n frame (state_of c.lose.new.self) c.args.outputs.now.items c.lose.new.outputs.items it.1
     (c.lose.ensures.state ∙ ap (λ (x : State). (losing x).after) it.0)
     (c.lose.ensures.sent ∙ ap (λ (x : State). c.args.outputs.now.items ++ outputs_of (losing x).sent) it.0)
@@ -40,7 +40,7 @@ returns-in-Claimed-clause-hears c old s display ready =
     let frame = c.args.frame.now in
     let t = c.args.self.now in
     let u = c.take_claim.new.self in
-    let it = subst (λ (r : Ready). IsReady s t n frame r) c.in-Claimed.is ready in
+    let it = subst (λ (r : PreparedFrame). FitsAfterTimeouts s t n frame r) c.in-Claimed.is ready in
     hears-claim old s n frame it.0 (state_of u) (state_of c.settle.new.self) c.args.outputs.now.items c.take_claim.new.outputs.items c.settle.new.outputs.items it.1 it.2
     (claim-takes old s n frame (state_of t) (state_of u) c.source.result it.0 c.in-Claimed.former c.args.outputs.now.items c.take_claim.new.outputs.items
     c.take_claim.ensures.takes c.source.ensures it.1 it.3 it.4 it.5)
@@ -50,7 +50,7 @@ pub returns-in-Prepared-clause-hears : goal.returns-in-Prepared-clause-hears
 returns-in-Prepared-clause-hears c old s display ready =
     let n = c.args.notice.now in
     let frame = c.args.frame.now in
-    let it = subst (λ (r : Ready). IsReady s c.args.self.now n frame r) c.in-Prepared.is ready in
+    let it = subst (λ (r : PreparedFrame). FitsAfterTimeouts s c.args.self.now n frame r) c.in-Prepared.is ready in
     hears-other old s n frame (state_of c.args.self.now) (state_of c.take.new.self) (state_of c.settle-in-Prepared.new.self) c.args.outputs.now.items c.take.new.outputs.items c.settle-in-Prepared.new.outputs.items
     it.1 it.0 c.take.ensures.takes c.settle-in-Prepared.ensures.state (c.settle-in-Prepared.ensures.sent old display)
 
@@ -61,7 +61,7 @@ returns-in-Claimed-clause-tells c none =
     let frame = c.args.frame.now in
     let t = c.args.self.now in
     let u = c.take_claim.new.self in
-    let it = subst (λ (r : Ready). IsReady s t n frame r) c.in-Claimed.is c.requires.ready.1 in
+    let it = subst (λ (r : PreparedFrame). FitsAfterTimeouts s t n frame r) c.in-Claimed.is c.requires.ready.1 in
     let took = claim-takes s s n frame (state_of t) (state_of u) c.source.result it.0 c.in-Claimed.former c.args.outputs.now.items c.take_claim.new.outputs.items
     c.take_claim.ensures.takes c.source.ensures it.1 it.3 it.4 it.5 in
     claimed-left s (state_of t) (state_of u) (state_of c.settle.new.self) frame n it.0 it.5 took.0 (c.settle.ensures.tells none).1

@@ -1,7 +1,7 @@
 use Rattle.std.proofs.Common.{ℕ, refl, ap, ◌∙◌}
 use Rattle.vt_stores.specs.Stores.{map_of}
 use Rattle.vt_server.specs.Choosing.{choosing}
-use Rattle.vt_server.specs.Places.{Place}
+use Rattle.vt_server.specs.Places.{AddressState}
 use Rattle.vt_server.specs.States.{state_of, places_by}
 use Rattle.vt_server.specs.Uploads.{content_of}
 use Rattle.vt_node.specs.Watches.{heard_of}
@@ -14,7 +14,7 @@ returns-clause-ok c =
     let s = state_of t in
     c.choose.ensures.state
     ∙ ap choosing
-    (ap (λ (places : ℕ → Place). record s { sets = c.preload.new.self.sets; places = places })
+    (ap (λ (places : ℕ → AddressState). record s { sets = c.preload.new.self.sets; places = places })
     (λ i. places_by (c.put.ensures i) t.node (c.in_ok-preload.ensures.heard i))
     ∙ preloaded-state (content_of t.contents) t.node (heard_of t.registry.watch) c.args.address (map_of c.args.pool.now) c.in_ok-live.live c.in_ok-live.ensures
     s c.preload.new.self.sets refl c.in_ok-preload.ensures.sets)

@@ -2,7 +2,7 @@ use Rattle.std.proofs.Common.{ℕ, sym, ap, ◌∙◌}
 use Rattle.std.specs.Option.{option_map}
 use Rattle.vt_server.specs.Choosing.{raised_at}
 use Rattle.vt_server.specs.Parts.{raised_on}
-use Rattle.vt_server.specs.Places.{Content}
+use Rattle.vt_server.specs.Places.{SetPool}
 use Rattle.vt_server.specs.States.{state_of, places_by}
 use Rattle.vt_server.specs.Terminals.{after_acts}
 use Rattle.vt_server.specs.Uploads.{content_of}
@@ -15,9 +15,9 @@ pub returns-in-Some : goal.returns-in-Some
 returns-in-Some c =
     let t = c.args.self.now in
     let a = c.in-Some.address in
-    let contents : ℕ → Content = content_of t.contents in
+    let contents : ℕ → SetPool = content_of t.contents in
     raised-place (state_of t) a c.args.event (places_by (content_of c.raise.new.self) t.node (heard_of t.registry.watch))
-    (ap (λ (f : ℕ → Content). places_by f t.node (heard_of t.registry.watch)) c.raise.ensures
+    (ap (λ (f : ℕ → SetPool). places_by f t.node (heard_of t.registry.watch)) c.raise.ensures
     ∙ content-placed contents t.node (heard_of t.registry.watch) a
     (record (contents a) { pool = option_map (λ state. raised_on state c.args.event) (contents a).pool }))
     ∙ ap (λ o. after_acts (state_of t) (raised_at o c.args.event)) (sym c.in-Some.is)

@@ -2,7 +2,7 @@ use Rattle.std.proofs.Common.{◌≡◌, ℕ, List, Option, Some, None, sym, ap,
 use Rattle.std.proofs.lemmas.Option.{same_Some}
 use Rattle.vt_server.specs.Commands.{content_after}
 use Rattle.vt_server.specs.Hearings.{IsReplyTo}
-use Rattle.vt_server.specs.Places.{Content}
+use Rattle.vt_server.specs.Places.{SetPool}
 use Rattle.vt_server.specs.States.{state_of, places_by}
 use Rattle.vt_server.specs.Uploads.{content_of}
 use Rattle.vt_node.specs.Watches.{heard_of}
@@ -29,7 +29,7 @@ returns-in_err-error-clause-replies c =
     subst (λ (r : Option (List ℕ)). IsReplyTo (state_of t) a c.args.bytes.now r (state_of (record t { contents = c.apply.new.self }))) none
     (is-commanded (state_of t) a c.args.bytes.now c.in_default.ensures c.in_ok-command.command
     (places_by (content_of c.apply.new.self) t.node (heard_of t.registry.watch)) None c.in_ok-command.ensures
-    (ap (λ (f : ℕ → Content). places_by f t.node (heard_of t.registry.watch)) c.in_err-error.ensures.content
+    (ap (λ (f : ℕ → SetPool). places_by f t.node (heard_of t.registry.watch)) c.in_err-error.ensures.content
     ∙ content-placed (content_of t.contents) t.node (heard_of t.registry.watch) a (content_after c.in_ok-command.command (content_of t.contents a)))
     c.in_err-error.ensures.error)
 
@@ -40,7 +40,7 @@ returns-clause-replies c =
     subst (λ (r : List ℕ). IsReplyTo (state_of t) a c.args.bytes.now (Some r) (state_of (record t { contents = c.apply.new.self }))) (sym c.reply_to.ensures)
     (is-commanded (state_of t) a c.args.bytes.now c.in_default.ensures c.in_ok-command.command
     (places_by (content_of c.apply.new.self) t.node (heard_of t.registry.watch)) (Some c.in_ok-error.error) c.in_ok-command.ensures
-    (ap (λ (f : ℕ → Content). places_by f t.node (heard_of t.registry.watch)) c.in_ok-error.ensures.content
+    (ap (λ (f : ℕ → SetPool). places_by f t.node (heard_of t.registry.watch)) c.in_ok-error.ensures.content
     ∙ content-placed (content_of t.contents) t.node (heard_of t.registry.watch) a (content_after c.in_ok-command.command (content_of t.contents a)))
     c.in_ok-error.ensures.error)
 
@@ -49,7 +49,7 @@ returns-in_err-error-clause-tells c none =
     let t = c.args.self.now in
     let a = c.args.source in
     let command = c.in_ok-command.command in
-    let before : Content = content_of t.contents a in (
+    let before : SetPool = content_of t.contents a in (
       none,
       same-pool t c.apply.new.self a (content_after command before) c.in_err-error.ensures.content
           (command-same command before (λ h. none-some (c.in_err-error.ensures.error ∙ h))),
@@ -60,7 +60,7 @@ returns-clause-tells c none =
     let t = c.args.self.now in
     let a = c.args.source in
     let command = c.in_ok-command.command in
-    let before : Content = content_of t.contents a in
+    let before : SetPool = content_of t.contents a in
     let told = either_false t.redraws c.if-error-eq0.self none in (
       told.0,
       elim c.if-error-eq0.branch [

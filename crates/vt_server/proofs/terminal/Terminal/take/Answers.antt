@@ -1,14 +1,14 @@
 use Rattle.std.proofs.Common.{◌≡◌, ◌<◌, List, ◌++◌, is_some, true≢false, refl, sym, ap, subst, ◌∙◌, append-nil}
 use Rattle.vt_can.specs.frames.Frame.{source_of}
 use Rattle.vt_names.specs.Registry.{Set, set_at}
-use Rattle.vt_server.specs.Hearings.{IsReadyBy, TakesNotice}
+use Rattle.vt_server.specs.Hearings.{FitsMeaning, TakesNotice}
 use Rattle.vt_server.specs.Outputs.{outputs_of}
-use Rattle.vt_server.specs.Places.{Place}
+use Rattle.vt_server.specs.Places.{AddressState}
 use Rattle.vt_server.specs.States.{state_of}
 use Rattle.vt_server.specs.Terminals.{State, Sent}
 use Rattle.vt_server.specs.Uploads.{content_of, room_of}
 use Rattle.vt_node.specs.Watches.{heard_of}
-use Rattle.vt_node.specs.declared.bus.Notice.TheVariants as notices
+use Rattle.vt_node.specs.declared.bus.FrameMeaning.TheVariants as notices
 use Rattle.vt_server.proofs.Framed.{takes-echo, takes-heard}
 use Rattle.vt_server.proofs.Heard.{upload-judges, came-reads, defence-none, heard-state}
 use Rattle.vt_server.proofs.Accepted.{accepted}
@@ -42,8 +42,8 @@ take_notice-requires-clause-upload c some =
     let n = c.args.notice.now in
     let frame = c.args.frame.now in
     let a = source_of frame in
-    let place : Place = (state_of t).places a in
-    subst (λ m. IsReadyBy n (content_of t.contents a) (room_of t.contents a) m c.args.upload)
+    let place : AddressState = (state_of t).places a in
+    subst (λ m. FitsMeaning n (content_of t.contents a) (room_of t.contents a) m c.args.upload)
     (came-reads t.time t.node.claims.own a place (record place { heard = heard_of c.hear.new.self.watch a }) n frame refl refl)
     (c.requires.upload (ap (λ (l : List Set). is_some (set_at a l)) (sym c.hear.ensures.sets) ∙ some))
 

@@ -1,11 +1,11 @@
 use Rattle.std.proofs.Common.{◌≡◌, ℕ, Some, sym, ap, ◌∙◌}
-use Rattle.vt_server.specs.Places.{Place}
+use Rattle.vt_server.specs.Places.{AddressState}
 use Rattle.vt_server.specs.States.{state_of, places_by}
 use Rattle.vt_server.specs.Steps.{before, changes}
 use Rattle.vt_server.specs.Terminals.{after_acts}
 use Rattle.vt_server.specs.Uploads.{content_of}
 use Rattle.vt_node.specs.Watches.{heard_of}
-use Rattle.vt_node.specs.declared.bus.Notice.TheVariants.{Claim}
+use Rattle.vt_node.specs.declared.bus.FrameMeaning.TheVariants.{Claim}
 use Rattle.vt_server.proofs.Claimed.{after-changes, acted-own, acted-other, sent-nothing, sent-defence}
 use Rattle.vt_server.proofs.Writes.{heard-placed}
 use Rattle.vt_server.proofs.terminal.Terminal.take_claim.Goals as goal
@@ -23,7 +23,7 @@ returns-then-source-own-clause-takes c s name frame verdict from former defended
           (record v { sets = c.hear.new.self.sets; places = places_by (content_of t.contents) t.node (heard_of c.hear.new.self.watch) }) (state_of c.bind.new.self)
           (λ e. c.if-source-own.true (e ∙ sym c.own.ensures))
           ((λ i. record v { sets = c.hear.ensures.sets i; places = places_by (content_of t.contents) t.node (c.hear.ensures.heard i) })
-          ∙ ap (λ (places : ℕ → Place). record v { places = places }) (heard-placed (content_of t.contents) t.node (heard_of t.registry.watch) c.args.source (Some t.time)))
+          ∙ ap (λ (places : ℕ → AddressState). record v { places = places }) (heard-placed (content_of t.contents) t.node (heard_of t.registry.watch) c.args.source (Some t.time)))
           c.bind.ensures,
       elim c.if-former.branch [
         | then-former w ↦ ap (λ outputs. outputs.items) w.outputs-is ∙ sent-defence s c.args.source name frame verdict f.is_defended defended (state_of c.args.self.now) w.own_claim.result c.args.outputs.now.items w.send.new.outputs.items is w.own_claim.ensures w.if-former.true w.send.ensures.items

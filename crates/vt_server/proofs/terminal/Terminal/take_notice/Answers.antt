@@ -4,8 +4,8 @@ use Rattle.vt_server.specs.Hearings.{TakesNotice}
 use Rattle.vt_server.specs.Parts.{after_master}
 use Rattle.vt_server.specs.States.{state_of}
 use Rattle.vt_server.specs.Terminals.{State, part, put}
-use Rattle.vt_node.specs.declared.bus.Notice.{Notice}
-use Rattle.vt_node.specs.declared.bus.Notice.TheVariants.{Member}
+use Rattle.vt_node.specs.declared.bus.FrameMeaning.{FrameMeaning}
+use Rattle.vt_node.specs.declared.bus.FrameMeaning.TheVariants.{Member}
 use Rattle.vt_server.proofs.Heard.{takes-master, takes-member, takes-nothing, idle-by}
 use Rattle.vt_server.proofs.Watched.{registry-state}
 use Rattle.vt_server.proofs.terminal.Terminal.take_notice.Goals as goal
@@ -16,7 +16,7 @@ returns-in-Master-clause-takes c =
     let t = state_of c.register.new.self in
     let outputs = c.args.outputs.now.items in
     let count = c.in-Master.count in
-    subst (λ (n : Notice). TakesNotice s n c.args.frame.now t outputs outputs) (sym c.in-Master.is)
+    subst (λ (n : FrameMeaning). TakesNotice s n c.args.frame.now t outputs outputs) (sym c.in-Master.is)
     (takes-master s t count c.args.frame.now outputs
     (c.register.ensures.state ∙ ap (λ (a : ℕ). put a (after_master a (part a s) (part a s).holder count) s) c.source-source.ensures))
 
@@ -27,7 +27,7 @@ returns-in-Member-clause-takes c =
     let name = c.in-Member.name in
     let registry = c.member-refused.new.self in
     let sets = registry.sets in
-    subst (λ (n : Notice). TakesNotice s n c.args.frame.now (state_of (record c.args.self.now { registry = registry })) outputs outputs) (sym c.in-Member.is)
+    subst (λ (n : FrameMeaning). TakesNotice s n c.args.frame.now (state_of (record c.args.self.now { registry = registry })) outputs outputs) (sym c.in-Member.is)
     (subst (λ (x : State). TakesNotice s (Member name) c.args.frame.now x outputs outputs) (sym (registry-state c.args.self.now registry c.member-refused.ensures.watch))
     (takes-member s name c.args.frame.now outputs sets
     (c.member-refused.ensures.sets ∙ ap (λ (a : ℕ). joining (set_at a s.sets) name s.sets) c.source-source.ensures)))

@@ -3,7 +3,7 @@ use Rattle.std.proofs.lemmas.Cmp.{nat_cmp_total}
 use Rattle.std.specs.Prelude.{IsTrue}
 use Rattle.std.specs.Ordering.{nat_cmp}
 use Rattle.std.specs.FinMap as finite
-use Rattle.vt_stores.specs.Stores.{Contents, Objects, AreStored, map_of}
+use Rattle.vt_stores.specs.Stores.{ObjectMap, Objects, AreStored, map_of}
 use Rattle.vt_chains.specs.Depths.{ids_of, inclusions_of, IsClosed}
 use Rattle.vt_chains.specs.Inclusions.{IsShallow}
 use Rattle.vt_verify.specs.Rules.{IsAcceptable}
@@ -17,22 +17,22 @@ true_test true is = tt
 true_test false is = absurd cc
 
 -- the map of objects by rising ID
-made_of : (m : Contents) (objects given : Objects) → AreStored objects → given ≡ objects → m ≡ finite.from_entries given → m ≡ map_of objects
+made_of : (m : ObjectMap) (objects given : Objects) → AreStored objects → given ≡ objects → m ≡ finite.from_entries given → m ≡ map_of objects
 made_of m objects given stored same is =
     is ∙ ap (λ (es : Objects). finite.from_entries {R = nat_cmp} es) same
     ∙ finite.same_map nat_cmp_total finite.nat_cmp-IsAntisymmetric (finite.from_entries objects) (map_of objects)
     (λ q. finite.get-from_entries nat_cmp_total objects q ∙ sym (finite.get-from_sorted nat_cmp objects q (true_test _ stored.rising)))
 
-closed_of : (m : Contents) (objects given : Objects) → AreStored objects → given ≡ objects → m ≡ finite.from_entries given → IsAcceptable terminal objects
+closed_of : (m : ObjectMap) (objects given : Objects) → AreStored objects → given ≡ objects → m ≡ finite.from_entries given → IsAcceptable terminal objects
     → IsClosed (ids_of m) (inclusions_of m)
 closed_of m objects given stored same is accepted =
-    subst (λ (n : Contents). IsClosed (ids_of n) (inclusions_of n)) (sym (made_of m objects given stored same is))
+    subst (λ (n : ObjectMap). IsClosed (ids_of n) (inclusions_of n)) (sym (made_of m objects given stored same is))
     (closed_store objects stored.rising accepted.references_there)
 
-shallow_of : (m : Contents) (objects given : Objects) → AreStored objects → given ≡ objects → m ≡ finite.from_entries given → IsAcceptable terminal objects
+shallow_of : (m : ObjectMap) (objects given : Objects) → AreStored objects → given ≡ objects → m ≡ finite.from_entries given → IsAcceptable terminal objects
     → IsShallow terminal.inclusions (inclusions_of m)
 shallow_of m objects given stored same is accepted =
-    subst (λ (n : Contents). IsShallow terminal.inclusions (inclusions_of n)) (sym (made_of m objects given stored same is))
+    subst (λ (n : ObjectMap). IsShallow terminal.inclusions (inclusions_of n)) (sym (made_of m objects given stored same is))
     (subst (IsShallow terminal.inclusions) (sym (same_inclusions objects stored.rising)) accepted.chains_short)
 
 pub returns-clause-closed : goal.returns-clause-closed

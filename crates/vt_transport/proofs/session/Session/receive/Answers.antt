@@ -1,12 +1,12 @@
 use Rattle.std.proofs.Common.{◌≡◌, ℕ, ◌+◌, ◌++◌, eqb, true, List, Some, None, take, sym, ap, ◌∙◌, eq-eqb}
 use Rattle.vt_transport.specs.declared.messages.Reply.TheVariants.{End}
 use Rattle.vt_transport.specs.SessionState.{SessionState}
-use Rattle.vt_transport.specs.Steps.{Outcome, after_packet}
+use Rattle.vt_transport.specs.Steps.{SessionOutcome, after_packet}
 use Rattle.vt_transport.proofs.session.Session.receive.Goals as goal
 
 whole_of : (s : SessionState) (now last number : ℕ) (packet bytes : List ℕ) → number ≡ s.received + 1 → number ≡ s.opening.packets
     → bytes ≡ take s.opening.size (s.bytes ++ packet)
-    → ◌≡◌ {A = Outcome}
+    → ◌≡◌ {A = SessionOutcome}
     (record { session = None; reply = Some (End s.opening.size s.opening.packets s.opening.pgn); message = Some (record { pgn = s.opening.pgn; bytes = bytes }) })
     (after_packet now (Some (record { last = last; session = s })) number packet)
 whole_of s now last number packet bytes next whole is =
@@ -16,7 +16,7 @@ whole_of s now last number packet bytes next whole is =
 
 whole_from : (s self : SessionState) (now last number : ℕ) (packet bytes : List ℕ) → s ≡ self → number ≡ s.received + 1 → number ≡ s.opening.packets
     → bytes ≡ take s.opening.size (s.bytes ++ packet)
-    → ◌≡◌ {A = Outcome}
+    → ◌≡◌ {A = SessionOutcome}
     (record { session = None; reply = Some (End s.opening.size s.opening.packets s.opening.pgn); message = Some (record { pgn = s.opening.pgn; bytes = bytes }) })
     (after_packet now (Some (record { last = last; session = self })) number packet)
 whole_from s self now last number packet bytes same next whole is =
