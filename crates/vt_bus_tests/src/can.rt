@@ -44,7 +44,7 @@ fn made_frames(rt: HostRuntime) {
     assert_eq!(rt; write_frame(&made).as_slice(), b"14E68026#".as_slice());
 }
 
-// What a line says: of a frame, its time and its text.
+// The expected reading of a line; for a frame, its time and its text.
 #[derive(Clone, Copy)]
 enum Wanted {
     At(u64, &'static [u8]),
@@ -87,7 +87,7 @@ fn comments(rt: HostRuntime) {
     expect_lines(&rt, &COMMENTS);
 }
 
-// Times, frames, and the lines that are written of them.
+// Times, frames, and the lines written for them.
 const WRITTEN: [(u64, &[u8], &[u8]); 5] = [
     (0, b"18EEFF80#", b"(0.000000) can0 18EEFF80#"),
     (1, b"00000000#", b"(0.000001) can0 00000000#"),
@@ -121,7 +121,7 @@ fn written_lines(rt: HostRuntime) {
     expect_written(&rt, &WRITTEN);
 }
 
-// Each fault, its number, and how it is printed.
+// Each fault, its number, and its printed sentence.
 const FAULTS: [(LineFault, u8, &str); 5] = [
     (
         LineFault::Time,

@@ -19,13 +19,13 @@ const NODE: u8 = 0x26;
 
 const SOURCE: u8 = 0x80;
 
-// What a receiver is to answer to a frame.
+// The expected answer of a receiver to a frame.
 #[derive(Clone, Copy)]
 enum Wanted {
     Silence,
     Reply(&'static [u8]),
     Message(&'static [u8], &'static [u8]),
-    // The reply to a message, and how many bytes the message has.
+    // The reply to a message, and the number of bytes of the message.
     Size(&'static [u8], usize),
 }
 
@@ -43,7 +43,7 @@ fn is_answer(heard: Heard, wanted: Wanted) -> bool {
     }
 }
 
-// Whether a receiver answers this to the frame of a line.
+// Whether a receiver gives this answer to the frame of a line.
 fn answers(receiver: &mut Receiver, line: &[u8], wanted: Wanted) -> Result<bool, OutOfMemory> {
     match parse_line(line) {
         Ok(Line::Frame { time, frame }) => Ok(is_answer(receiver.hear(time, &frame)?, wanted)),
@@ -51,7 +51,7 @@ fn answers(receiver: &mut Receiver, line: &[u8], wanted: Wanted) -> Result<bool,
     }
 }
 
-// Whether the abort that is due at a time has this text, and whether there is none for an empty one.
+// Whether the abort due at a time has this text. An empty text means no abort.
 fn expires(receiver: &mut Receiver, now: u64, text: &[u8]) -> bool {
     match receiver.expire(now) {
         Some(frame) => write_frame(&frame).as_slice() == text,
@@ -72,7 +72,7 @@ fn packet_from(source: u8, number: u8, bytes: [u8; 7]) -> Frame {
     }
 }
 
-// The packets 1 to a count, of their number seven times, each taken in silence but the last.
+// Whether the packets 1 to `count`, each of its number seven times, get no answer but `last` for the last one.
 fn hears_group(receiver: &mut Receiver, count: u8, last: Wanted) -> Result<bool, OutOfMemory> {
     let mut same = true;
     for number in 1..=count {
@@ -91,8 +91,8 @@ fn hears_packet(receiver: &mut Receiver, number: u8, wanted: Wanted) -> Result<b
     Ok(is_answer(heard, wanted))
 }
 
-// What happens to a receiver: it answers this to the frame of a line, to one packet, or to the last of so many;
-// or the abort that is due at a time has this text, and is none for an empty one.
+// A step of a test: the receiver gives this answer to the frame of a line, to one packet, or to the last of a
+// number of packets; or the abort due at a time has this text, and there is none for an empty text.
 #[derive(Clone, Copy)]
 enum Act {
     Hears(&'static [u8], Wanted),
@@ -110,7 +110,7 @@ fn does(receiver: &mut Receiver, act: Act) -> Result<bool, OutOfMemory> {
     }
 }
 
-// Whether a new receiver does all this, one after the other.
+// Whether a new receiver passes all steps, one after the other.
 fn does_all(alloc: Global, acts: &[Act]) -> Result<bool, OutOfMemory> {
     let mut receiver = Receiver::new(alloc, NODE);
     let mut same = true;
@@ -120,7 +120,7 @@ fn does_all(alloc: Global, acts: &[Act]) -> Result<bool, OutOfMemory> {
     Ok(same)
 }
 
-// What a receiver does in each case, by its name.
+// Expects that a receiver passes the steps of each named case.
 fn expect_acts(
     rt: &(impl Abort + AllocGlobal),
     cases: &[(&str, &[Act])],

@@ -1,4 +1,4 @@
-//! Tests of vt_can, vt_names, vt_transport and vt_extended, over what they export.
+//! Tests of the public interfaces of vt_can, vt_names, vt_transport and vt_extended.
 #![tactic(auto)]
 
 #[cfg(test)]

@@ -14,7 +14,7 @@ use vt_transport::*;
 
 const NODE: u8 = 0x26;
 
-// What a receiver is to answer to a frame.
+// The expected answer of a receiver to a frame.
 #[derive(Clone, Copy)]
 enum Wanted {
     Silence,
@@ -33,7 +33,7 @@ fn is_answer(heard: Heard, wanted: Wanted) -> bool {
     }
 }
 
-// Whether a receiver answers this to the frame of a line.
+// Whether a receiver gives this answer to the frame of a line.
 fn answers(receiver: &mut Receiver, line: &[u8], wanted: Wanted) -> Result<bool, OutOfMemory> {
     match parse_line(line) {
         Ok(Line::Frame { time, frame }) => Ok(is_answer(receiver.hear(time, &frame)?, wanted)),
@@ -41,7 +41,7 @@ fn answers(receiver: &mut Receiver, line: &[u8], wanted: Wanted) -> Result<bool,
     }
 }
 
-// Whether the abort that is due at a time has this text, and whether there is none for an empty one.
+// Whether the abort due at a time has this text. An empty text means no abort.
 fn expires(receiver: &mut Receiver, now: u64, text: &[u8]) -> bool {
     match receiver.expire(now) {
         Some(frame) => write_frame(&frame).as_slice() == text,
@@ -49,8 +49,8 @@ fn expires(receiver: &mut Receiver, now: u64, text: &[u8]) -> bool {
     }
 }
 
-// What happens to a receiver: it answers this to the frame of a line, or the abort that is due at a time has
-// this text, and is none for an empty one.
+// A step of a test: the receiver gives this answer to the frame of a line; or the abort due at a time has this
+// text, and there is none for an empty text.
 #[derive(Clone, Copy)]
 enum Act {
     Hears(&'static [u8], Wanted),
@@ -64,7 +64,7 @@ fn does(receiver: &mut Receiver, act: Act) -> Result<bool, OutOfMemory> {
     }
 }
 
-// Whether a new receiver does all this, one after the other.
+// Whether a new receiver passes all steps, one after the other.
 fn does_all(alloc: Global, acts: &[Act]) -> Result<bool, OutOfMemory> {
     let mut receiver = Receiver::new(alloc, NODE);
     let mut same = true;
@@ -74,7 +74,7 @@ fn does_all(alloc: Global, acts: &[Act]) -> Result<bool, OutOfMemory> {
     Ok(same)
 }
 
-// What a receiver does in each case, by its name.
+// Expects that a receiver passes the steps of each named case.
 fn expect_acts(
     rt: &(impl Abort + AllocGlobal),
     cases: &[(&str, &[Act])],

@@ -1,4 +1,4 @@
--- The numbers that the standard assigns: parameter groups, addresses, and the control bytes of both transport
+-- The assigned numbers in definitions: parameter groups, addresses, and the control bytes of both transport
 -- protocols (ISO 11783-3, -5, -6 and -7).
 use Rattle.std.specs.Prelude.{ℕ}
 
@@ -12,7 +12,7 @@ ECU_TO_VT = 0xE700
 abbrev pub VT_TO_ECU : ℕ
 VT_TO_ECU = 0xE600
 
--- the request of a parameter group
+-- the request for a parameter group
 abbrev pub REQUEST : ℕ
 REQUEST = 0xEA00
 
@@ -46,11 +46,11 @@ ETP_DT = 0xC700
 
 -- Addresses
 
--- the address of a node that has none, which sends Cannot Claim
+-- the source address of Cannot Claim, sent by a node without an address
 abbrev pub NULL_ADDRESS : ℕ
 NULL_ADDRESS = 254
 
--- the address of every node
+-- the destination address of a frame to all nodes
 abbrev pub GLOBAL_ADDRESS : ℕ
 GLOBAL_ADDRESS = 255
 

@@ -1,3 +1,3 @@
--- Identifiers and frames.
+-- Definitions of identifiers and frames.
 pub mod Identifier
 pub mod Frame

@@ -1,4 +1,4 @@
--- The lines of a log.
+-- Definitions of log lines, by subject.
 pub mod Actions
 pub mod Readings
 pub mod Line

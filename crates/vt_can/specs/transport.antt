@@ -1,4 +1,4 @@
--- What both transport protocols share.
+-- Definitions shared by both transport protocols.
 pub mod Sessions
 pub mod Messages
 pub mod Histories

@@ -1,5 +1,5 @@
-//! The numbers that the standard assigns: parameter groups, addresses, and the control bytes of both transport
-//! protocols (ISO 11783-3, -5, -6 and -7).
+//! The numbers assigned by ISO 11783-3, -5, -6 and -7: parameter groups, addresses, and the control bytes of both
+//! transport protocols.
 
 // Parameter groups
 
@@ -9,7 +9,7 @@ pub const ECU_TO_VT: u32 = 0xE700;
 /// Messages of the virtual terminal to an implement.
 pub const VT_TO_ECU: u32 = 0xE600;
 
-/// The request of a parameter group.
+/// The request for a parameter group.
 pub const REQUEST: u32 = 0xEA00;
 
 /// Address Claimed, and Cannot Claim.
@@ -35,10 +35,10 @@ pub const ETP_DT: u32 = 0xC700;
 
 // Addresses
 
-/// The address of a node that has none, which sends Cannot Claim.
+/// The source address of Cannot Claim, sent by a node without an address.
 pub const NULL_ADDRESS: u8 = 254;
 
-/// The address of every node.
+/// The destination address of a frame to all nodes.
 pub const GLOBAL_ADDRESS: u8 = 255;
 
 // Control bytes

@@ -1,4 +1,4 @@
-//! What the definitions come to: each function is a law, and its body does nothing.
+//! Theorems about identifiers, lines and sessions. Each is the contract of a function without effect.
 
 ghost use Rattle.std.specs.Prelude.{ℕ};
 ghost use Rattle.vt_can.specs.frames.Identifier.{PartsAreIdentifiers};
@@ -13,30 +13,30 @@ pub fn parts_are_identifiers()
     ensures { PartsAreIdentifiers }
 {}
 
-/// Every line has a reading: the one that `parse_line` answers.
+/// Every line has a reading: the result of `parse_line`.
 pub fn lines_have_readings(line: &[u8])
     ensures { HasReading line.now }
 {
     let _ = parse_line(line);
 }
 
-/// No line has two readings.
+/// The reading of a line is unique.
 pub fn readings_are_one()
     ensures { ReadingsAreOne }
 {}
 
-/// A frame that is written as a line is read again, at its time.
+/// The line written for a frame and its time reads back as both.
 pub fn written_lines_are_read()
     ensures { WrittenLinesAreRead }
 {}
 
-/// Of the sessions that are overdue, by rising address, a call of `Sessions::expire` takes the first and leaves the
-/// rest, and where it takes none there is none.
+/// `Sessions::expire` removes the first overdue session by address and keeps the others. It removes none only if none is
+/// overdue.
 pub fn the_first_overdue_expires<T, X>()
     ensures { TheFirstExpires T X }
 {}
 
-/// A session that is removed is gone, and is one less, and the others stay.
+/// After the removal of an address's session the address has none, the others are unchanged, and there is one fewer.
 pub fn sessions_are_removed<T>()
     ensures { (sessions : ByAddress T) (address : ℕ) → IsRemoved sessions address }
 {}

@@ -1,12 +1,12 @@
-//! The frames of a CAN bus, the lines of a log, and what both transport protocols share. No call takes memory.
+//! CAN frames, log lines, and the sessions and bytes shared by both transport protocols. No call allocates.
 //!
-//! - Frames: `CanId` is an identifier of 29 bits, and `Frame` one with up to eight bytes of data.
-//! - Lines: `parse_line` reads a `Line`, which is a frame at a time, an `Action` of the operator, a frame that
-//!   is `Skipped`, or a comment; else it answers a `LineFault`. `write_line` and `write_frame` write a frame.
-//! - Transport: `Sessions` has at most one session of each address, `Timed` by its last frame. A frame makes a
-//!   `Received` of a session, and a receiver answers a frame by what it has `Heard`: nothing, a reply, or a whole
-//!   message with its `Bytes`. A `Reason` stands in an abort.
-//! - `assigned` has the numbers that the standard assigns, and `laws` what the definitions come to.
+//! - Frames: `CanId` is an identifier of 29 bits. `Frame` is an identifier with up to eight bytes of data.
+//! - Lines: `parse_line` returns a `Line` or a `LineFault`. A `Line` is a frame with its time, an `Action` of the
+//!   operator, a `Skipped` frame, or a comment. `write_line` and `write_frame` write a frame.
+//! - Transport: `Sessions` has at most one session for each address, `Timed` by its last frame. `Received` is the
+//!   result of a frame for its session. `Heard` is the answer of a receiver to a frame: nothing, a reply, or a whole
+//!   message with its `Bytes`. `Reason` is the reason of an abort.
+//! - `assigned` has the numbers assigned by the standard, and `laws` theorems about the definitions in specs/.
 //!
 //! docs/PROFILE.md, "Identifiers" and "Log lines", has the rules.
 #![tactic(auto)]

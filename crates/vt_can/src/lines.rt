@@ -1,4 +1,4 @@
-//! The lines of a log.
+//! Log lines: reading and writing.
 
 mod action;
 mod digits;

@@ -1,4 +1,4 @@
-//! What both transport protocols share.
+//! The sessions, bytes and answers shared by both transport protocols.
 
 mod bytes;
 mod heard;

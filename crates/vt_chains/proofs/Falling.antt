@@ -1,4 +1,4 @@
--- Levels that fall with each inclusion show that no chain is too long.
+-- Levels that fall with each inclusion prove that no chain is too long.
 use Rattle.std.proofs.Common.{◌≡◌, ℕ, zero, suc, ◌<◌, ◌≤◌, inl, inr, List, [], ◌∷◌, length, None, refl, sym, subst, ◌∙◌, arith}
 use Rattle.std.specs.Prelude.{slice_index, slice_index_or, Contains}
 use Rattle.std.specs.FinMap as finite
@@ -33,7 +33,7 @@ certified_shallow ids included levels sourced is (a ∷ b ∷ rest) chain =
 pub levels_shallow : (m : ObjectMap) (levels : List ℕ) → IsCertificate (ids_of m) (inclusions_of m) levels → IsShallow terminal.inclusions (inclusions_of m)
 levels_shallow m levels is = certified_shallow (ids_of m) (inclusions_of m) levels (sourced (finite.entries m)) is
 
--- a chain with one inclusion too many
+-- a chain with one inclusion too many contradicts the limit
 pub never_shallow : (included : ℕ → List ℕ) (most : ℕ) (chain : List ℕ) → IsTooDeep most included chain → IsShallow most included → ⊥
 never_shallow included most chain deep shallow = omega (arith, shallow chain deep.0, deep.1)
 
@@ -41,7 +41,7 @@ pub depths_fall : (ids : List ℕ) (included : ℕ → List ℕ) (levels : List 
 depths_fall ids included levels are =
     record { each = are.each; within = are.within; falls = λ place id there other h. (are.depth place id there).above other h }
 
--- an inclusion that falls too
+-- a certificate except for one inclusion that also falls is a certificate
 pub one_more : (ids : List ℕ) (included : ℕ → List ℕ) (levels : List ℕ) (from to : ℕ) → IsCertificateBut ids included levels from to
     → ((place : ℕ) → IsAt ids place from → Contains (included from) to → IsBelow ids levels to (slice_index levels place)) → IsCertificate ids included levels
 one_more ids included levels from to but falls = record { each = but.each; within = but.within; falls = all }
@@ -56,11 +56,11 @@ one_more ids included levels from to but falls = record { each = but.each; withi
               (subst (λ (k : ℕ). Contains (included k) to) is.0 (subst (λ (k : ℕ). Contains (included id) k) is.1 h)))
         ]
 
--- nothing is included under an ID that is not there
+-- no object includes a missing ID
 pub never_included : (m : ObjectMap) (from to : ℕ) → IsClosed (ids_of m) (inclusions_of m) → finite.get m to ≡ None → Contains (inclusions_of m from) to → ⊥
 never_included m from to closed none h = let at = closed from to h in missing_nowhere m at.0 to at.1 none
 
--- what stands at a place that there is, whatever stands for what is not there
+-- within its length, a list's element does not depend on the default
 same_or : (xs : List ℕ) (place d : ℕ) → place < length xs → slice_index_or xs place d ≡ slice_index xs place
 same_or [] place d lt = absurd (omega (arith, lt))
 same_or (x ∷ xs) zero d lt = refl

@@ -1,4 +1,4 @@
--- The greater of two numbers.
+-- `ord_max` is the maximum of two numbers.
 use Rattle.std.proofs.Common.{◌≡◌, ℕ, max, cond, ap, subst, ◌∙◌, arith}
 use Rattle.std.specs.Ordering.{nat_cmp, is_lt, ord_max}
 use Rattle.std.specs.declared.cmp.Ordering.{Ordering}

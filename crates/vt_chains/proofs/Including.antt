@@ -1,4 +1,4 @@
--- What includes another object stands at a place, by the IDs and the entries of a store.
+-- Every object with an inclusion is in the store, at an index.
 use Rattle.std.proofs.Common.{◌≡◌, ℕ, suc, Bool, true, false, cond, List, [], ◌∷◌, Option, Some, refl, sym, ap, subst}
 use Rattle.std.specs.Prelude.{Contains}
 use Rattle.std.specs.Ordering.{nat_cmp, is_eq, eq_by_cmp}
@@ -13,7 +13,7 @@ use Rattle.vt_stores.proofs.Searching.{is_equal}
 use Rattle.vt_stores.proofs.Stored.{entries_from}
 use Rattle.vt_chains.proofs.Elements.{Contains-nil, unsome, option_case}
 
--- what includes another stands at a place
+-- each ID with an inclusion is at an index
 abbrev pub IsSourced : List ℕ → (ℕ → List ℕ) → Type 0
 IsSourced ids included = (id other : ℕ) → Contains (included id) other → (place : ℕ) × IsAt ids place id
 
@@ -34,7 +34,7 @@ entry_case P e objects id o is here later =
     entry_by P e (object_at objects id) o (eq_by_cmp nat_cmp id e.0) is
     (λ same is_o. here (is_equal id e.0 (three id e.0) (equal_by (nat_cmp id e.0) same)) is_o) later
 
--- what is there stands at a place
+-- the ID of an object is at an index
 pub stands : (objects : Objects) (id : ℕ) (o : Seen) → object_at objects id ≡ Some o → (place : ℕ) × IsAt (ids objects) place id
 stands [] id o is = absurd cc
 stands (e ∷ objects) id o is =
@@ -42,7 +42,7 @@ stands (e ∷ objects) id o is =
     (λ same is_o. (0, ap Some (sym same)))
     (λ rest. let at = stands objects id o rest in (suc at.0, at.1))
 
--- what includes another is there
+-- an ID with an inclusion has an object
 pub object_of : (objects : Objects) (id next : ℕ) → Contains (included objects id) next → (o : Seen) × (object_at objects id ≡ Some o)
 object_of objects id next h =
     option_case ((o : Seen) × (object_at objects id ≡ Some o)) (object_at objects id)

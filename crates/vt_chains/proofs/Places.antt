@@ -1,4 +1,4 @@
--- The IDs of a store at their places.
+-- The IDs of a store by their indices.
 use Rattle.std.proofs.Common.{◌≡◌, ℕ, zero, suc, ◌<◌, Bool, true, false, cond, List, [], ◌∷◌, length, Option, Some, None, refl, sym, ap, subst, ◌∙◌, arith, T}
 use Rattle.std.proofs.lemmas.List.{length-map}
 use Rattle.std.proofs.lemmas.Option.{slice_get-map, slice_get_within, same_Some}
@@ -21,7 +21,7 @@ true_of false t = absurd t
 pub rising : (m : ObjectMap) → IsRising (finite.entries m)
 rising m = true_of (finite.is_sorted nat_cmp (finite.entries m)) (finite.entries_sorted m)
 
--- ---- what stands at a place
+-- ---- the ID and the object at an index
 
 pub stands_of : (objects : Objects) (place id : ℕ) (o : Seen) → slice_get objects place ≡ Some (id, o) → IsAt (ids objects) place id
 stands_of objects place id o is = slice_get-map (λ (e : ℕ × Seen). e.0) objects place ∙ ap (option_map (λ (e : ℕ × Seen). e.0)) is
@@ -30,7 +30,7 @@ object_case : (P : Type 0) (o : Option (ℕ × Seen)) (id : ℕ) → option_map 
 object_case P None id is here = absurd cc
 object_case P (Some e) id is here = here e.1 (ap (λ (k : ℕ). Some (k, e.1)) (same_Some e.0 id is))
 
--- the object that stands there
+-- the object at the index of an ID
 pub object_of : (objects : Objects) (place id : ℕ) → IsAt (ids objects) place id → (o : Seen) × (slice_get objects place ≡ Some (id, o))
 object_of objects place id is =
     object_case ((o : Seen) × (slice_get objects place ≡ Some (id, o))) (slice_get objects place) id (sym (slice_get-map (λ (e : ℕ × Seen). e.0) objects place) ∙ is)
@@ -52,7 +52,7 @@ found_at (e ∷ objects) (suc place) id o rising is =
     ap (λ (d : Ordering). cond (is_eq d) (Some e.1) (object_at objects id)) (greater id e.0 (above_at e.0 objects place id parts.0 (stands_of objects place id o is)))
     ∙ found_at objects place id o parts.1 is
 
--- an ID stands at one place
+-- the index of an ID is unique
 pub one_place : (objects : Objects) (a b id : ℕ) → IsRising objects → IsAt (ids objects) a id → IsAt (ids objects) b id → a ≡ b
 one_place [] a b id rising one other = absurd cc
 one_place (e ∷ objects) zero zero id rising one other = refl
@@ -69,7 +69,7 @@ one_place (e ∷ objects) (suc a) zero id rising one other =
 one_place (e ∷ objects) (suc a) (suc b) id rising one other =
     ap suc (one_place objects a b id (both_true (below_all nat_cmp e.0 objects) (finite.is_sorted nat_cmp objects) rising).1 one other)
 
--- ---- in a store
+-- ---- indices in a store
 
 pub get_placed : (m : ObjectMap) (place id : ℕ) (o : Seen) → slice_get (finite.entries m) place ≡ Some (id, o) → finite.get m id ≡ Some o
 get_placed m place id o is = finite.get-entries m id ∙ found_at (finite.entries m) place id o (rising m) is
@@ -86,7 +86,7 @@ once m a b id one other = one_place (finite.entries m) a b id (rising m) one oth
 pub within : (ids : List ℕ) (place id : ℕ) → IsAt ids place id → place < length ids
 within ids place id is = slice_get_within ids place id is
 
--- an ID stands at each place
+-- each index has an ID
 pub someone : (ids : List ℕ) (place : ℕ) → place < length ids → (id : ℕ) × IsAt ids place id
 someone [] place lt = absurd (omega arith)
 someone (id ∷ ids) zero lt = (id, refl)
@@ -95,6 +95,6 @@ someone (id ∷ ids) (suc place) lt = someone ids place (omega arith)
 pub same_id : (ids : List ℕ) (place a b : ℕ) → IsAt ids place a → IsAt ids place b → a ≡ b
 same_id ids place a b one other = same_Some a b (sym one ∙ other)
 
--- there are as many IDs as objects
+-- the number of IDs is the number of objects
 pub count_is : (m : ObjectMap) → finite.len m ≡ length (ids_of m)
 count_is m = finite.len-entries m ∙ sym (length-map (finite.entries m) (λ (e : ℕ × Seen). e.0))

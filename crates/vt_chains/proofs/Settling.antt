@@ -1,4 +1,4 @@
--- Depths that are found one after the other, and the chains that end the search.
+-- The search for depths, one object at a time, and the too long chain that ends it.
 use Rattle.std.proofs.Common.{◌≡◌, ◌≢◌, ℕ, zero, suc, ◌+◌, ◌<◌, ◌≤◌, max, List, [], ◌∷◌, ◌++◌, length, set, true, Some, ◌⊎◌, inl, inr, refl, sym, ap, subst, ◌∙◌, arith}
 use Rattle.std.proofs.lemmas.Option.{same_Some}
 use Rattle.std.proofs.lemmas.List.{get_or-set_same, get_or-set_other, length-set, length-append, get_or_past}
@@ -12,11 +12,11 @@ use Rattle.vt_chains.proofs.Elements.{Contains-nil}
 use Rattle.vt_chains.proofs.Places.{same_id, within}
 use Rattle.vt_chains.proofs.Slots.{included_in, in_first, in_more, slot_case}
 
--- an ID stands at one place
+-- the index of each ID is unique
 abbrev pub AreOnce : List ℕ → Type 0
 AreOnce ids = (a b id : ℕ) → IsAt ids a id → IsAt ids b id → a ≡ b
 
--- ---- depths show that no chain is too long
+-- ---- depths prove that no chain is too long
 
 shorter_chain : (ids : List ℕ) (included : ℕ → List ℕ) (most : ℕ) (depths : List ℕ) → AreDepths ids included most depths
     → (a place : ℕ) (rest : List ℕ) → IsAt ids place a → IsChain included (a ∷ rest) → length rest ≤ slice_index depths place
@@ -37,7 +37,7 @@ show_shallow ids included most depths sourced are (a ∷ b ∷ rest) chain =
     let bound = are.within at.0 in
     omega arith
 
--- ---- what was found stays
+-- ---- found depths stay
 
 kept : (old new : List ℕ) (place depth : ℕ) → Keeps old new → slice_index old place ≡ depth → depth < unset → slice_index new place ≡ depth
 kept old new place depth keeps is lt = keeps place (λ e. absurd (omega (arith, e, is, lt))) ∙ is
@@ -61,7 +61,7 @@ still_depth ids included old new id depth keeps le is = record {
 pub Keeps-trans : (a b c : List ℕ) → Keeps a b → Keeps b c → Keeps a c
 Keeps-trans a b c first second place found = second place (λ e. found (sym (first place found) ∙ e)) ∙ first place found
 
--- ---- an ID has one depth
+-- ---- the depth of an ID is unique
 
 module _ (ids : List ℕ) (included : ℕ → List ℕ) (depths : List ℕ) (once : AreOnce ids) (id : ℕ) where
   no_deeper : (a b : ℕ) → IsDepth ids included depths id a → IsDepth ids included depths id b → a ≤ b
@@ -133,7 +133,7 @@ module _ (ids : List ℕ) (included : ℕ → List ℕ) (depths : List ℕ) (onc
   pub put_depth : AreFound ids included after
   put_depth = record { each = length-set depths place depth ∙ found.each; within = put_within; found = put_found }
 
--- ---- over the slots of an object
+-- ---- the loop over the slots of an object
 
 pub record IsSearch (ids : List ℕ) (included : ℕ → List ℕ) (first now : List ℕ) (id deepest most : ℕ) (left : List Slot) : Type 0 where
   pub among : (other : ℕ) → Contains (included_in left) other → Contains (included id) other
@@ -211,7 +211,7 @@ pub search_fails : (ids : List ℕ) (included : ℕ → List ℕ) (first now : L
     → BeginsChain included slot.id most chain → IsSearch ids included first now id deepest most (slot ∷ left) → IncludesChain included id most chain
 search_fails ids included first now id deepest most slot left chain is begins search = (slot.id, search.among slot.id (in_first slot left is), begins)
 
--- ---- chains
+-- ---- chains by their first ID
 
 pub one_id : (included : ℕ → List ℕ) (id : ℕ) → BeginsChain included id 0 (id ∷ [])
 one_id included id = record { is = tt; first = refl; long = refl }
@@ -226,15 +226,15 @@ one_in_front included id count (a ∷ chain) begins =
       long = omega arith;
     }
 
--- one more at the end of a chain
+-- appends an ID to a chain
 pub chain_push : (included : ℕ → List ℕ) (xs : List ℕ) (a b : ℕ) → IsChain included (xs ++ a ∷ []) → Contains (included a) b → IsChain included ((xs ++ a ∷ []) ++ b ∷ [])
 chain_push included [] a b chain h = (h, tt)
 chain_push included (x ∷ []) a b chain h = (chain.0, (h, tt))
 chain_push included (x ∷ y ∷ xs) a b chain h = (chain.0, chain_push included (y ∷ xs) a b chain.1 h)
 
--- ---- the next of a chain
+-- ---- the next ID of a chain
 
--- an ID stands nowhere at less than a depth
+-- an ID is at no index with less than this depth
 abbrev pub IsDeep : List ℕ → List ℕ → ℕ → ℕ → Type 0
 IsDeep ids depths id depth = (place : ℕ) → IsAt ids place id → depth ≤ slice_index depths place
 
@@ -248,7 +248,7 @@ deep_next ids included depths once found place id depth there settled deep = fro
         let one = is.reached less refl in
         (one.0, one.1, λ at stands. let same = ap (slice_index depths) (once at one.2.place one.0 stands one.2.there) in let here = one.2.is in omega (arith, e, same))
 
--- what is included by a place that is settled is settled
+-- an object included by one with a found depth has a found depth too
 pub next_is_found : (ids : List ℕ) (included : ℕ → List ℕ) (depths : List ℕ) → AreOnce ids → AreFound ids included depths → (place id other at : ℕ) → IsAt ids place id
     → slice_index depths place ≢ unset → Contains (included id) other → IsAt ids at other → slice_index depths at ≢ unset
 next_is_found ids included depths once found place id other at there settled h stands e =
@@ -314,7 +314,7 @@ growing_ends ids included depths first place step count chain end grows id stand
   long = grows.long ∙ ap (λ (n : ℕ). n + 1) end;
 }
 
--- ---- at the end of the search
+-- ---- the start and the end of the search
 
 pub none_found : (ids : List ℕ) (included : ℕ → List ℕ) (depths : List ℕ) → length depths ≡ length ids → ((place : ℕ) → place < length depths → slice_index depths place ≡ unset)
     → AreFound ids included depths

@@ -1,4 +1,4 @@
--- The slots of an object, one after the other, and what they include.
+-- The inclusions of an object, one slot at a time.
 use Rattle.std.proofs.Common.{◌≡◌, ℕ, Bool, true, false, cond, List, ◌∷◌, map, filter, Some, refl, sym, ap, subst, ◌∙◌}
 use Rattle.std.specs.Prelude.{Contains}
 use Rattle.std.specs.FinMap as finite
@@ -35,7 +35,7 @@ pub in_first : (slot : Slot) (slots : List Slot) → includes slot ≡ true → 
 in_first slot slots is =
     subst (λ (b : Bool). Contains (map (λ (s : Slot). s.id) (cond b (slot ∷ filter includes slots) (filter includes slots))) slot.id) (sym is) (Contains-head slot.id (included_in slots))
 
--- what is included by a slot or by those that follow
+-- an included ID is that of the first slot or one of the later slots
 pub slot_case : (P : Type 0) (slot : Slot) (slots : List Slot) (next : ℕ) → Contains (included_in (slot ∷ slots)) next
     → (includes slot ≡ true → slot.id ≡ next → P) → (Contains (included_in slots) next → P) → P
 slot_case P slot slots next h here later = filter_case P (includes slot) slot (filter includes slots) next h here later

@@ -1,74 +1,74 @@
--- How many inclusions in a row begin with each object at most: its depth.
+-- The depth of an object: the greatest number of inclusions in a chain that begins with it.
 use Rattle.std.specs.Prelude.{◌≡◌, ◌≢◌, ◌≤◌, ◌<◌, ◌+◌, ℕ, suc, List, length, slice_get, slice_index, Some, Contains}
 use Rattle.std.specs.FinMap as finite
 use Rattle.vt_stores.specs.Stores.{ObjectMap, Objects, ids, map_of}
 use Rattle.vt_chains.specs.declared.limits.Limits.{Limits}
 use Rattle.vt_chains.specs.Inclusions.{included, IsChain}
 
--- the IDs of a store, by rising ID, and what the object of each includes
+-- the IDs of a store, by rising ID, and the inclusions of the object of each ID
 abbrev pub ids_of : ObjectMap → List ℕ
 ids_of store = ids (finite.entries store)
 
 abbrev pub inclusions_of : ObjectMap → ℕ → List ℕ
 inclusions_of store = included (finite.entries store)
 
--- an ID stands at the place
+-- an ID is at an index
 abbrev pub IsAt : List ℕ → ℕ → ℕ → Type 0
 IsAt ids place id = slice_get ids place ≡ Some id
 
--- an ID that stands at a place of a depth
+-- an ID is at an index with this depth
 pub record IsAt (ids depths : List ℕ) (id depth : ℕ) : Type 0 where
   pub place : ℕ
   pub there : IsAt ids place id
   pub is : slice_index depths place ≡ depth
 
--- an ID that stands at a place of less depth
+-- an ID is at an index with less than this depth
 pub record IsBelow (ids depths : List ℕ) (id most : ℕ) : Type 0 where
   pub place : ℕ
   pub there : IsAt ids place id
   pub less : slice_index depths place < most
 
--- all that is included stands at a place
+-- each included ID is at an index
 abbrev pub IsClosed : List ℕ → (ℕ → List ℕ) → Type 0
 IsClosed ids included = (id other : ℕ) → Contains (included id) other → (place : ℕ) × IsAt ids place other
 
--- the depth of an ID: one more than the greatest of what it includes
+-- the depth of an ID: one more than the greatest depth of its inclusions
 pub record IsDepth (ids : List ℕ) (included : ℕ → List ℕ) (depths : List ℕ) (id depth : ℕ) : Type 0 where
   pub above : (other : ℕ) → Contains (included id) other → IsBelow ids depths other depth
   pub reached : (less : ℕ) → depth ≡ suc less → (other : ℕ) × Contains (included id) other × IsAt ids depths other less
 
--- the depth of each, at most this
+-- the depths of all IDs, at most this
 pub record AreDepths (ids : List ℕ) (included : ℕ → List ℕ) (most : ℕ) (depths : List ℕ) : Type 0 where
   pub each : length depths ≡ length ids
   pub within : (place : ℕ) → slice_index depths place ≤ most
   pub depth : (place id : ℕ) → IsAt ids place id → IsDepth ids included depths id (slice_index depths place)
 
--- the depths of objects by rising ID, at most the most inclusions in a row
+-- the depths of objects by rising ID, within the limit of inclusions in a chain
 abbrev pub HasDepths : Limits → Objects → List ℕ → Type 0
 HasDepths limits objects depths = AreDepths (ids_of (map_of objects)) (inclusions_of (map_of objects)) limits.inclusions depths
 
--- ---- while depths are found
+-- ---- during the search for depths
 
--- no depth was found yet
+-- marks a depth not yet found
 abbrev pub unset : ℕ
 unset = 255
 
--- the depths that were found so far
+-- the depths found so far
 pub record AreFound (ids : List ℕ) (included : ℕ → List ℕ) (depths : List ℕ) : Type 0 where
   pub each : length depths ≡ length ids
   pub within : (place : ℕ) → slice_index depths place ≤ unset
   pub found : (place id : ℕ) → IsAt ids place id → slice_index depths place ≢ unset → IsDepth ids included depths id (slice_index depths place)
 
--- what was found stays
+-- found depths are unchanged
 abbrev pub Keeps : List ℕ → List ℕ → Type 0
 Keeps old new = (place : ℕ) → slice_index old place ≢ unset → slice_index new place ≡ slice_index old place
 
--- a chain of so many inclusions that begins with an ID
+-- a chain of `count` inclusions that begins with an ID
 pub record BeginsChain (included : ℕ → List ℕ) (id count : ℕ) (chain : List ℕ) : Type 0 where
   pub is : IsChain included chain
   pub first : slice_get chain 0 ≡ Some id
   pub long : length chain ≡ count + 1
 
--- a chain of so many inclusions that begins with what an ID includes
+-- a chain of `count` inclusions that begins with an inclusion of an ID
 abbrev pub IncludesChain : (ℕ → List ℕ) → ℕ → ℕ → List ℕ → Type 0
 IncludesChain included id count chain = (other : ℕ) × Contains (included id) other × BeginsChain included other count chain

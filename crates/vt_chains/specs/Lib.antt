@@ -1,4 +1,4 @@
--- What the contracts of this crate cite.
+-- The specifications that the contracts of vt_chains use.
 pub mod Certificates
 pub mod Depths
 pub mod Inclusions

@@ -1,4 +1,4 @@
--- How much a pool may ask for (docs/PROFILE.md, "Limits").
+-- The limits of a pool (docs/PROFILE.md, "Limits").
 use Rattle.vt_chains.specs.declared.limits.Limits.{Limits}
 
 -- the limits of this terminal

@@ -1,4 +1,4 @@
-//! Chains of inclusions.
+//! The search for the depths of objects and for too long chains of inclusions.
 
 ghost use Rattle.std.specs.Prelude.{◌≡◌, ◌≢◌, ◌≤◌, ◌<◌, ◌+◌, ℕ, IfOk, IfErr, IfSome, IfNone, OnOk, length, slice_index, Contains, Some};
 ghost use Rattle.std.specs.FinMap as finite;
@@ -11,14 +11,14 @@ use arrayvec::ArrayVec;
 use vt_kinds::{Object, ObjectId, Place, Slot, slots};
 use vt_stores::Store;
 
-/// The IDs of a chain, each of which includes the next: one more than 33 inclusions at most.
+/// The IDs of a chain of inclusions: each includes the next. Capacity for 33 inclusions, one over this terminal's limit.
 pub type Chain = ArrayVec<ObjectId, 34>;
 
-/// No depth was found yet.
+/// Marks a depth not yet found.
 const UNSET: u8 = 255;
 
-/// Finds for each object of a store, by rising ID, its depth: the most inclusions in a row that begin with it. Or else it
-/// answers a chain with one inclusion more than `most`; the depths are then of no use. Each object is looked at once.
+/// Finds the depth of each object of a store, by rising ID: the greatest number of inclusions in a chain that begins with
+/// it. Returns instead a chain of `most` + 1 inclusions if there is one; `depths` is then useless. Visits each object once.
 /// docs/PROFILE.md, "Inclusions and chains".
 pub fn find_depths<S: Store>(store: &S, depths: &mut [u8], most: u8) -> Result<(), Chain>
     requires each { length depths.old ≡ length (ids_of (S.contents store.now)) }
@@ -35,7 +35,7 @@ pub fn find_depths<S: Store>(store: &S, depths: &mut [u8], most: u8) -> Result<(
     Ok(())
 }
 
-/// Finds the depth of the object at a place, or a chain of one inclusion more than `most` that begins with it.
+/// Finds the depth of the object at an index, or a chain of `most` + 1 inclusions that begins with it.
 #[cycle(settle)]
 fn settle<S: Store>(store: &S, depths: &mut [u8], place: usize, most: u8) -> Result<u8, Chain>
     requires found { AreFound (ids_of (S.contents store.now)) (inclusions_of (S.contents store.now)) depths.old }
@@ -58,7 +58,7 @@ fn settle<S: Store>(store: &S, depths: &mut [u8], place: usize, most: u8) -> Res
     Ok(depth)
 }
 
-/// Finds the depth of the object at a place by those of what it includes.
+/// Finds the depth of the object at an index from the depths of its inclusions.
 #[cycle(settle)]
 fn settle_entry<S: Store>(store: &S, depths: &mut [u8], place: usize, most: u8) -> Result<u8, Chain>
     requires found { AreFound (ids_of (S.contents store.now)) (inclusions_of (S.contents store.now)) depths.old }
@@ -84,8 +84,8 @@ fn settle_entry<S: Store>(store: &S, depths: &mut [u8], place: usize, most: u8) 
     }
 }
 
-/// One more than the greatest depth of what an object includes, or a chain of `most` inclusions that begins with an ID
-/// that it includes.
+/// One more than the greatest depth of an object's inclusions, or a chain of `most` inclusions that begins with one of
+/// them.
 #[cycle(settle)]
 fn deepest<S: Store>(
     store: &S,
@@ -114,7 +114,7 @@ fn deepest<S: Store>(
     Ok(deepest)
 }
 
-/// Finds the depth of an ID that is included, less than `most`, or a chain of `most` inclusions that begins with it.
+/// Finds the depth of an included ID, less than `most`, or a chain of `most` inclusions that begins with it.
 #[cycle(settle)]
 fn settle_included<S: Store>(
     store: &S,
@@ -140,7 +140,7 @@ fn settle_included<S: Store>(
     settle(store, depths, place_of(store, id), most - 1)
 }
 
-/// The place of an ID that is there.
+/// The index of an ID in the store.
 fn place_of<S: Store>(store: &S, id: ObjectId) -> usize
     requires { (place : ℕ) × IsAt (ids_of (S.contents store.now)) place id }
     ensures { IsAt (ids_of (S.contents store.now)) result id }
@@ -151,7 +151,7 @@ fn place_of<S: Store>(store: &S, id: ObjectId) -> usize
     }
 }
 
-/// The object at a place, and its ID.
+/// The object at an index, and its ID.
 pub fn entry<S: Store>(store: &S, place: usize) -> (ObjectId, &Object<Vec<u8>>)
     requires { place < length (ids_of (S.contents store.now)) }
     ensures stands { IsAt (ids_of (S.contents store.now)) place result.0 }
@@ -163,7 +163,7 @@ pub fn entry<S: Store>(store: &S, place: usize) -> (ObjectId, &Object<Vec<u8>>)
     }
 }
 
-/// The chain of so many inclusions that begins with the object at a place, which is at least as deep.
+/// The chain of `count` inclusions that begins with the object at an index, whose depth is at least `count`.
 fn chain_from<S: Store>(store: &S, depths: &[u8], place: usize, count: u8) -> Chain
     requires found { AreFound (ids_of (S.contents store.now)) (inclusions_of (S.contents store.now)) depths.now }
     requires closed { IsClosed (ids_of (S.contents store.now)) (inclusions_of (S.contents store.now)) }
@@ -183,7 +183,7 @@ fn chain_from<S: Store>(store: &S, depths: &[u8], place: usize, count: u8) -> Ch
     chain
 }
 
-/// The place of an ID that is included by the object at a place, of at least this depth.
+/// The index of an inclusion of the object at an index, with at least this depth.
 fn next<S: Store>(store: &S, depths: &[u8], place: usize, depth: u8) -> usize
     requires found { AreFound (ids_of (S.contents store.now)) (inclusions_of (S.contents store.now)) depths.now }
     requires closed { IsClosed (ids_of (S.contents store.now)) (inclusions_of (S.contents store.now)) }
@@ -206,7 +206,7 @@ fn next<S: Store>(store: &S, depths: &[u8], place: usize, depth: u8) -> usize
     unreachable!()
 }
 
-/// Whether the slot is an inclusion: a child, a key, an item, or the value of a pointer. NULL is none.
+/// Whether a slot is an inclusion: a child, key, item or pointer value other than NULL.
 fn includes(slot: &Slot) -> bool
     ensures { result ≡ includes slot.now }
 {

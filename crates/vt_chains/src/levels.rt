@@ -1,4 +1,4 @@
-//! The certificate that no chain of inclusions is too long.
+//! Levels of objects, which certify that no chain of inclusions is too long.
 
 ghost use Rattle.std.specs.Prelude.{◌≡◌, IfOk, true, false, length};
 ghost use Rattle.vt_stores.specs.Stores.{ObjectMap};
@@ -14,17 +14,17 @@ use std::mem;
 use vt_kinds::ObjectId;
 use vt_stores::Store;
 
-/// A level for each object of a store, in the order of the IDs: each object stands above those that it includes. While that
-/// holds no chain is longer than the greatest level, and a change that keeps it needs no look at other objects.
+/// A level for each object of a store, by rising ID. Each object is above those that it includes, so no chain is longer
+/// than the greatest level, and a change that keeps this needs no look at other objects.
 #[derive(Drop)]
 pub struct Levels {
     pub(crate) levels: Vec<u8>,
-    /// Room for other levels, so that no change takes memory.
+    /// A spare buffer for new levels, so that changes do not allocate.
     pub(crate) spare: Vec<u8>,
 }
 
 impl Levels {
-    /// The levels of a store.
+    /// Finds the levels of a store.
     pub fn of_store<S: Store>(alloc: Global, store: &S) -> Result<Levels, AllocError>
         requires closed { IsClosed (ids_of (S.contents store.now)) (inclusions_of (S.contents store.now)) }
         requires shallow { IsShallow terminal.inclusions (inclusions_of (S.contents store.now)) }
@@ -38,7 +38,7 @@ impl Levels {
         }
     }
 
-    /// The levels of a store whose objects have these depths.
+    /// Makes the levels of a store from the depths of its objects.
     pub fn of_depths(alloc: Global, depths: Vec<u8>) -> Result<Levels, AllocError>
         ensures { IfOk result (λ levels. (store : ObjectMap) → AreDepths (ids_of store) (inclusions_of store) terminal.inclusions depths.items → AreLevels store levels) }
     {
@@ -56,8 +56,8 @@ impl Levels {
         &self.levels
     }
 
-    /// Takes up an inclusion that is new in the store, or answers that a chain is too long with it: then the levels are as they
-    /// were.
+    /// Updates the levels for a new inclusion in the store. Returns false, with the levels unchanged, if a chain is too long
+    /// with it.
     pub fn take_up<S: Store>(&mut self, store: &S, from: ObjectId, to: ObjectId) -> bool
         requires { AreLevelsBut (S.contents store.now) self.old from to }
         ensures short { result ≡ true → AreLevels (S.contents store.now) self.new }
@@ -70,7 +70,7 @@ impl Levels {
         self.search(store)
     }
 
-    /// Whether the level falls with an inclusion, or there is none such.
+    /// Whether the level falls with an inclusion, or one of its objects is missing.
     fn falls<S: Store>(&self, store: &S, from: ObjectId, to: ObjectId) -> bool
         requires { AreLevelsBut (S.contents store.now) self.now from to }
         ensures { result ≡ true → AreLevels (S.contents store.now) self.now }
@@ -84,7 +84,7 @@ impl Levels {
         self.levels[below] < self.levels[above]
     }
 
-    /// Finds the levels anew.
+    /// Finds all levels again; false, with the levels unchanged, if a chain is too long.
     fn search<S: Store>(&mut self, store: &S) -> bool
         requires room { length self.old.spare.items ≡ length (ids_of (S.contents store.now)) }
         requires levels { length self.old.levels.items ≡ length (ids_of (S.contents store.now)) }

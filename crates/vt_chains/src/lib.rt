@@ -1,11 +1,11 @@
-//! Chains of inclusions: which objects of a store include which, how deep each goes, and what this terminal allows
+//! Chains of inclusions: the inclusions of a store's objects, the depth of each object, and the limits of this terminal
 //! (ISO 11783-6).
 //!
 //! - `find_depths` finds the depths of a store's objects, or a `Chain` that is too long.
-//! - `Levels` is the certificate that no chain is too long, which `take_up` keeps where an inclusion is new.
-//! - The `Limits` of this terminal are `TERMINAL_LIMITS`.
+//! - `Levels` certify that no chain is too long; `take_up` updates them for a new inclusion.
+//! - `TERMINAL_LIMITS` are the `Limits` of this terminal.
 //!
-//! docs/PROFILE.md, "Inclusions and chains".
+//! docs/PROFILE.md, "Inclusions and chains", has the rules.
 #![tactic(auto)]
 
 mod chains;

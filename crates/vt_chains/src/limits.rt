@@ -1,9 +1,9 @@
-//! How much a pool may ask for.
+//! The limits of a pool.
 
-/// How long a chain of inclusions may be, and how much a macro or an event may cost.
+/// The greatest length of a chain of inclusions, and the greatest cost of a macro or an event.
 #[derive(Clone, Copy, Debug, PartialEq, Eq)]
 pub struct Limits {
-    /// The most inclusions of a chain.
+    /// The most inclusions in a chain.
     pub inclusions: u8,
     /// The most steps of a macro or an event.
     pub steps: u32,

@@ -1,4 +1,4 @@
--- Bytes are cut into commands in one way alone.
+-- A macro's bytes split into macro commands in at most one way.
 use Rattle.std.proofs.Common.{◌≡◌, ℕ, zero, suc, ◌+◌, ◌≤◌, ◌<◌, Bool, true, false, cond, leb, max, List, [], ◌∷◌, ◌++◌, length, take, drop, Option, Some, None, refl, sym, ap, subst, ◌∙◌, arith}
 use Rattle.std.specs.Option.{option_map}
 use Rattle.std.proofs.lemmas.List.{length-append, length-take, length-drop, take_at, drop_at, take-append-drop}
@@ -16,7 +16,7 @@ lengths false false n = omega arith
 pub at_least : (bytes : List ℕ) → 8 ≤ command_length bytes
 at_least bytes = lengths (byte bytes 0 == 0xB4) (byte bytes 0 == 0xB3) (5 + word bytes 3)
 
--- what follows a command does not change its length
+-- bytes after a command do not change its length
 pub length_front : (p rest : List ℕ) → 5 ≤ length p → command_length (p ++ rest) ≡ command_length p
 length_front [] rest le = absurd (omega arith)
 length_front (a ∷ []) rest le = absurd (omega arith)
@@ -62,16 +62,16 @@ cut_lists (p ∷ a) (q ∷ b) one other e =
 cut_one : (bytes : List ℕ) (a b : List (List ℕ)) → IsCut bytes a → IsCut bytes b → a ≡ b
 cut_one bytes a b one other = cut_lists a b one.each other.each (sym one.joined ∙ other.joined)
 
--- ---- the pieces that are found
+-- ---- the macro commands found by `cut`
 
--- a piece at the front is as long as the command that the bytes begin with takes
+-- the first macro command of a split has the length of the bytes' command
 split_length : (bytes piece rest : List ℕ) → IsSplit bytes piece rest → command_length bytes ≡ length piece
 split_length bytes piece rest split =
     let long = at_least piece in
     let whole = split.whole in
     ap command_length split.parts ∙ length_front piece rest (omega arith) ∙ sym whole
 
--- one more piece, with room for it
+-- one more macro command fits if the limit is one higher
 within_first : (most : ℕ) (bytes piece rest : List ℕ) → IsSplit bytes piece rest
     → cut_within (suc most) bytes ≡ option_map (λ pieces. piece ∷ pieces) (cut_within most rest)
 unfolding cut_within
@@ -85,7 +85,7 @@ within_first most (b ∷ bytes) piece rest split =
     let back : drop (command_length (b ∷ bytes)) (b ∷ bytes) ≡ rest = ap (λ (k : ℕ). drop k (b ∷ bytes)) n ∙ ap (drop (length piece)) split.parts ∙ drop_at piece rest (length piece) refl in
     rw (fits, front, back) refl
 
--- more pieces at most than there are bytes change nothing
+-- all limits of at least the number of bytes give the same result
 within_same : (most other : ℕ) (bytes : List ℕ) → length bytes ≤ most → length bytes ≤ other → cut_within most bytes ≡ cut_within other bytes
 unfolding cut_within
 within_same zero zero [] le le2 = refl
@@ -111,7 +111,7 @@ cut_first (b ∷ bytes) piece rest split =
     within_first (length bytes) (b ∷ bytes) piece rest split
     ∙ ap (λ (found : Option (List (List ℕ))). option_map (λ pieces. piece ∷ pieces) found) (within_same (length bytes) (length rest) rest (omega arith) (omega arith))
 
--- as many bytes at the front as a command takes are a piece
+-- a command's full length of bytes splits off as a macro command
 split_at : (bytes : List ℕ) → command_length bytes ≤ length bytes → IsSplit bytes (take (command_length bytes) bytes) (drop (command_length bytes) bytes)
 split_at bytes le =
     let n = command_length bytes in
@@ -130,7 +130,7 @@ cut_none : (bytes : List ℕ) → 0 < length bytes → ((piece rest : List ℕ) 
 cut_none [] some never = absurd (omega arith)
 cut_none (b ∷ bytes) some never = none_within (length bytes) b bytes _ refl never
 
--- a cut without its first piece
+-- without its first macro command, a cut is still a cut
 cut_rest : (bytes piece : List ℕ) (pieces : List (List ℕ)) → IsCut bytes (piece ∷ pieces)
     → IsSplit bytes piece (flat_map (λ p. p) pieces) × IsCut (flat_map (λ p. p) pieces) pieces
 cut_rest bytes piece pieces c = (record { whole = c.each.0; parts = c.joined }, record { each = c.each.1; joined = refl })
@@ -142,7 +142,7 @@ cut_is bytes (piece ∷ pieces) c =
     let parts = cut_rest bytes piece pieces c in
     cut_first bytes piece _ parts.0 ∙ ap (option_map (λ (ps : List (List ℕ)). piece ∷ ps)) (cut_is (flat_map (λ p. p) pieces) pieces parts.1)
 
--- the pieces that are found are a cut
+-- a value of an option_map comes from a value of its argument
 mapped_some : {A B : Type 0} (f : A → B) (x : Option A) (y : B) → option_map f x ≡ Some y → (a : A) × (x ≡ Some a) × (y ≡ f a)
 mapped_some f None y e = absurd cc
 mapped_some f (Some a) y e = (a, refl, cc)

@@ -5,7 +5,7 @@ use Rattle.byteorder.specs.Endian.{little_number}
 use Rattle.vt_commands.specs.declared.command.Command.{Command}
 use Rattle.vt_commands.specs.declared.command.Command.TheVariants.{HideShow, EnableDisable, ControlAudio, SetVolume, ChangeChildLocation, ChangeSize, ChangeBackgroundColour, ChangeNumericValue, ChangeEndPoint, ChangeFontAttributes, ChangeLineAttributes, ChangeFillAttributes, ChangeActiveMask, ChangeSoftKeyMask, ChangeAttribute, ChangePriority, ChangeListItem, DeletePool, ChangeStringValue, ChangeChildPosition, ExecuteMacro}
 
--- the byte at a place, and the numbers of two and four bytes from a place
+-- the byte at an offset, and the numbers of two and four bytes at an offset
 abbrev pub byte : List ℕ → ℕ → ℕ
 byte bytes place = slice_index bytes place
 
@@ -18,7 +18,7 @@ signed_word bytes place = cast_signed w16 (word bytes place)
 abbrev pub long : List ℕ → ℕ → ℕ
 long bytes place = little_number 4 (drop place bytes)
 
--- A row of the table: the function of a command, the least number of its bytes, and what they say.
+-- A row of the table: the function of a command, its least number of bytes, and its decoder.
 pub record Row : Type 0 where
   pub function : ℕ
   pub least : ℕ
@@ -52,12 +52,12 @@ rows =
     ∷ row 0xBE 8 (λ b. ExecuteMacro (word b 1))
     ∷ []
 
--- the command of the row that has the function of the bytes, where they are at least as many
+-- the first row with the function of the bytes decodes them, if they are long enough
 abbrev pub command_among : List Row → List ℕ → Option Command
 command_among [] bytes = None
 command_among (r ∷ rs) bytes =
     if byte bytes 0 == r.function && nat_le r.least (length bytes) then Some (r.command bytes) else command_among rs bytes
 
--- The command that a message's bytes are, if they are one.
+-- The command in a message's bytes, if there is one.
 abbrev pub command_at : List ℕ → Option Command
 command_at bytes = command_among rows bytes

@@ -1,5 +1,5 @@
--- The events of objects by their numbers: those at which entries list macros, and those that each command raises
--- (docs/PROFILE.md, "Event numbers", "What a command may raise").
+-- The events of objects and their numbers, which events macro entries may list, and the events that each command
+-- raises (docs/PROFILE.md, "Event numbers", "What a command may raise").
 use Rattle.std.specs.Prelude.{ℕ, Bool, nat_le, ◌&&◌, ◌==◌, if◌then◌else◌, List, [], ◌∷◌, Option, Some, None}
 use Rattle.vt_commands.specs.declared.command.Command.{Command}
 use Rattle.vt_commands.specs.declared.command.Command.TheVariants.{HideShow, EnableDisable, ControlAudio, SetVolume, ChangeChildLocation, ChangeSize, ChangeBackgroundColour, ChangeNumericValue, ChangeEndPoint, ChangeFontAttributes, ChangeLineAttributes, ChangeFillAttributes, ChangeActiveMask, ChangeSoftKeyMask, ChangeAttribute, ChangePriority, ChangeListItem, DeletePool, ChangeStringValue, ChangeChildPosition, ExecuteMacro}
@@ -36,7 +36,7 @@ event_number events.KeyPress = 24
 event_number events.KeyRelease = 25
 event_number events.ChildPosition = 26
 
--- all events, by their numbers
+-- all events in the order of their numbers
 abbrev pub every_event : List Event
 every_event =
     events.RunByName ∷ events.Activate ∷ events.Deactivate ∷ events.Show ∷ events.Hide ∷ events.Enable ∷ events.Disable
@@ -49,24 +49,24 @@ abbrev pub event_among : List Event → ℕ → Option Event
 event_among [] n = None
 event_among (e ∷ es) n = if n == event_number e then Some e else event_among es n
 
--- the events at which the entries of objects list macros: entries with other numbers never fire and are not checked
+-- the events that macro entries of objects may list; entries with other numbers never fire and are not checked
 abbrev pub is_listable : ℕ → Bool
 is_listable event = nat_le 1 event && nat_le event 26
 
--- the event of a number
+-- the event with a number
 abbrev pub event_at : ℕ → Option Event
 event_at n = event_among every_event n
 
--- ---- what commands raise
+-- ---- the events that commands raise
 
 abbrev pub raise : ℕ → Event → Raised
 raise id event = record { id = id; event = event }
 
--- by state 1 the one event, by state 0 the other
+-- the second event for state 1, the first for state 0
 abbrev pub by_state : ℕ → ℕ → Event → Event → List Raised
 by_state id state off on = if state == 1 then raise id on ∷ [] else if state == 0 then raise id off ∷ [] else []
 
--- the events of a command's row
+-- the events that a command raises by its row
 abbrev pub row_events : Command → List Raised
 row_events (HideShow id state) = by_state id state events.Hide events.Show
 row_events (EnableDisable id state) = by_state id state events.Disable events.Enable

@@ -1,4 +1,4 @@
--- What the contracts of this crate cite.
+-- The specifications that the contracts of vt_commands use.
 pub mod Commands
 pub mod Events
 pub mod Pieces

@@ -1,32 +1,32 @@
--- The bytes of a macro, cut into its commands (docs/PROFILE.md, "A macro's bytes").
+-- A macro's bytes split into macro commands (docs/PROFILE.md, "A macro's bytes").
 use Rattle.std.specs.Prelude.{◌≡◌, ◌<◌, ◌↔◌, ℕ, zero, suc, ◌+◌, max, nat_le, List, [], ◌∷◌, ◌++◌, length, take, drop, ◌==◌, if◌then◌else◌, Option, Some, None}
 use Rattle.std.specs.Option.{option_map}
 use Rattle.std.specs.List.{AllByRecursion, flat_map}
 use Rattle.vt_commands.specs.Commands.{byte, word}
 
--- how many bytes the command takes that begins there: 9 of Change Child Position, 5 and its text of Change String
--- Value, but at least 8, and 8 of every other
+-- the number of bytes of the command at the front: 9 for Change Child Position, 5 and its text but at least 8 for
+-- Change String Value, 8 for every other command
 abbrev pub command_length : List ℕ → ℕ
 command_length bytes =
     if byte bytes 0 == 0xB4 then 9
     else if byte bytes 0 == 0xB3 then max 8 (5 + word bytes 3)
     else 8
 
--- bytes that are just as many as the command that begins them takes
+-- bytes of exactly one macro command
 abbrev pub IsPiece : List ℕ → Type 0
 IsPiece bytes = length bytes ≡ command_length bytes
 
--- the pieces, joined, are the bytes
+-- the macro commands join to the bytes
 pub record IsCut (bytes : List ℕ) (pieces : List (List ℕ)) : Type 0 where
   pub each : AllByRecursion IsPiece pieces
   pub joined : bytes ≡ flat_map (λ piece. piece) pieces
 
--- a piece at the front, and what follows it
+-- a macro command at the front, and the remaining bytes
 pub record IsSplit (bytes piece rest : List ℕ) : Type 0 where
   pub whole : IsPiece piece
   pub parts : bytes ≡ piece ++ rest
 
--- the pieces of bytes, where they are cut into that many at most
+-- the macro commands in bytes, up to a limit; None if they cannot be split
 unfoldable pub cut_within : ℕ → List ℕ → Option (List (List ℕ))
 cut_within most [] = Some []
 cut_within zero (b ∷ bytes) = None
@@ -36,14 +36,14 @@ cut_within (suc most) (b ∷ bytes) =
     then option_map (λ pieces. take n (b ∷ bytes) ∷ pieces) (cut_within most (drop n (b ∷ bytes)))
     else None
 
--- the pieces of bytes that are cut, of which each has at least one
+-- the macro commands in bytes; each has at least one byte, so the limit is the number of bytes
 abbrev pub cut : List ℕ → Option (List (List ℕ))
 cut bytes = cut_within (length bytes) bytes
 
--- Bytes are cut in one way alone.
+-- Bytes split into macro commands in at most one way, and `cut` finds it.
 pub record CutIsOne : Type 0 where
   pub one : (bytes : List ℕ) (a b : List (List ℕ)) → IsCut bytes a → IsCut bytes b → a ≡ b
   pub found : (bytes : List ℕ) (pieces : List (List ℕ)) → IsCut bytes pieces ↔ (cut bytes ≡ Some pieces)
-  -- a piece after the other
+  -- `cut` goes on after the first macro command
   pub first : (bytes piece rest : List ℕ) → IsSplit bytes piece rest → cut bytes ≡ option_map (λ pieces. piece ∷ pieces) (cut rest)
   pub none : (bytes : List ℕ) → 0 < length bytes → ((piece rest : List ℕ) → IsSplit bytes piece rest → ⊥) → cut bytes ≡ None

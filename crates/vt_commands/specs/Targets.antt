@@ -1,4 +1,4 @@
--- The IDs that a command in a macro names, and what may stand there (docs/PROFILE.md, "Commands in macros").
+-- The object IDs in a command and their allowed kinds, for commands in macros (docs/PROFILE.md, "Commands in macros").
 use Rattle.std.specs.Prelude.{ℕ, ◌%◌, true, false, List, [], ◌∷◌, Option, Some, None}
 use Rattle.vt_kinds.specs.declared.kind.Kind.{Kind}
 use Rattle.vt_kinds.specs.declared.kind.Kind.TheVariants as kinds
@@ -13,15 +13,15 @@ use Rattle.vt_commands.specs.declared.target.Target.{Target}
 use Rattle.vt_kinds.specs.Attributes.{attribute_at, lowest}
 use Rattle.vt_kinds.specs.References.{allowed, may_be_null}
 
--- an object of these kinds
+-- a target of these kinds, not NULL
 abbrev pub object : ℕ → Kinds → Target
 object id kinds = record { id = id; may_be_null = false; kinds = kinds }
 
--- NULL or an object of these kinds
+-- a target of these kinds, or NULL
 abbrev pub object_or_null : ℕ → Kinds → Target
 object_or_null id kinds = record { id = id; may_be_null = true; kinds = kinds }
 
--- the object that a command is for: the one that it changes, or the macro that it runs
+-- the object that a command changes, or the macro that it runs
 abbrev pub object_of : Command → Option ℕ
 object_of (HideShow id state) = Some id
 object_of (EnableDisable id state) = Some id
@@ -45,12 +45,12 @@ object_of (ChangeStringValue id length text) = Some id
 object_of (ChangeChildPosition parent child x y) = Some parent
 object_of (ExecuteMacro id) = Some id
 
--- the value of a pointer
+-- the new value of an object pointer
 abbrev pub pointer_value : Option Kind → ℕ → List Target
 pointer_value (Some kinds.ObjectPointer) value = object_or_null (value % 65536) sets.AllButPointers ∷ []
 pointer_value kind value = []
 
--- the value of an attribute that is a reference
+-- the new value of a reference attribute
 abbrev pub referred : Kind → ValueType → ℕ → List Target
 referred kind (types.Reference place) value =
     record { id = lowest (types.Reference place) value; may_be_null = may_be_null place; kinds = allowed kind place } ∷ []
@@ -64,8 +64,8 @@ abbrev pub attribute_target : Option Kind → ℕ → ℕ → List Target
 attribute_target None number value = []
 attribute_target (Some kind) number value = attribute_value kind (attribute_at kind number) value
 
--- The IDs that a command names, in the order of its bytes. Whether a value is one depends on the kind of the object
--- that the command is for.
+-- The object IDs in a command, in the order of its bytes. The kind of the changed object decides whether a value
+-- is an ID.
 abbrev pub targets : Option Kind → Command → List Target
 targets kind (HideShow id state) = object id sets.Containers ∷ []
 targets kind (EnableDisable id state) = object id sets.Inputs ∷ []

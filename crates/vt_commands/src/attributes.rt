@@ -1,4 +1,4 @@
-//! The attributes that Change Attribute writes.
+//! The attributes that Change Attribute writes, by kind and number.
 
 ghost use Rattle.std.specs.Prelude.{◌≡◌};
 ghost use Rattle.vt_kinds.specs.Attributes as table;
@@ -7,7 +7,7 @@ ghost use Rattle.vt_kinds.specs.Attributes.{attribute_at};
 use ValueType::{Byte, Decimals, Long, Priority, Reference, Scale, SignedLong, Word};
 use vt_kinds::{Attribute, Field, Kind, Place, ValueType};
 
-/// A list of attributes: each is a field and the values that it takes.
+/// Makes a list of attributes from fields and their value types.
 macro_rules! attributes {
     ($($field:ident: $value_type:expr),+ $(,)?) => {
         &[$(Attribute { field: Field::$field, value_type: $value_type }),+]
@@ -197,13 +197,13 @@ const INPUT_ATTRIBUTES: &[Attribute] = attributes![ValidationType: Byte];
 
 const OBJECT_POINTER: &[Attribute] = attributes![Value: Reference(Place::Value)];
 
-/// The options of an Input List, whose number is 5.
+/// The options of an Input List, attribute number 5.
 const OPTIONS_OF_A_LIST: Attribute = Attribute {
     field: Field::Options,
     value_type: Byte,
 };
 
-/// The attribute of a kind that has this number, if there is one.
+/// The attribute of a kind with this number, or `None`.
 pub fn attribute(kind: Kind, number: u8) -> Option<Attribute>
     ensures { result ≡ attribute_at kind number }
 {
@@ -213,7 +213,7 @@ pub fn attribute(kind: Kind, number: u8) -> Option<Attribute>
     }
 }
 
-/// The attributes of a kind, numbered from 1. Of an Input List they are those before the number that is left out.
+/// The attributes of a kind, numbered from 1. For an Input List only those before its missing number 4.
 fn attributes_of(kind: Kind) -> &'static [Attribute]
     ensures { result.now ≡ table.attributes_of kind }
 {
@@ -248,7 +248,7 @@ fn attributes_of(kind: Kind) -> &'static [Attribute]
     }
 }
 
-/// The attribute of a number in a list that is numbered from 1.
+/// The attribute at a number, counted from 1.
 fn numbered(attributes: &[Attribute], number: u8) -> Option<Attribute>
     ensures { result ≡ table.numbered attributes.now number }
 {

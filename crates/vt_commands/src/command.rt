@@ -1,4 +1,4 @@
-//! The commands of an implement.
+//! The commands of an implement, decoded from their bytes.
 
 ghost use Rattle.std.specs.Prelude.{◌≡◌, ◌≢◌, ◌≤◌, ◌+◌, length, ◌↔◌};
 ghost use Rattle.vt_commands.specs.Commands as commands;
@@ -7,8 +7,8 @@ ghost use Rattle.vt_commands.specs.Commands.{command_at};
 use byteorder::{ByteOrder, LittleEndian};
 use vt_kinds::{LongText, ObjectId};
 
-/// A command that changes the objects of a working set. Its numbers are those of its bytes; none of them is
-/// tested yet.
+/// A command that changes the objects of a working set. Its fields are decoded from its bytes and not yet
+/// checked.
 #[derive(Drop)]
 pub enum Command<'a> {
     /// Hide (state 0) or show (state 1) a container, function A0.
@@ -21,7 +21,7 @@ pub enum Command<'a> {
         id: ObjectId,
         state: u8,
     },
-    /// Sound the audio signal, function A3: how often, in Hz, and for how many milliseconds on and off.
+    /// Sound the audio signal, function A3: count, frequency in Hz, milliseconds on and off.
     ControlAudio {
         count: u8,
         frequency: u16,
@@ -32,14 +32,14 @@ pub enum Command<'a> {
     SetVolume {
         volume: u8,
     },
-    /// Move a child by dx and dy, each less 127 pixels, function A5.
+    /// Move a child by dx - 127 and dy - 127 pixels, function A5.
     ChangeChildLocation {
         parent: ObjectId,
         child: ObjectId,
         dx: u8,
         dy: u8,
     },
-    /// Set width and height in pixels, function A6.
+    /// Set the width and height in pixels, function A6.
     ChangeSize {
         id: ObjectId,
         width: u16,
@@ -50,7 +50,7 @@ pub enum Command<'a> {
         id: ObjectId,
         colour: u8,
     },
-    /// Set the value, function A8.
+    /// Set the numeric value, function A8.
     ChangeNumericValue {
         id: ObjectId,
         value: u32,
@@ -84,18 +84,18 @@ pub enum Command<'a> {
         colour: u8,
         pattern: ObjectId,
     },
-    /// Show another mask of a working set, function AD.
+    /// Set the active mask of a working set, function AD.
     ChangeActiveMask {
         working_set: ObjectId,
         mask: ObjectId,
     },
-    /// Give a mask other soft keys, function AE. The type is 1 for a data mask and 2 for an alarm mask.
+    /// Set the soft key mask of a mask, function AE. The type is 1 for a data mask and 2 for an alarm mask.
     ChangeSoftKeyMask {
         mask_type: u8,
         mask: ObjectId,
         keys: ObjectId,
     },
-    /// Set the attribute of a number, function AF.
+    /// Set the attribute with a number, function AF.
     ChangeAttribute {
         id: ObjectId,
         number: u8,
@@ -106,7 +106,7 @@ pub enum Command<'a> {
         id: ObjectId,
         priority: u8,
     },
-    /// Put an item in a list, function B1.
+    /// Set the item at an index of a list, function B1.
     ChangeListItem {
         id: ObjectId,
         index: u8,
@@ -114,13 +114,13 @@ pub enum Command<'a> {
     },
     /// Delete the object pool, function B2.
     DeletePool,
-    /// Set a text, function B3: its first bytes, as many as its length says or as there are.
+    /// Set a text, function B3: the first `length` of its bytes, or all of them if there are fewer.
     ChangeStringValue {
         id: ObjectId,
         length: u16,
         text: LongText<&'a [u8]>,
     },
-    /// Move a child to x and y, function B4.
+    /// Move a child to the position x, y, function B4.
     ChangeChildPosition {
         parent: ObjectId,
         child: ObjectId,
@@ -134,8 +134,8 @@ pub enum Command<'a> {
 }
 
 impl<'a> Command<'a> {
-    /// The command that the bytes of a message are, or `None` where its function is none of a command's
-    /// or it is shorter than its command. Bytes that follow a command are ignored.
+    /// Decodes the command in a message's bytes. `None` for another function or too few bytes. Bytes after the command
+    /// are ignored.
     pub fn read(bytes: &'a [u8]) -> Option<Command<'a>>
         ensures { result ≡ command_at bytes.now }
     {
@@ -147,7 +147,7 @@ impl<'a> Command<'a> {
     }
 }
 
-/// Change String Value, where there are five bytes.
+/// Decodes Change String Value, of at least five bytes.
 fn string_value<'a>(bytes: &'a [u8]) -> Option<Command<'a>>
     ensures { commands.byte bytes.now 0 ≡ 0xB3 → result ≡ command_at bytes.now }
 {
@@ -164,7 +164,7 @@ fn string_value<'a>(bytes: &'a [u8]) -> Option<Command<'a>>
     })
 }
 
-/// Change Child Position, where there are nine bytes.
+/// Decodes Change Child Position, of at least nine bytes.
 fn child_position<'a>(bytes: &[u8]) -> Option<Command<'a>>
     ensures { commands.byte bytes.now 0 ≡ 0xB4 → result ≡ command_at bytes.now }
 {
@@ -179,7 +179,7 @@ fn child_position<'a>(bytes: &[u8]) -> Option<Command<'a>>
     })
 }
 
-/// The commands of eight bytes, where there are as many.
+/// Decodes a command of eight bytes.
 fn eight_bytes<'a>(bytes: &[u8]) -> Option<Command<'a>>
     ensures { commands.byte bytes.now 0 ≢ 0xB3 → commands.byte bytes.now 0 ≢ 0xB4 → result ≡ command_at bytes.now }
 {
@@ -275,7 +275,7 @@ fn eight_bytes<'a>(bytes: &[u8]) -> Option<Command<'a>>
     }
 }
 
-/// The ID at a place.
+/// The ID at an offset.
 fn id(bytes: &[u8], place: usize) -> ObjectId
     requires { place + 2 ≤ length bytes.now }
     ensures { result ≡ commands.word bytes.now place }
@@ -283,7 +283,7 @@ fn id(bytes: &[u8], place: usize) -> ObjectId
     ObjectId::from_raw(word(bytes, place))
 }
 
-/// The number of two bytes at a place.
+/// The number of two bytes at an offset.
 fn word(bytes: &[u8], place: usize) -> u16
     requires { place + 2 ≤ length bytes.now }
     ensures { result ≡ commands.word bytes.now place }
@@ -291,7 +291,7 @@ fn word(bytes: &[u8], place: usize) -> u16
     LittleEndian::read_u16(&bytes[place..])
 }
 
-/// The number of four bytes at a place.
+/// The number of four bytes at an offset.
 fn long(bytes: &[u8], place: usize) -> u32
     requires { place + 4 ≤ length bytes.now }
     ensures { result ≡ commands.long bytes.now place }

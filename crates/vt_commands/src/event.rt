@@ -1,4 +1,4 @@
-//! The events of objects.
+//! The events of objects and their numbers.
 
 ghost use Rattle.std.specs.Prelude.{◌≡◌};
 ghost use Rattle.vt_commands.specs.Events.{event_number, event_at, is_listable};
@@ -6,7 +6,7 @@ ghost use Rattle.vt_commands.specs.Events.{event_number, event_at, is_listable};
 /// An event of an object (ISO 11783-6; docs/PROFILE.md, "Event numbers").
 #[derive(Clone, Copy, Debug, Default, PartialEq, Eq)]
 pub enum Event {
-    /// A macro is run by its ID. It is an event of macros alone, and no entry lists a macro at it.
+    /// A macro runs by its ID. This event belongs to macros alone, and no macro entry may list it.
     #[default]
     RunByName,
     Activate,
@@ -38,7 +38,7 @@ pub enum Event {
 }
 
 impl Event {
-    /// The number of the event, from 0 to 26.
+    /// The number of the event, 0 to 26.
     pub fn number(self) -> u8
         ensures { result ≡ event_number self }
     {
@@ -73,7 +73,7 @@ impl Event {
         }
     }
 
-    /// The event of a number, if there is one.
+    /// The event with a number, or `None`.
     pub fn from_number(number: u8) -> Option<Event>
         ensures { result ≡ event_at number }
     {
@@ -108,7 +108,7 @@ impl Event {
             _ => None,
         }
     }
-    /// Whether the entries of objects list macros at the event of this number. Entries with other numbers never fire.
+    /// Whether macro entries may list the event with this number. Entries with other numbers never fire.
     pub fn is_listable(number: u8) -> bool
         ensures { result ≡ is_listable number }
     {

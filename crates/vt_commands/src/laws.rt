@@ -1,8 +1,8 @@
-//! What the definitions come to: each function is a law, and calling it changes nothing.
+//! The theorem about macro commands: the contract of a function with an empty body.
 
 ghost use Rattle.vt_commands.specs.Pieces.{CutIsOne};
 
-/// Bytes are cut into commands in one way alone.
+/// Bytes split into macro commands in at most one way.
 pub fn cut_is_one()
     ensures { CutIsOne }
 {}

@@ -1,12 +1,12 @@
-//! The commands of an ISOBUS virtual terminal (ISO 11783-6): their bytes, what they name, the attributes that they write and the
+//! The commands of an ISOBUS virtual terminal (ISO 11783-6): their bytes, the objects and attributes in them, and the
 //! events that they raise.
 //!
-//! - `Command` is read from its bytes; `split_command` takes one command off the bytes of a macro.
-//! - `targets` gives each `Target` that a command names, `attribute` the `Attribute` of a number, and `row_events` each `Event` that is
-//!   `Raised` by a command.
-//! - `laws` has what the definitions come to.
+//! - `Command` is decoded from its bytes; `split_command` splits the first command off a macro's bytes.
+//! - `targets` returns each `Target` of a command, `attribute` the `Attribute` with a number, and `row_events` each
+//! `Event` that a command raises, as a `Raised`.
+//! - `laws` has the theorem about macro commands.
 //!
-//! docs/PROFILE.md has the tables: "Commands" for the bytes of the commands, "Attributes" for what Change Attribute writes.
+//! docs/PROFILE.md has the tables: "Commands" for the bytes of the commands, "Attributes" for Change Attribute.
 #![tactic(auto)]
 
 mod attributes;

@@ -1,4 +1,4 @@
-//! The bytes of a macro, command by command.
+//! The bytes of a macro, one command at a time.
 
 ghost use Rattle.std.specs.Prelude.{◌≡◌, ◌<◌, ℕ, List, length, IfSome, IfNone};
 ghost use Rattle.vt_commands.specs.Pieces.{IsSplit, command_length};
@@ -9,8 +9,8 @@ const CHANGE_STRING_VALUE: u8 = 0xB3;
 
 const CHANGE_CHILD_POSITION: u8 = 0xB4;
 
-/// Takes the first command off the bytes of a macro: the command's own bytes, with what fills them up, and
-/// those that follow. `None` where the bytes end before the command does.
+/// Splits a macro's bytes after its first command: returns that command's bytes with its padding, and the remaining
+/// bytes. `None` if the bytes end before the command does.
 pub fn split_command(bytes: &[u8]) -> Option<(&[u8], &[u8])>
     ensures some { IfSome result (λ parts. IsSplit bytes.now parts.0.now parts.1.now) }
     ensures none { IfNone result ((piece rest : List ℕ) → IsSplit bytes.now piece rest → ⊥) }
@@ -19,7 +19,7 @@ pub fn split_command(bytes: &[u8]) -> Option<(&[u8], &[u8])>
     bytes.split_at_checked(length)
 }
 
-/// How many bytes the first command takes, if there are enough of them to tell.
+/// The number of bytes of the first command, or `None` if too few bytes are there to tell.
 fn command_length(bytes: &[u8]) -> Option<usize>
     ensures some { IfSome result (λ n. n ≡ command_length bytes.now) }
     ensures none { IfNone result (length bytes.now < 5) }

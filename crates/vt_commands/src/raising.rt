@@ -8,17 +8,17 @@ use crate::event::Event;
 use arrayvec::ArrayVec;
 use vt_kinds::ObjectId;
 
-/// An event of an object.
+/// An event raised on an object.
 #[derive(Clone, Copy, Debug, Default, PartialEq, Eq)]
 pub struct Raised {
     /// The object.
     pub id: ObjectId,
-    /// The event that is raised on it.
+    /// The raised event.
     pub event: Event,
 }
 
-/// The events that an accepted command raises by its row, in their order. Besides, Change Active Mask raises Hide on
-/// the mask that was active.
+/// The events that an accepted command raises by its row, in their order. Change Active Mask also raises Hide on the
+/// former active mask.
 pub fn row_events(command: &Command<'_>) -> ArrayVec<Raised, 2>
     ensures { result.items ≡ row_events command.now }
 {

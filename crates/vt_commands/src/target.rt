@@ -1,4 +1,4 @@
-//! What the commands of macros name.
+//! The object IDs in commands, checked for commands in macros.
 
 ghost use Rattle.std.specs.Prelude.{◌≡◌, ◌++◌, Some};
 ghost use Rattle.std.specs.Option.{option_to_list};
@@ -8,20 +8,20 @@ use crate::attributes::attribute;
 use crate::command::Command;
 use vt_kinds::{Kind, Kinds, ObjectId, ValueType};
 
-/// An ID that a command names, and what has to stand there where the command is in a macro.
+/// An object ID in a command, and the objects allowed there for a command in a macro.
 #[derive(Clone, Copy, Debug, PartialEq, Eq)]
 pub struct Target {
     /// The ID, or NULL.
     pub id: ObjectId,
-    /// Whether it may be NULL.
+    /// Whether NULL is allowed.
     pub may_be_null: bool,
-    /// The kinds that may stand there.
+    /// The allowed kinds.
     pub kinds: Kinds,
 }
 
 impl<'a> Command<'a> {
-    /// The object that the command is for: the one that it changes, or the macro that it runs. The first ID that it
-    /// names, if it names any.
+    /// The object that the command changes, or the macro that it runs: the first ID in the command. `None` for a command
+    /// without an ID.
     pub fn object(&self) -> Option<ObjectId>
         ensures { result ≡ object_of self.now }
     {
@@ -49,8 +49,8 @@ impl<'a> Command<'a> {
     }
 }
 
-/// The IDs that a command names, in the order of its bytes: two at most. Whether a value is one depends on `kind`, the
-/// kind of the object that the command is for, if that is there (docs/PROFILE.md, "Commands in macros").
+/// The object IDs in a command, in the order of its bytes, two at most. `kind`, the kind of the changed object if it
+/// exists, decides whether a value is an ID (docs/PROFILE.md, "Commands in macros").
 pub fn targets(command: &Command<'_>, kind: Option<Kind>) -> (Option<Target>, Option<Target>)
     ensures { targets kind command.now ≡ option_to_list result.0 ++ option_to_list result.1 }
 {
@@ -118,7 +118,7 @@ fn object_or_null(id: ObjectId, kinds: Kinds) -> Option<Target>
     })
 }
 
-/// The value that Change Numeric Value gives a pointer.
+/// The new value of an object pointer, in Change Numeric Value.
 fn pointer_value(kind: Option<Kind>, value: u32) -> Option<Target>
     ensures { option_to_list result ≡ pointer_value kind value }
 {
@@ -131,7 +131,7 @@ fn pointer_value(kind: Option<Kind>, value: u32) -> Option<Target>
     }
 }
 
-/// The value that Change Attribute gives an attribute that is a reference.
+/// The new value of a reference attribute, in Change Attribute.
 fn attribute_target(kind: Option<Kind>, number: u8, value: u32) -> Option<Target>
     ensures { option_to_list result ≡ attribute_target kind number value }
 {

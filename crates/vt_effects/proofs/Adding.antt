@@ -1,4 +1,4 @@
--- What a command adds to the inclusions of a store.
+-- A command adds no inclusion to a store, except that of its other ID.
 use Rattle.std.proofs.Common.{◌≡◌, ◌⊎◌, inl, inr, ⊎_elim, ℕ, Bool, true, false, cond, ◌==◌, not, eqb, List, [], ◌∷◌, map, Option, Some, None, is_some, refl, sym, ap, subst, ◌∙◌}
 use Rattle.std.proofs.lemmas.Option.{same_Some}
 use Rattle.std.proofs.lemmas.Bool.{eqb-true}
@@ -32,7 +32,7 @@ use Rattle.vt_effects.proofs.Making.{Changed, slots_made}
 use Rattle.vt_effects.proofs.Replacing.{unmapped, item_replaced}
 use Rattle.vt_effects.proofs.WrittenSlots.{kind_pointer}
 
--- what each slot that includes is of
+-- if a goal holds for all included IDs, it holds for the ID of each slot that includes
 all_include : (slots : List Slot) (goal : ℕ → Type 0) → ((x : ℕ) → Contains (included_in slots) x → goal x) → AllByRecursion (λ s. includes s ≡ true → goal s.id) slots
 all_include [] goal of = tt
 all_include (s ∷ slots) goal of = ((λ is. of s.id (in_first s slots is)), all_include slots goal (λ x h. of x (in_more s slots x h)))
@@ -41,7 +41,7 @@ each_included : (slots : List Slot) (goal : ℕ → Type 0) → AllByRecursion (
 each_included [] goal all x h = absurd (Contains-nil x h)
 each_included (s ∷ slots) goal all x h = slot_case (goal x) s slots x h (λ is same. subst goal same (all.0 is)) (each_included slots goal all.1 x)
 
--- an ID that a command makes the object include
+-- `x` is an ID that the command makes the object include
 pub record Adds (m : ObjectMap) (command : Command) (old : Seen) (x : ℕ) : Type 0 where
   pub place : Place
   pub written : writes command place (kind_of old) ≡ true
@@ -89,7 +89,7 @@ inclusions_after m id old new command c q x h = by (eqb q id) refl (along _ _ (s
         (included_after m id old new command c x (along _ _ (get_there m id new q e) now))
     by false e now = inl (along _ _ (get_other m id new q e ∙ finite.get-entries m q) now)
 
--- ---- a command that replaces nothing adds nothing
+-- ---- a command without a replacement adds no inclusion to a pointer or a list
 
 not_pointer : (m : ObjectMap) (it id : ℕ) (old : Seen) (h : ℕ → Replacement) → finite.get m id ≡ Some old → Some it ≡ Some id
     → option_map h (pointer_value (finite.get m it)) ≡ None → kind_of old ≡ kinds.ObjectPointer → ⊥
@@ -97,7 +97,7 @@ not_pointer m it id old h at for none is =
     kind_pointer old is
     (sym (ap pointer_value (ap (finite.get m) (same_Some it id for) ∙ at)) ∙ unmapped h (pointer_value (finite.get m it)) none)
 
--- only a pointer has a value that is written
+-- only a pointer has a Value that a command writes
 has_value : (command : Command) (kind : Kind) → writes command places.Value kind ≡ true → kind ≡ kinds.ObjectPointer
 has_value (ChangeNumericValue it value) kinds.ObjectPointer is = refl
 has_value (ChangeAttribute it number value) kinds.ObjectPointer is = refl
@@ -119,7 +119,7 @@ pub none_added : (m : ObjectMap) (id : ℕ) (old new : Seen) (command : Command)
     → (x : ℕ) → Adds m command old x → ⊥
 none_added m id old new command c none x a = none_at m id old new command c none a.place a.written a.inclusion
 
--- ---- the IDs stay with the shape
+-- ---- the IDs of a store are those of its shape
 
 ids_in : (es : Objects) → map (λ (e : ℕ × Fixed). e.0) (shape_of es) ≡ ids es
 ids_in [] = refl

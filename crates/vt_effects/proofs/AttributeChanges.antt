@@ -1,4 +1,4 @@
--- What Change Attribute makes of an object that has the attribute.
+-- Change Attribute of an attribute that the object has.
 use Rattle.std.proofs.Common.{◌≡◌, ℕ, Bool, true, cond, Option, Some, Result, Err, sym, ap, subst, ◌∙◌}
 use Rattle.vt_kinds.specs.declared.kind.Kind.{Kind}
 use Rattle.vt_kinds.specs.declared.kinds.Kinds.TheVariants as sets

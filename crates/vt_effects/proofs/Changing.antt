@@ -1,5 +1,5 @@
--- What a command leaves of an object: its kind, the macros of its events and the bytes of a macro, and of its references
--- those that it had and what may stand where the command writes.
+-- A command keeps the kind of an object, its macro entries and its macro bytes. Each reference afterwards is a former one
+-- or one that the command may write.
 use Rattle.std.proofs.Common.{◌≡◌, ◌⊎◌, inl, inr, ◌+◌, ℕ, zero, suc, ℤ, ◌==◌, Bool, true, false, cond, not, List, [], ◌∷◌, map, set, slice_get, IfSome, Option, Some, None, Result, Ok, Err, refl, sym, subst, arith}
 use Rattle.std.specs.Prelude.{Contains}
 use Rattle.std.specs.List.{AllByRecursion}
@@ -26,12 +26,12 @@ use Rattle.vt_stores.specs.Shapes.{fixed}
 use Rattle.vt_effects.specs.Fields.{word, with_field}
 use Rattle.vt_effects.specs.Changes.{left, bit, if_passed, is_one_of, may_stand, takes, other_id, child_at, move_child, shifted, placed, stands_in, leaves, for_child, change_location, change_position, put_children, in_parent, put_attribute, changed, writes, is_attribute, IsWritten}
 
--- what is left of an object has all that no command changes, and each of its references is as told
+-- the object keeps its fixed part, and its slots have a property
 record Leaves (P : Slot → Type 0) (o : Seen) (made : Result Seen ℕ) : Type 0 where
   kept : fixed (left o made) ≡ fixed o
   slots : AllByRecursion P (slots_of (left o made))
 
--- what may be written by a command
+-- the slots that a command may write have a property
 abbrev pub MayWrite : (Slot → Type 0) → Command → Option Kind → Kind → Type 0
 MayWrite P command named kind =
     (place : Place) (id : ℕ) → other_id command ≡ Some id → writes command place kind ≡ true → may_stand kind place id named ≡ true → P (slot kind place id)
@@ -72,7 +72,7 @@ location_stays named child dx dy children = child_stays child named children _ (
 position_stays : (named : Option Kind) (child : ℕ) (x y : ℤ) (children : List Child) → ids (left children (change_position named child x y children)) ≡ ids children
 position_stays named child x y children = child_stays child named children _ (moved_ids child (placed x y) (λ c. refl) children)
 
--- ---- attributes by their numbers
+-- ---- attributes by number
 
 at_index : (Q : Attribute → Type 0) (attributes : List Attribute) (index : ℕ) → AllByRecursion Q attributes → IfSome (slice_get attributes index) Q
 at_index Q [] index all = tt
@@ -83,7 +83,7 @@ at_number : (Q : Attribute → Type 0) (attributes : List Attribute) (number : �
 at_number Q attributes zero all = tt
 at_number Q attributes (suc index) all = at_index Q attributes index all
 
--- the options of an Input List stand apart
+-- the options of an Input List are outside the list of attributes
 at_attribute : (Q : Attribute → Type 0) (kind : Kind) (number : ℕ) → AllByRecursion Q (byte fields.Options ∷ attributes_of kind) → IfSome (attribute_at kind number) Q
 at_attribute Q kinds.InputList number all = by (number == 5)
   where
@@ -100,7 +100,7 @@ mask_may mask named is = by (mask == 0xFFFF)
     by false = is
 
 module _ (P : Slot → Type 0) where
-  -- what is made where a test is passed
+  -- a change under a test
   tested : (test : Bool) (made : Result Seen ℕ) (error : ℕ) (o : Seen) → AllByRecursion P (slots_of o) → (test ≡ true → Leaves P o made)
       → Leaves P o (cond test made (Err error))
   tested true made error o old of = of refl
@@ -110,7 +110,7 @@ module _ (P : Slot → Type 0) where
       → Leaves P o (if_passed test error new)
   passes test error o new kept old of = tested test (Ok new) error o old (λ passed. record { kept = kept; slots = of passed })
 
-  -- one test and then another
+  -- a change under two tests
   both_pass : (first test : Bool) (error other : ℕ) (o new : Seen) → fixed new ≡ fixed o → AllByRecursion P (slots_of o)
       → (test ≡ true → AllByRecursion P (slots_of new)) → Leaves P o (cond {A = Result Seen ℕ} first (if_passed test error new) (Err other))
   both_pass first test error other o new kept old of = tested first (if_passed test error new) other o old (λ _. passes test error o new kept old of)
@@ -143,7 +143,7 @@ module _ (P : Slot → Type 0) where
   listed_set kind start zero at item (x ∷ items) is old new = let same : start ≡ at = omega arith in (rw same new, old.1)
   listed_set kind start (suc index) at item (x ∷ items) is old new = (old.0, listed_set kind (suc start) index at item items (omega arith) old.1 new)
 
-  -- what a field of a sort is given: where it is a reference, an ID that may stand there
+  -- a field of a type gets an ID that is allowed there, if the field is a reference
   abbrev Given : Kind → ℕ → ValueType → Type 0
   Given kind n (types.Reference place) = cond (is_attribute place kind) (P (slot kind place (word n))) (Unit {0})
   Given kind n _ = Unit {0}

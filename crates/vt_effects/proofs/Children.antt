@@ -1,4 +1,4 @@
--- The entries of a child at other positions.
+-- Moving the entries of a child one by one moves them all.
 use Rattle.std.proofs.Common.{◌≡◌, ℕ, Bool, true, false, not, cond, List, length, Option, Some, None, is_some, Err, sym, ap, ◌∙◌}
 use Rattle.vt_kinds.specs.declared.kind.Kind.{Kind}
 use Rattle.vt_kinds.specs.declared.entries.Child.{Child}

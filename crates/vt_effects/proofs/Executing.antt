@@ -1,4 +1,4 @@
--- What a command comes to on a store, and what is put back where it is refused.
+-- The execution of a command on a store, and the restored ID after a refusal.
 use Rattle.std.proofs.Common.{◌≡◌, ◌≤◌, ◌&&◌, ◌==◌, ◌⊎◌, inl, inr, ℕ, zero, suc, Bool, true, false, List, [], ◌∷◌, length, get_or, Option, Some, None, Result, Ok, Err, refl, sym, ap, subst, ◌∙◌, arith}
 use Rattle.std.proofs.lemmas.Bool.{eq-eqb}
 use Rattle.std.proofs.lemmas.List.Elements.{Contains-get_or}
@@ -29,7 +29,7 @@ use Rattle.vt_effects.proofs.ShortChains.{shallow_by_test}
 use Rattle.vt_effects.proofs.KeepingOrder.{by_changed}
 use Rattle.vt_effects.proofs.Levels.{levels_kept, levels_but}
 
--- ---- the test of chains, of a store whose chains are short
+-- ---- the test of chains passes, if the chains are short
 
 shallow_from : (next : ℕ → List ℕ) (most id : ℕ) → ((rest : List ℕ) → IsChain next (id ∷ rest) → length rest ≤ most) → is_short most next id ≡ true
 unfolding is_short
@@ -53,7 +53,7 @@ test_fails : (m : ObjectMap) (b : Bool) → chains_are_short m ≡ b → HasLong
 test_fails m true is long = absurd (long (shallow_by_test m is))
 test_fails m false is long = refl
 
--- ---- a command that replaces nothing
+-- ---- a command without a replacement
 
 passed : (b : Bool) (error : ℕ) (n : ObjectMap) → b ≡ true → if_passed b error n ≡ Ok n
 passed true error n is = refl
@@ -93,7 +93,7 @@ pub effect_refused : (m : ObjectMap) (command : Command) (r : Replacement) (erro
     → ◌≡◌ {A = Result ObjectMap ℕ} (changed_by m command (other_kind m (other_id command))) (Err error) → ◌≡◌ {A = Result ObjectMap ℕ} (effect m command) (Err error)
 effect_refused m command r error is made = effect_of m command r (Err error) is made
 
--- ---- what a call answers
+-- ---- the results of calls
 
 pub answered : (x : Result ObjectMap ℕ) (m : ObjectMap) → HasResult (Ok tt) x → x ≡ Ok (left m x)
 answered (Ok n) m is = refl
@@ -103,9 +103,9 @@ pub answered_error : (error : ℕ) (x : Result ObjectMap ℕ) → HasResult (Err
 answered_error error (Ok n) is = absurd is
 answered_error error (Err other) is = ap Err (sym is)
 
--- ---- what has been changed
+-- ---- the changed object
 
--- the object that a command has changed which replaces an ID
+-- the object before and after a command that replaces an ID
 pub record Replaces (m n : ObjectMap) (command : Command) (r : Replacement) : Type 0 where
   pub old : Seen
   pub new : Seen
@@ -126,7 +126,7 @@ levels_replacing m n command r levels is by are =
     subst (λ (k : ObjectMap). AreLevelsBut k levels r.holder r.after) (sym by.is)
     (levels_but m r.holder r.after by.old by.new command levels by.changed (parts_of m command r is).names are)
 
--- ---- what is put back
+-- ---- the restored store
 
 pub put_back_is : (m n last : ObjectMap) (command : Command) (r : Replacement) → replaced m command ≡ Some r → Replaces m n command r
     → ((o : Seen) → finite.get n r.holder ≡ Some o → last ≡ finite.insert n r.holder (restored command r.before o)) → last ≡ m
@@ -136,14 +136,14 @@ put_back_is m n last command r is by back =
     ∙ ap (finite.insert (finite.insert m r.holder by.new) r.holder) ((parts_of m command r is).back by.old by.new by.changed)
     ∙ put_back m (finite.insert m r.holder by.new) r.holder by.old by.changed.at (λ q other. get_other m r.holder by.new q other)
 
--- the levels of before are those of the store of before
+-- the levels are those of the restored store
 pub levels_back : (m : ObjectMap) (before after : Levels) → AreLevels m before → HasSameLevels before after → AreLevels m after
 levels_back m before after are same = record {
   certificate = subst (IsCertificate (ids_of m) (inclusions_of m)) (sym same.levels) are.certificate;
   room = same.room ∙ are.room;
 }
 
--- ---- what the call comes to
+-- ---- the result of the whole call
 
 pub done : (m n : ObjectMap) (command : Command) (levels : Levels) → fits m command ≡ true → AreLevels n levels
     → effect m command ≡ if_passed (fits m command && chains_are_short n) (value_error command) n → ◌≡◌ {A = Result ObjectMap ℕ} (effect m command) (Ok n)
@@ -161,7 +161,7 @@ refused m n command (inr long) is =
     never true = refl
     never false = refl
 
--- ---- what calls leave
+-- ---- the stores after the calls
 
 pub made_is : (m n : ObjectMap) (command : Command) (named : Option Kind) → named ≡ other_kind m (other_id command) → HasResult (Ok tt) (changed_by m command named)
     → n ≡ left m (changed_by m command named) → ◌≡◌ {A = Result ObjectMap ℕ} (changed_by m command (other_kind m (other_id command))) (Ok n)

@@ -1,4 +1,4 @@
--- The kinds and the values of pointers in a store of which one object was changed.
+-- Kinds and pointer values in a store with one changed object.
 use Rattle.std.proofs.Common.{◌≡◌, ℕ, Bool, true, false, cond, ◌==◌, ◌&&◌, eqb, Option, Some, None, refl, sym, ap, subst, ◌∙◌}
 use Rattle.std.proofs.lemmas.Bool.{eqb-true}
 use Rattle.std.specs.Prelude.{IsTrue}
@@ -17,14 +17,14 @@ use Rattle.vt_stores.proofs.Rising.{both_true, true_both}
 pub get_put : (m : ObjectMap) (id : ℕ) (o : Seen) (q : ℕ) → finite.get (finite.insert m id o) q ≡ cond (eqb q id) (Some o) (finite.get m q)
 get_put m id o q = finite.get-insert nat_cmp_total m id o q ∙ ap (λ b. cond b (Some o) (finite.get m q)) (unsigned_tied q id)
 
--- what stands under the ID, and under another one
+-- the object of the ID itself in the changed store
 pub get_there : (m : ObjectMap) (id : ℕ) (o : Seen) (q : ℕ) → eqb q id ≡ true → finite.get (finite.insert m id o) q ≡ Some o
 get_there m id o q same = get_put m id o q ∙ ap (λ b. cond b (Some o) (finite.get m q)) same
 
 pub get_other : (m : ObjectMap) (id : ℕ) (o : Seen) (q : ℕ) → eqb q id ≡ false → finite.get (finite.insert m id o) q ≡ finite.get m q
 get_other m id o q other = get_put m id o q ∙ ap (λ b. cond b (Some o) (finite.get m q)) other
 
--- an object that is put back into a store that differs in it alone
+-- if two stores differ in one object alone, restoring the object makes them equal
 pub put_back : (m n : ObjectMap) (id : ℕ) (o : Seen) → finite.get m id ≡ Some o → ((q : ℕ) → eqb q id ≡ false → finite.get n q ≡ finite.get m q) → finite.insert n id o ≡ m
 put_back m n id o at others = finite.same_map nat_cmp_total finite.nat_cmp-IsAntisymmetric _ _ (λ q. by q (eqb q id) refl)
   where
@@ -59,7 +59,7 @@ pub value_of : (m : ObjectMap) (s : Slot) (v : Option ℕ) → ((w : ℕ) → v 
 value_of m s None of = refl
 value_of m s (Some w) of = of w refl
 
--- A slot stays in order where one object is changed, if it fits the new value of a pointer that it names.
+-- A slot stays in order when one object changes, if the slot allows the new value of its pointer.
 pub in_order_stays : (m : ObjectMap) (id : ℕ) (old new : Seen) (s : Slot) → finite.get m id ≡ Some old → kind_of new ≡ kind_of old
     → (eqb s.id id ≡ true → (w : ℕ) → pointer_value (Some new) ≡ Some w → IsTrue (allows m s w)) → IsTrue (is_in_order m s)
     → IsTrue (is_in_order (finite.insert m id new) s)

@@ -13,7 +13,7 @@ use Rattle.vt_effects.proofs.Making.{Changed, Made, changed_case}
 use Rattle.vt_effects.proofs.SlotsInOrder.{slots_in_order}
 use Rattle.vt_effects.proofs.ShortChains.{shallow_after}
 
--- a command that is for no object
+-- a command without an object changes nothing
 without : (m : ObjectMap) (command : Command) → left m (without_object m command) ≡ m
 without m (SetVolume volume) = by (nat_le volume 100)
   where
@@ -22,7 +22,7 @@ without m (SetVolume volume) = by (nat_le volume 100)
     by false = refl
 without m _ = refl
 
--- ---- what holds of the store, and of the store with the object that is made
+-- ---- properties that hold before a command and after each change hold after the command
 
 pub by_changed : (Q : ObjectMap → Type 0) (m : ObjectMap) (command : Command) → Q m → ((id : ℕ) (old new : Seen) → Changed m id old new command → Q (finite.insert m id new))
     → Q (left m (changed_by m command (other_kind m (other_id command))))

@@ -1,4 +1,4 @@
--- What a command has made of an object of a store.
+-- The object of a store before and after a command.
 use Rattle.std.proofs.Common.{◌≡◌, ℕ, true, Option, Some, None, Result, Ok, Err, refl, sym, ap, subst, ◌∙◌}
 use Rattle.std.specs.List.{AllByRecursion}
 use Rattle.std.specs.FinMap as finite
@@ -13,13 +13,13 @@ use Rattle.vt_effects.specs.Changes.{left, other_id, changed}
 use Rattle.vt_effects.specs.Effects.{missing_error, keeps_order, other_kind, put, changed_at, changed_in}
 use Rattle.vt_effects.proofs.Changing.{MayWrite, changes_keep, slots_after}
 
--- the object of an ID and what is made of it, whether the store is in order with that or not
+-- the object of an ID before and after a command, before any test of the store's order
 pub record Changed (m : ObjectMap) (id : ℕ) (old new : Seen) (command : Command) : Type 0 where
   pub at : finite.get m id ≡ Some old
   pub for : object_of command ≡ Some id
   pub made : ◌≡◌ {A = Result Seen ℕ} (changed command (other_kind m (other_id command)) old) (Ok new)
 
--- and the store is in order with it
+-- a change that keeps the store in order
 pub record Made (m : ObjectMap) (id : ℕ) (old new : Seen) (command : Command) : Type 0 where
   pub change : Changed m id old new command
   pub open change use *
@@ -36,7 +36,7 @@ pub slots_made : (P : Slot → Type 0) (m : ObjectMap) (id : ℕ) (old new : See
 slots_made P m id old new command c before may =
     subst (λ (o : Seen). AllByRecursion P (slots_of o)) (ap (left old) c.made) (slots_after P command (other_kind m (other_id command)) old before may)
 
--- What holds of every error, and of the store with whatever is made of the object, holds of what the command comes to.
+-- A property of all errors and of all stores with a changed object holds for the result of a command.
 put_case : (Q : Result ObjectMap ℕ → Type 0) (m : ObjectMap) (id : ℕ) (old : Seen) (command : Command) (made : Result Seen ℕ) → finite.get m id ≡ Some old
     → object_of command ≡ Some id → changed command (other_kind m (other_id command)) old ≡ made → ((error : ℕ) → Q (Err error))
     → ((old new : Seen) → Changed m id old new command → Q (Ok (finite.insert m id new))) → Q (put m id made)

@@ -1,4 +1,4 @@
--- A list of which the first entries are changed, and the others are not yet.
+-- Changing the entries of a list one by one.
 use Rattle.std.proofs.Common.{◌≡◌, ◌<◌, ◌+◌, ℕ, zero, suc, Bool, true, false, ◌||◌, List, [], ◌∷◌, ◌++◌, map, take, drop, length, set, refl, sym, ap, subst, ◌∙◌, arith, add-one}
 use Rattle.std.specs.Prelude.{slice_index_or}
 use Rattle.std.specs.List.{list_any}
@@ -11,7 +11,7 @@ up_to_length f zero xs = refl
 up_to_length f (suc index) [] = refl
 up_to_length f (suc index) (x ∷ xs) = ap suc (up_to_length f index xs)
 
--- one entry more is changed
+-- one more entry is changed
 set_next : {A : Type 0} (f : A → A) (index : ℕ) (xs : List A) (x : A) → index < length xs → x ≡ slice_index_or (up_to f index xs) index x
     → set (up_to f index xs) index (f x) ≡ up_to f (suc index) xs
 set_next f zero [] x lt is = absurd (omega (arith, lt))
@@ -28,7 +28,7 @@ pub either_false : (a b : Bool) → (a || b) ≡ false → (a ≡ false) × (b �
 either_false false b is = (refl, is)
 either_false true b is = absurd cc
 
--- the entry that is next fails a test that all fail
+-- the next entry fails a test that all entries fail
 next_fails : {A : Type 0} (p : A → Bool) (f : A → A) (index : ℕ) (xs : List A) (x : A) → list_any p xs ≡ false → index < length xs
     → x ≡ slice_index_or (up_to f index xs) index x → p x ≡ false
 next_fails p f zero [] x none lt is = absurd (omega (arith, lt))

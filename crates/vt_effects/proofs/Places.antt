@@ -1,4 +1,4 @@
--- Slots that stay in order where one object is changed, and slots that a command writes.
+-- Slots stay in order when one object changes, and so do those that a command writes.
 use Rattle.std.proofs.Common.{◌≡◌, ℕ, Bool, true, false, ◌==◌, ◌||◌, not, List, [], ◌∷◌, get_or, Some, sym, subst, ◌∙◌}
 use Rattle.std.proofs.lemmas.List.Elements.{All-from_recursion, recursion_from_All}
 use Rattle.std.proofs.lemmas.List.Folds.{list_all-append}
@@ -16,13 +16,13 @@ use Rattle.vt_stores.proofs.Rising.{both_true}
 use Rattle.vt_chains.proofs.Including.{entry_case}
 use Rattle.vt_effects.proofs.InOrder.{in_order_stays}
 
--- ---- the slots that an object had
+-- ---- the slots of the unchanged object
 
 or_second : (b c : Bool) → b ≡ true → IsTrue (not b || c) → IsTrue c
 or_second true c e is = is
 or_second false c e is = absurd cc
 
--- the places that name a pointer allow its new value
+-- all references to a pointer allow its new value
 abbrev pub Allowing : ObjectMap → ℕ → Seen → List Slot → Type 0
 Allowing m id new slots = (w : ℕ) → pointer_value (Some new) ≡ Some w → list_all (λ s. not (s.id == id) || allows m s w) slots ≡ true
 
@@ -33,7 +33,7 @@ slots_stay m id old new slots at kinds fits all =
     (λ k d lt. in_order_stays m id old new (get_or slots k d) at kinds (λ e w is. or_second _ _ e (AllPass-from_list_all _ slots (fits w is) k d lt))
     (All-from_recursion _ slots all k d lt))
 
--- all slots are those of each object
+-- a test of all slots holds for the slots of each object
 found_slots : (p : Slot → Bool) (es : Objects) (q : ℕ) (x : Seen) → object_at es q ≡ Some x → list_all p (flat_map (λ e. slots_of e.1) es) ≡ true
     → list_all p (slots_of x) ≡ true
 found_slots p [] q x found all = absurd cc

@@ -1,4 +1,4 @@
--- Where a pointer has a value of a kind, the places that name it allow others of that kind.
+-- References to a pointer allow all values of the kind of its present value.
 use Rattle.std.proofs.Common.{◌≡◌, ℕ, suc, Bool, true, false, cond, eqb, not, ◌&&◌, ◌||◌, List, [], ◌∷◌, get_or, Some, None, refl, sym, ap, ◌∙◌}
 use Rattle.std.proofs.lemmas.Bool.{eqb-true}
 use Rattle.std.proofs.lemmas.List.Elements.{All-from_recursion}
@@ -23,7 +23,7 @@ either : (b : Bool) → cond b true true ≡ true
 either true = refl
 either false = refl
 
--- a place that is in order and names the pointer
+-- a reference to the pointer that is in order allows the kind
 allowed_by : (m : ObjectMap) (p : Pointed) (slot : Slot) → (value : ℕ) → eqb value 65535 ≡ false → kind_in m value ≡ p.kind
     → allows m slot value ≡ true → is_one_of slot.kinds p.kind ≡ true
 allowed_by m p slot value there same is =
@@ -54,7 +54,7 @@ slots_allowed : (m : ObjectMap) (p : Pointed) (slots : List Slot) → finite.get
 slots_allowed m p slots null held all =
     list_all-from_AllPass (slot_allows p) slots (λ k d lt. slot_is_allowed m p (get_or slots k d) null held (All-from_recursion _ slots all k d lt))
 
--- all slots are those of the objects at their places
+-- a test holds for all slots, if it holds for the slots of the object at each index
 all_at_places : (test : Slot → Bool) (es : Objects) → ((place : ℕ) (e : ℕ × Seen) → slice_get es place ≡ Some e → list_all test (slots_of e.1) ≡ true)
     → list_all test (flat_map (λ e. slots_of e.1) es) ≡ true
 all_at_places test [] each = refl

@@ -1,4 +1,4 @@
--- What a write through a store leaves, where the object's new value is what a command makes of it.
+-- A store after an object has been replaced by the result of a command.
 use Rattle.std.proofs.Common.{◌≡◌, ℕ, Option, Some, Result, Ok, Err, refl, sym, ap, subst, ◌∙◌}
 use Rattle.std.specs.FinMap as finite
 use Rattle.vt_kinds.specs.declared.kind.Kind.{Kind}

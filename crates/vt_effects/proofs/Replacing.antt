@@ -1,4 +1,4 @@
--- Commands that replace an ID, what is put back, and commands that could replace one but do not.
+-- Commands that replace an ID, the restored ID, and commands that could replace one but do not.
 use Rattle.std.proofs.Common.{◌≡◌, ◌&&◌, ℕ, zero, suc, Bool, true, false, cond, nat_lt, List, [], ◌∷◌, set, length, Option, Some, None, Result, Ok, Err, refl, sym, ap, ◌∙◌}
 use Rattle.std.proofs.lemmas.Option.{same_Some}
 use Rattle.std.proofs.lemmas.Bool.{ltb-true}
@@ -25,7 +25,7 @@ use Rattle.vt_effects.specs.Replacements.{item_at, replacement, replaced, fits, 
 use Rattle.vt_effects.proofs.Making.{Changed}
 use Rattle.vt_effects.proofs.SlotsInOrder.{passed_is, attribute_of_pointer}
 
--- ---- what is put back
+-- ---- the restored ID
 
 set_back : (xs : List ℕ) (i x y : ℕ) → slice_get xs i ≡ Some y → set (set xs i x) i y ≡ xs
 set_back [] i x y is = absurd cc
@@ -76,7 +76,7 @@ mapped h x (Some b) r is = (ap (λ q. Some q.before) same, sym (ap (λ q. q.hold
     same : replacement h x b ≡ r
     same = same_Some (replacement h x b) r is
 
--- what it is for, what it names, what is to be met, and what is there again with the ID put back
+-- the object of the command, its other ID, its tests, and the object with the ID restored
 pub record Parts (m : ObjectMap) (command : Command) (r : Replacement) : Type 0 where
   pub for : object_of command ≡ Some r.holder
   pub names : other_id command ≡ Some r.after
@@ -110,7 +110,7 @@ parts_of m (ChangeListItem list index item) r is =
     }
 parts_of m _ r is = absurd cc
 
--- ---- a command that replaces nothing
+-- ---- a command without a replacement
 
 pub unmapped : (h : ℕ → Replacement) (o : Option ℕ) → option_map h o ≡ None → o ≡ None
 unmapped h None is = refl
@@ -126,7 +126,7 @@ item_there : (named : Option Kind) (index item : ℕ) (o new : Seen) → ◌≡�
 item_there named index item (objects.InputList o) new made none = item_by o.items index (nat_lt index (length o.items)) _ new refl made none
 item_there named index item _ new made none = cc
 
--- an item that was changed was there
+-- a changed item had a former item
 pub item_replaced : (m : ObjectMap) (id : ℕ) (old new : Seen) (list index item : ℕ) → Changed m id old new (ChangeListItem list index item)
     → replaced m (ChangeListItem list index item) ≡ None → ⊥
 item_replaced m id old new list index item c none =

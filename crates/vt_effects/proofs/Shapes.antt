@@ -1,4 +1,4 @@
--- No command changes what stands under which IDs of what no command changes.
+-- No command changes the shape of a store.
 use Rattle.std.proofs.Common.{◌≡◌, ◌+◌, ℕ, suc, cond, [], ◌∷◌, length, Option, Some, is_some, refl, sym, ap, ◌∙◌, arith}
 use Rattle.std.proofs.lemmas.Option.{same_Some}
 use Rattle.std.specs.Ordering.{nat_cmp, is_eq}
@@ -38,7 +38,7 @@ as_long m id old new found =
     length-put nat_cmp nat_cmp_total id new (finite.entries m) (finite.entries_sorted m)
     ∙ ap (λ (o : Option Seen). cond (is_some o) (length (finite.entries m)) (length (finite.entries m) + 1)) found
 
--- another object of the same fixed part
+-- replacing an object by one with the same fixed part keeps the shape
 pub shape_same : (m : ObjectMap) (id : ℕ) (old new : Seen) → finite.get m id ≡ Some old → fixed new ≡ fixed old → shape_in (finite.insert m id new) ≡ shape_in m
 unfolding shape_in
 shape_same m id old new at same =

@@ -1,4 +1,4 @@
--- No chain of a store is too long after a command.
+-- All chains of a store are short after a command.
 use Rattle.std.proofs.Common.{◌≡◌, ◌≤◌, ◌==◌, ⊎_elim, ℕ, zero, suc, true, List, [], ◌∷◌, length, Option, Some, None, refl, sym, subst, ◌∙◌, arith}
 use Rattle.std.proofs.lemmas.Bool.{eqb-true}
 use Rattle.std.proofs.lemmas.Option.{slice_get_within, get_or_from_slice_get}
@@ -22,7 +22,7 @@ use Rattle.vt_effects.proofs.Making.{Made}
 use Rattle.vt_effects.proofs.Replacing.{parts_of}
 use Rattle.vt_effects.proofs.Adding.{inclusions_after, none_added}
 
--- ---- the test of chains
+-- ---- the test of chains passes only if the chains are short
 
 short_chain : (next : ℕ → List ℕ) (most id : ℕ) (rest : List ℕ) → is_short most next id ≡ true → IsChain next (id ∷ rest) → length rest ≤ most
 unfolding is_short
@@ -48,14 +48,14 @@ shallow_by_test m short (id ∷ b ∷ rest) chain =
     let fewer : length (b ∷ rest) ≤ 32 = short_chain (inclusions_of m) 32 id (b ∷ rest) first chain in
     omega (arith, fewer)
 
--- ---- fewer inclusions
+-- ---- fewer inclusions make fewer chains
 
 pub fewer_chains : (next less : ℕ → List ℕ) → ((q x : ℕ) → Contains (less q) x → Contains (next q) x) → (chain : List ℕ) → IsChain less chain → IsChain next chain
 fewer_chains next less of [] is = tt
 fewer_chains next less of (a ∷ []) is = tt
 fewer_chains next less of (a ∷ b ∷ rest) is = (of a b is.0, fewer_chains next less of (b ∷ rest) is.1)
 
--- either chains were tested, or no inclusion was added
+-- the chains are short afterwards: they were tested, or no inclusion was added
 pub shallow_after : (m : ObjectMap) (id : ℕ) (old new : Seen) (command : Command) → Made m id old new command → IsShallow terminal.inclusions (inclusions_of m)
     → IsShallow terminal.inclusions (inclusions_of (finite.insert m id new))
 shallow_after m id old new command c shallow = by (replaced m command) refl

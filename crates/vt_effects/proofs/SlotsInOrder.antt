@@ -1,4 +1,4 @@
--- The references of a store are in order after a command.
+-- All references of a store are in order after a command.
 use Rattle.std.proofs.Common.{◌≡◌, ◌⊎◌, inl, inr, ℕ, zero, suc, Bool, true, false, ◌==◌, ◌||◌, not, eqb, Option, Some, Result, Ok, refl, sym, ap, subst, ◌∙◌}
 use Rattle.std.proofs.lemmas.Option.{same_Some}
 use Rattle.std.specs.Prelude.{IsTrue}
@@ -25,7 +25,7 @@ use Rattle.vt_effects.proofs.Making.{Made, kinds_same, slots_made}
 use Rattle.vt_effects.proofs.Places.{Allowing, slots_stay, slots_among}
 use Rattle.vt_effects.proofs.WrittenSlots.{takes_pointers, pointer_kind, plain_in_order, list_changed, item_in_order}
 
--- ---- a pointer with another value
+-- ---- a pointer with a new value
 
 pub passed_is : (test : Bool) (error : ℕ) (x new : Seen) → ◌≡◌ {A = Result Seen ℕ} (if_passed test error x) (Ok new) → x ≡ new
 passed_is true error x new is = cc
@@ -54,7 +54,7 @@ new_value m after id p new (ChangeAttribute it number value) named at for made k
     allowed_value m after id it value p new at for (attribute_of_pointer named number value p new made) kept w is
 new_value m after id p new _ named at for made kept w is = absurd cc
 
--- the places that name the pointer allow its new value
+-- all references to the pointer allow its new value
 allowing : (m : ObjectMap) (id : ℕ) (old new : Seen) (command : Command) → Made m id old new command → Allowing m id new (all_slots m)
 allowing m id (objects.ObjectPointer p) new command c w is =
     new_value m (finite.insert m id new) id p new command (other_kind m (other_id command)) c.at c.for c.made c.kept w is
@@ -62,9 +62,9 @@ allowing m id old new command c w is =
     let kind : kind_of old ≡ kinds.ObjectPointer = sym (kinds_same m id old new command c.change) ∙ pointer_kind new w is in
     absurd cc
 
--- ---- what is written
+-- ---- the written slots
 
--- an item of a list, or a place where no pointer may stand
+-- a command that changes an item of a list
 record IsItem (command : Command) (place : Place) : Type 0 where
   list : ℕ
   index : ℕ

@@ -1,4 +1,4 @@
--- What a field takes, as a test.
+-- The test of a field's value equals its definition.
 use Rattle.std.proofs.Common.{◌≡◌, ◌≢◌, inl, inr, ℕ, ◌^◌, ◌%◌, Bool, true, false, cond, Option, Some, None, is_some, refl, sym, subst}
 use Rattle.std.proofs.lemmas.Bool.{eqb-true, eq-eqb, le-leb, leb-true}
 use Rattle.std.specs.Prelude.{IsTrue, ◌==◌}
@@ -15,7 +15,7 @@ use Rattle.vt_kinds.specs.Attributes.{Accepts, MayStand, IsAmong, lowest}
 use Rattle.vt_effects.specs.Fields.{word}
 use Rattle.vt_effects.specs.Changes.{takes, is_one_of}
 
--- two tests that are passed alike
+-- two tests that imply each other are equal
 pub alike : (a b : Bool) → (IsTrue a → IsTrue b) → (IsTrue b → IsTrue a) → a ≡ b
 alike true true there back = refl
 alike false false there back = refl
@@ -62,7 +62,7 @@ scale_is : (n : ℕ) (s : Scale) → n ≡ scale_number s → is_some (scale_at 
 scale_is n One e = subst (λ (m : ℕ). is_some (scale_at m) ≡ true) (sym e) refl
 scale_is n _ e = subst (λ (m : ℕ). is_some (scale_at m) ≡ true) (sym e) refl
 
--- ---- all
+-- ---- all types
 
 pub takes_is : (kind : Kind) (sort : ValueType) (n : ℕ) (named : Option Kind) (b : Bool) → n % 2 ^ 32 ≡ n → (IsTrue b → Accepts kind sort (lowest sort n) named)
     → (Accepts kind sort (lowest sort n) named → IsTrue b) → b ≡ takes kind sort n named

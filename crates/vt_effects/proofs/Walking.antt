@@ -1,4 +1,4 @@
--- All slots of a store, entry by entry.
+-- A test of all slots of a store, entry by entry.
 use Rattle.std.proofs.Common.{◌≡◌, ◌≤◌, ◌+◌, ◌&&◌, ℕ, zero, suc, Bool, true, false, List, [], ◌∷◌, drop, length, Option, refl, sym, ap, ◌∙◌, arith, add-one, append-nil}
 use Rattle.std.proofs.lemmas.List.Folds.{list_all-append}
 use Rattle.std.specs.Prelude.{slice_get}
@@ -11,11 +11,11 @@ use Rattle.vt_stores.specs.Stores.{ObjectMap, Objects}
 use Rattle.vt_effects.specs.Effects.{kind_in, all_slots, places_allow}
 use Rattle.vt_effects.specs.Replacements.{slot_allows}
 
--- the slots of the entries from a place on
+-- the slots of the entries from an index on
 abbrev pub slots_from : Objects → ℕ → List Slot
 slots_from es place = flat_map (λ e. slots_of e.1) (drop place es)
 
--- those of the entry at a place
+-- the slots of the entry at an index
 abbrev pub slots_at : Objects → ℕ → List Slot
 slots_at es place = flat_map (λ e. slots_of e.1) (option_to_list (slice_get es place))
 

@@ -1,4 +1,4 @@
--- What a command writes is in order.
+-- The slots that a command writes are in order.
 use Rattle.std.proofs.Common.{◌≡◌, ℕ, Bool, true, false, cond, ◌==◌, ◌&&◌, eqb, Option, Some, None, Result, Ok, refl, sym, ap, subst, ◌∙◌}
 use Rattle.std.proofs.lemmas.Option.{same_Some}
 use Rattle.std.specs.Prelude.{IsTrue}
@@ -33,7 +33,7 @@ found_kind : (o : Option Seen) (v : ℕ) → pointer_value o ≡ Some v → opti
 found_kind None v is = absurd cc
 found_kind (Some o) v is = ap Some (pointer_kind o v is)
 
--- the places where no pointer may stand
+-- whether a pointer is allowed at a place
 abbrev pub takes_pointers : Place → Bool
 takes_pointers (places.Child index) = true
 takes_pointers (places.Key index) = true
@@ -48,7 +48,7 @@ no_pointer : (kind : Kind) (place : Place) → takes_pointers place ≡ false �
 no_pointer kind places.Variable other = no_variable kind
 no_pointer kind _ other = cc
 
--- no pointer stands where its kind is not allowed
+-- where pointers are not allowed, the object is no pointer
 pub not_a_pointer : (m : ObjectMap) (kind : Kind) (place : Place) (id : ℕ) → takes_pointers place ≡ false → is_one_of (allowed kind place) (kind_in m id) ≡ true
     → (w : ℕ) → pointer_value (finite.get m id) ≡ Some w → ⊥
 not_a_pointer m kind place id other one w is =
@@ -56,7 +56,7 @@ not_a_pointer m kind place id other one w is =
     sym (no_pointer kind place other) ∙ subst (λ (k : Option Kind). is_one_of (allowed kind place) k ≡ true) (found_kind (finite.get m id) w is) one in
     absurd cc
 
--- a slot whose ID may stand in its place, and where it names a pointer its value may stand there too
+-- a slot is in order, if its ID is allowed and, for a pointer, the pointer's value too
 pub written_in_order : (m : ObjectMap) (kind : Kind) (place : Place) (id : ℕ) → may_stand kind place id (kind_in m id) ≡ true
     → (is_one_of (allowed kind place) (kind_in m id) ≡ true → IsTrue (value_fits m (slot kind place id) (pointer_value (finite.get m id))))
     → IsTrue (is_in_order m (slot kind place id))
@@ -82,7 +82,7 @@ drawn : (m : ObjectMap) (w : ℕ) (v : Option ℕ) → v ≡ Some w → value_dr
 drawn m w None is all = absurd cc
 drawn m w (Some x) is all = subst (λ (y : ℕ). cond (y == 0xFFFF) true (is_one_of sets.Drawn (kind_in m y)) ≡ true) (same_Some x w is) all
 
--- an item, in a store of which the list was changed
+-- an item fits a store with its list changed
 pub item_in_order : (m : ObjectMap) (id : ℕ) (old new : Seen) (kind : Kind) (place item : ℕ) → finite.get m id ≡ Some old → kind_of new ≡ kind_of old
     → pointer_value (Some old) ≡ None → value_drawn m (pointer_value (finite.get m item)) ≡ true
     → may_stand kind (places.Item place) item (kind_in (finite.insert m id new) item) ≡ true

@@ -1,5 +1,5 @@
--- What each command makes of the object that it is for: the object as it is afterwards, or the error bit of the first
--- test that fails (docs/PROFILE.md, "Commands: form, tests, error byte and events" and the section of each command).
+-- The effect of each command on its object: the changed object, or the error bit of the first test that fails
+-- (docs/PROFILE.md, "Commands: form, tests, error byte and events" and the section of each command).
 use Rattle.std.specs.Prelude.{◌≡◌, ◌⊎◌, Contains, IsTrue, ℕ, ℤ, pos, neg_ℤ, ◌+◌, ◌-◌, ◌%◌, ◌^◌, ◌+ℤ◌, ◌-ℤ◌, int_le, nat_le, nat_lt, Bool, true, false, not, ◌==◌, ◌&&◌, ◌||◌, if◌then◌else◌, List, map, set, take, length, Option, Some, None, is_some, Result, Ok, Err}
 use Rattle.std.specs.List.{list_any, AllByRecursion}
 use Rattle.vt_kinds.specs.declared.kind.Kind.{Kind}
@@ -24,22 +24,22 @@ use Rattle.vt_kinds.specs.Texts.{filled_up}
 use Rattle.vt_stores.specs.Shapes.{fixed}
 use Rattle.vt_effects.specs.Fields.{byte, word, with_field}
 
--- the error byte with one bit
+-- the error byte with one bit set
 abbrev pub bit : ℕ → ℕ
 bit n = 2 ^ n
 
--- what is made of an object where a test is passed, else its bit
+-- the value if a test is passed, or else the error
 abbrev pub if_passed : {A : Type 0} → Bool → ℕ → A → Result A ℕ
 if_passed test error x = if test then Ok x else Err error
 
--- ---- what another ID may be, by the kind of the object that it names, if that is there
+-- ---- the allowed IDs of other objects, by their kind; None for a missing object
 
--- an object of these kinds
+-- the object exists and is of one of these kinds
 abbrev pub is_one_of : Kinds → Option Kind → Bool
 is_one_of kinds None = false
 is_one_of kinds (Some kind) = is_member kinds kind
 
--- what may stand at a place of an object of a kind
+-- whether an ID is allowed at a place of an object of a kind
 abbrev pub may_stand : Kind → Place → ℕ → Option Kind → Bool
 may_stand kind place id named = if id == 0xFFFF then may_be_null place else is_one_of (allowed kind place) named
 
@@ -52,7 +52,7 @@ abbrev pub hide_show : ℕ → Seen → Result Seen ℕ
 hide_show state (objects.Container o) = if_passed (is_state state) (bit 2) (objects.Container (record o { hidden = 1 - state }))
 hide_show state _ = Err (bit 1)
 
--- options with another lowest bit
+-- options with their lowest bit replaced
 abbrev pub with_lowest_bit : ℕ → ℕ → ℕ
 with_lowest_bit options state = options - options % 2 + state
 
@@ -63,19 +63,19 @@ enable_disable state (objects.InputNumber o) = if_passed (is_state state) (bit 2
 enable_disable state (objects.InputList o) = if_passed (is_state state) (bit 2) (objects.InputList (record o { options = with_lowest_bit o.options state }))
 enable_disable state _ = Err (bit 1)
 
--- ---- Change Child Location and Change Child Position: every entry of the child
+-- ---- Change Child Location and Change Child Position change every entry of the child
 
 abbrev pub stands_in : ℕ → List Child → Bool
 stands_in child children = list_any (λ c. c.id == child) children
 
--- a position that a record can hold
+-- a position within the range of a record
 abbrev pub is_position : ℤ → Bool
 is_position x = int_le (neg_ℤ (pos 32768)) x && int_le x (pos 32767)
 
 abbrev pub fits_record : Child → Bool
 fits_record c = is_position c.x && is_position c.y
 
--- moved by a number of pixels, less 127
+-- a position moved by a number of pixels minus 127
 abbrev pub moved : ℤ → ℕ → ℤ
 moved x by = x +ℤ pos by -ℤ pos 127
 
@@ -85,19 +85,19 @@ shifted dx dy c = record c { x = moved c.x dx; y = moved c.y dy }
 abbrev pub placed : ℤ → ℤ → Child → Child
 placed x y c = record c { x = x; y = y }
 
--- an entry of a child at another position
+-- an entry, moved if it is of the child
 abbrev pub child_at : ℕ → (Child → Child) → Child → Child
 child_at child move c = if c.id == child then move c else c
 
--- the entries of a child at other positions
+-- the children, with every entry of one child moved
 abbrev pub move_child : ℕ → (Child → Child) → List Child → List Child
 move_child child move children = map (child_at child move) children
 
--- an entry of the child leaves the positions that a record can hold
+-- whether an entry of the child gets a position outside the range of a record
 abbrev pub leaves : ℕ → ℕ → ℕ → List Child → Bool
 leaves child dx dy children = list_any (λ c. c.id == child && not (fits_record (shifted dx dy c))) children
 
--- The tests after that of the parent, in their order: whether the child is there, and whether it stands in the parent's list.
+-- The tests after that of the parent, in order: whether the child exists, and whether it is in the parent's list.
 abbrev pub for_child : ℕ → Option Kind → List Child → Result (List Child) ℕ → Result (List Child) ℕ
 for_child child None children moved = Err (bit 1)
 for_child child (Some kind) children moved = if stands_in child children then moved else Err (bit 0)
@@ -113,7 +113,7 @@ abbrev pub put_children : (List Child → Seen) → Result (List Child) ℕ → 
 put_children parent (Ok children) = Ok (parent children)
 put_children parent (Err error) = Err error
 
--- a parent with other children, where it is of a kind that has positions for them
+-- a parent with changed children, if it is of a kind with positions for them
 abbrev pub in_parent : (List Child → Result (List Child) ℕ) → Seen → Result Seen ℕ
 in_parent change (objects.WorkingSet o) = put_children (λ children. objects.WorkingSet (record o { children = children })) (change o.children)
 in_parent change (objects.DataMask o) = put_children (λ children. objects.DataMask (record o { children = children })) (change o.children)
@@ -123,7 +123,7 @@ in_parent change (objects.Key o) = put_children (λ children. objects.Key (recor
 in_parent change (objects.Button o) = put_children (λ children. objects.Button (record o { children = children })) (change o.children)
 in_parent change _ = Err (bit 0)
 
--- ---- Change Size: kinds without a height take the width alone
+-- ---- Change Size sets the width alone for kinds without a height
 
 abbrev pub change_size : ℕ → ℕ → Seen → Result Seen ℕ
 change_size w h (objects.Container o) = Ok (objects.Container (record o { width = w; height = h }))
@@ -159,9 +159,9 @@ change_colour colour (objects.OutputString o) = Ok (objects.OutputString (record
 change_colour colour (objects.OutputNumber o) = Ok (objects.OutputNumber (record o { colour = colour }))
 change_colour colour _ = Err (bit 0)
 
--- ---- Change Numeric Value: each kind looks at as many of the lowest bytes as its value has
+-- ---- Change Numeric Value uses as many of the lowest bytes as a kind's value has
 
--- an index of an entry, or 255 for none
+-- whether a number is the index of an entry, or 255 for none
 abbrev pub is_index : ℕ → ℕ → Bool
 is_index index count = nat_lt index count || (index == 255)
 
@@ -197,7 +197,7 @@ change_fill_attributes named type colour pattern (objects.FillAttributes o) =
     if_passed (may_stand kinds.FillAttributes places.Pattern pattern named) (bit 3) (objects.FillAttributes (record o { fill_type = type; colour = colour; pattern = pattern }))
 change_fill_attributes named type colour pattern _ = Err (bit 0)
 
--- ---- Change Active Mask: the mask has to be there
+-- ---- Change Active Mask requires an existing mask
 
 abbrev pub change_active_mask : Option Kind → ℕ → Seen → Result Seen ℕ
 change_active_mask named mask (objects.WorkingSet o) =
@@ -219,7 +219,7 @@ change_soft_key_mask named type keys _ = Err (bit 0)
 
 -- ---- Change Attribute
 
--- whether a field of a type takes a value, of which it gets the lowest bytes
+-- whether a field of a type accepts the lowest bytes of a value
 abbrev pub takes : Kind → ValueType → ℕ → Option Kind → Bool
 takes kind (types.Reference place) n named = may_stand kind place (word n) named
 takes kind types.Priority n named = nat_le (byte n) 2
@@ -249,11 +249,11 @@ change_item named index item (objects.InputList o) =
     else Err (bit 1)
 change_item named index item _ = Err (bit 0)
 
--- no longer than the object's text, and than the bytes that follow
+-- whether a length exceeds neither the object's text nor the bytes of the command
 abbrev pub is_length : ℕ → List ℕ → List ℕ → Bool
 is_length count text old = nat_le count (length old) && nat_le count (length text)
 
--- the first bytes of a text over another one, which keeps its length
+-- a text overwritten with the first bytes of another, and filled up with spaces to its former length
 abbrev pub over : ℕ → List ℕ → List ℕ → List ℕ
 over count text old = filled_up (length old) (take count text)
 
@@ -263,15 +263,15 @@ change_text count text (objects.OutputString o) = if_passed (is_length count tex
 change_text count text (objects.StringVariable o) = if_passed (is_length count text o.text) (bit 2) (objects.StringVariable (record o { text = over count text o.text }))
 change_text count text _ = Err (bit 1)
 
--- the macro stays as it is
+-- the macro is unchanged
 abbrev pub execute_macro : ℕ → Seen → Result Seen ℕ
 execute_macro id (objects.Macro o) = if_passed (nat_le id 255) (bit 2) (objects.Macro o)
 execute_macro id _ = Err (bit 1)
 
 -- ---- all commands
 
--- the other ID that a command names: in Change Numeric Value and Change Attribute the two lowest bytes of the value, which
--- is an ID where the field is a reference
+-- the other ID of a command: in Change Numeric Value and Change Attribute the two lowest bytes of the value, which are an
+-- ID if the field is a reference
 abbrev pub other_id : Command → Option ℕ
 other_id (ChangeChildLocation parent child dx dy) = Some child
 other_id (ChangeChildPosition parent child x y) = Some child
@@ -283,7 +283,7 @@ other_id (ChangeAttribute id number value) = Some (word value)
 other_id (ChangeListItem id index item) = Some item
 other_id _ = None
 
--- What a command makes of its object, where `named` is the kind of the object of the other ID, if that is there.
+-- The effect of a command on its object, where `named` is the kind of the other object, or None if it is missing.
 abbrev pub changed : Command → Option Kind → Seen → Result Seen ℕ
 changed (HideShow id state) named o = hide_show state o
 changed (EnableDisable id state) named o = enable_disable state o
@@ -307,16 +307,16 @@ changed (ControlAudio count frequency on off) named o = Ok o
 changed (SetVolume volume) named o = Ok o
 changed DeletePool named o = Ok o
 
--- ---- what a call makes of an object
+-- ---- the result of a call and the changed object
 
--- a call's result, and what is made of the object
+-- a call has the same result as the specification
 abbrev pub HasResult : {A : Type 0} → Result (Unit {0}) ℕ → Result A ℕ → Type 0
 HasResult (Ok done) (Ok x) = Unit {0}
 HasResult (Err error) (Err other) = error ≡ other
 HasResult (Ok done) (Err other) = ⊥
 HasResult (Err error) (Ok x) = ⊥
 
--- an object that is refused stays as it is
+-- the object after a change; unchanged if the change is refused
 abbrev pub left : {A : Type 0} → A → Result A ℕ → A
 left old (Ok x) = x
 left old (Err error) = old
@@ -325,7 +325,7 @@ left old (Err error) = old
 abbrev pub ChangesKeep : Type 0
 ChangesKeep = (command : Command) (named : Option Kind) (o : Seen) → fixed (left o (changed command named o)) ≡ fixed o
 
--- the places of an object of a kind that are attributes; the value is one of pointers alone
+-- whether a place of an object of a kind is an attribute; a Value is one only in pointers
 abbrev pub is_attribute : Place → Kind → Bool
 is_attribute places.ActiveMask kind = false
 is_attribute (places.Child index) kind = false
@@ -335,7 +335,7 @@ is_attribute places.Value kinds.ObjectPointer = true
 is_attribute places.Value kind = false
 is_attribute place kind = true
 
--- the places of an object of a kind where a command may write the other ID that it names
+-- whether a command may write its other ID at a place of an object of a kind
 abbrev pub writes : Command → Place → Kind → Bool
 writes (ChangeNumericValue id value) places.Value kinds.ObjectPointer = true
 writes (ChangeFillAttributes id type colour pattern) places.Pattern kind = true
@@ -345,7 +345,7 @@ writes (ChangeListItem id index item) (places.Item place) kind = index == place
 writes (ChangeAttribute id number value) place kind = is_attribute place kind
 writes _ _ _ = false
 
--- what a command writes where an object of a kind names another one: the other ID that it names, where that may stand
+-- the reference that a command writes in an object of a kind: its other ID, at a place that allows it
 pub record IsWritten (command : Command) (named : Option Kind) (kind : Kind) (s : Slot) : Type 0 where
   pub place : Place
   pub id : ℕ
@@ -354,7 +354,7 @@ pub record IsWritten (command : Command) (named : Option Kind) (kind : Kind) (s 
   pub written : IsTrue (writes command place kind)
   pub stands : IsTrue (may_stand kind place id named)
 
--- Each reference of an object after a command is one that it had, or is written by the command.
+-- Each reference of an object after a command is one of its former references or one written by the command.
 abbrev pub ReferencesMayStand : Type 0
 ReferencesMayStand = (command : Command) (named : Option Kind) (o : Seen)
     → AllByRecursion (λ s. Contains (slots_of o) s ⊎ IsWritten command named (kind_of o) s) (slots_of (left o (changed command named o)))

@@ -1,6 +1,6 @@
--- What each command makes of the objects: the objects as they are afterwards, or the error byte with the bit of the first
--- test that fails (docs/PROFILE.md, "Commands: form, tests, error byte and events" and the section of each command). A
--- refused command changes nothing.
+-- The effect of each command on a store: the changed store, or the error byte with the bit of the first test that fails
+-- (docs/PROFILE.md, "Commands: form, tests, error byte and events" and the section of each command). A refused command
+-- changes nothing.
 use Rattle.std.specs.Prelude.{ℕ, zero, suc, nat_le, Bool, true, ◌==◌, ◌&&◌, ◌||◌, not, if◌then◌else◌, List, length, Option, Some, None, Result, Ok, Err}
 use Rattle.std.specs.Option.{option_map}
 use Rattle.std.specs.List.{list_all, flat_map}
@@ -20,9 +20,9 @@ use Rattle.vt_chains.specs.Limits.{terminal}
 use Rattle.vt_effects.specs.Fields.{word}
 use Rattle.vt_effects.specs.Changes.{bit, if_passed, is_one_of, other_id, changed, left}
 
--- ---- the object that a command is for
+-- ---- the object of a command
 
--- the bit of an object that is not there
+-- the error byte for a missing object
 abbrev pub missing_error : Command → ℕ
 missing_error (HideShow id state) = bit 1
 missing_error (EnableDisable id state) = bit 1
@@ -37,11 +37,11 @@ abbrev pub changed_at : ObjectMap → ℕ → Command → Option Kind → Option
 changed_at store id command named None = Err (missing_error command)
 changed_at store id command named (Some o) = put store id (changed command named o)
 
--- the objects after a command has changed that of an ID, where `named` is the kind of the object of the other ID
+-- the store after a command has changed the object of an ID, where `named` is the kind of the other object
 abbrev pub changed_in : ObjectMap → ℕ → Command → Option Kind → Result ObjectMap ℕ
 changed_in store id command named = changed_at store id command named (finite.get store id)
 
--- the sounds of a terminal are no part of its objects
+-- a command without an object changes nothing: the terminal's sounds are not in its store
 abbrev pub without_object : ObjectMap → Command → Result ObjectMap ℕ
 without_object store (SetVolume volume) = if_passed (nat_le volume 100) (bit 4) store
 without_object store command = Ok store
@@ -50,22 +50,22 @@ abbrev pub changed_for : ObjectMap → Command → Option Kind → Option ℕ �
 changed_for store command named None = without_object store command
 changed_for store command named (Some id) = changed_in store id command named
 
--- The objects after a command, but for what a pointer's new value and a list's new item have to meet besides.
+-- The store after a command, without the extra checks for pointer values and list items.
 abbrev pub changed_by : ObjectMap → Command → Option Kind → Result ObjectMap ℕ
 changed_by store command named = changed_for store command named (object_of command)
 
--- ---- what a pointer stands for, and chains
+-- ---- the values of pointers, and chains
 
--- the kind of the object of an ID, if it is there
+-- the kind of an object, or None if it is missing
 abbrev pub kind_in : ObjectMap → ℕ → Option Kind
 kind_in store id = option_map kind_of (finite.get store id)
 
--- the value of a pointer
+-- the value of a pointer, or None for other objects
 abbrev pub pointer_value : Option Seen → Option ℕ
 pointer_value (Some (objects.ObjectPointer o)) = Some o.value
 pointer_value _ = None
 
--- NULL, or an object of a kind that a slot allows
+-- whether a slot allows an ID: NULL, or an object of an allowed kind
 abbrev pub allows : ObjectMap → Slot → ℕ → Bool
 allows store slot id = if id == 0xFFFF then true else is_one_of slot.kinds (kind_in store id)
 
@@ -73,16 +73,16 @@ allows store slot id = if id == 0xFFFF then true else is_one_of slot.kinds (kind
 abbrev pub all_slots : ObjectMap → List Slot
 all_slots store = flat_map (λ e. slots_of e.1) (finite.entries store)
 
--- each place that names a pointer allows the kind of a value
+-- whether all references to a pointer allow a value
 abbrev pub places_allow : ObjectMap → ℕ → ℕ → Bool
 places_allow store pointer value = list_all (λ slot. not (slot.id == pointer) || allows store slot value) (all_slots store)
 
--- what stands for an item may be drawn
+-- whether a pointer's value may be drawn as an item; true if the item is not a pointer
 abbrev pub value_drawn : ObjectMap → Option ℕ → Bool
 value_drawn store None = true
 value_drawn store (Some value) = if value == 0xFFFF then true else is_one_of sets.Drawn (kind_in store value)
 
--- no chain of more inclusions than this begins with an ID
+-- no chain from an ID has more than `most` inclusions
 unfoldable pub is_short : ℕ → (ℕ → List ℕ) → ℕ → Bool
 is_short zero included id = length (included id) == 0
 is_short (suc most) included id = list_all (is_short most included) (included id)
@@ -91,22 +91,22 @@ is_short (suc most) included id = list_all (is_short most included) (included id
 abbrev pub chains_are_short : ObjectMap → Bool
 chains_are_short store = list_all (is_short terminal.inclusions (inclusions_of store)) (ids_of store)
 
--- a pointer may have a value
+-- whether a pointer may have a value
 abbrev pub pointer_may : ObjectMap → ℕ → ℕ → Option ℕ → ObjectMap → Bool
 pointer_may store id value None new = true
 pointer_may store id value (Some before) new = places_allow store id value && chains_are_short new
 
--- The objects are in order with another value of a pointer or another item of a list. Nothing else that a command changes
--- matters to that.
+-- The store stays in order with the new value of a pointer or the new item of a list. Other changes cannot break the
+-- order.
 abbrev pub keeps_order : ObjectMap → Command → ObjectMap → Bool
 keeps_order store (ChangeListItem list index item) new = value_drawn store (pointer_value (finite.get store item)) && chains_are_short new
 keeps_order store (ChangeNumericValue id value) new = pointer_may store id (word value) (pointer_value (finite.get store id)) new
 keeps_order store (ChangeAttribute id number value) new = pointer_may store id (word value) (pointer_value (finite.get store id)) new
 keeps_order store command new = true
 
--- ---- the effect
+-- ---- the effect of a command
 
--- the bit of a value that breaks that order
+-- the error byte for a value that breaks the order
 abbrev pub value_error : Command → ℕ
 value_error (ChangeNumericValue id value) = bit 1
 value_error _ = bit 2
@@ -115,7 +115,7 @@ abbrev pub in_order : ObjectMap → Command → Result ObjectMap ℕ → Result 
 in_order store command (Err error) = Err error
 in_order store command (Ok new) = if_passed (keeps_order store command new) (value_error command) new
 
--- the kind of the object of the other ID
+-- the kind of the other object of a command
 abbrev pub other_kind : ObjectMap → Option ℕ → Option Kind
 other_kind store None = None
 other_kind store (Some id) = kind_in store id

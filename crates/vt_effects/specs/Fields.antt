@@ -1,5 +1,5 @@
--- What Change Attribute writes: in an object of each kind the field of a name, with the lowest bytes of a value
--- (docs/PROFILE.md, "Attribute numbers").
+-- The writes of Change Attribute: in an object of each kind, the lowest bytes of a value in one field (docs/PROFILE.md,
+-- "Attribute numbers").
 use Rattle.std.specs.Prelude.{ℕ, ◌%◌, nat_le, if◌then◌else◌, List, Option, Some, None}
 use Rattle.std.specs.Int.{w32, cast_signed}
 use Rattle.vt_kinds.specs.declared.fields.Field.{Field}
@@ -41,7 +41,7 @@ byte n = n % 256
 abbrev pub word : ℕ → ℕ
 word n = n % 65536
 
--- the scale of a number, if it is one
+-- the new scale, or the old one if there is none
 abbrev pub or_scale : Scale → Option Scale → Scale
 or_scale old None = old
 or_scale old (Some scale) = scale
@@ -267,7 +267,7 @@ abbrev pub object_pointer_with : Field → ℕ → ObjectPointer → ObjectPoint
 object_pointer_with fields.Value n o = record o { value = word n }
 object_pointer_with _ n o = o
 
--- an object with another value of the field of a name
+-- an object with a new value in one field
 abbrev pub with_field : Field → ℕ → Seen → Seen
 with_field field n (objects.WorkingSet o) = objects.WorkingSet (working_set_with field n o)
 with_field field n (objects.DataMask o) = objects.DataMask (data_mask_with field n o)

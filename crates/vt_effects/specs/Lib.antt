@@ -1,4 +1,4 @@
--- What the contracts of this crate cite.
+-- The definitions used in the contracts of vt_effects.
 pub mod Changes
 pub mod Effects
 pub mod Fields

@@ -1,5 +1,4 @@
--- Commands that put another ID in the place of one that an object includes: the value of a pointer, or an item of a list
--- (docs/PROFILE.md, "Inclusions and chains").
+-- Commands that change the object of a pointer or of a list item (docs/PROFILE.md, "Inclusions and chains").
 use Rattle.std.specs.Prelude.{◌≡◌, ℕ, Bool, true, false, not, ◌==◌, ◌||◌, if◌then◌else◌, set, slice_get, Option, Some, None}
 use Rattle.std.specs.Option.{option_map}
 use Rattle.std.specs.FinMap as finite
@@ -15,7 +14,7 @@ use Rattle.vt_effects.specs.Changes.{is_one_of}
 use Rattle.vt_effects.specs.Fields.{word}
 use Rattle.vt_effects.specs.Effects.{kind_in, pointer_value, places_allow, value_drawn}
 
--- the item at an index of a list
+-- the item at an index of a list; None for other objects
 abbrev pub item_at : ℕ → Option Seen → Option ℕ
 item_at index (Some (objects.InputList o)) = slice_get o.items index
 item_at index _ = None
@@ -23,32 +22,32 @@ item_at index _ = None
 abbrev pub replacement : ℕ → ℕ → ℕ → Replacement
 replacement holder after before = record { holder = holder; before = before; after = after }
 
--- what a command replaces, if it does
+-- the replacement that a command makes, if it makes one
 abbrev pub replaced : ObjectMap → Command → Option Replacement
 replaced store (ChangeNumericValue id value) = option_map (replacement id (word value)) (pointer_value (finite.get store id))
 replaced store (ChangeAttribute id number value) = option_map (replacement id (word value)) (pointer_value (finite.get store id))
 replaced store (ChangeListItem id index item) = option_map (replacement id item) (item_at index (finite.get store id))
 replaced store command = None
 
--- the ID fits wherever it is to stand, and a pointer's value wherever the pointer stands
+-- the new ID fits: a pointer's value in all references to the pointer, and an item's pointer value in the list
 abbrev pub fits : ObjectMap → Command → Bool
 fits store (ChangeNumericValue id value) = places_allow store id (word value)
 fits store (ChangeAttribute id number value) = places_allow store id (word value)
 fits store (ChangeListItem id index item) = value_drawn store (pointer_value (finite.get store item))
 fits store command = true
 
--- a slot allows the value of a pointer, where it names the pointer
+-- a slot allows a pointer's value, if the slot refers to the pointer
 abbrev pub slot_allows : Pointed → Slot → Bool
 slot_allows p slot = not (slot.id == p.pointer) || (if p.value == 0xFFFF then true else is_one_of slot.kinds p.kind)
 
--- the value that a pointer has is of the kind of another one
+-- the pointer's present value has the kind of the new one
 pub record IsOfThatKind (store : ObjectMap) (p : Pointed) : Type 0 where
   pub value : ℕ
   pub held : pointer_value (finite.get store p.pointer) ≡ Some value
   pub there : (value == 0xFFFF) ≡ false
   pub same : kind_in store value ≡ p.kind
 
--- an object with the ID put back that was replaced
+-- an object with its replaced ID restored
 abbrev pub restored : Command → ℕ → Seen → Seen
 restored (ChangeListItem id index item) before (objects.InputList o) = objects.InputList (record o { items = set o.items index before })
 restored command before (objects.ObjectPointer o) = objects.ObjectPointer (record o { value = before })

@@ -1,4 +1,4 @@
-//! What Change Attribute writes.
+//! The writes of Change Attribute.
 
 ghost use Rattle.std.specs.Prelude.{◌≡◌};
 ghost use Rattle.vt_kinds.specs.Records.{seen};
@@ -25,7 +25,7 @@ use output_fields::{write_output_number, write_output_string, write_picture};
 use shapes::{write_ellipse, write_line, write_polygon, write_rectangle};
 use vt_kinds::{Field, Object};
 
-/// Writes the lowest bytes of a value into a field of an object. An object without that field stays as it is.
+/// Writes the lowest bytes of a value into a field of an object. Leaves an object without that field unchanged.
 pub(crate) fn write_field(object: &mut Object<Vec<u8>>, field: Field, value: u32)
     ensures { seen object.new ≡ with_field field value (seen object.old) }
 {

@@ -1,4 +1,4 @@
-//! What commands make of the objects that they are for.
+//! The effect of each command on its object.
 
 ghost use Rattle.std.specs.Prelude.{◌≡◌};
 ghost use Rattle.vt_kinds.specs.Records.{seen};
@@ -24,9 +24,9 @@ use values::{change_item, change_value};
 use vt_commands::Command;
 use vt_kinds::{Child, Kind, Object};
 
-/// Makes of an object what a command says, where the command is for this object. `named` is the kind of the object of the
-/// other ID that the command names, if that is there. A refusal is the error byte of the command's reply, with the bit of the
-/// first test that fails, and leaves the object as it was (ISO 11783-6; docs/PROFILE.md, "Commands: all rows").
+/// Does a command on its object. `named` is the kind of the command's other object, or `None` if that object is missing.
+/// A refusal is the error byte of the command's reply, with the bit of the first test that fails, and leaves the object
+/// unchanged (ISO 11783-6; docs/PROFILE.md, "Commands: all rows").
 pub fn change(
     object: &mut Object<Vec<u8>>,
     command: &Command<'_>,

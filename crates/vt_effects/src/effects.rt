@@ -1,4 +1,4 @@
-//! What commands make of the objects of a store.
+//! The effect of each command on a store.
 
 ghost use Rattle.std.specs.Prelude.{◌≡◌};
 ghost use Rattle.vt_stores.specs.Stores.{ObjectMap};
@@ -11,9 +11,9 @@ use vt_commands::Command;
 use vt_kinds::{Kind, ObjectId};
 use vt_stores::Store;
 
-/// Does a command on the objects of a store, but for what a pointer's new value and a list's new item have to meet besides.
-/// `named` is the kind of the object of the other ID that the command names, if that is there. A refusal is the error byte of
-/// the command's reply, and changes nothing.
+/// Does a command on the objects of a store, except the extra checks for pointer values and list items. `named` is the
+/// kind of the command's other object, or `None` if that object is missing. A refusal is the error byte of the command's
+/// reply, and changes nothing.
 pub fn change_in<S: Store>(
     store: &mut S,
     command: &Command<'_>,
@@ -28,7 +28,7 @@ pub fn change_in<S: Store>(
     }
 }
 
-/// Tests a command that is for no object.
+/// Tests a command without an object.
 fn without_object(command: &Command<'_>) -> Result<(), u8>
     ensures { (store : ObjectMap) → HasResult result (effects.without_object store command.now) }
 {
@@ -38,7 +38,7 @@ fn without_object(command: &Command<'_>) -> Result<(), u8>
     }
 }
 
-/// Changes the object of an ID as a command says that is for it.
+/// Changes the object of a command.
 fn change_object<S: Store>(
     store: &mut S,
     id: ObjectId,
@@ -54,7 +54,7 @@ fn change_object<S: Store>(
     }
 }
 
-/// The error byte of a command whose object is not there.
+/// The error byte of a command whose object is missing.
 fn missing_error(command: &Command<'_>) -> u8
     ensures { result ≡ effects.missing_error command.now }
 {

@@ -1,4 +1,4 @@
-//! The commands of an implement, on the objects of a store.
+//! Execution of an implement's commands on a store.
 
 ghost use Rattle.std.specs.Prelude.{◌≡◌, ◌⊎◌, true, false, Some};
 ghost use Rattle.vt_effects.specs.Changes.{HasResult};
@@ -39,8 +39,8 @@ pub fn execute<S: Store>(
     }
 }
 
-/// Does a command that replaces an ID. The object is changed first, and the ID put back where the store is not in order with
-/// the other one.
+/// Does a command that replaces an ID. Changes the object first, and restores the ID if the new one breaks the order of
+/// the store.
 fn replace<S: Store>(
     store: &mut S,
     levels: &mut Levels,
@@ -69,7 +69,7 @@ fn replace<S: Store>(
     }
 }
 
-/// Whether the ID that was put in the place of another fits there, and no chain is too long with it.
+/// Whether the new ID fits and no chain becomes too long with it.
 fn is_in_order<S: Store>(
     store: &S,
     levels: &mut Levels,
@@ -88,7 +88,8 @@ fn is_in_order<S: Store>(
     levels.take_up(store, replacement.holder, replacement.after)
 }
 
-/// Whether the ID that a command puts somewhere fits wherever it is to stand.
+/// Whether a command's new ID fits: a pointer's value in all references to the pointer, and a pointer item's value in the
+/// list.
 fn fits<S: Store>(store: &S, command: &Command<'_>) -> bool
     requires { IsSound (S.contents store.now) }
     ensures { result ≡ replacements.fits (S.contents store.now) command.now }
@@ -107,7 +108,7 @@ fn fits<S: Store>(store: &S, command: &Command<'_>) -> bool
     }
 }
 
-/// Whether what stands for an item may be drawn.
+/// Whether a pointer's value may be drawn as an item; true if the item is not a pointer.
 fn value_drawn<S: Store>(store: &S, value: Option<ObjectId>) -> bool
     ensures { result ≡ effects.value_drawn (S.contents store.now) value }
 {
@@ -117,7 +118,7 @@ fn value_drawn<S: Store>(store: &S, value: Option<ObjectId>) -> bool
     }
 }
 
-/// The kind of the object of an ID, if it is there.
+/// The kind of an object, or `None` if it is missing.
 pub fn kind_in<S: Store>(store: &S, id: ObjectId) -> Option<Kind>
     ensures { result ≡ effects.kind_in (S.contents store.now) id }
 {
@@ -136,7 +137,7 @@ fn other_kind<S: Store>(store: &S, other: Option<ObjectId>) -> Option<Kind>
     }
 }
 
-/// The other ID that a command names: of a value the two lowest bytes.
+/// The other ID of a command. For a value, the two lowest bytes.
 fn other_id(command: &Command<'_>) -> Option<ObjectId>
     ensures { result ≡ changes.other_id command.now }
 {
@@ -153,7 +154,7 @@ fn other_id(command: &Command<'_>) -> Option<ObjectId>
     }
 }
 
-/// The error byte of an ID that breaks the order.
+/// The error byte for an ID that breaks the order of the store.
 fn value_error(command: &Command<'_>) -> u8
     ensures { result ≡ effects.value_error command.now }
 {

@@ -1,4 +1,4 @@
-//! What the definitions come to: each function is a law, and calling it changes nothing.
+//! Theorems about the definitions of vt_effects: each is the contract of a function with an empty body.
 
 ghost use Rattle.vt_effects.specs.Changes.{ChangesKeep, ReferencesMayStand};
 ghost use Rattle.vt_effects.specs.Soundness.{CommandsKeepOrder, CommandsKeepShapes};
@@ -8,20 +8,19 @@ pub fn changes_keep()
     ensures { ChangesKeep }
 {}
 
-/// Each reference of an object after a command is one that it had, or the other ID that the command names, in a
-/// place where that may stand.
+/// Each reference of an object after a command is one of its former references, or the other ID of the command where that
+/// ID is allowed.
 pub fn references_may_stand()
     ensures { ReferencesMayStand }
 {}
 
-/// No command breaks the order of a store: where each reference is in order and no chain of inclusions is too
-/// long, both hold after every command. docs/PROFILE.md, "What every store keeps".
+/// No command breaks the order of a store: if all references are in order and no chain of inclusions is too long, both
+/// hold after every command. docs/PROFILE.md, "What every store keeps".
 pub fn commands_keep_order()
     ensures { CommandsKeepOrder }
 {}
 
-/// Under each ID stays an object of the same kind, with the same macros for its events and the same bytes of a
-/// macro, whatever the command.
+/// No command changes the shape of a store: its IDs, and the kind, the macro entries and the macro bytes of each object.
 pub fn commands_keep_shapes()
     ensures { CommandsKeepShapes }
 {}

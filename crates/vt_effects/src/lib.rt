@@ -1,8 +1,8 @@
-//! What commands make of the objects of a working set (ISO 11783-6), each with its error byte.
+//! The effect of each command on the objects of a working set (ISO 11783-6), with its error byte.
 //!
-//! - `change` does a command on its object, and `change_in` on a store. `execute` does it where references and chains are to stay in
-//!   order: it tests what a pointer's new value and a list's new item have to meet besides, and takes the change back on a refusal.
-//! - `laws` has what the definitions come to.
+//! - `change` does a command on its object, and `change_in` on a store. `execute` keeps references and chains in order:
+//!   it also tests new pointer values and list items, and undoes the change on a refusal.
+//! - `laws` has the theorems about the definitions.
 //!
 //! docs/PROFILE.md, "Commands: all rows" and the section of each command, "Attributes", "What every store keeps".
 #![tactic(auto)]

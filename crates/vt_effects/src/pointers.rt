@@ -1,4 +1,4 @@
-//! What the places that name a pointer allow.
+//! Tests whether a pointer's value is allowed by all references to the pointer.
 
 ghost use Rattle.std.specs.Prelude.{◌≡◌, true, None, slice_get};
 ghost use Rattle.std.specs.Option.{option_to_list};
@@ -16,19 +16,19 @@ use crate::references::is_one_of;
 use vt_kinds::{Kind, Object, ObjectId, Slot, slots};
 use vt_stores::Store;
 
-/// A value of a pointer, and the kind of its object, if that is there.
+/// A value of a pointer, and the kind of the value's object.
 #[derive(Clone, Copy, Debug, PartialEq, Eq)]
 pub(crate) struct Pointed {
     /// The pointer.
     pub(crate) pointer: ObjectId,
     /// The value.
     pub(crate) value: ObjectId,
-    /// The kind of the value's object.
+    /// The kind of the value's object, or `None` if it is missing.
     pub(crate) kind: Option<Kind>,
 }
 
-/// Whether each place that names a pointer allows a value. They do where it is of the kind of the value that they allow now;
-/// else each of them is looked at.
+/// Whether all references to a pointer allow a value. True if the value has the kind of the pointer's present value;
+/// otherwise tests each reference.
 pub(crate) fn places_allow<S: Store>(store: &S, pointer: ObjectId, value: ObjectId) -> bool
     requires { IsSound (S.contents store.now) }
     ensures { result ≡ effects.places_allow (S.contents store.now) pointer value }
@@ -42,7 +42,7 @@ pub(crate) fn places_allow<S: Store>(store: &S, pointer: ObjectId, value: Object
     has_that_kind(store, &pointed) || all_allow(store, &pointed)
 }
 
-/// Whether the value that a pointer has is of that kind too.
+/// Whether the pointer's present value has the same kind.
 fn has_that_kind<S: Store>(store: &S, pointed: &Pointed) -> bool
     ensures kind { result ≡ true → IsOfThatKind (S.contents store.now) pointed.now }
     ensures named { result ≡ true → finite.get (S.contents store.now) 0xFFFF ≡ None }

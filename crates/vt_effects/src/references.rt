@@ -1,11 +1,11 @@
-//! What may stand where an object names another one.
+//! Tests whether an ID is allowed as a reference of an object.
 
 ghost use Rattle.std.specs.Prelude.{◌≡◌};
 ghost use Rattle.vt_effects.specs.Changes as changes;
 
 use vt_kinds::{Kind, Kinds, ObjectId, Place};
 
-/// Whether an object is there, of one of these kinds.
+/// Whether an object exists and is of one of these kinds.
 pub(crate) fn is_one_of(kinds: Kinds, named: Option<Kind>) -> bool
     ensures { result ≡ changes.is_one_of kinds named }
 {
@@ -15,7 +15,8 @@ pub(crate) fn is_one_of(kinds: Kinds, named: Option<Kind>) -> bool
     }
 }
 
-/// Whether an ID may stand at a place of an object of a kind, where `named` is the kind of the object of that ID.
+/// Whether `id` is allowed at `place` in an object of a kind. `named` is the kind of the object of `id`, or `None` if
+/// missing.
 pub(crate) fn may_stand(kind: Kind, place: Place, id: ObjectId, named: Option<Kind>) -> bool
     ensures { result ≡ changes.may_stand kind place id named }
 {

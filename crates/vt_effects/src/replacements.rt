@@ -1,4 +1,4 @@
-//! Commands that put another ID in the place of one that an object includes.
+//! Commands that change the object of a pointer or of a list item.
 
 ghost use Rattle.std.specs.Prelude.{◌≡◌, Some};
 ghost use Rattle.std.specs.Option.{option_map};
@@ -14,18 +14,18 @@ use vt_commands::Command;
 use vt_kinds::{InputList, Object, ObjectId};
 use vt_stores::Store;
 
-/// The value of a pointer, or an item of a list, that a command puts in the place of another.
+/// The replacement of a pointer's value or of a list's item by a command.
 #[derive(Clone, Copy, Debug, PartialEq, Eq)]
 pub(crate) struct Replacement {
     /// The pointer or the list.
     pub(crate) holder: ObjectId,
-    /// The ID that it holds.
+    /// The ID before the command.
     pub(crate) before: ObjectId,
-    /// The ID that the command puts in its place.
+    /// The ID that the command writes.
     pub(crate) after: ObjectId,
 }
 
-/// What a command replaces, if it does.
+/// The replacement that a command makes, if it makes one.
 pub(crate) fn replaced<S: Store>(store: &S, command: &Command<'_>) -> Option<Replacement>
     ensures { result ≡ replacements.replaced (S.contents store.now) command.now }
 {
@@ -72,7 +72,7 @@ fn replaced_item<S: Store>(
     })
 }
 
-/// The value of the pointer of an ID.
+/// The value of a pointer, or `None` if the object is no pointer.
 pub(crate) fn pointer_value<S: Store>(store: &S, id: ObjectId) -> Option<ObjectId>
     ensures { result ≡ effects.pointer_value (finite.get (S.contents store.now) id) }
 {
@@ -82,7 +82,7 @@ pub(crate) fn pointer_value<S: Store>(store: &S, id: ObjectId) -> Option<ObjectI
     }
 }
 
-/// The item at an index of the list of an ID.
+/// The item at an index of a list, or `None` if the object is no list or has no such item.
 fn item<S: Store>(store: &S, id: ObjectId, index: u8) -> Option<ObjectId>
     ensures { result ≡ item_at index (finite.get (S.contents store.now) id) }
 {
@@ -92,7 +92,7 @@ fn item<S: Store>(store: &S, id: ObjectId, index: u8) -> Option<ObjectId>
     }
 }
 
-/// Puts back the ID that a command has replaced.
+/// Restores the ID that a command has replaced.
 pub(crate) fn put_back<S: Store>(store: &mut S, command: &Command<'_>, replacement: &Replacement)
     ensures { (o : Seen) → finite.get (S.contents store.old) replacement.now.holder ≡ Some o → S.contents store.new ≡ finite.insert (S.contents store.old) replacement.now.holder (restored command.now replacement.now.before o) }
 {

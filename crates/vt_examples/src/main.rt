@@ -1,11 +1,11 @@
-//! Runs `vt_replay` on each of the examples, and prints what it prints, its messages and its status: the gate compares that with the
-//! file `stdout`.
+//! Runs `vt_replay` on each example and prints its output, its messages and its status. The gate compares this with the file
+//! `stdout`.
 #![tactic(auto)]
 
 use std::io::{self, BufWriter, Write};
 use vt_program::{Files, run};
 
-/// The words of each run, behind the program's name.
+/// The words of each run, the program's name first.
 const RUNS: [&[&str]; 23] = [
     &["vt_replay", "seeder.log"],
     &[
@@ -54,7 +54,7 @@ fn main(rt: HostRuntime) -> io::Result<()> {
     out.flush()
 }
 
-/// Prints a run as a terminal shows it: its words, what it prints, its messages and its status.
+/// Prints a run as a command line shows it: its words, its output, its messages and its status.
 fn run_words<W: Write>(rt: &HostRuntime, words: &[&str], out: &mut W) -> io::Result<()> {
     let mut messages = Vec::new(rt.alloc());
     write!(out, "$")?;

@@ -1,4 +1,4 @@
--- The steps on the session of a source assemble the messages that were sent.
+-- The ETP steps on the session of a source assemble the messages sent by it.
 use Rattle.std.proofs.Common.{◌≡◌, ℕ, ◌+◌, ◌<◌, Bool, true, false, ◌&&◌, cond, eqb, ltb, List, [], ◌∷◌, ◌++◌, length, take, Option, Some, None, ap, ap₂, sym, subst, ◌∙◌, refl, arith, eq-eqb, eqb-true}
 use Rattle.std.proofs.lemmas.Bool.{false≢true}
 use Rattle.vt_can.specs.declared.transport.sessions.Timed.{Timed}
@@ -21,7 +21,7 @@ use Rattle.vt_extended.proofs.Histories.{sent_packet, IsNext, packet_last}
 use Rattle.vt_extended.proofs.Stepping.{offset_right, offset_wrong, grown_reply, packet_more, packet_whole, packet_wrong, is_open_as, is_next_as, is_next_true, grown_bytes}
 use Rattle.vt_extended.proofs.Matching.{Matches, matches, IsStanding, Next, InGroup, next_in}
 
--- the message
+-- the message of a step is whole in the history
 
 abbrev whole_message : Timed SessionState → List ℕ → Message
 whole_message current packet =
@@ -80,7 +80,7 @@ whole_step now hs session (Came (etp.Part part)) message m is = whole_part now p
 whole_step now hs session (Came etp.Aborted) message m is = absurd cc
 whole_step now hs session (Came etp.Other) message m is = absurd cc
 
--- and the other way
+-- a whole message in the history is that of the step
 
 message_of : (now number : ℕ) (packet : List ℕ) (session : Option (Timed SessionState)) (o : Opening) (count : ℕ) (packets : List (List ℕ)) (groups : List Group)
     (message : Message) → HasPackets session o (Announced count packets ∷ groups) → number ≡ length packets + 1 → length packets < count
@@ -170,7 +170,7 @@ reply_number now number packet current o (Announced count packets ∷ groups) fa
     ∙ ap (λ (q : Opening). Some (Abort Disorder q.pgn)) h.opening
     ∙ sym (ap (λ (b : Bool). cond b (reply_to o (received groups + number) (eqb number count)) (Some (Abort Disorder o.pgn))) tests)
 
--- the reply to each event
+-- the reply to each session event
 
 reply_part : (now : ℕ) (part : Part) (session : Option (Timed SessionState)) (o : Opening) (groups : List Group) → HasPackets session o groups
     → (after_part now session part).reply ≡ part_reply o groups part

@@ -1,4 +1,4 @@
--- Histories of a source, the latest event first: what one more event makes of them.
+-- ETP histories with one more session event. Every history has the latest first.
 use Rattle.std.proofs.Common.{◌≡◌, ℕ, ◌+◌, ◌≤◌, ◌<◌, true, List, [], ◌∷◌, ◌++◌, length, ap, subst, ◌∙◌, refl, arith}
 use Rattle.vt_can.specs.transport.Histories.{Came, AreQuiet, Sent}
 use Rattle.vt_can.proofs.lemmas.transport.Standing.{sent_more, Last, AtRequest, Later}
@@ -8,7 +8,7 @@ use Rattle.vt_extended.specs.declared.messages.Part.TheVariants.{Offset, Packet}
 use Rattle.vt_extended.specs.declared.messages.EtpFrame.TheVariants as etp
 use Rattle.vt_extended.specs.Messages.{SessionEvent, Group, Announced, opens, received, edge, AreSound, parts_of, parts_in, spelling}
 
--- a DPO or DT that belongs to the groups
+-- a history with one more DPO or DT, which extends the groups
 sent_part : (hs : List SessionEvent) (part : Part) (o : Opening) (groups groups' : List Group) → part ∷ parts_of groups ≡ parts_of groups'
     → (AreSound o groups → AreSound o groups') → Sent spelling hs o groups → Sent spelling (Came (etp.Part part) ∷ hs) o groups'
 sent_part hs part o groups groups' is sound =
@@ -38,7 +38,7 @@ no_parts (Announced count (packet ∷ packets) ∷ groups) e = absurd cc
 not_rts : (part : Part) (o : Opening) → Came (etp.Part part) ≡ Came (etp.Rts o) → ⊥
 not_rts part o e = cc
 
--- what a history that ends with a DPO has before it
+-- a history that ends with a DPO, and the groups before it
 pub record IsAnnounced (hs : List SessionEvent) (count offset : ℕ) (o : Opening) (groups : List Group) : Type 0 where
   pub before : List Group
   pub all : groups ≡ Announced count [] ∷ before
@@ -68,7 +68,7 @@ offset_last hs count offset o groups (AtRequest is opened none) = absurd (not_rt
 offset_last hs count offset o groups (Later later earlier split opened quiet rest brought) =
     offset_of hs later earlier count offset o groups split opened rest brought.in_order brought.sound
 
--- what a history that ends with a DT has before it
+-- a history that ends with a DT, and the groups before it
 pub record IsNext (hs : List SessionEvent) (number : ℕ) (packet : List ℕ) (o : Opening) (groups : List Group) : Type 0 where
   pub count : ℕ
   pub packets : List (List ℕ)

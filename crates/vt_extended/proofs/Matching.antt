@@ -1,4 +1,4 @@
--- The session that the steps keep of a source is the one that stands.
+-- The session kept by the ETP steps is the one open in the source's history.
 use Rattle.std.proofs.Common.{◌≡◌, ℕ, ◌+◌, ◌≤◌, ◌<◌, Bool, true, false, ◌&&◌, cond, eqb, leb, ltb, List, [], ◌∷◌, length, Option, Some, None, ap, sym, subst, ◌∙◌, refl, arith, eq-eqb, eqb-true}
 use Rattle.std.proofs.lemmas.Bool.{leb-true, ltb-true, false≢true}
 use Rattle.vt_can.specs.declared.transport.sessions.Timed.{Timed}
@@ -23,14 +23,14 @@ use Rattle.vt_extended.proofs.Stepping.{announced, offset_right, offset_wrong, g
 abbrev opening_of : SessionState → Opening
 opening_of current = current.opening
 
--- the session of the steps and the one that stands are the same
+-- the session of the steps is the one open in the history
 abbrev pub Matches : List SessionEvent → Option (Timed SessionState) → Type 0
 Matches = steps.Matches spelling opening_of HasPackets
 
 abbrev pub IsStanding : List SessionEvent → Timed SessionState → Type 0
 IsStanding = steps.IsStanding spelling opening_of HasPackets
 
--- an RTS
+-- the session after an RTS
 
 abbrev first : ℕ → Opening → Timed SessionState
 first now o = record { last = now; session = fresh o }
@@ -43,7 +43,7 @@ matches_rts now hs o =
     matches_request spelling opening_of HasPackets o (first now o) [] refl (λ quiet. quiet) (λ o' e. cc) (record { in_order = refl; sound = tt }) (opened_packets o)
     (λ groups none. subst (λ (gs : List Group). HasPackets (Some (first now o)) o gs) (sym (no_parts groups none.in_order)) (has_first now o)) hs
 
--- a DPO
+-- the session after a DPO
 
 has_offset : (now count offset : ℕ) (session : Option (Timed SessionState)) (o : Opening) (groups : List Group) → HasPackets session o groups → 1 ≤ count
     → received groups + count ≤ edge o groups → offset ≡ received groups
@@ -62,7 +62,7 @@ stands_offset now count offset hs session o groups m n more =
     subst (λ (gs : List Group). HasPackets (after_part now session (Offset count offset)).session o gs) (sym n.all)
     (has_offset now count offset session o n.before (m.stands o n.before (record { sent = n.sent; more = omega arith })) n.one n.within n.next)
 
--- a session that stands, and the group that is announced
+-- an open session after the announcement of a group
 standing_announced : (now count offset : ℕ) (hs : List SessionEvent) (current : Timed SessionState) (groups : List Group)
     → IsOpen hs current.session.opening groups → HasGroups current.session current.session.opening groups → 1 ≤ count
     → received groups + count ≤ edge current.session.opening groups → offset ≡ received groups
@@ -92,7 +92,7 @@ standing_offset : (now count offset : ℕ) (hs : List SessionEvent) (session : O
 standing_offset now count offset hs None current' m is = absurd cc
 standing_offset now count offset hs (Some current) current' m is = standing_open now count offset hs current current' _ refl (m.only current refl) is
 
--- a packet
+-- the session after a packet
 
 has_packet : (now number : ℕ) (packet : List ℕ) (session : Option (Timed SessionState)) (o : Opening) (count : ℕ) (packets : List (List ℕ)) (groups : List Group)
     → HasPackets session o (Announced count packets ∷ groups) → number ≡ length packets + 1 → length packets < count
@@ -115,7 +115,7 @@ stands_packet now number packet hs session o groups m n more =
     (has_packet now number packet session o n.count n.packets n.before
     (m.stands o (Announced n.count n.packets ∷ n.before) (record { sent = n.sent; more = omega arith })) n.next n.more (omega arith))
 
--- a session whose test lets a packet pass has a group of which it is the next
+-- a packet that passes the test of a session is the next one of its last group
 pub data Next (current : Timed SessionState) (number : ℕ) (o : Opening) : List Group → Type 0 where
   InGroup : (count : ℕ) (packets : List (List ℕ)) (groups : List Group) → number ≡ length packets + 1 → length packets < count
       → HasGroups current.session o (Announced count packets ∷ groups) → Next current number o (Announced count packets ∷ groups)
@@ -164,7 +164,7 @@ standing_packet : (now number : ℕ) (packet : List ℕ) (hs : List SessionEvent
 standing_packet now number packet hs None current' m is = absurd cc
 standing_packet now number packet hs (Some current) current' m is = standing_number now number packet hs current current' _ refl (m.only current refl) is
 
--- each event
+-- the session after each session event
 
 matches_part : (now : ℕ) (part : Part) (hs : List SessionEvent) (session : Option (Timed SessionState)) → Matches hs session
     → Matches (Came (etp.Part part) ∷ hs) (after_part now session part).session

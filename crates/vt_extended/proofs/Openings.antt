@@ -1,4 +1,4 @@
--- What an RTS that opens a session says.
+-- An RTS that opens an ETP session announces at least 9 bytes, in at least one packet.
 use Rattle.std.proofs.Common.{◌≡◌, ◌≤◌, ◌<◌, true, leb, arith}
 use Rattle.std.proofs.lemmas.Bool.{leb-true}
 use Rattle.vt_can.proofs.lemmas.transport.Booleans.{both_of}

@@ -1,4 +1,4 @@
--- The steps of a DPO and a DT, case by case, and what they make of a session's groups.
+-- The steps of a DPO and a DT, case by case, and the groups of the session after them.
 use Rattle.std.proofs.Common.{◌≡◌, ℕ, ◌+◌, ◌≤◌, ◌<◌, max, Bool, true, false, ◌&&◌, cond, eqb, leb, ltb, List, [], ◌∷◌, ◌++◌, length, take, Option, Some, None, ap, ap₂, sym, ◌∙◌, refl, arith, eq-eqb, eqb-true, ne_eqb, lt-ltb}
 use Rattle.std.proofs.lemmas.Bool.{le-leb, false≢true}
 use Rattle.std.proofs.lemmas.List.{append_assoc, append-nil}
@@ -58,7 +58,7 @@ pub packet_wrong : (now number : ℕ) (packet : List ℕ) (current : Timed Sessi
     → after_packet now current number packet ≡ ended (Abort Disorder current.session.opening.pgn)
 packet_wrong now number packet current wrong = rw wrong
 
--- what the tests of a DPO and a DT say of groups
+-- the tests of a DPO and a DT in terms of groups
 
 pub is_open_as : (s : SessionState) (o : Opening) (groups : List Group) (count offset : ℕ) → HasGroups s o groups
     → is_open s count offset ≡ (leb 1 count && leb (received groups + count) (edge o groups) && eqb offset (received groups))
@@ -90,7 +90,7 @@ module _ {X : Type 0} where
   pub skip : (a b : ℕ) (x y : X) → (a ≡ b → ⊥) → cond (eqb a b) x y ≡ y
   skip a b x y e = ap (λ (t : Bool). cond t x y) (ne_eqb a b e)
 
--- a group of which packets are to come moves nothing
+-- a group with packets to come does not change `full`
 full_skip : (count : ℕ) (packets : List (List ℕ)) (groups : List Group) → length packets < count → full (Announced count packets ∷ groups) ≡ full groups
 full_skip count packets groups more = skip (length packets) count (received groups + length packets) (full groups) (λ e. omega arith)
 
@@ -110,7 +110,7 @@ has_announced s o groups count h one =
       edge_is = h.edge_is ∙ ap (edge_after o) (sym (full_skip count [] groups one));
     }
 
--- and after a packet
+-- the groups of a session after a packet
 
 pub grown_bytes : (s : SessionState) (packet : List ℕ) (o : Opening) (count : ℕ) (packets : List (List ℕ)) (groups : List Group)
     → HasGroups s o (Announced count packets ∷ groups)

@@ -1,4 +1,4 @@
--- Steps without times, and frames of other groups.
+-- ETP steps without times, and frames of other parameter groups.
 use Rattle.std.proofs.Common.{◌+◌, eqb, Option, Some, None, refl, ap}
 use Rattle.std.specs.FinMap as finite
 use Rattle.vt_can.specs.declared.transport.sessions.Timed.{Timed}

@@ -1,5 +1,5 @@
--- The messages of one source, over the whole list of what came from it (ISO 11783-3;
--- docs/PROFILE.md, "The ETP receiver"). Every list of events, groups and packets has the latest first.
+-- The ETP messages of one source by its whole history (ISO 11783-3; docs/PROFILE.md, "The ETP receiver").
+-- Every list of session events, groups and packets has the latest first.
 use Rattle.std.specs.Prelude.{◌≡◌, ◌≤◌, ℕ, ◌+◌, ◌-◌, ◌/◌, Bool, nat_le, nat_lt, ◌==◌, ◌&&◌, if◌then◌else◌, min, Option, Some, None, List, [], ◌∷◌, ◌++◌, length}
 use Rattle.vt_can.specs.declared.transport.wire.Reason.{Reason}
 use Rattle.vt_can.specs.declared.transport.wire.Reason.TheVariants.{TooLarge, Disorder}
@@ -22,11 +22,11 @@ SessionEvent = histories.SessionEvent EtpFrame
 abbrev pub opens : Opening → Bool
 opens o = nat_le 9 o.size && nat_le o.size 1048576
 
--- the packets of seven bytes that carry the message
+-- the number of packets of a message, seven bytes each
 abbrev pub packet_count_of : Opening → ℕ
 packet_count_of o = (o.size + 6) / 7
 
--- A DPO announced a count of packets, and these came after it.
+-- A group: the number of packets announced by a DPO, and the packets received after it.
 pub data Group : Type 0 where
   Announced : ℕ → List (List ℕ) → Group
 
@@ -34,13 +34,13 @@ abbrev pub received : List Group → ℕ
 received [] = 0
 received (Announced count packets ∷ groups) = received groups + length packets
 
--- the packets received at the end of the last group of which all have come
+-- the number of packets received up to the end of the last complete group
 abbrev pub full : List Group → ℕ
 full [] = 0
 full (Announced count packets ∷ groups) =
     if length packets == count then received groups + length packets else full groups
 
--- the last packet that a CTS after so many packets opens
+-- the last packet opened by the CTS after `count` packets
 abbrev pub edge_after : Opening → ℕ → ℕ
 edge_after o count = min (packet_count_of o) (count + 255)
 
@@ -48,7 +48,7 @@ edge_after o count = min (packet_count_of o) (count + 255)
 abbrev pub edge : Opening → List Group → ℕ
 edge o groups = edge_after o (full groups)
 
--- A group announces packets that are open, and no more came of it.
+-- Each group announces open packets, and has received no more packets than it announced.
 abbrev pub AreSound : Opening → List Group → Type 0
 AreSound o [] = Unit {0}
 AreSound o (Announced count packets ∷ groups) =
@@ -59,7 +59,7 @@ abbrev pub numbered : List (List ℕ) → List Part
 numbered [] = []
 numbered (packet ∷ packets) = Packet (length packets + 1) packet ∷ numbered packets
 
--- the DPOs and DTs of groups: the offset of each DPO is the packets before
+-- the DPOs and DTs of groups: the offset of a DPO is the number of packets before it
 abbrev pub parts_of : List Group → List Part
 parts_of [] = []
 parts_of (Announced count packets ∷ groups) = numbered packets ++ Offset count (received groups) ∷ parts_of groups
@@ -68,26 +68,26 @@ abbrev pub bytes_of : List Group → List ℕ
 bytes_of [] = []
 bytes_of (Announced count packets ∷ groups) = bytes_of groups ++ joined packets
 
--- what leaves a session as it is: no RTS, no abort and no timeout
+-- a session event other than an RTS, an abort or a timeout
 abbrev pub IsQuiet : SessionEvent → Type 0
 IsQuiet TimedOut = ⊥
 IsQuiet (Came (etp.Rts o)) = ⊥
 IsQuiet (Came etp.Aborted) = ⊥
 IsQuiet (Came _) = Unit {0}
 
--- the DPOs and DTs that came
+-- the DPOs and DTs received
 abbrev pub parts_in : List SessionEvent → List Part
 parts_in [] = []
 parts_in (TimedOut ∷ hs) = parts_in hs
 parts_in (Came (etp.Part part) ∷ hs) = part ∷ parts_in hs
 parts_in (Came _ ∷ hs) = parts_in hs
 
--- what came after an RTS is the DPOs and DTs of sound groups
+-- the DPOs and DTs received after an RTS are those of sound groups
 pub record BringsGroups (o : Opening) (later : List SessionEvent) (groups : List Group) : Type 0 where
   pub in_order : parts_in later ≡ parts_of groups
   pub sound : AreSound o groups
 
--- Messages are spelled by an RTS and by the DPOs and DTs of groups.
+-- The encoding of messages: an RTS, then the DPOs and DTs of groups.
 abbrev pub spelling : Spelling EtpFrame Opening (List Group)
 spelling = record {
   request = λ o. etp.Rts o;
@@ -106,15 +106,15 @@ spelling = record {
 abbrev pub IsOpen : List SessionEvent → Opening → List Group → Type 0
 IsOpen = histories.IsOpen spelling
 
--- an event is the last packet of a message
+-- a session event is the last packet of a message
 abbrev pub IsWhole : List SessionEvent → SessionEvent → Message → Type 0
 IsWhole = histories.IsWhole spelling
 
--- the CTS after so many packets, for 255 of those left at most
+-- the CTS after `count` packets, for at most 255 of the remaining packets
 abbrev pub clear_to_send : Opening → ℕ → Reply
 clear_to_send o count = ClearToSend (min 255 (packet_count_of o - count)) (count + 1) o.pgn
 
--- why an RTS of a size that doesn't open is refused
+-- the reason for the refusal of an RTS
 abbrev pub refusal : Opening → Reason
 refusal o = if nat_lt o.size 9 then Disorder else TooLarge
 
@@ -122,14 +122,14 @@ refusal o = if nat_lt o.size 9 then Disorder else TooLarge
 abbrev pub first_reply : Opening → Reply
 first_reply o = if opens o then clear_to_send o 0 else Abort (refusal o) o.pgn
 
--- the reply to packet j in its turn: the end, the next CTS where its group is whole, or none
+-- the reply to packet j in sequence: the end of message, the next CTS if its group is complete, or none
 abbrev pub reply_to : Opening → ℕ → Bool → Option Reply
 reply_to o j whole =
     if j == packet_count_of o then Some (End o.size o.pgn)
     else if whole then Some (clear_to_send o j)
     else None
 
--- the reply to a DPO, which must announce packets that are open, from the next one on
+-- the reply to a DPO, which must announce open packets, from the next one on
 abbrev pub offset_reply : Opening → List Group → ℕ → ℕ → Option Reply
 offset_reply o groups count offset =
     if nat_le 1 count && nat_le (received groups + count) (edge o groups) && offset == received groups
@@ -148,7 +148,7 @@ abbrev pub part_reply : Opening → List Group → Part → Option Reply
 part_reply o groups (Offset count offset) = offset_reply o groups count offset
 part_reply o groups (Packet number bytes) = packet_reply o groups number
 
--- the reply to x after hs
+-- the reply to session event x after history hs
 abbrev pub IsAnswered : List SessionEvent → SessionEvent → Option Reply → Type 0
 IsAnswered hs TimedOut reply = reply ≡ None
 IsAnswered hs (Came (etp.Rts o)) reply = reply ≡ Some (first_reply o)

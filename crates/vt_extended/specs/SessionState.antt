@@ -1,10 +1,10 @@
--- The session of a source.
+-- The ETP session of a source as a value.
 use Rattle.std.specs.Prelude.{ℕ, List, refl}
 use Rattle.std.specs.Coded.{Coded, code_by, coded×, coded_ℕ, coded_list}
 use Rattle.vt_extended.specs.declared.messages.Opening.{Opening}
 
--- A session: its RTS, the bytes so far, and the number of packets that brought them; how many packets
--- the last DPO announced and how many of those came; and the last packet that is open.
+-- A session: its RTS; the bytes and the number of packets received; the number of packets announced by the
+-- last DPO, and of those received since; and the last open packet.
 pub record SessionState : Type 0 where
   pub opening : Opening
   pub bytes : List ℕ

@@ -1,4 +1,4 @@
--- One step of a receiver on the session of one source.
+-- One step of a ETP receiver on the session of one source.
 use Rattle.std.specs.Prelude.{◌≡◌, ℕ, ◌+◌, Bool, nat_le, nat_lt, ◌==◌, ◌&&◌, if◌then◌else◌, max, Option, Some, None, List, [], ◌∷◌, ◌++◌, length, take}
 use Rattle.vt_can.specs.declared.transport.sessions.Timed.{Timed}
 use Rattle.vt_can.specs.declared.transport.wire.Reason.TheVariants.{Disorder}
@@ -28,7 +28,7 @@ after_rts now o = record {
   message = None;
 }
 
--- a DPO announces packets that are open, from the next one on
+-- a DPO announces open packets, from the next one on
 abbrev pub is_open : SessionState → ℕ → ℕ → Bool
 is_open s count offset = nat_le 1 count && nat_le (s.received + count) s.edge && offset == s.received
 
@@ -57,7 +57,7 @@ with_packet s packet = record {
   edge = if s.arrived + 1 == s.announced then edge_after s.opening (s.received + 1) else s.edge;
 }
 
--- the next packet of a session: the last one, or one with more to come
+-- the step of the next packet of a session, which may be the last one
 abbrev pub next_packet : ℕ → Timed SessionState → List ℕ → SessionOutcome
 next_packet now current packet =
     let s = with_packet current.session packet in
@@ -82,12 +82,12 @@ step now current (etp.Part part) = after_part now current part
 step now current etp.Aborted = silent None
 step now current etp.Other = silent current
 
--- the last group: how many packets it announced, and how many of them came
+-- the number of packets announced by the last group, and of packets received in it
 abbrev pub IsLast : List Group → ℕ → ℕ → Type 0
 IsLast [] announced arrived = (announced ≡ 0) × (arrived ≡ 0)
 IsLast (Announced count packets ∷ groups) announced arrived = (announced ≡ count) × (arrived ≡ length packets)
 
--- a session has just these groups
+-- a session has exactly these groups
 pub record HasGroups (current : SessionState) (o : Opening) (groups : List Group) : Type 0 where
   pub opening : current.opening ≡ o
   pub bytes : current.bytes ≡ take o.size (bytes_of groups)

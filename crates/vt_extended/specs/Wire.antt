@@ -12,7 +12,7 @@ use Rattle.vt_extended.specs.declared.messages.EtpFrame.TheVariants.{Rts, Part, 
 use Rattle.vt_extended.specs.declared.messages.Reply.{Reply}
 use Rattle.vt_extended.specs.declared.messages.Reply.TheVariants.{ClearToSend, End, Abort}
 
--- what the bytes of an ETP.CM frame say
+-- the decoding of an ETP.CM frame
 abbrev pub connection_management : List ℕ → EtpFrame
 connection_management bytes =
     let control = slice_index bytes 0 in
@@ -22,7 +22,7 @@ connection_management bytes =
     else if control == ABORT then Aborted
     else Other
 
--- what a frame is to a node
+-- a frame decoded for a node
 abbrev pub etp_frame : ℕ → Frame → Option EtpFrame
 etp_frame = wire.frame_in ETP_CM ETP_DT connection_management (λ number bytes. Part (Packet number bytes))
 

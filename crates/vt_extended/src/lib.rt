@@ -1,8 +1,8 @@
-//! The extended transport protocol of ISO 11783-3, which carries messages of 9 to 1,048,576 bytes here.
+//! The extended transport protocol (ETP) of ISO 11783-3, limited to messages of 9 to 1,048,576 bytes.
 //!
-//! - `Receiver` hears the frames of all sources, and answers each by what it has `Heard`: nothing, a reply, or a
-//!   whole message with its `Bytes`.
-//! - `laws` has what the definitions come to.
+//! - `Receiver` handles the frames of all sources, and answers each with `Heard`: nothing, a reply, or a whole
+//!   message with its `Bytes`.
+//! - `laws` has theorems about the definitions in specs/.
 //!
 //! docs/PROFILE.md, "Transport", has the rules. Times are in microseconds.
 #![tactic(auto)]
@@ -16,5 +16,5 @@ mod wire;
 pub use receiver::Receiver;
 pub use vt_can::{Bytes, Heard};
 
-/// A growth that was refused.
+/// A refused allocation.
 pub use std::alloc::AllocError as OutOfMemory;

@@ -1,4 +1,4 @@
-//! The messages of the extended transport protocol (ISO 11783-3).
+//! The decoded frames and the replies of the extended transport protocol (ISO 11783-3).
 
 ghost use Rattle.std.specs.Prelude.{◌≡◌, ◌<◌, true};
 ghost use Rattle.vt_extended.specs.Messages.{opens, packet_count_of, edge_after, clear_to_send, refusal, first_reply};
@@ -11,10 +11,10 @@ const LEAST_SIZE: u32 = 9;
 /// The most bytes of a message.
 const GREATEST_SIZE: u32 = 1_048_576;
 
-/// The most packets that a CTS asks for.
+/// The greatest number of packets of one CTS.
 const MOST_PACKETS: u32 = 255;
 
-/// What a request to send says.
+/// The fields of a request to send (RTS).
 #[derive(Clone, Copy, Debug)]
 pub(crate) struct Opening {
     pub(crate) size: u32,
@@ -24,12 +24,12 @@ pub(crate) struct Opening {
 /// A frame within a session.
 #[derive(Clone, Copy, Debug)]
 pub(crate) enum Part {
-    // The data packet offset (DPO), which announces so many packets after this one.
+    // A data packet offset (DPO), which announces `count` packets after the first `offset` packets.
     Offset { count: u8, offset: u32 },
     Packet { number: u8, bytes: [u8; 7] },
 }
 
-/// What a frame of the extended transport protocol says to a receiver.
+/// A frame of the extended transport protocol, decoded for a receiver.
 #[derive(Clone, Copy, Debug)]
 pub(crate) enum EtpFrame {
     Rts(Opening),
@@ -38,7 +38,7 @@ pub(crate) enum EtpFrame {
     Other,
 }
 
-/// What this node answers in a session.
+/// A reply of this node in a session.
 #[derive(Clone, Copy, Debug)]
 pub(crate) enum Reply {
     ClearToSend { count: u8, next: u32, pgn: u32 },
@@ -47,14 +47,14 @@ pub(crate) enum Reply {
 }
 
 impl Opening {
-    /// Whether the size is one of a message.
+    /// Whether the size is that of a message.
     pub(crate) fn opens(&self) -> bool
         ensures { result ≡ opens self.now }
     {
         LEAST_SIZE <= self.size && self.size <= GREATEST_SIZE
     }
 
-    /// The packets that the message takes.
+    /// The number of packets of the message.
     pub(crate) fn packets(&self) -> u32
         requires { opens self.now ≡ true }
         ensures { result ≡ packet_count_of self.now }
@@ -62,7 +62,7 @@ impl Opening {
         (self.size + 6) / 7
     }
 
-    /// The last packet that a CTS opens after a count of packets.
+    /// The last packet opened by the CTS after `count` packets.
     pub(crate) fn edge_after(&self, count: u32) -> u32
         requires opened { opens self.now ≡ true }
         requires more { count < packet_count_of self.now }
@@ -71,7 +71,7 @@ impl Opening {
         self.packets().min(count + MOST_PACKETS)
     }
 
-    /// The CTS after a count of packets, which aren't all.
+    /// The CTS after `count` packets, with packets still to come.
     pub(crate) fn clear_to_send(&self, count: u32) -> Reply
         requires opened { opens self.now ≡ true }
         requires more { count < packet_count_of self.now }
@@ -85,7 +85,7 @@ impl Opening {
         }
     }
 
-    /// The reply to the request.
+    /// The reply to the RTS.
     pub(crate) fn first_reply(&self) -> Reply
         ensures { result ≡ first_reply self.now }
     {

@@ -1,4 +1,4 @@
-//! The receiver.
+//! The ETP receiver.
 
 ghost use Rattle.std.specs.Prelude.{◌≡◌, ℕ, false, Some, None, List, length, IfOk, OnOk, OnErr, IsOk, IfSome, IfNone};
 ghost use Rattle.std.specs.FinMap as finite;
@@ -21,19 +21,19 @@ use std::marker::Model;
 use std::mem;
 use vt_can::{Frame, Heard, Reason, Received, Sessions, Timed};
 
-/// The receiver of a node: at most one session for each source, seen as the map of the sessions by
-/// source, the node's address, and the bytes for which room is set aside.
+/// The ETP receiver of a node: at most one session for each source, seen as the map of the sessions by
+/// source, the node's address, and the number of bytes reserved for a message.
 ///
 /// docs/PROFILE.md, "The ETP receiver".
 pub struct Receiver {
     own_address: u8,
     sessions: Sessions<Session>,
-    // The memory that `prepare` has set aside.
+    // The memory reserved by `prepare`.
     spare: Vec<u8>,
     alloc: Global,
 }
 
-// Written out, so that its proof is not done again in each crate above.
+// Written out, not derived: the drop is proved once here, and not in each crate above.
 impl Drop for Receiver {
     fn drop(self) {
         let Receiver {
@@ -60,7 +60,7 @@ impl Model for Receiver {
 }
 
 impl Receiver {
-    /// The receiver of the node at this address, without sessions. It takes no memory.
+    /// Creates the receiver of the node at an address, without sessions. Does not allocate.
     pub fn new(alloc: Global, own_address: u8) -> Receiver
         ensures own_address { result.own_address ≡ own_address }
         ensures sessions { result.sessions ≡ finite.empty }
@@ -74,8 +74,8 @@ impl Receiver {
         }
     }
 
-    /// Hears a frame at a time. Only a request to send takes memory, for the whole message; refused,
-    /// it leaves the receiver as it was. docs/PROFILE.md, "The ETP receiver".
+    /// Handles a frame received at `now`. Only a request to send allocates, for the whole message. After
+    /// `OutOfMemory` the receiver is unchanged. docs/PROFILE.md, "The ETP receiver".
     pub fn hear(&mut self, now: u64, frame: &Frame) -> Result<Heard, OutOfMemory>
         ensures step { IfOk result (λ heard. MakesStep protocol self.old self.new (source_of frame.now) (outcome protocol self.old now frame.now) heard) }
         ensures others { OthersStay self.old self.new (source_of frame.now) }
@@ -92,8 +92,9 @@ impl Receiver {
         }
     }
 
-    /// The abort of a session that has had none of its frames for more than 1,250,000 microseconds,
-    /// the least source first. Call it until it answers `None`. docs/PROFILE.md, "Timeouts".
+    /// Ends the overdue session of the least source and returns its abort. A session is overdue more than
+    /// 1,250,000 microseconds after its last frame. Call it until it returns `None`. docs/PROFILE.md,
+    /// "Timeouts".
     pub fn expire(&mut self, now: u64) -> Option<Frame>
         ensures own_address { self.new.own_address ≡ self.old.own_address }
         ensures room { self.new.room ≡ self.old.room }
@@ -110,9 +111,9 @@ impl Receiver {
         Some(wire::reply_frame(self.own_address, source, abort))
     }
 
-    /// Sets aside what `hear` of this frame will take, so that it isn't refused, also after any calls
-    /// of `expire`. The sessions stay. Answers the size and first byte of the message that `hear` will
-    /// hand out after those calls, if it will. docs/PROFILE.md, "The ETP receiver".
+    /// Reserves the memory for `hear` of this frame, so that it is not refused, even after calls of
+    /// `expire`. The sessions are unchanged. Returns the size and first byte of the message that `hear`
+    /// hands out after those calls, if any. docs/PROFILE.md, "The ETP receiver".
     pub fn prepare(&mut self, now: u64, frame: &Frame) -> Result<Option<(usize, u8)>, OutOfMemory>
         ensures own_address { self.new.own_address ≡ self.old.own_address }
         ensures sessions { self.new.sessions ≡ self.old.sessions }

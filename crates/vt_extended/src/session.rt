@@ -1,4 +1,4 @@
-//! A message as it comes in.
+//! A ETP session: a message being received.
 
 ghost use Rattle.std.specs.Prelude.{◌≡◌, ◌≤◌, ℕ, max, true, Some, length, List, vec_len, vec_capacity};
 ghost use Rattle.vt_can.specs.declared.transport.wire.Reason.TheVariants.{Disorder};
@@ -12,15 +12,15 @@ use crate::messages::{Opening, Part, Reply};
 use std::marker::Model;
 use vt_can::{Bytes, Reason, Received, append_packet};
 
-/// A message of which packets are still to come.
+/// A message with packets still to come.
 #[derive(Drop)]
 pub(crate) struct Session {
     opening: Opening,
     received: u32,
-    // The packets that the last DPO announced, and how many of them came: none before the first.
+    // The number of packets announced by the last DPO, and of those received since. Both are 0 before the first DPO.
     announced: u8,
     arrived: u8,
-    // The last packet that is open.
+    // The last packet opened by a CTS.
     edge: u32,
     bytes: Vec<u8>,
 }
@@ -41,7 +41,7 @@ impl Model for Session {
 }
 
 impl Session {
-    /// A session whose message has room in `bytes`.
+    /// Opens a session. `bytes` is empty and has the capacity for its message.
     pub(crate) fn new(opening: Opening, bytes: Vec<u8>) -> Session
         requires opened { opens opening ≡ true }
         requires empty { vec_len bytes ≡ 0 }
@@ -64,7 +64,7 @@ impl Session {
         self.opening.pgn
     }
 
-    /// Takes a DPO or DT, which must be in its turn.
+    /// Handles a DPO or DT. Any other than the next one in sequence is refused.
     pub(crate) fn receive(self, part: Part) -> Received<Session, Reply>
         ensures { (now last : ℕ) → outcome_of (max now last) result ≡ after_part now (Some (record { last = last; session = self })) part }
     {
@@ -111,7 +111,7 @@ impl Session {
         Received::More(self, Some(reply))
     }
 
-    /// The size and first byte of the message that a packet completes, if it does.
+    /// The size and first byte of the message completed by a packet, if it completes one.
     pub(crate) fn completed_by(&self, number: u8) -> Option<(usize, u8)>
         ensures { (now last : ℕ) (packet : List ℕ) → length packet ≡ 7
             → result ≡ size_and_first_byte (after_packet now (record { last = last; session = self.now }) number packet).message }
@@ -123,14 +123,14 @@ impl Session {
         }
     }
 
-    // Whether a DPO announces packets that are open, from the next one on.
+    // Whether a DPO announces open packets, from the next one on.
     fn is_open(&self, count: u8, offset: u32) -> bool
         ensures { result ≡ is_open self.now count offset }
     {
         1 <= count && self.received + u32::from(count) <= self.edge && offset == self.received
     }
 
-    // Whether a packet is the next one of those announced.
+    // Whether a packet is the next announced one.
     fn is_next(&self, number: u8) -> bool
         ensures { result ≡ is_next self.now number }
     {

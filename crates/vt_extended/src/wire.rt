@@ -8,7 +8,7 @@ use byteorder::{ByteOrder, LittleEndian};
 use vt_can::assigned::{ABORT, ETP_CM, ETP_CTS, ETP_DPO, ETP_DT, ETP_END, ETP_RTS};
 use vt_can::{Frame, abort_bytes, frame_of, is_transport_frame_to, numbered_packet, three_bytes};
 
-/// What a frame says to a node. It is of the extended transport protocol, to the node's address and of 8 bytes.
+/// Decodes a frame of the extended transport protocol to the node's address with 8 bytes. `None` for any other frame.
 pub(crate) fn etp_frame(own_address: u8, frame: &Frame) -> Option<EtpFrame>
     ensures { result ≡ etp_frame own_address frame.now }
 {
@@ -44,7 +44,7 @@ fn connection_management(bytes: &[u8]) -> EtpFrame
     }
 }
 
-/// The frame that a reply is, from this node to another.
+/// The frame of a reply from this node to another.
 pub(crate) fn reply_frame(own_address: u8, to: u8, reply: Reply) -> Frame
     ensures { result ≡ reply_frame own_address to reply }
 {

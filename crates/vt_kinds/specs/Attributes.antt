@@ -1,5 +1,5 @@
--- The attributes that Change Attribute writes, by their numbers, and of which sort the values of each are
--- (docs/PROFILE.md, "Attribute numbers"), and what each sort takes ("Values of attributes").
+-- The attributes that Change Attribute writes: their numbers (docs/PROFILE.md, "Attribute numbers"), their value
+-- types, and the values that each type accepts ("Values of attributes").
 use Rattle.std.specs.Prelude.{◌≡◌, ◌≢◌, ◌≤◌, ◌⊎◌, ℕ, zero, suc, ◌%◌, ◌^◌, List, [], ◌∷◌, ◌==◌, if◌then◌else◌, Option, Some, None, IsTrue, slice_get}
 use Rattle.vt_kinds.specs.declared.kind.Kind.{Kind}
 use Rattle.vt_kinds.specs.declared.kind.Kind.TheVariants as kinds
@@ -16,9 +16,9 @@ use Rattle.vt_kinds.specs.Scales.{IsScale}
 abbrev pub attribute : Field → ValueType → Attribute
 attribute field type = record { field = field; value_type = type }
 
--- ---- what the values of each sort are
+-- ---- the values of each type
 
--- how many bytes a field of a sort has
+-- the number of bytes of a field of this type
 abbrev pub width : ValueType → ℕ
 width types.Byte = 1
 width types.Word = 2
@@ -29,22 +29,22 @@ width types.Priority = 1
 width types.Scale = 4
 width types.Decimals = 1
 
--- what a field gets of a value: its lowest bytes
+-- the bytes of a value that the field stores: its lowest ones
 abbrev pub lowest : ValueType → ℕ → ℕ
 lowest sort value = value % 256 ^ width sort
 
--- an object that is there, of a kind among these
+-- the object exists and its kind is in the list
 abbrev pub IsAmong : List Kind → Option Kind → Type 0
 IsAmong kinds None = ⊥
 IsAmong kinds (Some kind) = IsTrue (is_among kinds kind)
 
--- what may stand at a place of an object of a kind: NULL, where the place allows it, or an object of an allowed kind
+-- a reference is allowed in a field of a kind: NULL, where the field allows it, or an object of an allowed kind
 abbrev pub MayStand : Kind → Place → ℕ → Option Kind → Type 0
 MayStand kind place id named =
     ((id ≡ 0xFFFF) × IsTrue (may_be_null place)) ⊎ ((id ≢ 0xFFFF) × IsAmong (members (allowed kind place)) named)
 
--- What a field of an object of a kind takes; of a reference, where `named` is the kind of the object that it names.
--- The value of an object pointer has to meet more (docs/PROFILE.md, "Values of attributes").
+-- A field accepts a value. For a reference, `named` is the kind of the referenced object, if it exists. An object
+-- pointer's value has to meet more conditions (docs/PROFILE.md, "Values of attributes").
 abbrev pub Accepts : Kind → ValueType → ℕ → Option Kind → Type 0
 Accepts kind (types.Reference place) n named = MayStand kind place n named
 Accepts kind types.Priority n named = n ≤ 2
@@ -54,7 +54,7 @@ Accepts kind _ n named = Unit {0}
 
 -- ---- the attributes of each kind
 
--- a field of one, two or four bytes that takes every value, and a signed one of four
+-- fields of one, two or four bytes and a signed one of four bytes: every value is accepted
 abbrev pub byte : Field → Attribute
 byte field = attribute field types.Byte
 
@@ -67,7 +67,7 @@ long field = attribute field types.Long
 abbrev pub signed_long : Field → Attribute
 signed_long field = attribute field types.SignedLong
 
--- a reference, which takes what its place allows
+-- a reference field, which accepts the kinds that its `Place` allows
 abbrev pub reference : Field → Place → Attribute
 reference field place = attribute field (types.Reference place)
 
@@ -92,7 +92,7 @@ line_attributes = reference fields.LineAttributes places.LineAttributes
 abbrev pub fill : Attribute
 fill = reference fields.Fill places.Fill
 
--- a priority of 0 to 2, a scale of the four, and decimals of 0 to 7
+-- a priority (0 to 2), a scale (one of four), decimals (0 to 7)
 abbrev pub priority : Attribute
 priority = attribute fields.Priority types.Priority
 
@@ -102,7 +102,7 @@ scale = attribute fields.Scale types.Scale
 abbrev pub decimals : Attribute
 decimals = attribute fields.Decimals types.Decimals
 
--- The attributes of a kind, numbered from 1. Of an Input List they are those before the number that is left out.
+-- The attributes of a kind, numbered from 1. For an Input List only those before its missing number 4.
 abbrev pub attributes_of : Kind → List Attribute
 attributes_of kinds.WorkingSet = byte fields.Colour ∷ byte fields.Selectable ∷ []
 attributes_of kinds.DataMask = byte fields.Colour ∷ soft_key_mask ∷ []
@@ -155,12 +155,12 @@ attributes_of kinds.InputAttributes = byte fields.ValidationType ∷ []
 attributes_of kinds.ObjectPointer = reference fields.Value places.Value ∷ []
 attributes_of kinds.Macro = []
 
--- the attribute of a number in a list that is numbered from 1
+-- the attribute at a number, counted from 1
 abbrev pub numbered : List Attribute → ℕ → Option Attribute
 numbered list zero = None
 numbered list (suc index) = slice_get list index
 
--- The attribute of a kind that has a number. The options of an Input List have 5, and no attribute of it has 4.
+-- The attribute of a kind at a number. In an Input List, number 5 is the options, and number 4 is missing.
 abbrev pub attribute_at : Kind → ℕ → Option Attribute
 attribute_at kinds.InputList number = if number == 5 then Some (byte fields.Options) else numbered (attributes_of kinds.InputList) number
 attribute_at kind number = numbered (attributes_of kind) number

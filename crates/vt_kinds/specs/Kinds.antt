@@ -1,4 +1,4 @@
--- The kinds of objects and their numbers (ISO 11783-6; docs/PROFILE.md, "Kinds").
+-- The kinds of objects and their type numbers (ISO 11783-6; docs/PROFILE.md, "Kinds").
 use Rattle.std.specs.Prelude.{ℕ, List, [], ◌∷◌, ◌==◌, if◌then◌else◌, Option, Some, None, codes}
 use Rattle.vt_kinds.specs.declared.kind.Kind.{Kind}
 use Rattle.vt_kinds.specs.declared.kind.Kind.TheVariants.{WorkingSet, DataMask, AlarmMask, Container, SoftKeyMask, Key, Button, InputBoolean, InputString, InputNumber, InputList, OutputString, OutputNumber, Line, Rectangle, Ellipse, Polygon, Meter, LinearBar, ArchedBar, Picture, NumberVariable, StringVariable, Font, LineAttributes, FillAttributes, InputAttributes, ObjectPointer, Macro}
@@ -34,7 +34,7 @@ kind_number InputAttributes = 26
 kind_number ObjectPointer = 27
 kind_number Macro = 28
 
--- what a kind prints: its name in ISO 11783-6
+-- the printed name of a kind, from ISO 11783-6
 abbrev pub kind_name : Kind → List ℕ
 kind_name WorkingSet = codes "Working Set"
 kind_name DataMask = codes "Data Mask"
@@ -77,6 +77,6 @@ abbrev pub kind_among : List Kind → ℕ → Option Kind
 kind_among [] n = None
 kind_among (k ∷ ks) n = if n == kind_number k then Some k else kind_among ks n
 
--- the kind of a number
+-- the kind of a type number
 abbrev pub kind_at : ℕ → Option Kind
 kind_at n = kind_among every_kind n

@@ -1,4 +1,4 @@
--- The layout of a record as a table of fields, and how such a table spells its values
+-- Record layouts: a table of fields, and the bytes that a table gives to its values
 -- (docs/PROFILE.md, "Records").
 use Rattle.std.specs.Prelude.{◌≡◌, ◌<◌, ◌≤◌, ℕ, ℤ, ◌^◌, List, [], ◌∷◌, ◌++◌, length, map, Option, Some, None, FitsSigned}
 use Rattle.std.specs.Int.{Width, w8, w16, w32, w64, w128, cast_unsigned}
@@ -7,13 +7,13 @@ use Rattle.byteorder.specs.Endian.{little_bytes}
 use Rattle.vt_kinds.specs.declared.fields.Field as names
 use Rattle.vt_kinds.specs.Scales.{IsScale}
 
--- What a count counts: children or keys, macros, or what else a record lists: languages, items, points or bytes.
+-- The elements that a count field counts: children or keys; macros; or the record's languages, items, points or bytes.
 pub data Counted : Type 0 where
   Objects : Counted
   Macros : Counted
   Others : Counted
 
--- How a number is written: in so many bytes, or signed, in two's complement. Numbers are little endian.
+-- The encoding of a number, little endian: unsigned in a number of bytes, or signed in two's complement.
 pub data Size : Type 0 where
   Unsigned : (size : ℕ) → Size
   Signed : (width : Width) → Size
@@ -21,15 +21,15 @@ pub data Size : Type 0 where
 -- A field of a record.
 pub data RecordField : Type 0 where
   Number : (size : Size) → RecordField
-  -- how many there are of the rows or bytes of a later field
+  -- the number of rows or bytes of a later field
   Count : (size : ℕ) → (of : Counted) → RecordField
-  -- so many rows as were counted, each of numbers of these sizes
+  -- as many rows as counted, each with numbers of these sizes
   Rows : (of : Counted) → (sizes : List Size) → RecordField
-  -- so many bytes as were counted
+  -- as many bytes as counted
   Bytes : (of : Counted) → RecordField
   -- the four bytes of a scale
   ScaleBytes : RecordField
-  -- a number of decimals, one byte
+  -- the number of decimals, one byte
   DecimalPlaces : RecordField
 
 -- a number, unsigned or signed
@@ -37,13 +37,13 @@ pub data Numeral : Type 0 where
   natural : ℕ → Numeral
   integer : ℤ → Numeral
 
--- what stands in a field
+-- the value of a field
 pub data Value : Type 0 where
   number : Numeral → Value
   rows : List (List Numeral) → Value
   bytes : List ℕ → Value
 
--- a field of the record of an A, the attribute that it is, if it is one, and its value in an A
+-- a field in the record of an A, with its attribute name (if it is an attribute) and its value in an A
 pub record Named (A : Type 0) : Type 0 where
   pub field : RecordField
   pub name : Option names.Field
@@ -61,7 +61,7 @@ names_in t = map (λ f. f.name) t
 abbrev pub values : {A : Type 0} → Table A → A → List Value
 values t x = map (λ f. f.value x) t
 
--- ---- how a table is written
+-- ---- constructors of tables
 
 abbrev pub unsigned : {A : Type 0} → ℕ → (A → ℕ) → Named A
 unsigned size f = record { field = Number (Unsigned size); name = None; value = λ x. number (natural (f x)) }
@@ -78,15 +78,15 @@ long f = unsigned 4 f
 abbrev pub signed_long : {A : Type 0} → (A → ℤ) → Named A
 signed_long f = record { field = Number (Signed w32); name = None; value = λ x. number (integer (f x)) }
 
--- the field that is an attribute of its kind
+-- marks a field as an attribute
 abbrev pub attribute : {A : Type 0} → names.Field → Named A → Named A
 attribute name f = record f { name = Some name }
 
--- how many elements a list has
+-- the count field of a list
 abbrev pub count : {A X : Type 0} → ℕ → Counted → (A → List X) → Named A
 count size of f = record { field = Count size of; name = None; value = λ x. number (natural (length (f x))) }
 
--- the elements of a list, each as a row of numbers
+-- the rows field of a list: one row of numbers for each element
 abbrev pub rows_of : {A X : Type 0} → Counted → List Size → (X → List Numeral) → (A → List X) → Named A
 rows_of of sizes numbers f = record { field = Rows of sizes; name = None; value = λ x. rows (map numbers (f x)) }
 
@@ -95,7 +95,7 @@ bytes_of of f = record { field = Bytes of; name = None; value = λ x. bytes (f x
 
 -- ---- the spelling of values
 
--- the bytes of a width
+-- the number of bytes of a width
 abbrev pub bytes_in : Width → ℕ
 bytes_in w8 = 1
 bytes_in w16 = 2
@@ -130,9 +130,9 @@ spelling [] vs = []
 spelling (f ∷ fs) [] = []
 spelling (f ∷ fs) (v ∷ vs) = field_spelling f v ++ spelling fs vs
 
--- ---- which values have a spelling
+-- ---- the values that have an encoding
 
--- the counts that were met so far
+-- the counts read so far
 pub record Counts : Type 0 where
   pub objects : ℕ
   pub macros : ℕ
@@ -164,7 +164,7 @@ RowFits [] (n ∷ ns) = ⊥
 RowFits (size ∷ sizes) [] = ⊥
 RowFits (size ∷ sizes) (n ∷ ns) = Fits size n × RowFits sizes ns
 
--- each value fits its field: numbers their sizes, and lists are as long as they were counted
+-- the values fit their fields: each number its size, each list its count
 abbrev pub FieldsFit : List RecordField → Counts → List Value → Type 0
 FieldsFit [] counts [] = Unit {0}
 FieldsFit (Number size ∷ fs) counts (number n ∷ vs) = Fits size n × FieldsFit fs counts vs
@@ -175,7 +175,7 @@ FieldsFit (ScaleBytes ∷ fs) counts (number (natural n) ∷ vs) = (n < 256 ^ 4)
 FieldsFit (DecimalPlaces ∷ fs) counts (number (natural n) ∷ vs) = (n < 256 ^ 1) × FieldsFit fs counts vs
 FieldsFit _ _ _ = ⊥
 
--- a value is one that its field may have: scales are among those that there are, and decimals at most 7
+-- a value is allowed in its field: one of the four scales, and at most 7 decimals
 abbrev pub IsProper : RecordField → Value → Type 0
 IsProper ScaleBytes (number (natural n)) = IsScale n
 IsProper DecimalPlaces (number (natural n)) = n ≤ 7

@@ -1,4 +1,4 @@
--- What the contracts of this crate cite.
+-- The specifications that the contracts of vt_kinds use.
 pub mod Attributes
 pub mod Kinds
 pub mod Layout

@@ -1,4 +1,4 @@
--- The slots that an iterator has left.
+-- The remaining slots of the iterator over an object's references.
 use Rattle.std.specs.Prelude.{ℕ, List, ◌∷◌, length, map, Option, Some, None}
 use Rattle.vt_kinds.specs.declared.kind.Kind.{Kind}
 use Rattle.vt_kinds.specs.declared.place.Place.TheVariants as places
@@ -7,7 +7,7 @@ use Rattle.vt_kinds.specs.declared.slot.Listed.{Listed}
 use Rattle.vt_kinds.specs.declared.slot.Listed.TheVariants.{Children, Keys, Items}
 use Rattle.vt_kinds.specs.References.{listed}
 
--- the slots of a list of which the entries before an index were given
+-- the slots of a list's remaining entries, numbered from an index
 abbrev pub listed_from : Kind → ℕ → Listed → List Slot
 listed_from kind index (Children children) = listed kind places.Child index (map (λ c. c.id) children.now)
 listed_from kind index (Keys keys) = listed kind places.Key index keys.now
@@ -18,7 +18,7 @@ entries_left (Children children) = length children.now
 entries_left (Keys keys) = length keys.now
 entries_left (Items items) = length items.now
 
--- a slot that was not given yet, and the others
+-- prepends a slot to slots, if there is one
 abbrev pub before : Option Slot → List Slot → List Slot
 before None slots = slots
 before (Some slot) slots = slot ∷ slots

@@ -17,7 +17,7 @@ use Rattle.vt_kinds.specs.Layout.{RecordField, Value, fields, names_in, values, 
 use Rattle.vt_kinds.specs.Kinds.{kind_number}
 use Rattle.vt_kinds.specs.Tables.{working_set, data_mask, alarm_mask, container, soft_key_mask, key, button, input_boolean, input_string, input_number, input_list, output_string, output_number, line, rectangle, ellipse, polygon, meter, linear_bar, arched_bar, picture, number_variable, string_variable, font, line_attributes, fill_attributes, input_attributes, object_pointer, macro_object}
 
--- ---- objects wherever their bytes lie
+-- ---- views of objects that do not depend on their byte buffers
 
 abbrev pub seen_input_string : {B : Type 0} → InputString B → InputString (List ℕ)
 seen_input_string o = record {
@@ -68,7 +68,7 @@ seen_input_attributes o = record { validation_type = o.validation_type; text = o
 abbrev pub seen_macro_object : {B : Type 0} → Macro B → Macro (List ℕ)
 seen_macro_object o = record { bytes = o.bytes }
 
--- An object as clauses compare it: its texts, picture and macro bytes are lists of bytes.
+-- The view of an object in contracts: its texts, picture and macro bytes are lists of bytes.
 abbrev pub Seen : Type 0
 Seen = Object (List ℕ)
 
@@ -134,7 +134,7 @@ kind_of (objects.InputAttributes o) = kinds.InputAttributes
 kind_of (objects.ObjectPointer o) = kinds.ObjectPointer
 kind_of (objects.Macro o) = kinds.Macro
 
--- ---- the macros of its events
+-- ---- the macros of an object's events
 
 abbrev pub macros_of : {B : Type 0} → Object B → List MacroEntry
 macros_of (objects.WorkingSet o) = o.macros
@@ -200,7 +200,7 @@ fields_of kinds.InputAttributes = fields (input_attributes {B = List ℕ})
 fields_of kinds.ObjectPointer = fields object_pointer
 fields_of kinds.Macro = fields (macro_object {B = List ℕ})
 
--- of each field the attribute that it is, if it is one
+-- the attribute name of each field, None for a field that is no attribute
 abbrev pub names_of : Kind → List (Option names.Field)
 names_of kinds.WorkingSet = names_in working_set
 names_of kinds.DataMask = names_in data_mask
@@ -267,8 +267,8 @@ values_of (objects.Macro o) = values macro_object o
 abbrev pub record_of : {B : Type 0} → ℕ → Object B → List ℕ
 record_of id o = little_bytes 2 id ++ kind_number (kind_of o) ∷ spelling (fields_of (kind_of o)) (values_of o)
 
--- An object has a record under an ID: the ID is not NULL, its numbers fit their fields and its lists their
--- counts, and scales and decimals are those that there are.
+-- An object has a record under an ID: the ID is not NULL, numbers fit their fields, lists fit their counts,
+-- scales are valid, and decimals are at most 7.
 pub record HasRecord (id : ℕ) (o : Seen) : Type 0 where
   pub named : id < 0xFFFF
   pub fields_fit : FieldsFit (fields_of (kind_of o)) no_counts (values_of o)

@@ -1,4 +1,4 @@
--- What the places of an object name: the kinds that may stand there, and whether NULL may
+-- The references of an object: the kinds that each allows, and whether it may be NULL
 -- (docs/PROFILE.md, "Places and their kinds").
 use Rattle.std.specs.Prelude.{ℕ, suc, Bool, true, false, not, ◌==◌, List, [], ◌∷◌, map, filter}
 use Rattle.std.specs.List.{list_any}
@@ -16,7 +16,7 @@ use Rattle.vt_kinds.specs.declared.object.Object.TheVariants as objects
 
 -- ---- the sets of kinds
 
--- the kinds that are drawn, without and with the working set
+-- the drawn kinds, without and with the working set
 abbrev pub drawn_in_working_set : List Kind
 drawn_in_working_set =
     kinds.Container ∷ kinds.Button ∷ kinds.InputBoolean ∷ kinds.InputString ∷ kinds.InputNumber ∷ kinds.InputList
@@ -33,12 +33,12 @@ is_pointer kind = false
 abbrev pub all_but_pointers : List Kind
 all_but_pointers = filter (λ kind. not (is_pointer kind)) every_kind
 
--- what has children with places
+-- the kinds with positioned children
 abbrev pub parents : List Kind
 parents =
     kinds.WorkingSet ∷ kinds.DataMask ∷ kinds.AlarmMask ∷ kinds.Container ∷ kinds.Key ∷ kinds.Button ∷ []
 
--- what has a size, a background colour, an input that may be enabled, a numeric value and a text that commands change
+-- the kinds with a size, a background colour, an enabled flag, a numeric value, or a text that commands change
 abbrev pub sized : List Kind
 sized =
     kinds.Container ∷ kinds.Button ∷ kinds.InputBoolean ∷ kinds.InputString ∷ kinds.InputNumber ∷ kinds.InputList
@@ -63,7 +63,7 @@ abbrev pub texts : List Kind
 texts =
     kinds.InputString ∷ kinds.OutputString ∷ kinds.StringVariable ∷ []
 
--- what has attributes that Change Attribute writes: all but variables and macros
+-- the kinds with attributes that Change Attribute writes: all except variables and macros
 abbrev pub has_none : Kind → Bool
 has_none kinds.NumberVariable = true
 has_none kinds.StringVariable = true
@@ -101,14 +101,14 @@ members sets.Lines = kinds.Line ∷ []
 members sets.WithAttributes = with_attributes
 members sets.Macros = kinds.Macro ∷ []
 
--- a kind among others
+-- membership of a kind in a list
 abbrev pub is_among : List Kind → Kind → Bool
 is_among kinds kind = list_any (λ member. kind_number member == kind_number kind) kinds
 
 abbrev pub is_member : Kinds → Kind → Bool
 is_member kinds kind = is_among (members kinds) kind
 
--- ---- the kinds and NULL at the places of an object of a kind
+-- ---- the kinds that a reference in an object of a kind allows, and whether it allows NULL
 
 abbrev pub allowed : Kind → Place → Kinds
 allowed kind places.ActiveMask = sets.Masks
@@ -134,11 +134,11 @@ may_be_null _ = true
 
 -- ---- the slots of an object
 
--- a place that is filled
+-- the slot of a field and the ID in it
 abbrev pub slot : Kind → Place → ℕ → Slot
 slot kind place id = record { place = place; id = id; null = may_be_null place; kinds = allowed kind place }
 
--- the slots of a list of IDs, by their places in it
+-- the slots of a list of IDs, with their indices
 abbrev pub listed : Kind → (ℕ → Place) → ℕ → List ℕ → List Slot
 listed kind place index [] = []
 listed kind place index (id ∷ ids) = slot kind (place index) id ∷ listed kind place (suc index) ids
@@ -146,7 +146,7 @@ listed kind place index (id ∷ ids) = slot kind (place index) id ∷ listed kin
 abbrev pub children_of : Kind → List Child → List Slot
 children_of kind children = listed kind places.Child 0 (map (λ c. c.id) children)
 
--- The slots of an object: its references in the order of its fields, and in a list of its entries.
+-- The slots of an object: the references in its fields, then those in its list entries, in order.
 abbrev pub slots_of : {B : Type 0} → Object B → List Slot
 slots_of (objects.WorkingSet o) = slot kinds.WorkingSet places.ActiveMask o.active_mask ∷ children_of kinds.WorkingSet o.children
 slots_of (objects.DataMask o) = slot kinds.DataMask places.SoftKeyMask o.soft_key_mask ∷ children_of kinds.DataMask o.children

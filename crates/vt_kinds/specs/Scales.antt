@@ -18,7 +18,7 @@ scale_places Tenth = 1
 scale_places Hundredth = 2
 scale_places Thousandth = 3
 
--- the number that the bytes of a scale are
+-- a scale's four bytes as a number
 abbrev pub scale_number : Scale → ℕ
 scale_number s = little_number 4 (scale_bytes s)
 
@@ -29,7 +29,7 @@ abbrev pub scale_among : List Scale → ℕ → Option Scale
 scale_among [] n = None
 scale_among (s ∷ ss) n = if n == scale_number s then Some s else scale_among ss n
 
--- the scale of a number
+-- the scale with this number, if there is one
 abbrev pub scale_at : ℕ → Option Scale
 scale_at n = scale_among scales n
 

@@ -1,4 +1,4 @@
--- The record of each kind behind its ID and type, as one table of fields (ISO 11783-6; docs/PROFILE.md,
+-- The layout of each kind's record after its ID and type, as one table of fields (ISO 11783-6; docs/PROFILE.md,
 -- "Records" and the section of each kind).
 use Rattle.std.specs.Prelude.{ℕ, List, [], ◌∷◌, None}
 use Rattle.std.specs.Int.{w16}
@@ -92,7 +92,7 @@ items f = rows_of Others id_sizes id_numbers f
 abbrev pub points : {A : Type 0} → (A → List Point) → Named A
 points f = rows_of Others point_sizes point_numbers f
 
--- the bytes of a text, a picture or a macro
+-- the byte fields of texts, pictures and macros
 abbrev pub content : {A : Type 0} → (A → List ℕ) → Named A
 content f = bytes_of Others f
 
@@ -102,7 +102,7 @@ scale f = record { field = ScaleBytes; name = None; value = λ x. number (natura
 abbrev pub decimals : {A : Type 0} → (A → ℕ) → Named A
 decimals f = record { field = DecimalPlaces; name = None; value = λ x. number (natural (f x)) }
 
--- ---- one table a kind
+-- ---- one table for each kind
 
 abbrev pub working_set : Table WorkingSet
 working_set =

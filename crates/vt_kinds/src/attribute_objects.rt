@@ -1,4 +1,4 @@
-//! The objects that say how others look (ISO 11783-6).
+//! The objects with drawing and input attributes of other objects (ISO 11783-6).
 
 ghost use Rattle.std.specs.Prelude.{◌≡◌, IfOk};
 ghost use Rattle.vt_kinds.specs.Records.{seen_input_attributes};
@@ -12,20 +12,20 @@ use std::convert::AsSlice;
 /// A Font, type 23 (Font Attributes).
 #[derive(Drop)]
 pub struct Font {
-    /// The number of the text's colour.
+    /// The colour number of the text.
     pub colour: u8,
-    /// The number of the size.
+    /// The size number.
     pub size: u8,
-    /// The number of the character set.
+    /// The character set number.
     pub font_type: u8,
     /// A bit for each style, such as bold.
     pub style: u8,
-    /// The macros of its events.
+    /// The macros of the object's events.
     pub macros: Entries<MacroEntry>,
 }
 
 impl Font {
-    /// The same object in memory of its own.
+    /// Copies the object into memory of its own.
     pub(crate) fn copied(&self, alloc: Global) -> Result<Font, AllocError>
         ensures { IfOk result (λ copy. copy ≡ self.now) }
     {
@@ -42,18 +42,18 @@ impl Font {
 /// Line Attributes, type 24: how a line is drawn.
 #[derive(Drop)]
 pub struct LineAttributes {
-    /// The number of the line's colour.
+    /// The colour number of the line.
     pub colour: u8,
     /// The width in pixels.
     pub width: u8,
-    /// The pattern of the line, a bit for each dot.
+    /// The pattern of the line, one bit for each dot.
     pub line_art: u16,
-    /// The macros of its events.
+    /// The macros of the object's events.
     pub macros: Entries<MacroEntry>,
 }
 
 impl LineAttributes {
-    /// The same object in memory of its own.
+    /// Copies the object into memory of its own.
     pub(crate) fn copied(&self, alloc: Global) -> Result<LineAttributes, AllocError>
         ensures { IfOk result (λ copy. copy ≡ self.now) }
     {
@@ -69,18 +69,18 @@ impl LineAttributes {
 /// Fill Attributes, type 25: how a shape is filled.
 #[derive(Drop)]
 pub struct FillAttributes {
-    /// Whether it is filled, and by what.
+    /// Whether and with what the shape is filled.
     pub fill_type: u8,
-    /// The number of the colour.
+    /// The fill's colour number.
     pub colour: u8,
-    /// The Picture that fills it, or NULL.
+    /// The Picture of the fill pattern, or NULL.
     pub pattern: ObjectId,
-    /// The macros of its events.
+    /// The macros of the object's events.
     pub macros: Entries<MacroEntry>,
 }
 
 impl FillAttributes {
-    /// The same object in memory of its own.
+    /// Copies the object into memory of its own.
     pub(crate) fn copied(&self, alloc: Global) -> Result<FillAttributes, AllocError>
         ensures { IfOk result (λ copy. copy ≡ self.now) }
     {
@@ -93,19 +93,19 @@ impl FillAttributes {
     }
 }
 
-/// Input Attributes, type 26: which characters an input takes. They are kept, and not applied.
+/// Input Attributes, type 26: the characters that an input accepts. Stored, not applied.
 #[derive(Drop)]
 pub struct InputAttributes<B: AsSlice<u8>> {
-    /// Whether the characters listed are those allowed or those refused.
+    /// Whether the listed characters are the allowed or the refused ones.
     pub validation_type: u8,
-    /// The characters.
+    /// The listed characters.
     pub text: ShortText<B>,
-    /// The macros of its events.
+    /// The macros of the object's events.
     pub macros: Entries<MacroEntry>,
 }
 
 impl<B: AsSlice<u8>> InputAttributes<B> {
-    /// The same object in memory of its own.
+    /// Copies the object into memory of its own.
     pub(crate) fn copied(&self, alloc: Global) -> Result<InputAttributes<Vec<u8>>, AllocError>
         ensures { IfOk result (λ copy. seen_input_attributes copy ≡ seen_input_attributes self.now) }
     {

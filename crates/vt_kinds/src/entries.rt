@@ -1,4 +1,4 @@
-//! The lists of a record, and their entries.
+//! The lists of a record and their entries.
 
 ghost use Rattle.std.specs.Prelude.{◌≡◌, ◌<◌, ◌≤◌, List, [], length, set, IfOk, vec_len, ◌↔◌, IsTrue};
 
@@ -6,7 +6,7 @@ use crate::id::ObjectId;
 use std::alloc::{AllocError, Global};
 use std::marker::Model;
 
-/// An object that stands in another one, at a place relative to it, in pixels.
+/// A child object, with its position in its parent in pixels.
 #[derive(Clone, Copy, Debug, PartialEq, Eq)]
 pub struct Child {
     pub id: ObjectId,
@@ -14,14 +14,14 @@ pub struct Child {
     pub y: i16,
 }
 
-/// A macro that runs at an event.
+/// An event of an object and the macro that it runs.
 #[derive(Clone, Copy, Debug, PartialEq, Eq)]
 pub struct MacroEntry {
     pub event: u8,
     pub macro_id: u8,
 }
 
-/// A language that a working set speaks, by the two letters of its code.
+/// A language of a working set: the two letters of its code.
 #[derive(Clone, Copy, Debug, PartialEq, Eq)]
 pub struct Language {
     pub first: u8,
@@ -35,7 +35,7 @@ pub struct Point {
     pub y: u16,
 }
 
-/// A list of at most 255 entries, as many as a record can count.
+/// A list of at most 255 entries, the most that a record's count can hold.
 #[derive(Drop)]
 pub struct Entries<T> {
     items: Vec<T>,
@@ -52,7 +52,7 @@ impl<T> Model for Entries<T> {
 }
 
 impl<T> Entries<T> {
-    /// The entries of a vector, which has at most 255.
+    /// Makes a list from a vector of at most 255 entries.
     pub fn from_vec(items: Vec<T>) -> Entries<T>
         requires { vec_len items ≤ 255 }
         ensures { result ≡ items.items }
@@ -60,7 +60,7 @@ impl<T> Entries<T> {
         Entries { items }
     }
 
-    /// The entries in the record's order.
+    /// The entries in record order.
     pub fn as_slice(&self) -> &[T]
         ensures value { result.now ≡ self.now }
         ensures most { length result.now ≤ 255 }
@@ -68,14 +68,14 @@ impl<T> Entries<T> {
         &self.items
     }
 
-    /// How many entries there are.
+    /// The number of entries.
     pub fn len(&self) -> u8
         ensures { result ≡ length self.now }
     {
         self.items.len() as u8
     }
 
-    /// Whether there is no entry.
+    /// Whether the list is empty.
     pub fn is_empty(&self) -> bool
         ensures { IsTrue result ↔ (self.now ≡ []) }
     {
@@ -84,7 +84,7 @@ impl<T> Entries<T> {
 }
 
 impl<T: Copy> Entries<T> {
-    /// Puts an entry in the place of another one.
+    /// Replaces the entry at an index.
     pub fn set(&mut self, index: u8, entry: T)
         requires { index < length self.old }
         ensures { self.new ≡ set self.old index entry }
@@ -92,7 +92,7 @@ impl<T: Copy> Entries<T> {
         self.items[usize::from(index)] = entry;
     }
 
-    /// The same entries in memory of their own.
+    /// Copies the list into memory of its own.
     pub fn copied(&self, alloc: Global) -> Result<Entries<T>, AllocError>
         ensures { IfOk result (λ copy. copy ≡ self.now) }
     {

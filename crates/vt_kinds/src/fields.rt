@@ -1,4 +1,4 @@
-//! What Change Attribute may write.
+//! The fields that Change Attribute may write, and their value types.
 
 ghost use Rattle.std.specs.Prelude.{◌≡◌, ◌↔◌, IsTrue};
 ghost use Rattle.vt_kinds.specs.Attributes as table;
@@ -56,8 +56,8 @@ pub enum Field {
     Value,
 }
 
-/// Which values a field takes (docs/PROFILE.md, "Values of attributes"). A field of fewer than four bytes
-/// takes the lowest bytes of a value.
+/// The values that a field accepts (docs/PROFILE.md, "Values of attributes"). A field of fewer than four bytes
+/// stores the lowest bytes of a value.
 #[derive(Clone, Copy, Debug, PartialEq, Eq)]
 pub enum ValueType {
     /// Every value of one byte.
@@ -68,18 +68,18 @@ pub enum ValueType {
     Long,
     /// Every value of four bytes, signed.
     SignedLong,
-    /// NULL or an object, as this place allows, two bytes. The value of an object pointer has to meet more.
+    /// A reference of two bytes: NULL or an object, as this `Place` allows. An object pointer's value has to meet more.
     Reference(Place),
-    /// 0 to 2, one byte.
+    /// A priority, 0 to 2, one byte.
     Priority,
-    /// The bytes of a scale, four bytes.
+    /// A scale, its four bytes.
     Scale,
-    /// 0 to 7, one byte.
+    /// A number of decimals, 0 to 7, one byte.
     Decimals,
 }
 
 impl ValueType {
-    /// How many bytes the field has.
+    /// The number of bytes of the field.
     pub fn width(self) -> u8
         ensures { result ≡ table.width self }
     {
@@ -90,7 +90,7 @@ impl ValueType {
         }
     }
 
-    /// What the field gets of a value: its lowest bytes.
+    /// The lowest bytes of a value, which the field stores.
     pub fn lowest(self, value: u32) -> u32
         ensures { result ≡ table.lowest self value }
     {
@@ -101,8 +101,8 @@ impl ValueType {
         }
     }
 
-    /// Whether the field takes the lowest bytes of a value, in an object of this kind. Of a reference, `named` is
-    /// the kind of the object that they name, if that is there.
+    /// Whether a field in an object of this kind accepts the lowest bytes of a value. For a reference, `named` is the
+    /// kind of the referenced object, or `None` if it does not exist.
     pub fn accepts(self, kind: Kind, value: u32, named: Option<Kind>) -> bool
         ensures { IsTrue result ↔ Accepts kind self (table.lowest self value) named }
     {
@@ -121,14 +121,14 @@ impl ValueType {
     }
 }
 
-/// Whether the number is that of a scale's four bytes.
+/// Whether the four bytes of some scale are this number.
 fn is_scale(number: u32) -> bool
     ensures { IsTrue result ↔ IsScale number }
 {
     Scale::from_bytes(number.to_le_bytes()).is_some()
 }
 
-/// A field that Change Attribute writes, and the values that it takes.
+/// A field that Change Attribute writes, with its value type.
 #[derive(Clone, Copy, Debug, PartialEq, Eq)]
 pub struct Attribute {
     pub field: Field,

@@ -11,34 +11,34 @@ use std::alloc::{AllocError, Global};
 pub struct Meter {
     /// The width in pixels.
     pub width: u16,
-    /// The number of the needle's colour.
+    /// The colour number of the needle.
     pub needle_colour: u8,
-    /// The number of the border's colour.
+    /// The colour number of the border.
     pub border_colour: u8,
-    /// The number of the arc's colour.
+    /// The colour number of the arc.
     pub arc_colour: u8,
-    /// Kept as it is.
+    /// The options: stored, not applied.
     pub options: u8,
-    /// How many ticks its arc has.
+    /// The number of ticks on the arc.
     pub ticks: u8,
-    /// The angle at which its arc begins, in steps of 2 degrees.
+    /// The start angle of the arc, in steps of 2 degrees.
     pub start: u8,
-    /// The angle at which its arc ends, in steps of 2 degrees.
+    /// The end angle of the arc, in steps of 2 degrees.
     pub end: u8,
     /// The value at the start.
     pub min: u16,
     /// The value at the end.
     pub max: u16,
-    /// The Number Variable that holds the value, or NULL.
+    /// The Number Variable with the value, or NULL.
     pub variable: ObjectId,
-    /// The value that it shows.
+    /// The shown value.
     pub value: u16,
-    /// The macros of its events.
+    /// The macros of the object's events.
     pub macros: Entries<MacroEntry>,
 }
 
 impl Meter {
-    /// The same object in memory of its own.
+    /// Copies the object into memory of its own.
     pub(crate) fn copied(&self, alloc: Global) -> Result<Meter, AllocError>
         ensures { IfOk result (λ copy. copy ≡ self.now) }
     {
@@ -67,32 +67,32 @@ pub struct LinearBar {
     pub width: u16,
     /// The height in pixels.
     pub height: u16,
-    /// The number of the bar's colour.
+    /// The colour number of the bar.
     pub colour: u8,
-    /// The number of the colour of the target's line.
+    /// The colour number of the target line.
     pub target_colour: u8,
-    /// Kept as it is.
+    /// The options: stored, not applied.
     pub options: u8,
-    /// How many ticks it has.
+    /// The number of ticks.
     pub ticks: u8,
     /// The value of an empty bar.
     pub min: u16,
     /// The value of a full bar.
     pub max: u16,
-    /// The Number Variable that holds the value, or NULL.
+    /// The Number Variable with the value, or NULL.
     pub variable: ObjectId,
-    /// The value that it shows.
+    /// The shown value.
     pub value: u16,
-    /// The Number Variable that holds the target, or NULL.
+    /// The Number Variable with the target, or NULL.
     pub target_variable: ObjectId,
-    /// The target that it shows.
+    /// The shown target.
     pub target: u16,
-    /// The macros of its events.
+    /// The macros of the object's events.
     pub macros: Entries<MacroEntry>,
 }
 
 impl LinearBar {
-    /// The same object in memory of its own.
+    /// Copies the object into memory of its own.
     pub(crate) fn copied(&self, alloc: Global) -> Result<LinearBar, AllocError>
         ensures { IfOk result (λ copy. copy ≡ self.now) }
     {
@@ -121,15 +121,15 @@ pub struct ArchedBar {
     pub width: u16,
     /// The height in pixels.
     pub height: u16,
-    /// The number of the bar's colour.
+    /// The colour number of the bar.
     pub colour: u8,
-    /// The number of the colour of the target's line.
+    /// The colour number of the target line.
     pub target_colour: u8,
-    /// Kept as it is.
+    /// The options: stored, not applied.
     pub options: u8,
-    /// The angle at which it begins, in steps of 2 degrees.
+    /// The start angle, in steps of 2 degrees.
     pub start: u8,
-    /// The angle at which it ends, in steps of 2 degrees.
+    /// The end angle, in steps of 2 degrees.
     pub end: u8,
     /// The width of the bar in pixels.
     pub bar_width: u16,
@@ -137,20 +137,20 @@ pub struct ArchedBar {
     pub min: u16,
     /// The value of a full bar.
     pub max: u16,
-    /// The Number Variable that holds the value, or NULL.
+    /// The Number Variable with the value, or NULL.
     pub variable: ObjectId,
-    /// The value that it shows.
+    /// The shown value.
     pub value: u16,
-    /// The Number Variable that holds the target, or NULL.
+    /// The Number Variable with the target, or NULL.
     pub target_variable: ObjectId,
-    /// The target that it shows.
+    /// The shown target.
     pub target: u16,
-    /// The macros of its events.
+    /// The macros of the object's events.
     pub macros: Entries<MacroEntry>,
 }
 
 impl ArchedBar {
-    /// The same object in memory of its own.
+    /// Copies the object into memory of its own.
     pub(crate) fn copied(&self, alloc: Global) -> Result<ArchedBar, AllocError>
         ensures { IfOk result (λ copy. copy ≡ self.now) }
     {

@@ -4,7 +4,7 @@ ghost use Rattle.std.specs.Prelude.{◌≡◌, ◌↔◌, IsTrue};
 
 use std::marker::Model;
 
-/// The ID of an object, 0 to 65534, or NULL, 65535, which is no object's.
+/// The ID of an object, 0 to 65534, or NULL, 65535, which belongs to no object.
 #[derive(Clone, Copy, Debug, Default, PartialEq, Eq, PartialOrd, Ord, Hash)]
 pub struct ObjectId {
     raw: u16,
@@ -21,21 +21,21 @@ impl Model for ObjectId {
 }
 
 impl ObjectId {
-    /// The ID of this number. 65535 gives NULL.
+    /// The ID with this number; NULL for 65535.
     pub fn from_raw(raw: u16) -> ObjectId
         ensures { result ≡ raw }
     {
         ObjectId { raw }
     }
 
-    /// The number, 65535 for NULL.
+    /// The number of the ID, 65535 for NULL.
     pub fn raw(self) -> u16
         ensures { result ≡ self }
     {
         self.raw
     }
 
-    /// Whether it is NULL, the ID of no object.
+    /// Whether the ID is NULL, which belongs to no object.
     pub fn is_null(self) -> bool
         ensures { IsTrue result ↔ (self ≡ 0xFFFF) }
     {

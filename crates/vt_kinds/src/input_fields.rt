@@ -10,27 +10,27 @@ use crate::short_text::ShortText;
 use std::alloc::{AllocError, Global};
 use std::convert::AsSlice;
 
-/// An Input Boolean, type 7: a field that is true or false.
+/// An Input Boolean, type 7: a field for true or false.
 #[derive(Drop)]
 pub struct InputBoolean {
-    /// The number of the background's colour.
+    /// The colour number of the background.
     pub colour: u8,
     /// The width in pixels.
     pub width: u16,
     /// The font, or NULL.
     pub font: ObjectId,
-    /// The Number Variable that holds the value, or NULL.
+    /// The Number Variable with the value, or NULL.
     pub variable: ObjectId,
-    /// 0 is false, and any other value true.
+    /// The value: 0 for false, any other value for true.
     pub value: u8,
-    /// 0 where it takes no input, and any other value where it does.
+    /// 0 for disabled, any other value for enabled.
     pub enabled: u8,
-    /// The macros of its events.
+    /// The macros of the object's events.
     pub macros: Entries<MacroEntry>,
 }
 
 impl InputBoolean {
-    /// The same object in memory of its own.
+    /// Copies the object into memory of its own.
     pub(crate) fn copied(&self, alloc: Global) -> Result<InputBoolean, AllocError>
         ensures { IfOk result (λ copy. copy ≡ self.now) }
     {
@@ -46,35 +46,35 @@ impl InputBoolean {
     }
 }
 
-/// An Input String, type 8: a field that takes a text.
+/// An Input String, type 8: a field for a text.
 #[derive(Drop)]
 pub struct InputString<B: AsSlice<u8>> {
     /// The width in pixels.
     pub width: u16,
     /// The height in pixels.
     pub height: u16,
-    /// The number of the background's colour.
+    /// The colour number of the background.
     pub colour: u8,
     /// The font, or NULL.
     pub font: ObjectId,
-    /// The Input Attributes, or NULL. They are kept, and not applied.
+    /// The Input Attributes, or NULL; stored, not applied.
     pub input_attributes: ObjectId,
-    /// Kept as it is.
+    /// The options: stored, not applied.
     pub options: u8,
-    /// The String Variable that holds the text, or NULL.
+    /// The String Variable with the text, or NULL.
     pub variable: ObjectId,
-    /// Where the text stands in the field. It is kept, and not applied.
+    /// The justification of the text: stored, not applied.
     pub justification: u8,
     /// The text.
     pub text: ShortText<B>,
-    /// 0 where it takes no input, and any other value where it does.
+    /// 0 for disabled, any other value for enabled.
     pub enabled: u8,
-    /// The macros of its events.
+    /// The macros of the object's events.
     pub macros: Entries<MacroEntry>,
 }
 
 impl<B: AsSlice<u8>> InputString<B> {
-    /// The same object in memory of its own.
+    /// Copies the object into memory of its own.
     pub(crate) fn copied(&self, alloc: Global) -> Result<InputString<Vec<u8>>, AllocError>
         ensures { IfOk result (λ copy. seen_input_string copy ≡ seen_input_string self.now) }
     {
@@ -94,45 +94,45 @@ impl<B: AsSlice<u8>> InputString<B> {
     }
 }
 
-/// An Input Number, type 9: a field that takes a number.
+/// An Input Number, type 9: a field for a number.
 #[derive(Drop)]
 pub struct InputNumber {
     /// The width in pixels.
     pub width: u16,
     /// The height in pixels.
     pub height: u16,
-    /// The number of the background's colour.
+    /// The colour number of the background.
     pub colour: u8,
     /// The font, or NULL.
     pub font: ObjectId,
-    /// Kept as it is, and not applied.
+    /// The options: stored, not applied.
     pub options: u8,
-    /// The Number Variable that holds the value, or NULL.
+    /// The Number Variable with the value, or NULL.
     pub variable: ObjectId,
-    /// The number as it is sent, before offset and scale.
+    /// The raw value, before offset and scale.
     pub value: u32,
-    /// The least number that it takes.
+    /// The least allowed value.
     pub min: u32,
-    /// The greatest number that it takes.
+    /// The greatest allowed value.
     pub max: u32,
-    /// What is added to the value before it is shown.
+    /// The offset added to the raw value.
     pub offset: i32,
-    /// What the sum is multiplied by.
+    /// The factor of the sum of raw value and offset.
     pub scale: Scale,
-    /// How many decimals are shown.
+    /// The number of decimals shown.
     pub decimals: Decimals,
-    /// Kept as it is; all numbers are shown as fixed.
+    /// The format: stored, not applied; all numbers are shown with fixed decimals.
     pub format: u8,
-    /// Where the text stands in the field. It is kept, and not applied.
+    /// The justification of the text: stored, not applied.
     pub justification: u8,
-    /// Bit 0 is set where it takes input.
+    /// The second options: bit 0 is set if the field is enabled.
     pub options_two: u8,
-    /// The macros of its events.
+    /// The macros of the object's events.
     pub macros: Entries<MacroEntry>,
 }
 
 impl InputNumber {
-    /// The same object in memory of its own.
+    /// Copies the object into memory of its own.
     pub(crate) fn copied(&self, alloc: Global) -> Result<InputNumber, AllocError>
         ensures { IfOk result (λ copy. copy ≡ self.now) }
     {
@@ -164,20 +164,20 @@ pub struct InputList {
     pub width: u16,
     /// The height in pixels.
     pub height: u16,
-    /// The Number Variable that holds the value, or NULL.
+    /// The Number Variable with the value, or NULL.
     pub variable: ObjectId,
-    /// The place of the item that is shown, counted from 0, or 255 for none.
+    /// The index of the shown item, from 0; 255 for none.
     pub value: u8,
-    /// Bit 0 is set where it takes input.
+    /// The options: bit 0 is set if the field is enabled.
     pub options: u8,
-    /// The items in their places, or NULL for an empty one.
+    /// The items in order, with NULL for an empty one.
     pub items: Entries<ObjectId>,
-    /// The macros of its events.
+    /// The macros of the object's events.
     pub macros: Entries<MacroEntry>,
 }
 
 impl InputList {
-    /// The same object in memory of its own.
+    /// Copies the object into memory of its own.
     pub(crate) fn copied(&self, alloc: Global) -> Result<InputList, AllocError>
         ensures { IfOk result (λ copy. copy ≡ self.now) }
     {

@@ -6,19 +6,19 @@ use crate::entries::{Child, Entries, MacroEntry};
 use crate::id::ObjectId;
 use std::alloc::{AllocError, Global};
 
-/// A Soft Key Mask, type 4: the keys beside a mask.
+/// A Soft Key Mask, type 4: the soft keys of a mask.
 #[derive(Drop)]
 pub struct SoftKeyMask {
-    /// The number of the background's colour.
+    /// The colour number of the background.
     pub colour: u8,
-    /// The keys in their places: Keys, pointers to them, or NULL for an empty place.
+    /// The entries in order: Keys, pointers to Keys, or NULL for an empty entry.
     pub keys: Entries<ObjectId>,
-    /// The macros of its events.
+    /// The macros of the object's events.
     pub macros: Entries<MacroEntry>,
 }
 
 impl SoftKeyMask {
-    /// The same object in memory of its own.
+    /// Copies the object into memory of its own.
     pub(crate) fn copied(&self, alloc: Global) -> Result<SoftKeyMask, AllocError>
         ensures { IfOk result (λ copy. copy ≡ self.now) }
     {
@@ -30,21 +30,21 @@ impl SoftKeyMask {
     }
 }
 
-/// A Key, type 5: what a soft key shows.
+/// A Key, type 5: a soft key.
 #[derive(Drop)]
 pub struct Key {
-    /// The number of the background's colour.
+    /// The colour number of the background.
     pub colour: u8,
-    /// The code that its message carries.
+    /// The key code in the key's messages.
     pub key_code: u8,
-    /// The objects that stand on it.
+    /// The child objects.
     pub children: Entries<Child>,
-    /// The macros of its events.
+    /// The macros of the object's events.
     pub macros: Entries<MacroEntry>,
 }
 
 impl Key {
-    /// The same object in memory of its own.
+    /// Copies the object into memory of its own.
     pub(crate) fn copied(&self, alloc: Global) -> Result<Key, AllocError>
         ensures { IfOk result (λ copy. copy ≡ self.now) }
     {
@@ -64,22 +64,22 @@ pub struct Button {
     pub width: u16,
     /// The height in pixels.
     pub height: u16,
-    /// The number of the background's colour.
+    /// The colour number of the background.
     pub colour: u8,
-    /// The number of the border's colour.
+    /// The colour number of the border.
     pub border: u8,
-    /// The code that its message carries.
+    /// The key code in the button's messages.
     pub key_code: u8,
-    /// Kept as it is; a latching button acts as a momentary one.
+    /// The options: stored, not applied; a latching button acts as a momentary one.
     pub options: u8,
-    /// The objects that stand on it.
+    /// The child objects.
     pub children: Entries<Child>,
-    /// The macros of its events.
+    /// The macros of the object's events.
     pub macros: Entries<MacroEntry>,
 }
 
 impl Button {
-    /// The same object in memory of its own.
+    /// Copies the object into memory of its own.
     pub(crate) fn copied(&self, alloc: Global) -> Result<Button, AllocError>
         ensures { IfOk result (λ copy. copy ≡ self.now) }
     {

@@ -5,7 +5,7 @@ ghost use Rattle.vt_kinds.specs.Kinds.{kind_number, kind_at, kind_name};
 
 use std::fmt;
 
-/// The kind of an object. A record names it by its number, the object's type.
+/// The kind of an object. A record gives it as a number, the object's type.
 #[derive(Clone, Copy, Debug, PartialEq, Eq)]
 pub enum Kind {
     WorkingSet,
@@ -40,7 +40,7 @@ pub enum Kind {
 }
 
 impl Kind {
-    /// The type that a record of this kind has.
+    /// The type number of this kind in a record.
     pub fn number(self) -> u8
         ensures { result ≡ kind_number self }
     {
@@ -77,7 +77,7 @@ impl Kind {
         }
     }
 
-    /// The kind of a type, or `None` where no kind has that number.
+    /// The kind of a type number, or `None` if no kind has it.
     pub fn from_number(number: u8) -> Option<Kind>
         ensures { result ≡ kind_at number }
     {

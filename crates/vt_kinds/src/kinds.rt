@@ -16,18 +16,17 @@ ghost use Rattle.vt_kinds.specs.References.{
 
 use crate::kind::Kind;
 
-/// A set of kinds: what a place allows, or what a command changes (docs/PROFILE.md, "Places and their kinds" and
-/// "Commands").
+/// A set of kinds: those allowed in a reference, or those that a command changes (docs/PROFILE.md, "Places and
+/// their kinds" and "Commands").
 #[derive(Clone, Copy, Debug, PartialEq, Eq)]
 pub enum Kinds {
     Masks,
     SoftKeyMasks,
-    /// What stands on masks and in other objects: working sets, containers, buttons, inputs, outputs, shapes,
-    /// graphs, pictures, and pointers.
+    /// The drawn kinds: working sets, containers, buttons, inputs, outputs, shapes, graphs, pictures, and pointers.
     Drawn,
-    /// What is drawn, without working sets.
+    /// The drawn kinds except working sets.
     DrawnInWorkingSet,
-    /// Keys, and pointers to them.
+    /// Keys and object pointers.
     Keys,
     Fonts,
     InputAttributes,
@@ -40,27 +39,27 @@ pub enum Kinds {
     WorkingSets,
     AlarmMasks,
     Containers,
-    /// What has children with places: working sets, masks, containers, keys and buttons.
+    /// The kinds with positioned children: working sets, masks, containers, keys and buttons.
     Parents,
-    /// What has a size that a command changes.
+    /// The kinds with a size that a command changes.
     Sized,
-    /// What has a background colour that a command changes.
+    /// The kinds with a background colour that a command changes.
     Coloured,
-    /// What may be enabled and disabled.
+    /// The kinds that a command enables and disables.
     Inputs,
     InputLists,
-    /// What has a numeric value that a command changes, pointers too.
+    /// The kinds with a numeric value that a command changes, object pointers included.
     Numeric,
-    /// What has a text that a command changes.
+    /// The kinds with a text that a command changes.
     Texts,
     Lines,
-    /// What has attributes that a command changes.
+    /// The kinds with attributes that a command changes.
     WithAttributes,
     Macros,
 }
 
 impl Kinds {
-    /// Whether a kind is in the set.
+    /// Whether the set contains a kind.
     pub fn contains(self, kind: Kind) -> bool
         ensures { result ≡ is_member self kind }
     {

@@ -1,11 +1,11 @@
-//! The objects of an ISOBUS virtual terminal (ISO 11783-6): their kinds, their fields and what they name.
+//! The objects of an ISOBUS virtual terminal (ISO 11783-6): their kinds, fields and references.
 //!
-//! - `Object` is one of the 29 kinds (`Kind`, `Kinds`), each a type of its own, under an `ObjectId`; `Scale` and `Decimals` say how a
-//!   number is shown, and `Entries`, `ShortText`, `LongText`, `MacroBytes` and `PictureBytes` hold what stands in lists, texts and bytes.
-//! - `slots` gives each `Slot` of an object, at its `Place`.
-//! - An `Attribute` is a `Field` of a kind's record, with the `ValueType` of what Change Attribute writes there.
+//! - `Object` is one of the 29 kinds (`Kind`, `Kinds`), each a type of its own, under an `ObjectId`; `Scale` and `Decimals` are the
+//!   format of a number, and `Entries`, `ShortText`, `LongText`, `MacroBytes` and `PictureBytes` are the lists, texts and bytes.
+//! - `slots` yields each reference of an object as a `Slot`, with its `Place`.
+//! - An `Attribute` is a `Field` of a kind's record, with the `ValueType` that Change Attribute writes there.
 //!
-//! docs/PROFILE.md has the tables: "Records" for the kinds and their fields, "References and inclusions" for what they name.
+//! docs/PROFILE.md has the tables: "Records" for the kinds and their fields, "References and inclusions" for the references.
 #![tactic(auto)]
 
 mod attribute_objects;
@@ -58,5 +58,5 @@ pub use short_text::ShortText;
 pub use slot::{Slot, Slots};
 pub use variables::{NumberVariable, ObjectPointer, StringVariable};
 
-/// A growth that was refused.
+/// The error of a failed allocation.
 pub use std::alloc::AllocError as OutOfMemory;

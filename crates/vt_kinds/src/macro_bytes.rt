@@ -1,4 +1,4 @@
-//! The bytes of macros.
+//! The bytes of a macro, at most 65,535.
 
 ghost use Rattle.std.specs.Prelude.{◌≡◌, ◌≤◌, length, IfOk};
 
@@ -6,8 +6,8 @@ use std::alloc::{AllocError, Global};
 use std::convert::AsSlice;
 use std::marker::Model;
 
-/// The bytes of a macro, at most 65,535, as many as a count of two bytes can say. `B`
-/// holds them: a slice of a pool, or a vector in a store.
+/// The bytes of a macro, at most 65,535, the most that a count of two bytes can hold. `B` is their buffer: a slice
+/// of a pool, or a vector in a store.
 #[derive(Drop)]
 pub struct MacroBytes<B: AsSlice<u8>> {
     bytes: B,
@@ -24,7 +24,7 @@ impl<B: AsSlice<u8>> Model for MacroBytes<B> {
 }
 
 impl<B: AsSlice<u8>> MacroBytes<B> {
-    /// The macro of these bytes, of which there are at most 65,535.
+    /// Makes a macro of these bytes, at most 65,535.
     pub fn new(bytes: B) -> MacroBytes<B>
         requires { length (B.items bytes) ≤ 65535 }
         ensures { result ≡ B.items bytes }
@@ -40,7 +40,7 @@ impl<B: AsSlice<u8>> MacroBytes<B> {
         self.bytes.as_slice()
     }
 
-    /// The same macro in memory of its own.
+    /// Copies the macro into memory of its own.
     pub fn copied(&self, alloc: Global) -> Result<MacroBytes<Vec<u8>>, AllocError>
         ensures { IfOk result (λ copy. copy ≡ self.now) }
     {

@@ -7,15 +7,15 @@ use crate::macro_bytes::MacroBytes;
 use std::alloc::{AllocError, Global};
 use std::convert::AsSlice;
 
-/// A Macro, type 28: commands that run at an event.
+/// A Macro, type 28: commands that an event runs.
 #[derive(Drop)]
 pub struct Macro<B: AsSlice<u8>> {
-    /// The commands, one after the other.
+    /// The commands, in the order of their run.
     pub bytes: MacroBytes<B>,
 }
 
 impl<B: AsSlice<u8>> Macro<B> {
-    /// The same object in memory of its own.
+    /// Copies the object into memory of its own.
     pub(crate) fn copied(&self, alloc: Global) -> Result<Macro<Vec<u8>>, AllocError>
         ensures { IfOk result (λ copy. seen_macro_object copy ≡ seen_macro_object self.now) }
     {

@@ -6,25 +6,25 @@ use crate::entries::{Child, Entries, Language, MacroEntry};
 use crate::id::ObjectId;
 use std::alloc::{AllocError, Global};
 
-/// A Working Set, type 0: the implement itself. A pool that is taken has just one.
+/// A Working Set, type 0: the implement itself. An accepted pool has exactly one.
 #[derive(Drop)]
 pub struct WorkingSet {
-    /// The number of the background's colour.
+    /// The colour number of the background.
     pub colour: u8,
-    /// Whether the working set may be selected. It is kept, and not applied.
+    /// Whether the working set may be selected: stored, not applied.
     pub selectable: u8,
-    /// The mask that it shows, or NULL.
+    /// The active mask, or NULL.
     pub active_mask: ObjectId,
-    /// The objects that stand in it.
+    /// The child objects.
     pub children: Entries<Child>,
-    /// The macros of its events.
+    /// The macros of the object's events.
     pub macros: Entries<MacroEntry>,
-    /// The languages that the working set speaks.
+    /// The languages of the working set.
     pub languages: Entries<Language>,
 }
 
 impl WorkingSet {
-    /// The same object in memory of its own.
+    /// Copies the object into memory of its own.
     pub(crate) fn copied(&self, alloc: Global) -> Result<WorkingSet, AllocError>
         ensures { IfOk result (λ copy. copy ≡ self.now) }
     {
@@ -42,18 +42,18 @@ impl WorkingSet {
 /// A Data Mask, type 1: a screen of the implement.
 #[derive(Drop)]
 pub struct DataMask {
-    /// The number of the background's colour.
+    /// The colour number of the background.
     pub colour: u8,
-    /// The mask of its soft keys, or NULL.
+    /// The soft key mask, or NULL.
     pub soft_key_mask: ObjectId,
-    /// The objects that stand on it.
+    /// The child objects.
     pub children: Entries<Child>,
-    /// The macros of its events.
+    /// The macros of the object's events.
     pub macros: Entries<MacroEntry>,
 }
 
 impl DataMask {
-    /// The same object in memory of its own.
+    /// Copies the object into memory of its own.
     pub(crate) fn copied(&self, alloc: Global) -> Result<DataMask, AllocError>
         ensures { IfOk result (λ copy. copy ≡ self.now) }
     {
@@ -66,25 +66,25 @@ impl DataMask {
     }
 }
 
-/// An Alarm Mask, type 2: a screen that is shown before all others.
+/// An Alarm Mask, type 2: a screen with priority over data masks.
 #[derive(Drop)]
 pub struct AlarmMask {
-    /// The number of the background's colour.
+    /// The colour number of the background.
     pub colour: u8,
-    /// The mask of its soft keys, or NULL.
+    /// The soft key mask, or NULL.
     pub soft_key_mask: ObjectId,
-    /// The lowest number is shown first. Commands write 0 to 2, and a record may hold more.
+    /// The priority: the lowest number is shown first. Commands write 0 to 2; a record may hold more.
     pub priority: u8,
-    /// The number of the acoustic signal.
+    /// The acoustic signal's number.
     pub acoustic: u8,
-    /// The objects that stand on it.
+    /// The child objects.
     pub children: Entries<Child>,
-    /// The macros of its events.
+    /// The macros of the object's events.
     pub macros: Entries<MacroEntry>,
 }
 
 impl AlarmMask {
-    /// The same object in memory of its own.
+    /// Copies the object into memory of its own.
     pub(crate) fn copied(&self, alloc: Global) -> Result<AlarmMask, AllocError>
         ensures { IfOk result (λ copy. copy ≡ self.now) }
     {
@@ -99,23 +99,23 @@ impl AlarmMask {
     }
 }
 
-/// A Container, type 3: objects that are moved, shown and hidden together. Any `hidden` but 0 hides it.
+/// A Container, type 3: objects that are moved, shown and hidden together.
 #[derive(Drop)]
 pub struct Container {
     /// The width in pixels.
     pub width: u16,
     /// The height in pixels.
     pub height: u16,
-    /// 0 where it is shown, and any other value where it is hidden.
+    /// 0 for shown, any other value for hidden.
     pub hidden: u8,
-    /// The objects that stand in it.
+    /// The child objects.
     pub children: Entries<Child>,
-    /// The macros of its events.
+    /// The macros of the object's events.
     pub macros: Entries<MacroEntry>,
 }
 
 impl Container {
-    /// The same object in memory of its own.
+    /// Copies the object into memory of its own.
     pub(crate) fn copied(&self, alloc: Global) -> Result<Container, AllocError>
         ensures { IfOk result (λ copy. copy ≡ self.now) }
     {

@@ -51,8 +51,8 @@ pub enum Object<B: AsSlice<u8>> {
     Macro(Macro<B>),
 }
 
-// Written out and not derived, so that how each kind is let go is proved here, once, and not in each crate
-// that lets an object go.
+// Written out and not derived: the drop of each kind is proved once here, and not again in each crate that drops
+// an object.
 impl<B: AsSlice<u8> + Drop> Drop for Object<B> {
     fn drop(self) {
         match self {
@@ -127,7 +127,7 @@ impl<B: AsSlice<u8>> Object<B> {
         }
     }
 
-    /// The macros of its events, none of a kind that has no events.
+    /// The macros of the object's events; empty for a kind without events.
     pub fn macros(&self) -> &[MacroEntry]
         ensures { result.now ≡ macros_of self.now }
     {
@@ -164,7 +164,7 @@ impl<B: AsSlice<u8>> Object<B> {
         }
     }
 
-    /// The same object in memory of its own.
+    /// Copies the object into memory of its own.
     pub fn copied(&self, alloc: Global) -> Result<Object<Vec<u8>>, AllocError>
         ensures { IfOk result (λ copy. seen copy ≡ seen self.now) }
     {

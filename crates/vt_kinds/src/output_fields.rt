@@ -10,31 +10,31 @@ use crate::scale::{Decimals, Scale};
 use std::alloc::{AllocError, Global};
 use std::convert::AsSlice;
 
-/// An Output String, type 11: a field that shows a text.
+/// An Output String, type 11: a field for a text.
 #[derive(Drop)]
 pub struct OutputString<B: AsSlice<u8>> {
     /// The width in pixels.
     pub width: u16,
     /// The height in pixels.
     pub height: u16,
-    /// The number of the background's colour.
+    /// The colour number of the background.
     pub colour: u8,
     /// The font, or NULL.
     pub font: ObjectId,
-    /// Kept as it is.
+    /// The options: stored, not applied.
     pub options: u8,
-    /// The String Variable that holds the text, or NULL.
+    /// The String Variable with the text, or NULL.
     pub variable: ObjectId,
-    /// Where the text stands in the field. It is kept, and not applied.
+    /// The justification of the text: stored, not applied.
     pub justification: u8,
     /// The text.
     pub text: LongText<B>,
-    /// The macros of its events.
+    /// The macros of the object's events.
     pub macros: Entries<MacroEntry>,
 }
 
 impl<B: AsSlice<u8>> OutputString<B> {
-    /// The same object in memory of its own.
+    /// Copies the object into memory of its own.
     pub(crate) fn copied(&self, alloc: Global) -> Result<OutputString<Vec<u8>>, AllocError>
         ensures { IfOk result (λ copy. seen_output_string copy ≡ seen_output_string self.now) }
     {
@@ -52,39 +52,39 @@ impl<B: AsSlice<u8>> OutputString<B> {
     }
 }
 
-/// An Output Number, type 12: a field that shows a number.
+/// An Output Number, type 12: a field for a number.
 #[derive(Drop)]
 pub struct OutputNumber {
     /// The width in pixels.
     pub width: u16,
     /// The height in pixels.
     pub height: u16,
-    /// The number of the background's colour.
+    /// The colour number of the background.
     pub colour: u8,
     /// The font, or NULL.
     pub font: ObjectId,
-    /// Kept as it is, and not applied.
+    /// The options: stored, not applied.
     pub options: u8,
-    /// The Number Variable that holds the value, or NULL.
+    /// The Number Variable with the value, or NULL.
     pub variable: ObjectId,
-    /// The number before offset and scale.
+    /// The raw value, before offset and scale.
     pub value: u32,
-    /// What is added to the value before it is shown.
+    /// The offset added to the raw value.
     pub offset: i32,
-    /// What the sum is multiplied by.
+    /// The factor of the sum of raw value and offset.
     pub scale: Scale,
-    /// How many decimals are shown.
+    /// The number of decimals shown.
     pub decimals: Decimals,
-    /// Kept as it is; all numbers are shown as fixed.
+    /// The format: stored, not applied; all numbers are shown with fixed decimals.
     pub format: u8,
-    /// Where the text stands in the field. It is kept, and not applied.
+    /// The justification of the text: stored, not applied.
     pub justification: u8,
-    /// The macros of its events.
+    /// The macros of the object's events.
     pub macros: Entries<MacroEntry>,
 }
 
 impl OutputNumber {
-    /// The same object in memory of its own.
+    /// Copies the object into memory of its own.
     pub(crate) fn copied(&self, alloc: Global) -> Result<OutputNumber, AllocError>
         ensures { IfOk result (λ copy. copy ≡ self.now) }
     {

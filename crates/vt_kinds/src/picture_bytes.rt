@@ -6,8 +6,8 @@ use std::alloc::{AllocError, Global};
 use std::convert::AsSlice;
 use std::marker::Model;
 
-/// The bytes of a picture, at most 4,294,967,295, as many as a count of four bytes can say. `B`
-/// holds them: a slice of a pool, or a vector in a store.
+/// The bytes of a picture, at most 4,294,967,295, the most that a count of four bytes can hold. `B` is their buffer:
+/// a slice of a pool, or a vector in a store.
 #[derive(Drop)]
 pub struct PictureBytes<B: AsSlice<u8>> {
     bytes: B,
@@ -24,7 +24,7 @@ impl<B: AsSlice<u8>> Model for PictureBytes<B> {
 }
 
 impl<B: AsSlice<u8>> PictureBytes<B> {
-    /// The picture of these bytes, of which there are at most 4,294,967,295.
+    /// Makes a picture of these bytes, at most 4,294,967,295.
     pub fn new(bytes: B) -> PictureBytes<B>
         requires { length (B.items bytes) ≤ 4294967295 }
         ensures { result ≡ B.items bytes }
@@ -40,7 +40,7 @@ impl<B: AsSlice<u8>> PictureBytes<B> {
         self.bytes.as_slice()
     }
 
-    /// The same picture in memory of its own.
+    /// Copies the picture into memory of its own.
     pub fn copied(&self, alloc: Global) -> Result<PictureBytes<Vec<u8>>, AllocError>
         ensures { IfOk result (λ copy. copy ≡ self.now) }
     {

@@ -8,29 +8,29 @@ use crate::picture_bytes::PictureBytes;
 use std::alloc::{AllocError, Global};
 use std::convert::AsSlice;
 
-/// A Picture, type 20 (Picture Graphic). Its bytes are kept, and not decoded.
+/// A Picture, type 20 (Picture Graphic). Its bytes are stored, not decoded.
 #[derive(Drop)]
 pub struct Picture<B: AsSlice<u8>> {
-    /// The width in pixels at which it is shown.
+    /// The width in pixels on the screen.
     pub width: u16,
-    /// The width of the picture itself, in pixels.
+    /// The width of the image data, in pixels.
     pub actual_width: u16,
-    /// The height of the picture itself, in pixels.
+    /// The height of the image data, in pixels.
     pub actual_height: u16,
-    /// How many colours it has.
+    /// The format: the number of colours.
     pub format: u8,
-    /// Kept as it is.
+    /// The options: stored, not applied.
     pub options: u8,
-    /// The number of the colour that is not drawn.
+    /// The transparent colour number, which is not drawn.
     pub transparency: u8,
-    /// The picture's bytes.
+    /// The image data.
     pub bytes: PictureBytes<B>,
-    /// The macros of its events.
+    /// The macros of the object's events.
     pub macros: Entries<MacroEntry>,
 }
 
 impl<B: AsSlice<u8>> Picture<B> {
-    /// The same object in memory of its own.
+    /// Copies the object into memory of its own.
     pub(crate) fn copied(&self, alloc: Global) -> Result<Picture<Vec<u8>>, AllocError>
         ensures { IfOk result (λ copy. seen_picture copy ≡ seen_picture self.now) }
     {

@@ -1,4 +1,4 @@
-//! The places of an object that name another one.
+//! The references of an object, by field or list entry.
 
 ghost use Rattle.std.specs.Prelude.{◌≡◌};
 ghost use Rattle.vt_kinds.specs.References.{allowed, may_be_null};
@@ -6,8 +6,7 @@ ghost use Rattle.vt_kinds.specs.References.{allowed, may_be_null};
 use crate::kind::Kind;
 use crate::kinds::Kinds;
 
-/// A field of an object, or an entry of one of its lists, that names another object. Entries are counted
-/// from 0.
+/// The field or list entry of a reference in its object. Entries are counted from 0.
 #[derive(Clone, Copy, Debug, PartialEq, Eq)]
 pub enum Place {
     ActiveMask,
@@ -22,12 +21,12 @@ pub enum Place {
     LineAttributes,
     Fill,
     Pattern,
-    /// The value of a pointer.
+    /// The value of an object pointer.
     Value,
 }
 
 impl Place {
-    /// The kinds that may stand in this place of an object of a kind.
+    /// The kinds that this reference allows in an object of a kind.
     pub fn kinds(self, kind: Kind) -> Kinds
         ensures { result ≡ allowed kind self }
     {
@@ -54,7 +53,7 @@ impl Place {
         }
     }
 
-    /// Whether NULL may stand in this place.
+    /// Whether this reference may be NULL.
     pub fn allows_null(self) -> bool
         ensures { result ≡ may_be_null self }
     {

@@ -1,4 +1,4 @@
-//! What an object names.
+//! The references of an object, listed in order.
 
 ghost use Rattle.std.specs.Prelude.{◌≡◌, ◌≤◌, Some, []};
 ghost use Rattle.vt_kinds.specs.References.{slot, slots_of};
@@ -11,7 +11,7 @@ use crate::place::Place;
 use crate::slot::{Listed, Slot, Slots};
 use std::convert::AsSlice;
 
-/// The references of an object, in the order of its fields, and in a list of its entries.
+/// Returns the references of an object: those of its fields, then those of its list entries, in order.
 pub fn slots<B: AsSlice<u8>>(object: &Object<B>) -> Slots<'_>
     ensures { result ≡ slots_of object.now }
 {

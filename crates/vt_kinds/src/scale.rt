@@ -7,7 +7,7 @@ ghost use Rattle.vt_kinds.specs.Scales.{scale_at, scale_bytes, scale_number, sca
 use byteorder::{ByteOrder, LittleEndian};
 use std::marker::Model;
 
-/// What a value is multiplied by before it is shown.
+/// The factor of a shown number.
 #[derive(Clone, Copy, Debug, PartialEq, Eq)]
 pub enum Scale {
     /// 1
@@ -21,7 +21,7 @@ pub enum Scale {
 }
 
 impl Scale {
-    /// The scale of these four bytes of a record, or `None` where they are those of no scale.
+    /// The scale with these four bytes, or `None` if they are no scale's.
     pub fn from_bytes(bytes: [u8; 4]) -> Option<Scale>
         ensures scale { result ≡ scale_at (little_number 4 bytes) }
         ensures number { IfSome result (λ s. scale_number s ≡ little_number 4 bytes) }
@@ -48,7 +48,7 @@ impl Scale {
         }
     }
 
-    /// How many decimal places the scale moves a value by, 0 to 3.
+    /// The decimal places that the scale shifts a value by, 0 to 3.
     pub fn places(self) -> u8
         ensures { result ≡ scale_places self }
     {
@@ -61,7 +61,7 @@ impl Scale {
     }
 }
 
-/// How many decimals of a number are shown, 0 to 7.
+/// The number of decimals of a shown number, 0 to 7.
 #[derive(Clone, Copy, Debug, PartialEq, Eq)]
 pub struct Decimals {
     count: u8,
@@ -80,7 +80,7 @@ impl Model for Decimals {
 }
 
 impl Decimals {
-    /// So many decimals, or `None` where they are more than 7.
+    /// Makes a number of decimals, or `None` for more than 7.
     pub fn new(count: u8) -> Option<Decimals>
         ensures some { IfSome result (λ d. d ≡ count) }
         ensures none { IfNone result (7 < count) }

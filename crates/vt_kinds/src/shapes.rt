@@ -15,14 +15,14 @@ pub struct Line {
     pub width: u16,
     /// The height in pixels.
     pub height: u16,
-    /// 0 from the top left corner to the bottom right one, and 1 from the bottom left one to the top right one.
+    /// The direction: 0 from top left to bottom right, 1 from bottom left to top right.
     pub direction: u8,
-    /// The macros of its events.
+    /// The macros of the object's events.
     pub macros: Entries<MacroEntry>,
 }
 
 impl Line {
-    /// The same object in memory of its own.
+    /// Copies the object into memory of its own.
     pub(crate) fn copied(&self, alloc: Global) -> Result<Line, AllocError>
         ensures { IfOk result (λ copy. copy ≡ self.now) }
     {
@@ -45,16 +45,16 @@ pub struct Rectangle {
     pub width: u16,
     /// The height in pixels.
     pub height: u16,
-    /// Which of its lines are not drawn.
+    /// The lines that are not drawn.
     pub suppression: u8,
     /// The Fill Attributes, or NULL.
     pub fill: ObjectId,
-    /// The macros of its events.
+    /// The macros of the object's events.
     pub macros: Entries<MacroEntry>,
 }
 
 impl Rectangle {
-    /// The same object in memory of its own.
+    /// Copies the object into memory of its own.
     pub(crate) fn copied(&self, alloc: Global) -> Result<Rectangle, AllocError>
         ensures { IfOk result (λ copy. copy ≡ self.now) }
     {
@@ -78,20 +78,20 @@ pub struct Ellipse {
     pub width: u16,
     /// The height in pixels.
     pub height: u16,
-    /// Whether it is closed, open, a segment or a section.
+    /// The shape: closed, open, a segment or a section.
     pub ellipse_type: u8,
-    /// The angle at which it begins, in steps of 2 degrees.
+    /// The start angle, in steps of 2 degrees.
     pub start: u8,
-    /// The angle at which it ends, in steps of 2 degrees.
+    /// The end angle, in steps of 2 degrees.
     pub end: u8,
     /// The Fill Attributes, or NULL.
     pub fill: ObjectId,
-    /// The macros of its events.
+    /// The macros of the object's events.
     pub macros: Entries<MacroEntry>,
 }
 
 impl Ellipse {
-    /// The same object in memory of its own.
+    /// Copies the object into memory of its own.
     pub(crate) fn copied(&self, alloc: Global) -> Result<Ellipse, AllocError>
         ensures { IfOk result (λ copy. copy ≡ self.now) }
     {
@@ -119,16 +119,16 @@ pub struct Polygon {
     pub line_attributes: ObjectId,
     /// The Fill Attributes, or NULL.
     pub fill: ObjectId,
-    /// Whether it is convex, concave, complex or open.
+    /// The shape: convex, concave, complex or open.
     pub polygon_type: u8,
-    /// Its corners.
+    /// The corners.
     pub points: Entries<Point>,
-    /// The macros of its events.
+    /// The macros of the object's events.
     pub macros: Entries<MacroEntry>,
 }
 
 impl Polygon {
-    /// The same object in memory of its own.
+    /// Copies the object into memory of its own.
     pub(crate) fn copied(&self, alloc: Global) -> Result<Polygon, AllocError>
         ensures { IfOk result (λ copy. copy ≡ self.now) }
     {

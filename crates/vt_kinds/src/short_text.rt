@@ -7,8 +7,8 @@ use std::alloc::{AllocError, Global};
 use std::convert::AsSlice;
 use std::marker::Model;
 
-/// A text of at most 255 bytes, as many as a count of one byte can say. `B`
-/// holds them: a slice of a pool, or a vector in a store.
+/// A text of at most 255 bytes, the most that a count of one byte can hold. `B` is its buffer: a slice of a pool,
+/// or a vector in a store.
 #[derive(Drop)]
 pub struct ShortText<B: AsSlice<u8>> {
     bytes: B,
@@ -25,7 +25,7 @@ impl<B: AsSlice<u8>> Model for ShortText<B> {
 }
 
 impl<B: AsSlice<u8>> ShortText<B> {
-    /// The text of these bytes, of which there are at most 255.
+    /// Makes a text of these bytes, at most 255.
     pub fn new(bytes: B) -> ShortText<B>
         requires { length (B.items bytes) ≤ 255 }
         ensures { result ≡ B.items bytes }
@@ -41,7 +41,7 @@ impl<B: AsSlice<u8>> ShortText<B> {
         self.bytes.as_slice()
     }
 
-    /// The same text in memory of its own.
+    /// Copies the text into memory of its own.
     pub fn copied(&self, alloc: Global) -> Result<ShortText<Vec<u8>>, AllocError>
         ensures { IfOk result (λ copy. copy ≡ self.now) }
     {
@@ -51,7 +51,7 @@ impl<B: AsSlice<u8>> ShortText<B> {
 }
 
 impl ShortText<Vec<u8>> {
-    /// Writes a text over this one, and spaces over what is left of it.
+    /// Overwrites the text and pads it with spaces to its old length.
     pub fn overwrite(&mut self, text: &[u8])
         requires { length text.now ≤ length self.old }
         ensures { self.new ≡ filled_up (length self.old) text.now }

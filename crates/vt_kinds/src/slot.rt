@@ -1,4 +1,4 @@
-//! The references of an object, as slots.
+//! Slots: the references of an object with the kinds that they allow.
 
 ghost use Rattle.std.specs.Prelude.{◌≡◌, ◌≤◌};
 ghost use Rattle.vt_kinds.specs.References.{slot};
@@ -11,21 +11,21 @@ use crate::kinds::Kinds;
 use crate::place::Place;
 use std::marker::Model;
 
-/// A reference of an object: where it stands, what it names, and what it may name.
+/// A reference of an object: its position, its ID, and the allowed kinds.
 #[derive(Clone, Copy, Debug, PartialEq, Eq)]
 pub struct Slot {
-    /// The place in the object.
+    /// The field or list entry in the object.
     pub place: Place,
-    /// The object named there, or NULL.
+    /// The referenced object, or NULL.
     pub id: ObjectId,
-    /// Whether NULL may stand there.
+    /// Whether the reference may be NULL.
     pub null: bool,
-    /// The kinds that may stand there.
+    /// The allowed kinds.
     pub kinds: Kinds,
 }
 
 impl Slot {
-    /// The slot of a place in an object of a kind.
+    /// Makes the slot of a reference in an object of a kind.
     pub(crate) fn new(kind: Kind, place: Place, id: ObjectId) -> Slot
         ensures { result ≡ slot kind place id }
     {
@@ -38,7 +38,7 @@ impl Slot {
     }
 }
 
-/// The entries of a list that are still to be given.
+/// The remaining entries of a list, not yet yielded.
 #[derive(Clone, Copy)]
 pub(crate) enum Listed<'a> {
     Children(&'a [Child]),
@@ -46,7 +46,7 @@ pub(crate) enum Listed<'a> {
     Items(&'a [ObjectId]),
 }
 
-/// The slots of an object, one after the other.
+/// An iterator over the slots of an object.
 #[derive(Drop)]
 pub struct Slots<'a> {
     kind: Kind,
@@ -70,7 +70,7 @@ impl<'a> Model for Slots<'a> {
 }
 
 impl<'a> Slots<'a> {
-    /// Up to three slots, and then those of a list.
+    /// Makes an iterator over at most three slots and then those of a list.
     pub(crate) fn new(
         kind: Kind,
         first: Option<Slot>,

@@ -11,19 +11,19 @@ use std::convert::AsSlice;
 /// A Number Variable, type 21.
 #[derive(Clone, Copy, Debug, PartialEq, Eq)]
 pub struct NumberVariable {
-    /// The number that it holds.
+    /// The value.
     pub value: u32,
 }
 
 /// A String Variable, type 22.
 #[derive(Drop)]
 pub struct StringVariable<B: AsSlice<u8>> {
-    /// The text that it holds.
+    /// The text.
     pub text: LongText<B>,
 }
 
 impl<B: AsSlice<u8>> StringVariable<B> {
-    /// The same object in memory of its own.
+    /// Copies the object into memory of its own.
     pub(crate) fn copied(&self, alloc: Global) -> Result<StringVariable<Vec<u8>>, AllocError>
         ensures { IfOk result (λ copy. seen_string_variable copy ≡ seen_string_variable self.now) }
     {
@@ -33,9 +33,9 @@ impl<B: AsSlice<u8>> StringVariable<B> {
     }
 }
 
-/// An Object Pointer, type 27: it stands for the object that it names.
+/// An Object Pointer, type 27, which acts as the object that it refers to.
 #[derive(Clone, Copy, Debug, PartialEq, Eq)]
 pub struct ObjectPointer {
-    /// The object that it stands for, or NULL.
+    /// The referenced object, or NULL.
     pub value: ObjectId,
 }

@@ -1,4 +1,4 @@
--- Each run that is listed of an input begins as a run may.
+-- Each listed run of an input begins with a command that is done, an action of the operator, or an event.
 use Rattle.std.proofs.Common.{◌≡◌, ℕ, Bool, true, false, cond, List, [], ◌∷◌, ◌++◌, Option, Some, None, Result, Ok, Err, refl, sym, subst, inl, inr, ◌⊎◌}
 use Rattle.std.specs.List.{AllByRecursion}
 use Rattle.vt_can.specs.declared.frames.frame.Frame.{Frame}
@@ -31,11 +31,11 @@ use Rattle.vt_laws.specs.RunsOfSteps.{IsBegun}
 use Rattle.vt_laws.specs.RunsOfSteps.IsBegun.{ByCommand, ByAction, ByEvent}
 use Rattle.vt_laws.proofs.InForce.{IsPlain, change-plain, operated-plain}
 
--- runs that begin as they may
+-- runs that each begin with a command that is done, an action of the operator, or an event
 abbrev AreBegun : List Run → Type 0
 AreBegun rs = AllByRecursion IsBegun rs
 
--- ---- by a command
+-- ---- runs that begin by a command
 
 effect-begun : (a : ℕ) (old : ObjectMap) (command : Command) (r : Result ObjectMap ℕ) → effect old command ≡ r → AreBegun (runs_of_effect a old command r)
 effect-begun a old command (Ok middle) is = (ByCommand command is refl, tt)
@@ -51,7 +51,7 @@ message-begun a None pool message = tt
 message-begun a (Some set) pool None = tt
 message-begun a (Some set) pool (Some bytes) = command-begun a pool (command_at bytes)
 
--- ---- by an action
+-- ---- runs that begin by an action
 
 action-begun : (a : ℕ) (sending : Option (Timed transport.Message)) (state : SetState) (shown : Bool) (action : ActionValue) (o : Option operating.Action)
     → action_on state shown action ≡ o → AreBegun (runs_of_action a sending state.objects o)
@@ -68,7 +68,7 @@ operator-begun : (a : ℕ) (sending : Option (Timed transport.Message)) (o : Opt
 operator-begun a sending None shown action = tt
 operator-begun a sending (Some state) shown action = action-begun a sending state shown action (action_on state shown action) refl
 
--- ---- by an event
+-- ---- runs that begin by an event
 
 event-begun : (a event : ℕ) → (event ≡ 2) ⊎ (event ≡ 1) → (o : Option SetState) → AreBegun (runs_of_event a o event)
 event-begun a event which None = tt
@@ -77,9 +77,9 @@ event-begun a event (inl two) (Some state) =
 event-begun a event (inr one) (Some state) =
     subst (λ (n : ℕ). AreBegun (runs_of_event a (Some state) n)) (sym one) (ByEvent events.Activate refl refl, tt)
 
--- ---- by an act
+-- ---- runs that begin by an act
 
--- events of being shown alone are raised
+-- The only events raised are Activate and Deactivate.
 abbrev IsWell : ℕ → Act → Type 0
 IsWell a (Raises event) = (event ≡ 2) ⊎ (event ≡ 1)
 IsWell a h = Unit {0}
@@ -101,7 +101,7 @@ acts-begun s (h ∷ hs) well =
     all_append IsBegun (runs_at s.now h.0 (part h.0 s) h.1) (runs_of_acts (after_act s h.0 h.1) hs) (act-begun s.now h.0 (part h.0 s) h.1 well.0)
     (acts-begun (after_act s h.0 h.1) hs well.1)
 
--- what may happen in every state is such an act
+-- An act that may happen in every state raises no event but Activate and Deactivate.
 plain-well : (a : ℕ) (h : Act) → IsPlain a h → IsWell a h
 plain-well a (Hears n f verdict) plain = tt
 plain-well a Rebinds plain = tt
@@ -117,7 +117,7 @@ all-well : (hs : List (ℕ × Act)) → AllAt IsPlain hs → AllAt IsWell hs
 all-well [] plain = tt
 all-well (h ∷ hs) plain = (plain-well h.0 h.1 plain.0, all-well hs plain.1)
 
--- ---- by an input
+-- ---- the runs of an input
 
 settling-begun : (s : State) → AreBegun (runs_of_settling s)
 settling-begun s = acts-begun (choosing s) (events_of_change s.shown (shown_now s)) (all-well (events_of_change s.shown (shown_now s)) (change-plain s.shown (shown_now s)))

@@ -1,4 +1,4 @@
--- What a frame leaves of the pool of its source: what its runs leave, of the pool before or of the one that it brings.
+-- The pool of a frame's source after the frame is the result of its runs, from the pool before or a pool accepted with the frame.
 use Rattle.std.proofs.Common.{◌≡◌, ℕ, Bool, true, false, eqb, List, [], ◌∷◌, ◌++◌, Option, Some, None, refl, sym, ap, subst, inl, inr, ◌⊎◌}
 use Rattle.std.proofs.lemmas.Bool.{eqb-true}
 use Rattle.std.specs.Option.{option_map}
@@ -20,29 +20,29 @@ use Rattle.vt_laws.specs.RunsOfSteps.{Lead}
 use Rattle.vt_laws.proofs.InForce.{no-message}
 use Rattle.vt_laws.proofs.Leading.{Follows, lead-append, heard-follows}
 
--- ---- runs from the objects that were accepted last
+-- ---- runs from the objects accepted last
 
--- Where there is a pool, the runs lead to its objects.
+-- If there is a pool, the runs lead to its objects.
 abbrev pub Holds : Option ObjectMap → List Run → Option SetState → Type 0
 Holds last rs None = Unit {0}
 Holds None rs (Some new) = ⊥
 Holds (Some old) rs (Some new) = Lead old rs new.objects
 
--- a pool as it is
+-- A pool without runs is unchanged.
 pub holds-there : (pool : Option SetState) → Holds (option_map (λ state. state.objects) pool) [] pool
 holds-there None = tt
 holds-there (Some state) = refl
 
--- runs, and then others
+-- Two lists of runs in sequence.
 pub holds-then : (last : Option ObjectMap) (x z : Option SetState) (rs ss : List Run) → Holds last rs x → Follows x ss z → Holds last (rs ++ ss) z
 holds-then last x None rs ss first second = tt
 holds-then last None (Some new) rs ss first second = absurd second
 holds-then None (Some mid) (Some new) rs ss first second = absurd first
 holds-then (Some old) (Some mid) (Some new) rs ss first second = lead-append old mid.objects new.objects rs ss first second
 
--- ---- the end of a transfer that is accepted
+-- ---- the end of an accepted upload
 
--- the new objects are there, and no run has begun
+-- The new objects are there, and no run has begun.
 accepted-holds : (a : ℕ) (objects : ObjectMap) (pool : Option SetState) → Holds (Some objects) (runs_of_command a pool None) (Some (with_objects_of pool objects))
 accepted-holds a objects None = refl
 accepted-holds a objects (Some state) = refl
@@ -60,7 +60,7 @@ message-holds a p objects (Some set) None ends = absurd cc
 message-holds a p objects (Some set) (Some []) ends = absurd cc
 message-holds a p objects (Some set) (Some (function ∷ bytes)) ends = ended-holds a p.place.content objects function bytes ends
 
--- a frame with the message of it
+-- A frame with the message that ends an accepted upload.
 brought : (now a : ℕ) (p : AddressView) (n : FrameMeaning) (f : Frame) (objects : ObjectMap) → ends_transfer p.set (came now p.terminal a p.place n f).message ≡ true
     → Holds (Some objects) (runs_at now a p (Hears n f (Accepts objects))) (outcome now a p (Hears n f (Accepts objects))).place.content.pool
 brought now a p (Claim name) f objects ends = absurd (no-message p.set ends)
@@ -77,7 +77,7 @@ brought now a p Etp f objects ends =
 
 -- ---- a frame
 
--- A verdict on the end of a transfer brings a pool; every other message leaves the one that was accepted last.
+-- A verdict at the end of an upload accepts a pool; after any other message the pool accepted last is the same.
 brings : (ends : Bool) (verdict : Verdict)
     → ((last : Option ObjectMap) → accepted_with ends verdict last ≡ last) ⊎ ((objects : ObjectMap) × (ends ≡ true) × (verdict ≡ Accepts objects))
 brings false verdict = inl (λ last. refl)
@@ -85,7 +85,7 @@ brings true (Accepts objects) = inr (objects, refl, refl)
 brings true (Faulty fault) = inl (λ last. refl)
 brings true (Refuses refusal) = inl (λ last. refl)
 
--- a frame leaves of the pool what its runs leave, of the one that was accepted last
+-- After a frame the pool is the result of the frame's runs, from the pool accepted last.
 pub heard-holds : (now a : ℕ) (p : AddressView) (n : FrameMeaning) (f : Frame) (verdict : Verdict) (last : Option ObjectMap) → Holds last [] p.place.content.pool
     → Holds (accepted_at now a p (Hears n f verdict) last) (runs_at now a p (Hears n f verdict)) (outcome now a p (Hears n f verdict)).place.content.pool
 heard-holds now a p n f verdict last is = by (brings ends verdict)

@@ -1,4 +1,4 @@
--- Which set is selected, and which is shown, by the sets in their order.
+-- The selected set and the shown set, by the order of registration.
 use Rattle.std.proofs.Common.{◌≡◌, ◌≤◌, ◌<◌, ◌↔◌, ℕ, zero, suc, Bool, true, false, cond, leb, List, [], ◌∷◌, Option, Some, None, is_some, refl, sym, ap, subst, ◌∙◌, arith, inl, inr, eqb-true, leb-true, leb-false}
 use Rattle.std.proofs.lemmas.Bool.{false_from_ne_true}
 use Rattle.std.proofs.lemmas.Option.{same_Some}
@@ -13,24 +13,24 @@ use Rattle.vt_server.specs.Terminals.{State, pool_of, pool_at}
 use Rattle.vt_laws.specs.ShownSets.{HasPool, HasAlarm, IsRegisteredAt, ComesFirst, IsLoudest, IsFirstWithPool, IsQuiet, IsSelected, IsChosen, PoolsAreOfSets}
 use Rattle.vt_names.proofs.Holding.{none-some}
 
--- ---- places in a list of sets
+-- ---- indices in a list of sets
 
--- the set at this place is that of the address
+-- The set at this index has the address.
 abbrev StandsAt : List Set → ℕ → ℕ → Type 0
 StandsAt sets place a = (set : Set) × (slice_get sets place ≡ Some set) × (set.address ≡ a)
 
--- the one at the front
+-- The set at index 0 is the first one.
 front-is : (t : Set) (sets : List Set) (a : ℕ) → StandsAt (t ∷ sets) 0 a → t.address ≡ a
 front-is t sets a at = ap (λ (x : Set). x.address) (same_Some t at.0 at.1) ∙ at.2
 
--- one place has one address
+-- The address at an index is unique.
 place-one : (sets : List Set) (place a b : ℕ) → StandsAt sets place a → StandsAt sets place b → a ≡ b
 place-one sets place a b at other = sym at.2 ∙ ap (λ (x : Set). x.address) (same_Some at.0 other.0 (sym at.1 ∙ other.1)) ∙ other.2
 
 nowhere : {P : Type 0} (place a : ℕ) → StandsAt [] place a → P
 nowhere place a at = none-some at.1
 
--- a set that is there has a place
+-- Each set in a list has an index.
 record HasPlace (sets : List Set) (a : ℕ) : Type 0 where
   pub place : ℕ
   pub at : StandsAt sets place a
@@ -48,7 +48,7 @@ no-two : {A P : Type 0} (b : Bool) (x y : A) → cond b (Some x) (Some y) ≡ No
 no-two true x y none = none-some (sym none)
 no-two false x y none = none-some (sym none)
 
--- ---- the first with a pool
+-- ---- the first set with a pool
 
 module _ (pools : ℕ → Option SetState) where
   record FirstIn (sets : List Set) (a : ℕ) : Type 0 where
@@ -77,7 +77,7 @@ module _ (pools : ℕ → Option SetState) where
           let rest = more e in
           record { place = suc rest.place; at = rest.at; has = rest.has; first = later-first t sets rest.place none rest.first }
 
-  -- where there is none no set has a pool
+  -- If there is no first set with a pool, no set has a pool.
   first-none : (sets : List Set) → first_with_pool pools sets ≡ None → (place a : ℕ) → StandsAt sets place a → is_some (pools a) ≡ true → ⊥
   first-none [] none place a at has = nowhere place a at
   first-none (t ∷ sets) none place a at has = cases (λ e k. first-none sets e k a) (is_some (pools t.address)) refl none place at
@@ -101,7 +101,7 @@ module _ (pools : ℕ → Option SetState) where
   same-loud : (sets : List Set) (a b p q : ℕ) → a ≡ b → p ≡ q → LoudIn sets a p → LoudIn sets b q
   same-loud sets a b p q here same loud = subst (λ (n : ℕ). LoudIn sets b n) same (subst (λ (n : ℕ). LoudIn sets n p) here loud)
 
-  -- the alarm of the set in front
+  -- The alarm of the first set.
   front-alarm : (t : Set) (sets : List Set) (next other : ℕ) (o : Option ℕ) → alarm_in (pools t.address) ≡ o → StandsAt (t ∷ sets) 0 next
       → alarm_in (pools next) ≡ Some other → o ≡ Some other
   front-alarm t sets next other o is at alarm = sym is ∙ ap (λ (b : ℕ). alarm_in (pools b)) (front-is t sets next at) ∙ alarm
@@ -111,7 +111,7 @@ module _ (pools : ℕ → Option SetState) where
   louder-none a (Some p) None none = none-some (sym none)
   louder-none a (Some p) (Some alarm) none = no-two (leb p alarm.priority) _ _ none
 
-  -- where there is none no set has one
+  -- If there is no loudest alarm, no set has an alarm.
   loudest-none : (sets : List Set) → loudest pools sets ≡ None → (place a priority : ℕ) → StandsAt sets place a
       → alarm_in (pools a) ≡ Some priority → ⊥
   loudest-none [] none place a priority at alarm = nowhere place a at
@@ -122,12 +122,12 @@ module _ (pools : ℕ → Option SetState) where
       let parts = louder-none t.address (alarm_in (pools t.address)) (loudest pools sets) none in
       loudest-none sets parts.1 place a priority at alarm
 
-  -- one that comes first still does, behind one more set
+  -- An alarm that comes first still does after both move one index up.
   behind : (priority place other later : ℕ) → ComesFirst priority place other later → ComesFirst priority (suc place) other (suc later)
   behind priority place other later (inl lt) = inl lt
   behind priority place other later (inr same) = inr (same.0, omega (arith, same.1))
 
-  -- and one in front of it does, that is as loud
+  -- An alarm of the first set comes first if its priority number is not greater than that of an alarm that does.
   in-front : (p priority place other later : ℕ) → p ≤ priority → ComesFirst priority place other later → ComesFirst p 0 other (suc later)
   in-front p priority place other later le (inl lt) = inl (omega arith)
   in-front p priority place other later le (inr same) = cases (leb priority p) refl
@@ -137,7 +137,7 @@ module _ (pools : ℕ → Option SetState) where
       cases false is = let lt = leb-false priority p is in inl (omega (arith, same.0))
 
   module _ (t : Set) (sets : List Set) where
-    -- the alarm of the set in front, where it comes before each later one
+    -- The alarm of the first set is the loudest if it comes before each later one.
     front-loud : (p : ℕ) → alarm_in (pools t.address) ≡ Some p
         → ((later next other : ℕ) → StandsAt sets later next → alarm_in (pools next) ≡ Some other → ComesFirst p 0 other (suc later))
         → LoudIn (t ∷ sets) t.address p
@@ -147,7 +147,7 @@ module _ (pools : ℕ → Option SetState) where
         all zero next other at its = inr (same_Some p other (front-alarm t sets next other (Some p) is at its), omega arith)
         all (suc later) next other at its = least later next other at its
 
-    -- that of a later set, where the one in front has none or one that is not so loud
+    -- The loudest of the later alarms is the loudest if the first set has no alarm, or one of a greater priority number.
     later-loud : (a p : ℕ) → LoudIn sets a p → ((next other : ℕ) → StandsAt (t ∷ sets) 0 next → alarm_in (pools next) ≡ Some other → p < other)
         → LoudIn (t ∷ sets) a p
     later-loud a p loud front = record { place = suc loud.place; at = loud.at; alarm = loud.alarm; least = all }
@@ -165,7 +165,7 @@ module _ (pools : ℕ → Option SetState) where
         let same : p ≡ other = same_Some p other (front-alarm t sets next other (Some p) own at its) in
         let lt = leb-false p q test in omega arith)
 
-    -- the louder of the one in front and the loudest of the later ones
+    -- The loudest alarm is the louder of the first set's and the loudest later one.
     loud-step : (o : Option ℕ) (r alarm : _) → alarm_in (pools t.address) ≡ o → loudest pools sets ≡ r
         → ((later : _) → r ≡ Some later → LoudIn sets later.address later.priority) → louder t.address o r ≡ Some alarm
         → LoudIn (t ∷ sets) alarm.address alarm.priority
@@ -192,7 +192,7 @@ module _ (pools : ℕ → Option SetState) where
   loud-is [] alarm is = none-some is
   loud-is (t ∷ sets) alarm is = loud-step t sets (alarm_in (pools t.address)) (loudest pools sets) alarm refl refl (loud-is sets) is
 
--- ---- of a state
+-- ---- the sets of a state
 
 stands : (s : State) (place a : ℕ) → IsRegisteredAt s place a → StandsAt s.sets place a
 stands s place a at = (at.set, at.there, at.address_is)
@@ -200,7 +200,7 @@ stands s place a at = (at.set, at.there, at.address_is)
 registered : (s : State) (place a : ℕ) → StandsAt s.sets place a → IsRegisteredAt s place a
 registered s place a at = record { set = at.0; there = at.1; address_is = at.2 }
 
--- an alarm as it is computed, and as it stands in the pool
+-- An alarm as computed is the one in the pool.
 alarm-of-mask : (s : State) (a p : ℕ) (state : SetState) → pool_of s a ≡ Some state → (o : Option Seen)
     → finite.get state.objects (active_in state.objects) ≡ o → priority_of o ≡ Some p → HasAlarm s a p
 alarm-of-mask s a p state is (Some (objects.AlarmMask m)) at e =
@@ -217,9 +217,9 @@ alarm-to s a p e = by (pool_of s a) refl e
 alarm-from : (s : State) (a p : ℕ) → HasAlarm s a p → alarm_in (pool_of s a) ≡ Some p
 alarm-from s a p h = ap alarm_in h.pool ∙ ap priority_of h.active ∙ ap Some h.priority_is
 
--- ---- which is selected
+-- ---- the selected set
 
--- the first with a pool is one
+-- The first set with a pool is unique.
 first-one : (s : State) (a : ℕ) → IsFirstWithPool s a → first_with_pool (pool_of s) s.sets ≡ Some a
 first-one s a first = cases (first_with_pool (pool_of s) s.sets) refl
   where
@@ -266,7 +266,7 @@ selected-from s a (inr is) =
 pub selected-is : (s : State) (a : ℕ) → (selected_now s ≡ Some a) ↔ IsSelected s a
 selected-is s a = (selected-to s a, selected-from s a)
 
--- ---- which is shown
+-- ---- the shown set
 
 to-quiet : (s : State) → loudest (pool_of s) s.sets ≡ None → IsQuiet s
 to-quiet s none place a priority at alarm = loudest-none (pool_of s) s.sets none place a priority (stands s place a at) (alarm-from s a priority alarm)
@@ -291,7 +291,7 @@ to-loudest s alarm is =
       least = λ later next other at its. it.least later next other (stands s later next at) (alarm-from s next other its);
     }
 
--- of two that come first before each other the places are one
+-- Two alarms that come first before each other have one index.
 same-place : (p k q l : ℕ) → ComesFirst p k q l → ComesFirst q l p k → k ≡ l
 same-place p k q l (inl x) (inl y) = absurd (omega arith)
 same-place p k q l (inl x) (inr y) = absurd (omega (arith, y.0))
@@ -326,7 +326,7 @@ shown-from s a (inr is) = let quiet = from-quiet s is.0 in (λ i. or_selected (q
 pub shown-is : (s : State) (a : ℕ) → (shown_now s ≡ Some a) ↔ IsChosen s a
 shown-is s a = (shown-to s a, shown-from s a)
 
--- ---- where a set has a pool one is shown
+-- ---- a set is shown whenever a set has a pool
 
 none-selected : (s : State) → selected_now s ≡ None → first_with_pool (pool_of s) s.sets ≡ None
 none-selected s e = cases (is_some (pool_at s s.selected)) refl e

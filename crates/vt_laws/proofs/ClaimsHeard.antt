@@ -1,4 +1,4 @@
--- What is kept of the claims of a run.
+-- The address claims of a terminal are those of its run.
 use Rattle.std.proofs.Common.{◌≡◌, ℕ, Bool, true, false, cond, ◌&&◌, eqb, nat_lt, List, [], ◌∷◌, ◌++◌, refl, sym, ap, subst, ◌∙◌}
 use Rattle.vt_can.specs.frames.Frame.{source_of}
 use Rattle.vt_can.specs.declared.frames.frame.Frame.{Frame}
@@ -21,7 +21,7 @@ use Rattle.vt_server.proofs.Puts.{beside, beside-act}
 use Rattle.vt_laws.proofs.Settling.{settled-claims}
 use Rattle.vt_laws.proofs.Stepping.{selecting-same}
 
--- ---- after the loss nothing changes
+-- ---- nothing changes after the loss of the address
 
 lost-step : (s : State) (e : JudgedInput) → s.lost ≡ true → (step s e).after ≡ s
 lost-step s (FrameAt time f verdict) lost = ap (λ b. (cond b (no_step s) (step_frame s time f verdict)).after) lost
@@ -31,7 +31,7 @@ lost-all : (s : State) (xs : List JudgedInput) → s.lost ≡ true → after_all
 lost-all s [] lost = refl
 lost-all s (e ∷ xs) lost = ap (λ t. after_all t xs) (lost-step s e lost) ∙ lost-all s xs lost
 
--- ---- and before it, no act is one
+-- ---- acts do not lose the address
 
 lost-acts : (s : State) (hs : List (ℕ × Act)) → (after_acts s hs).lost ≡ s.lost
 lost-acts s hs = beside (λ (t : State). t.lost) (λ a o t. refl) s hs
@@ -43,7 +43,7 @@ settled-lost : (s : State) → (settled s).lost ≡ s.lost
 unfolding settled
 settled-lost s = lost-acts (choosing s) (events_of_change s.shown (shown_now s))
 
--- ---- which claim is the loss
+-- ---- the claim that is the loss
 
 answer_cases : (here lower higher : Bool)
     → is_lost_by (cond here (cond lower claims.Lost (cond higher claims.Defend claims.Nothing)) claims.Nothing) ≡ (here && lower)
@@ -79,7 +79,7 @@ heard-is own name earlier s source Tp is = is
 heard-is own name earlier s source Etp is = is
 heard-is own name earlier s source Nothing is = is
 
--- a frame that is heard at a state with those claims
+-- A frame received in a state with these claims.
 run-frame : (own name : ℕ) (earlier : List Claim) (old s : State) (f : Frame) (verdict : Verdict) (xs : List JudgedInput) (m : FrameMeaning) (gone : Bool)
     → s.claims ≡ kept-by own name earlier → s.lost ≡ false
     → ((t : State) → t.claims ≡ kept-by own name (claim_of (source_of f) m ++ earlier) → t.lost ≡ false

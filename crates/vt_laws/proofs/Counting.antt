@@ -44,7 +44,7 @@ outputs-length a after =
     length-append (map (ToOne a) after.frames) (refusal after.refused)
     ∙ ap (λ n. n + length (refusal after.refused)) (length-map after.frames (ToOne a))
 
--- frames alone
+-- An outcome without a refusal sends its frames alone.
 frames-few : (a n : ℕ) (after : AddressOutcome) → after.refused ≡ None → length after.frames ≤ n → length (to_address a after) ≤ n
 frames-few a n after none few =
     let is = outputs-length a after in
@@ -158,7 +158,7 @@ operator-few : (now a : ℕ) (p : AddressView) (action : ActionValue) (shown : B
 operator-few now a p action shown None = omega arith
 operator-few now a p action shown (Some state) = action-few now a p (action_on state shown action)
 
--- ---- the outputs of several
+-- ---- the outputs of several acts
 
 abbrev SendsFew : ℕ → Act → Type 0
 SendsFew n h = (s : State) (a : ℕ) → length (to_address a (outcome s.now a (part a s) h)) ≤ n
@@ -249,7 +249,7 @@ heard-few s false a h few =
     omega arith
 
 module _ (old s : State) (source : ℕ) (f : Frame) (verdict : Verdict) (small : slice_index f.bytes.items 1 < 256) where
-  -- a claim, or a request of one, is answered to all alone
+  -- A claim or a claim request is answered to all alone.
   answered-few : (n : FrameMeaning) → SendsFew 0 (Hears n f verdict) → length (acting old s source n f verdict).sent ≤ 2
   answered-few n none =
       let t = before s source n in
@@ -263,7 +263,7 @@ module _ (old s : State) (source : ℕ) (f : Frame) (verdict : Verdict) (small :
       let last = settling-few old (after_acts t hs) in
       omega arith
 
-  -- and any other frame to its source
+  -- Any other frame is answered to its source alone.
   source-few : (n : FrameMeaning) → defence s source n ≡ [] → changes s source n ≡ [] → length (acting old s source n f verdict).sent ≤ 256
   source-few n no-claim no-change =
       let t = before s source n in

@@ -1,4 +1,4 @@
--- What happens at an address decides what becomes of it, whatever right findings of pools come with that.
+-- The happenings at an address decide its view, for any right findings on pools.
 use Rattle.std.proofs.Common.{◌≡◌, ◌≢◌, ℕ, Bool, true, false, cond, eqb, List, [], ◌∷◌, ◌++◌, Option, Some, None, is_some, ◌&&◌, refl, sym, ap, subst, ◌∙◌, nat_eq}
 use Rattle.std.proofs.lemmas.Bool.{eqb-true, false≢true}
 use Rattle.std.specs.List.{AllZip}
@@ -36,7 +36,7 @@ use Rattle.vt_laws.proofs.Taking.{response-has, lapses-take}
 use Rattle.vt_laws.proofs.Timeless.{Laws, came-timeless}
 use Rattle.vt_names.proofs.Hearing.{option_same}
 
--- ---- what is rightly found, by the part of the address alone
+-- ---- right findings, by the view of the address alone
 
 abbrev IsOwnFound : ℕ → AddressView → Happening → Type 0
 IsOwnFound a p (FrameHeard f verdict) = IsJudged 0 a p (frame_notice p.terminal f) f verdict
@@ -51,7 +51,7 @@ found-append : (a : ℕ) (p : AddressView) (xs ys : List Happening) → AreOwnFo
 found-append a p [] ys found rest = rest
 found-append a p (x ∷ xs) ys found rest = (found.0, found-append a (response a p x).part xs ys found.1 rest)
 
--- ---- happenings with which nothing is found
+-- ---- happenings without findings
 
 abbrev IsPlain : Happening → Type 0
 IsPlain h = (a : ℕ) (p : AddressView) → IsOwnFound a p h
@@ -112,7 +112,7 @@ module _ (laws : Laws) where
   judged-timeless now a p n f verdict judged =
       λ e. judged (ap (λ (c : Came). ends_transfer p.set c.message) (came-timeless laws now p.terminal a p.place n f) ∙ e)
 
-  -- ---- a frame after what its time ended, and after a change of the holder
+  -- ---- a frame after the timeouts and closings of its time, and after a change of the holder
 
   module _ (a : ℕ) (u : State) (f : Frame) (verdict : Verdict) (apart : a ≢ u.claims.own) (has : u.lost ≡ false) where
     abbrev own : ℕ
@@ -233,7 +233,7 @@ module _ (laws : Laws) where
       (subst (λ p. AreOwnFound a p later) (step-ends laws a s e orderly other).part
       (all-found a (step s e).after xs (orderly-step laws s e orderly) (other-step a s e other) found.1))
 
--- ---- like happenings, with right findings
+-- ---- alike happenings with right findings
 
 module _ (judging : Judging) (a : ℕ) where
   response-one : (p : AddressView) (h k : Happening) → AreAlike h k → IsOwnFound a p h → IsOwnFound a p k → response a p h ≡ response a p k
@@ -248,7 +248,7 @@ module _ (judging : Judging) (a : ℕ) where
       ∙ ap (λ (z : ActionValue). response a p (Operated z d)) same
   response-one p h k same is too = ap (response a p) same
 
-  -- what an address makes of either
+  -- Two lists of happenings have the same response.
   record AreOne (p : AddressView) (hs ks : List Happening) : Type 0 where
     pub part : part_after_all a p hs ≡ part_after_all a p ks
     pub frames : frames_of_all a p hs ≡ frames_of_all a p ks

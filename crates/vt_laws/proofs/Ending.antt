@@ -1,4 +1,4 @@
--- The runs of an act end in time, on the pool that was accepted last at its address.
+-- The runs of an act end in time on the pool accepted last at its address.
 use Rattle.std.proofs.Common.{◌≡◌, ℕ, Bool, true, false, cond, eqb, List, [], ◌∷◌, Option, Some, None, Result, Ok, Err, refl, sym, ap, subst, ◌∙◌}
 use Rattle.std.specs.List.{AllByRecursion}
 use Rattle.vt_can.specs.declared.frames.frame.Frame.{Frame}
@@ -29,20 +29,20 @@ use Rattle.vt_laws.proofs.FewRaised.{few-events, few-named}
 use Rattle.vt_laws.proofs.NoCommands.{end-none}
 use Rattle.vt_laws.proofs.Unstuck.{Laws, IsEach, ActsInForce, action-in-force, middle-ready, run-ends}
 
--- a run, and each of several, ends in time, on the pool that was accepted last at its address
+-- Each run ends in time on the pool accepted last at its address.
 abbrev pub InTime : Pools → Run → Type 0
 InTime pools run = EndsInTime (pools run.address) run
 
 abbrev pub AllInTime : Pools → List Run → Type 0
 AllInTime pools rs = AllByRecursion (InTime pools) rs
 
--- so too by pools that are the same at each address
+-- Runs that end in time on some pools do so on pools that are the same at each address.
 pub in-time-at : (pools others : Pools) → ((q : ℕ) → others q ≡ pools q) → (rs : List Run) → AllInTime pools rs → AllInTime others rs
 in-time-at pools others same [] all = tt
 in-time-at pools others same (run ∷ rs) all =
     (subst (λ (last : Option ObjectMap). EndsInTime last run) (sym (same run.address)) all.0, in-time-at pools others same rs all.1)
 
--- what was accepted stays where the same is written
+-- A write of the same value leaves the pools unchanged.
 pub stays-at : (pools : Pools) (a : ℕ) (x : Option ObjectMap) → x ≡ pools a → (q : ℕ) → with_at a x pools q ≡ pools q
 stays-at pools a x is q =
     by_eq q a
@@ -52,7 +52,7 @@ stays-at pools a x is q =
 module _ (laws : Laws) (pools : Pools) (a : ℕ) where
   -- ---- messages
 
-  -- the run of a command that is done
+  -- The run of a command that is done ends in time.
   done-runs : (state : SetState) (command : Command) → IsInForce (pools a) state → (r : Result ObjectMap ℕ) → effect state.objects command ≡ r
       → AllInTime pools (runs_of_effect a state.objects command r)
   done-runs state command is (Ok middle) done = (
@@ -62,25 +62,25 @@ module _ (laws : Laws) (pools : Pools) (a : ℕ) where
   )
   done-runs state command is (Err bits) done = tt
 
-  -- of a command, where there is one and a pool
+  -- The runs of a command end in time, with or without a pool.
   command-runs : (pool : Option SetState) (c : Option Command) → IsEach (pools a) pool → AllInTime pools (runs_of_command a pool c)
   command-runs None c is = tt
   command-runs (Some state) None is = tt
   command-runs (Some state) (Some command) is = done-runs state command is (effect state.objects command) refl
 
-  -- of a message to a set
+  -- The runs of a message to a set end in time.
   message-runs : (o : Option Set) (pool : Option SetState) (message : Option (List ℕ)) → IsEach (pools a) pool
       → AllInTime pools (runs_of_message a o pool message)
   message-runs None pool message is = tt
   message-runs (Some set) pool None is = tt
   message-runs (Some set) pool (Some bytes) is = command-runs pool (command_at bytes) is
 
-  -- a message that is no command has no runs
+  -- A message other than a command has no runs.
   no-runs : (others : Pools) (pool : Option SetState) → AllInTime others (runs_of_command a pool None)
   no-runs others None = tt
   no-runs others (Some state) = tt
 
-  -- a message ends a transfer, and then it has no runs, or what was accepted stays
+  -- A message that ends an upload has no runs; with any other message the pools accepted last are the same.
   ending-runs : (o : Option Set) (pool : Option SetState) (message : Option (List ℕ)) (verdict : Verdict) → IsEach (pools a) pool
       → AllInTime (with_at a (accepted_with (ends_transfer o message) verdict (pools a)) pools) (runs_of_message a o pool message)
   ending-runs None pool message verdict is = tt
@@ -99,14 +99,14 @@ module _ (laws : Laws) (pools : Pools) (a : ℕ) where
       cases false ends =
           in-time-at pools (with_at a (pools a) pools) (stays-at pools a (pools a) refl) rs (command-runs pool (command_at (function ∷ bytes)) is)
 
-  -- the runs of a frame, by what is accepted with it
+  -- The runs of a frame end in time on the pools after it.
   pub heard-runs : (now : ℕ) (p : AddressView) (n : FrameMeaning) (f : Frame) (verdict : Verdict) → IsEach (pools a) p.place.content.pool
       → AllInTime (with_at a (accepted_at now a p (Hears n f verdict) (pools a)) pools) (runs_at now a p (Hears n f verdict))
   heard-runs now p n f verdict is = ending-runs p.set p.place.content.pool (came now p.terminal a p.place n f).message verdict is
 
   -- ---- the operator, and events of the Working Set
 
-  -- of an action that is not refused
+  -- The runs of an action that is not refused end in time.
   action-runs : (sending : Option (Timed Message)) (old : ObjectMap) (o : Option operating.Action) → ActsInForce laws (pools a) o
       → AllInTime pools (runs_of_action a sending old o)
   action-runs sending old None acts = tt
@@ -117,14 +117,14 @@ module _ (laws : Laws) (pools : Pools) (a : ℕ) where
       cases true = tt
       cases false = (run-ends laws (pools a) a old acts.0.accepted start.objects raised acts.0.is_last acts.0.verified acts.0.ready acts.1, tt)
 
-  -- of the operator's action on a pool
+  -- The runs of an operator's action on a pool end in time.
   operator-runs : (sending : Option (Timed Message)) (shown : Bool) (action : ActionValue) (o : Option SetState) → IsEach (pools a) o
       → AllInTime pools (runs_of_operator a sending o (λ state. action_on state shown action))
   operator-runs sending shown action None is = tt
   operator-runs sending shown action (Some state) is =
       action-runs sending state.objects (action_on state shown action) (action-in-force laws (pools a) state shown action is)
 
-  -- of an event of the Working Set
+  -- The runs of an event of the Working Set end in time.
   event-runs : (event : ℕ) (o : Option SetState) → IsEach (pools a) o → AllInTime pools (runs_of_event a o event)
   event-runs event None is = tt
   event-runs event (Some state) is =
@@ -136,7 +136,7 @@ module _ (laws : Laws) (pools : Pools) (a : ℕ) where
 
   -- ---- an act
 
-  -- the runs of any act, by what was accepted before it
+  -- The runs of any act end in time on the pools before it.
   pub act-runs : (now : ℕ) (p : AddressView) (h : Act) → IsEach (pools a) p.place.content.pool → AllInTime pools (runs_at now a p h)
   act-runs now p (Hears n f verdict) is = message-runs p.set p.place.content.pool (came now p.terminal a p.place n f).message is
   act-runs now p Rebinds is = tt

@@ -1,4 +1,4 @@
--- Few events are raised at once.
+-- A command or an action raises at most three events.
 use Rattle.std.proofs.Common.{◌≤◌, length, ℕ, Bool, true, false, cond, eqb, [], ◌∷◌, ◌++◌, Option, Some, None, arith}
 use Rattle.std.specs.FinMap as finite
 use Rattle.vt_commands.specs.declared.command.Command.{Command}

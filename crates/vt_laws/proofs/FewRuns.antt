@@ -32,7 +32,7 @@ length-append (x ∷ xs) ys = let rest = length-append xs ys in omega (arith, re
 few-append : {A : Type 0} (xs ys : List A) (m n : ℕ) → length xs ≤ m → length ys ≤ n → length (xs ++ ys) ≤ m + n
 few-append xs ys m n first second = let all = length-append xs ys in omega (arith, all, first, second)
 
--- ---- one at each act
+-- ---- each act begins at most one run
 
 effect-runs : (a : ℕ) (old : ObjectMap) (command : Command) (r : Result ObjectMap ℕ) → length (runs_of_effect a old command r) ≤ 1
 effect-runs a old command (Ok middle) = omega arith
@@ -85,7 +85,7 @@ acts-few s (h ∷ hs) =
     let all = few-append (runs_at s.now h.0 (part h.0 s) h.1) (runs_of_acts (after_act s h.0 h.1) hs) 1 (length hs) first rest in
     omega (arith, all)
 
--- ---- none where the holder changes
+-- ---- a change of the holder begins no run
 
 abbrev IsRebound : ℕ → Act → Type 0
 IsRebound a Rebinds = Unit {0}

@@ -1,4 +1,4 @@
--- The happenings of an address are what a step takes there.
+-- A step changes the view of an address by the happenings of the address.
 use Rattle.std.proofs.Common.{◌≡◌, ◌≢◌, ℕ, Bool, true, false, cond, eqb, [], ◌∷◌, ◌++◌, refl, sym, ap, subst, ◌∙◌, eq-eqb, ne_eqb, nat_eq}
 use Rattle.std.proofs.lemmas.Bool.{eqb-true}
 use Rattle.std.specs.Option.{option_eq}
@@ -23,12 +23,12 @@ use Rattle.vt_server.proofs.Changes.{option-true, of-changes, own-before, claims
 use Rattle.vt_laws.proofs.Timeless.{Laws}
 use Rattle.vt_names.proofs.Holding.{by_eq}
 
--- a frame from another address than the own one is no echo
+-- A frame from another address than the terminal's own is no echo.
 pub notice-there : (a : ℕ) (s : State) (f : Frame) → a ≢ s.claims.own → source_of f ≡ a → notice_of s.claims.own s.claims.name f ≡ frame_notice s.claims.own f
 notice-there a s f apart is =
     ap (λ b. cond b (unless_echo s.claims.name (frame_notice s.claims.own f)) (frame_notice s.claims.own f)) (ne_eqb (source_of f) s.claims.own (λ h. apart (sym is ∙ h)))
 
--- ---- one frame after what its time ended, for an address that isn't the terminal's own
+-- ---- one frame after the timeouts and closings of its time, for an address other than the terminal's own
 
 module _ (laws : Laws) (a : ℕ) (s : State) (f : Frame) (verdict : Verdict) (rising : IsRising s.claims.addresses) (apart : a ≢ s.claims.own) (has : s.lost ≡ false) where
   abbrev m : FrameMeaning
@@ -46,7 +46,7 @@ module _ (laws : Laws) (a : ℕ) (s : State) (f : Frame) (verdict : Verdict) (ri
   bare-before : bare a recorded ≡ with_holder (bare a s) (holder recorded a)
   bare-before = ap (λ own. record (with_holder (bare a s) (holder recorded a)) { terminal = own }) (own-before s source m)
 
-  -- another holder
+  -- The change of the holder.
   change-part : (b : Bool) → option_eq nat_eq (holder s a) (holder recorded a) ≡ b
       → turns a (bare a recorded) (cond b [] (Rebinds ∷ [])) ≡ part_after_all a (bare a s) (cond b [] (HolderIs (holder recorded a) ∷ []))
   change-part true same = bare-before ∙ ap (with_holder (bare a s)) (sym (option-true (holder s a) (holder recorded a) same))
@@ -70,7 +70,7 @@ module _ (laws : Laws) (a : ℕ) (s : State) (f : Frame) (verdict : Verdict) (ri
         frames = frames-sent_by laws a recorded (changes s source m) ∙ ap (turns_frames a (bare a recorded)) happened ∙ change-frames b;
       }
 
-  -- and then the frame
+  -- The frame at its source, after the change of the holder.
   of-heard : of a (heard_at_source s.claims.own source m f verdict) ≡ cond (eqb source a) (Hears m f verdict ∷ []) []
   of-heard =
       by_eq source s.claims.own

@@ -1,4 +1,4 @@
--- A set with a NAME keeps that of its address's holder.
+-- A set with a NAME has the NAME of its address's holder after every act.
 use Rattle.std.proofs.Common.{ap, ◌∙◌, ◌≡◌, ℕ, Bool, true, false, cond, ◌||◌, [], ◌∷◌, Option, Some, None, refl, sym, subst, nat_eq}
 use Rattle.std.specs.Option.{option_eq}
 use Rattle.vt_can.specs.declared.frames.frame.Frame.{Frame}
@@ -47,7 +47,7 @@ member-held : (p : AddressView) (o : Option Set) (name : ℕ) → SetIsHeld p.se
 member-held p None name has its = has
 member-held p (Some set) name has its = join-held (has_place set) set name p.holder its
 
--- ---- another holder
+-- ---- a change of the holder
 
 same-name : (n h : Option ℕ) → (option_eq nat_eq n None || option_eq nat_eq n h) ≡ true → NameIsHeld n h
 same-name None h e = tt
@@ -89,7 +89,7 @@ settled-held : (a : ℕ) (s : State) → IsHeldAt a s → IsHeldAt a (settled s)
 unfolding settled
 settled-held a s has = acts-keep (IsHeldAt a) (act-held a) (choosing s) (events_of_change s.shown (shown_now s)) has
 
--- ---- a claim, and what it changes
+-- ---- a claim, and the holders that it changes
 
 module _ (laws : Laws) (a : ℕ) (s : State) (rising : IsRising s.claims.addresses) (has : IsHeldAt a s) where
   changed-held : (source : ℕ) (n : FrameMeaning) → IsHeldAt a (after_acts (before s source n) (changes s source n))

@@ -1,4 +1,4 @@
--- A step leaves in force the pools that were accepted last and its runs end, and so does every list of inputs.
+-- After each step the pools accepted last are in force and its runs end in time; the same holds for every list of inputs.
 use Rattle.std.proofs.Common.{◌≡◌, ℕ, Bool, true, false, cond, nat_eq, eqb, List, [], ◌∷◌, ◌++◌, map, Option, Some, None, is_some, refl, sym, subst, ◌∙◌, inl, inr, ◌⊎◌}
 use Rattle.std.specs.Prelude.{IfSome}
 use Rattle.std.specs.List.{filter}
@@ -35,7 +35,7 @@ use Rattle.vt_laws.proofs.Ending.{InTime, AllInTime, in-time-at, stays-at, heard
 use Rattle.vt_laws.proofs.Unstuck.{Laws, IsEach, MayHappen, act-keeps}
 use Rattle.vt_macros.proofs.Faultless.{all_append}
 
--- what may happen in every state
+-- the acts that may happen in every state
 abbrev pub IsPlain : ℕ → Act → Type 0
 IsPlain a (Hears (Claim name) f verdict) = Unit {0}
 IsPlain a (Hears n f verdict) = ⊥
@@ -87,7 +87,7 @@ plain-accepts now a p FallsSilent last plain = refl
 plain-accepts now a p (Operates action shown) last plain = refl
 plain-accepts now a p (Raises event) last plain = refl
 
--- ---- what was accepted, address by address
+-- ---- the pools accepted at each address
 
 pub plain-stay : (pools : Pools) (s : State) (hs : List (ℕ × Act)) → AllAt IsPlain hs → (q : ℕ) → accepted_by_acts s hs pools q ≡ pools q
 plain-stay pools s [] plain q = refl
@@ -156,7 +156,7 @@ module _ (laws : Laws) where
       (act-runs laws pools h.0 s.now (part h.0 s) h.1 (is h.0))
       (acts-run pools (after_act s h.0 h.1) hs plain.1 (plain-in-force pools s h.0 h.1 plain.0 is))
 
-  -- ---- the parts of a step
+  -- ---- the stages of a step
 
   lapsed-in-force : (pools : Pools) (s : State) → AreInForce pools s → AreInForce pools (lapsed s)
   unfolding lapsed
@@ -176,7 +176,7 @@ module _ (laws : Laws) where
   settling-runs : (pools : Pools) (s : State) → AreInForce pools s → AllInTime pools (runs_of_settling s)
   settling-runs pools s is = acts-run pools (choosing s) (events_of_change s.shown (shown_now s)) (change-plain s.shown (shown_now s)) is
 
-  -- what a frame makes happen, where its source is judged rightly
+  -- The acts of a frame whose source is judged rightly keep pools in force, and their runs end in time.
   record Happens (pools : Pools) (s : State) (hs : List (ℕ × Act)) : Type 0 where
     pub in_force : AreInForce (accepted_by_acts s hs pools) (after_acts s hs)
     pub run : AllInTime (accepted_by_acts s hs pools) (runs_of_acts s hs)

@@ -1,4 +1,4 @@
--- An act at an address leaves of its pool what the act's runs leave.
+-- The pool of an address after an act is the result of the act's runs.
 use Rattle.std.proofs.Common.{◌≡◌, ℕ, Bool, true, false, cond, eqb, List, [], ◌∷◌, ◌++◌, Option, Some, None, Result, Ok, Err, refl, sym, subst, inl, inr, ◌⊎◌}
 use Rattle.std.specs.Option.{option_map}
 use Rattle.vt_can.specs.declared.frames.frame.Frame.{Frame}
@@ -34,31 +34,31 @@ use Rattle.vt_laws.specs.RunsOfSteps.{Lead, left_by}
 use Rattle.vt_laws.proofs.NoCommands.{piece-none, end-none, asked-none}
 use Rattle.vt_laws.proofs.Unstuck.{one-run}
 
--- ---- runs one after the other
+-- ---- runs in sequence
 
--- Where a pool stays, the runs lead from its objects to those after them; and where there is none, none comes.
+-- From a pool that remains, the runs lead to its objects afterwards. Without a pool none appears.
 abbrev pub Follows : Option SetState → List Run → Option SetState → Type 0
 Follows None rs None = Unit {0}
 Follows None rs (Some new) = ⊥
 Follows (Some old) rs None = Unit {0}
 Follows (Some old) rs (Some new) = Lead old.objects rs new.objects
 
--- a pool that is gone
+-- A removed pool follows any runs.
 pub follows-none : (pool : Option SetState) (rs : List Run) → Follows pool rs None
 follows-none None rs = tt
 follows-none (Some state) rs = tt
 
--- a pool that stays as it is
+-- An unchanged pool follows from no runs.
 pub follows-same : (pool : Option SetState) → Follows pool [] pool
 follows-same None = tt
 follows-same (Some state) = refl
 
--- runs one after the other, and more of them
+-- Two lists of runs in sequence compose.
 pub lead-append : (old mid new : ObjectMap) (rs ss : List Run) → Lead old rs mid → Lead mid ss new → Lead old (rs ++ ss) new
 lead-append old mid new [] ss first second = subst (λ (x : ObjectMap). Lead x ss new) first second
 lead-append old mid new (run ∷ rs) ss first second = (first.0, lead-append (left_by run) mid new rs ss first.1 second)
 
--- some runs, and then others
+-- Two lists of runs in sequence compose for pools that may be removed.
 pub follows-then : (x y z : Option SetState) (rs ss : List Run) → Follows x rs y → Follows y ss z → Follows x (rs ++ ss) z
 follows-then None None None rs ss first second = tt
 follows-then None None (Some new) rs ss first second = absurd second
@@ -69,22 +69,22 @@ follows-then (Some old) (Some mid) (Some new) rs ss first second = lead-append o
 
 -- ---- commands
 
--- what a command leaves is what its run leaves, and one that is refused leaves the objects
+-- The objects after a command are those after its run; a refused command leaves them unchanged.
 done-leads : (a : ℕ) (state : SetState) (command : Command) (r : Result ObjectMap ℕ)
     → Lead state.objects (runs_of_effect a state.objects command r) (after_done state.objects (events_of state.objects command) r)
 done-leads a state command (Ok middle) = (refl, refl)
 done-leads a state command (Err bits) = refl
 
--- without a command there is no run
+-- A message without a command begins no run.
 no-command : (a : ℕ) (pool : Option SetState) → Follows pool (runs_of_command a pool None) pool
 no-command a None = tt
 no-command a (Some state) = refl
 
--- a message that is no command leaves the pool
+-- A message other than a command leaves the pool unchanged.
 unheard : (a : ℕ) (pool : Option SetState) (bytes : List ℕ) → command_at bytes ≡ None → Follows pool (runs_of_command a pool (command_at bytes)) pool
 unheard a pool bytes none = subst (λ (c : Option Command). Follows pool (runs_of_command a pool c) pool) (sym none) (no-command a pool)
 
--- a command leaves of the pool what its run leaves, or deletes it
+-- The pool after a command is the result of its run, or is deleted.
 commanded-follows : (a : ℕ) (content : SetPool) (o : Option Command) → Follows content.pool (runs_of_command a content.pool o) (commanded content o).content.pool
 commanded-follows a content None = no-command a content.pool
 commanded-follows a content (Some command) = cases (deletes command)
@@ -100,20 +100,20 @@ commanded-follows a content (Some command) = cases (deletes command)
 
 -- ---- messages
 
--- so does a message that is a command, or asks what the terminal is
+-- The pool after a command or a technical request is the result of its runs.
 asked-follows : (a : ℕ) (content : SetPool) (function : ℕ) (bytes : List ℕ) (o : Option (List ℕ)) → technical_reply (function ∷ bytes) ≡ o
     → Follows content.pool (runs_of_command a content.pool (command_at (function ∷ bytes))) (asked content (function ∷ bytes) o).content.pool
 asked-follows a content function bytes None is = commanded-follows a content (command_at (function ∷ bytes))
 asked-follows a content function bytes (Some reply) is = unheard a content.pool (function ∷ bytes) (asked-none function bytes reply is)
 
--- the end of a transfer that brings no pool
+-- The end of an upload that is not accepted leaves the pool unchanged.
 ended-follows : (a : ℕ) (content : SetPool) (verdict : Verdict) (bytes : List ℕ) → ((last : Option ObjectMap) → accepted_with true verdict last ≡ last)
     → command_at bytes ≡ None → Follows content.pool (runs_of_command a content.pool (command_at bytes)) (ended content verdict).pool
 ended-follows a content (Accepts objects) bytes accepts none = let some : Some objects ≡ None = accepts None in absurd cc
 ended-follows a content (Faulty fault) bytes accepts none = unheard a content.pool bytes none
 ended-follows a content (Refuses refusal) bytes accepts none = unheard a content.pool bytes none
 
--- so does every message that brings no pool
+-- The pool after a message that accepts no pool is the result of its runs.
 handled-follows : (a : ℕ) (content : SetPool) (verdict : Verdict) (bytes : List ℕ)
     → ((last : Option ObjectMap) → accepted_with (ends_pool bytes) verdict last ≡ last)
     → Follows content.pool (runs_of_command a content.pool (command_at bytes)) (handled content verdict bytes).content.pool
@@ -131,7 +131,7 @@ handled-follows a content verdict (function ∷ bytes) accepts = cases (eqb func
     cases false piece true ends accepts = ended-follows a content verdict all accepts (end-none function bytes ends)
     cases false piece false ends accepts = asked-follows a content function bytes (technical_reply all) refl
 
--- to a set, or to none
+-- The pool after a message to an address with or without a set is the result of its runs.
 message-follows : (a : ℕ) (p : AddressView) (verdict : Verdict) (o : Option Set) (message : Option (List ℕ))
     → ((last : Option ObjectMap) → accepted_with (ends_transfer o message) verdict last ≡ last)
     → Follows p.place.content.pool (runs_of_message a o p.place.content.pool message) (after_message a p verdict o message).place.content.pool
@@ -139,12 +139,12 @@ message-follows a p verdict (Some set) (Some bytes) accepts = handled-follows a 
 message-follows a p verdict (Some set) None accepts = follows-same p.place.content.pool
 message-follows a p verdict None message accepts = follows-same p.place.content.pool
 
--- no message, and the pool stays
+-- Without a message the pool is unchanged.
 silent-follows : (a : ℕ) (o : Option Set) (pool : Option SetState) → Follows pool (runs_of_message a o pool None) pool
 silent-follows a None pool = follows-same pool
 silent-follows a (Some set) pool = follows-same pool
 
--- so does a frame from the address
+-- The pool after a frame that accepts no pool is the result of its runs.
 pub heard-follows : (now a : ℕ) (p : AddressView) (n : FrameMeaning) (f : Frame) (verdict : Verdict)
     → ((last : Option ObjectMap) → accepted_at now a p (Hears n f verdict) last ≡ last)
     → Follows p.place.content.pool (runs_at now a p (Hears n f verdict)) (outcome now a p (Hears n f verdict)).place.content.pool
@@ -177,11 +177,11 @@ heard-follows now a p Etp f verdict accepts =
 
 -- ---- the operator
 
--- the pool of the place is the one that is spoken of
+-- The pool of the address is the given one, and is unchanged.
 stays-there : (state : SetState) (pool : Option SetState) → pool ≡ Some state → Follows (Some state) [] pool
 stays-there state pool is = subst (Follows (Some state) []) (sym is) refl
 
--- an action leaves of the pool what its run leaves, or is refused
+-- The pool after an action is the result of its run; a refused action leaves it unchanged.
 action-follows : (now a : ℕ) (p : AddressView) (state : SetState) (o : Option operating.Action) → p.place.content.pool ≡ Some state
     → Follows (Some state) (runs_of_action a p.place.sending state.objects o) (after_action now a p o).place.content.pool
 action-follows now a p state None is = stays-there state p.place.content.pool is
@@ -194,7 +194,7 @@ action-follows now a p state (Some (operating.Acts message start raised)) is = c
     cases true = stays-there state p.place.content.pool is
     cases false = (refl, refl)
 
--- so does the operator, with a pool or without
+-- The pool after an operator's action is the result of its run, with or without a pool.
 operator-follows : (now a : ℕ) (p : AddressView) (action : ActionValue) (shown : Bool) (o : Option SetState) → p.place.content.pool ≡ o
     → Follows o (runs_of_operator a p.place.sending o (λ state. action_on state shown action)) (after_operator now a p action shown o).place.content.pool
 operator-follows now a p action shown None is = subst (Follows None []) (sym is) tt
@@ -202,7 +202,7 @@ operator-follows now a p action shown (Some state) is = action-follows now a p s
 
 -- ---- events of the Working Set
 
--- an event of the Working Set leaves what its run leaves
+-- The objects after an event of the Working Set are those after its run.
 raised-leads : (a : ℕ) (state : SetState) (e : Event)
     → Lead state.objects (record { address = a; before = state.objects; objects = state.objects; raised = raise (working_set_in state.objects) e ∷ [] } ∷ [])
     (raised_on state (event_number e)).objects
@@ -211,7 +211,7 @@ raised-leads a state e =
     let set = working_set_in state.objects in
     (refl, one-run state.objects (budget shape set (event_number e)) (joined shape (listing set (event_number e))))
 
--- so it is of the events of being shown
+-- The pool after Activate or Deactivate is the result of its run.
 event-follows : (a event : ℕ) → (event ≡ 2) ⊎ (event ≡ 1) → (o : Option SetState) → Follows o (runs_of_event a o event) (option_map (λ state. raised_on state event) o)
 event-follows a event which None = tt
 event-follows a event (inl two) (Some state) =
@@ -221,7 +221,7 @@ event-follows a event (inr one) (Some state) =
 
 -- ---- an act
 
--- another holder begins no run, and may close the set
+-- A change of the holder begins no run, and may close the set.
 changed-follows : (p : AddressView) (o : Option Set) → Follows p.place.content.pool [] (after_change p o).place.content.pool
 changed-follows p None = follows-same p.place.content.pool
 changed-follows p (Some set) = cases (stays_under set.name p.holder)
@@ -230,12 +230,12 @@ changed-follows p (Some set) = cases (stays_under set.name p.holder)
     cases true = follows-same p.place.content.pool
     cases false = follows-none p.place.content.pool []
 
--- an act that accepts no pool, and raises the events of being shown alone
+-- An act that accepts no pool and raises no events but Activate and Deactivate.
 abbrev pub MayFollow : ℕ → ℕ → AddressView → Act → Type 0
 MayFollow now a p (Raises event) = (event ≡ 2) ⊎ (event ≡ 1)
 MayFollow now a p act = (last : Option ObjectMap) → accepted_at now a p act last ≡ last
 
--- an act leaves of the pool what its runs leave
+-- The pool after an act is the result of its runs.
 pub act-follows : (now a : ℕ) (p : AddressView) (h : Act) → MayFollow now a p h
     → Follows p.place.content.pool (runs_at now a p h) (outcome now a p h).place.content.pool
 act-follows now a p (Hears n f verdict) may = heard-follows now a p n f verdict may

@@ -1,4 +1,4 @@
--- What a claim does to the list of the sets.
+-- The effect of a claim on the list of sets.
 use Rattle.std.proofs.Common.{◌≡◌, ◌≢◌, ℕ, Bool, true, false, cond, not, ◌||◌, ◌&&◌, eqb, List, [], ◌∷◌, ◌++◌, map, Option, Some, None, refl, sym, ap, subst, ◌∙◌, eq-eqb, ne_eqb, nat_eq}
 use Rattle.std.proofs.lemmas.Option.{same_Some}
 use Rattle.std.specs.List.{filter, AllByRecursion}
@@ -23,7 +23,7 @@ use Rattle.vt_server.proofs.Claimed.{changed-same}
 use Rattle.vt_names.proofs.Filing.{set_at-first, set_at-later, with_set-first, with_set-later, without-first, without-later, set_at-address}
 use Rattle.vt_names.proofs.Holding.{by_eq, none-some}
 
--- ---- lists of sets that are tested, and changed
+-- ---- filters and maps on lists of sets
 
 abbrev pub only_at : ℕ → (Set → Bool) → Set → Bool
 only_at a test set = cond (eqb set.address a) (test set) true
@@ -60,7 +60,7 @@ filter-some a test (t ∷ sets) x there apart =
     later true = refl
     later false = refl
 
--- the set of an address that isn't tested
+-- A filter at one address leaves the set of any other address unchanged.
 filter-other : (q a : ℕ) (test : Set → Bool) (sets : List Set) → q ≢ a → set_at q (filter (only_at a test) sets) ≡ set_at q sets
 filter-other q a test [] ne = refl
 filter-other q a test (t ∷ sets) ne =
@@ -91,7 +91,7 @@ filter-twice f g h (t ∷ sets) all =
     cases rest true y e = ap (λ b. cond b (t ∷ filter g (filter f sets)) (filter g (filter f sets))) e ∙ ap (λ l. cond y (t ∷ l) l) rest
     cases rest false y e = rest
 
--- ---- tests, and changes that leave the addresses
+-- ---- filters, and maps that keep addresses
 
 none-map : (q : ℕ) (f : Set → Set) (sets : List Set) → ((x : Set) → (f x).address ≡ x.address) → set_at q sets ≡ None → set_at q (map f sets) ≡ None
 none-map q f [] same none = refl
@@ -130,7 +130,7 @@ map-some a f (t ∷ sets) x same there apart =
     ∙ ap (λ l. t ∷ l) (rest (sym (set_at-later a t sets ne) ∙ there) apart.1)
     ∙ sym (with_set-later (f x) t sets (λ h. ne (h ∙ own))))
 
--- ---- what happens at one address, to the list
+-- ---- the effect of an act at one address on the list
 
 stays-name : (name h : Option ℕ) → NameIsHeld name h → (option_eq nat_eq name None || option_eq nat_eq name h) ≡ true
 stays-name None h held = refl
@@ -275,7 +275,7 @@ module _ (law : OtherHoldersStay) (s : State) (rising : IsRising s.claims.addres
     whole-list : v.sets ≡ filter (stays t) s.sets
     whole-list = v-list ∙ filter-twice (left_test left) (only_at source (stays t)) (stays t) s.sets (all s.sets apart held)
 
-    -- and then the frame, if it is not from the terminal's own address, which has no set
+    -- The frame acts on the list last, unless it is from the terminal's own address, which has no set.
     last-list : (frame : Frame) (verdict : Verdict) → (after_acts v (heard_at_source s.claims.own source (Claim name) frame verdict)).sets
         ≡ map (named_at t source) (filter (stays t) s.sets)
     last-list frame verdict =
@@ -316,7 +316,7 @@ module _ (law : OtherHoldersStay) (s : State) (rising : IsRising s.claims.addres
   pub claim-closes : (frame : Frame) (verdict : Verdict) → (after_acts t (acts s source (Claim name) frame verdict)).sets ≡ map (named_at t source) (filter (stays t) s.sets)
   claim-closes frame verdict = by-left (address_of s.claims.addresses name) refl frame verdict
 
--- ---- nothing is found where nothing was
+-- ---- an address without a set before has none after
 
 pub none-closed : (q : ℕ) (t : State) (source : ℕ) (sets : List Set) → set_at q sets ≡ None → set_at q (map (named_at t source) (filter (stays t) sets)) ≡ None
 none-closed q t source sets none =

@@ -1,4 +1,4 @@
--- Two right findings give one step.
+-- All right findings on an input give one step.
 use Rattle.std.proofs.Common.{◌≡◌, ℕ, Bool, true, false, cond, eqb, List, [], ◌∷◌, ◌++◌, Option, Some, None, refl, sym, ap, ap₂, subst, ◌∙◌}
 use Rattle.std.specs.Prelude.{Decides, IfSome}
 use Rattle.std.proofs.lemmas.Bool.Decides.{same_from_decides}
@@ -27,9 +27,9 @@ use Rattle.vt_server.specs.declared.output.Output.{Output}
 use Rattle.vt_laws.proofs.OneVerdict.{Judging, heard-one}
 use Rattle.vt_server.proofs.Puts.{act-is, sent_by_one-is, acts-append, sent-append}
 
--- ---- acts that come to the same
+-- ---- lists of acts with the same effect
 
--- two lists of acts leave the same and send the same
+-- Two lists of acts have the same state after them and send the same.
 record AreAlike (s : State) (hs ks : List (ℕ × Act)) : Type 0 where
   pub after : after_acts s hs ≡ after_acts s ks
   pub sent : sent_by_acts s hs ≡ sent_by_acts s ks
@@ -51,7 +51,7 @@ behind-alike s hs ks ls alike = record {
 
 -- ---- an action of the operator
 
--- whether an object is shown, where there is a pool
+-- The finding whether an object is shown, if there is a pool.
 abbrev pub IsSeenIn : Option SetState → Option ℕ → Bool → Type 0
 IsSeenIn o object shown = IfSome object (λ id. IfSome o (λ state. Decides shown (IsShown state.objects (active_in state.objects) id)))
 
@@ -75,7 +75,7 @@ shown-alike s None action b d seen too = same-alike s []
 shown-alike s (Some a) action b d seen too =
     one-alike s a (Operates action b) (Operates action d) (operator-one s.now a (part a s) action b d (part a s).place.content.pool seen too)
 
--- where another set is selected, no object has to be shown
+-- The selection of another set needs no shown object.
 selected-seen : (s : State) (action : ActionValue) (b : Bool) → IsSeen s (object_of action) b → IsSeenIn (pool_at (selecting s action) s.shown) (object_of action) b
 selected-seen s (Press id) b seen = seen
 selected-seen s (Release id) b seen = tt
@@ -113,7 +113,7 @@ module _ (judging : Judging) where
       → AreAlike s (heard_at_source s.claims.own source n f v) (heard_at_source s.claims.own source n f w)
   one-heard s source n f v w judged too = heard-alike s s.claims.own source n f v w (heard-one judging s.now source (part source s) n f v w judged too)
 
-  -- of a claim no verdict is looked at
+  -- A claim does not depend on the verdict.
   acts-alike : (s : State) (source : ℕ) (n : FrameMeaning) (f : Frame) (v w : Verdict) → IsJudged s.now source (part source s) n f v → IsJudged s.now source (part source s) n f w
       → AreAlike (before s source n) (acts s source n f v) (acts s source n f w)
   acts-alike s source (Claim name) f v w judged too =

@@ -1,4 +1,4 @@
--- Two right verdicts on a transfer leave the same and are answered the same.
+-- All right verdicts on an upload have the same effect and the same reply.
 use Rattle.std.proofs.Common.{◌≡◌, ℕ, Bool, true, false, cond, eqb, List, [], ◌∷◌, Option, Some, None, refl, sym, ap, ap₂, subst, ◌∙◌}
 use Rattle.vt_can.specs.declared.frames.frame.Frame.{Frame}
 use Rattle.vt_names.specs.Registry.{Set}
@@ -20,18 +20,18 @@ use Rattle.vt_server.specs.Transfers.{Verdict, Accepts, Faulty, Refuses, IsPool,
 use Rattle.vt_node.specs.declared.bus.FrameMeaning.{FrameMeaning}
 use Rattle.vt_node.specs.declared.bus.FrameMeaning.TheVariants.{Claim, ClaimRequest, Master, Member, Message, Tp, Etp, Nothing}
 
--- what is known of pools and their verification
+-- the laws on the reading and the verification of pools
 pub record Judging : Type 0 where
   pub readings : ReadingsAreOne
   pub refused : RefusalsAreOne
   pub accepted : RefusalsAreTrue
 
--- two verdicts leave the same, and have one reply
+-- Two verdicts have the same effect and the same reply.
 record AreAlike (content : SetPool) (v w : Verdict) : Type 0 where
   pub leave : ended content v ≡ ended content w
   pub reply : end_reply v ≡ end_reply w
 
--- ---- the code of a fault, and what a refusal names
+-- ---- the code of a fault, and the IDs in a refusal
 
 code_is : (fault : PoolFault) → fault_code fault ≡ cond (is_of_type fault) 1 4
 code_is (faults.Truncated at) = refl
@@ -86,7 +86,7 @@ module _ (judging : Judging) where
       let says = judging.refused terminal (merged content.pool y.pool) refusal other refused y.refused x.named y.named in
       record { leave = refl; reply = named-alike refusal other says }
 
-  -- ---- the message that ends a transfer
+  -- ---- the message that ends an upload
 
   abbrev answered_by : SetPool → List ℕ → Handled
   answered_by content reply = record { content = content; reply = Some reply }
@@ -114,7 +114,7 @@ module _ (judging : Judging) where
   message-one a p v w (Some set) None right too = refl
   message-one a p v w None message right too = refl
 
-  -- ---- what an address makes of a frame
+  -- ---- the outcome of a frame at an address
 
   pub heard-one : (now a : ℕ) (p : AddressView) (n : FrameMeaning) (f : Frame) (v w : Verdict) → IsJudged now a p n f v → IsJudged now a p n f w
       → outcome now a p (Hears n f v) ≡ outcome now a p (Hears n f w)

@@ -1,4 +1,4 @@
--- What the time of a frame ends at one address.
+-- The acts by the time of a frame at one address: timeouts of its sessions and the closing of its set.
 use Rattle.std.proofs.Common.{◌≡◌, ◌≢◌, ◌<◌, ◌≤◌, ℕ, zero, suc, Bool, true, false, cond, ◌&&◌, eqb, List, [], ◌∷◌, ◌++◌, map, Option, None, is_some, refl, sym, ap, subst, ◌∙◌, eq-eqb, ne_eqb, append-nil, arith}
 use Rattle.std.specs.List.{filter}
 use Rattle.vt_can.specs.transport.Sessions.{each_below, is_overdue}
@@ -14,7 +14,7 @@ use Rattle.vt_server.proofs.Acts.{AllActs, all-below, of, of-append}
 use Rattle.vt_names.proofs.Filing.{set_at-first, set_at-later}
 use Rattle.vt_names.proofs.Holding.{by_eq, none-some}
 
--- ---- what acts leave of places and of sets
+-- ---- state and sets that acts keep
 
 abbrev pub KeepsPlaces : {X : Type 0} → (AddressState → X) → Act → Type 0
 KeepsPlaces read h = (now b : ℕ) (p : AddressView) → read (outcome now b p h).place ≡ read p.place
@@ -40,7 +40,7 @@ sets-kept s (h ∷ hs) keeps =
     ∙ ap (λ (t : State). t.sets) (act-is s h.0 h.1)
     ∙ sets-same h.0 s.sets after.set (sym (keeps.0 s.now h.0 (part h.0 s)))
 
--- ---- the acts at one address, which is below 256
+-- ---- the acts at one address below 256
 
 abbrev pub so : Bool → Act → List Act
 so b what = cond b (what ∷ []) []
@@ -72,7 +72,7 @@ of-below a (suc n) holds what lt =
     (λ ne. ap (λ c. of a (each_below holds what n) ++ cond c (so (holds n) what) []) (ne_eqb n a ne)
     ∙ append-nil (of a (each_below holds what n)) ∙ of-below a n holds what (omega arith))
 
--- the sets that are silent, in their order
+-- the silent sets in order of registration
 abbrev falling : (Set → Bool) → List Set → List (ℕ × Act)
 falling f sets = map (λ set. (set.address, FallsSilent)) (filter f sets)
 
@@ -112,7 +112,7 @@ of-silent a g (t ∷ sets) apart =
     later ne those true = ap (λ c. cond c (FallsSilent ∷ of a (falling (λ set. g set.address) sets)) (of a (falling (λ set. g set.address) sets))) (ne_eqb t.address a ne) ∙ those
     later ne those false = those
 
--- ---- the four lists of a frame's time
+-- ---- the four lists of acts by a frame's time
 
 module _ (s : State) where
   abbrev first : State

@@ -1,4 +1,4 @@
--- What happens at one address changes the part of that address, and no other.
+-- An act at one address changes the view of that address alone.
 use Rattle.std.proofs.Common.{◌≡◌, ◌≢◌, ℕ, Bool, true, false, cond, ◌||◌, List, [], ◌∷◌, ◌++◌, map, Option, Some, None, refl, sym, ap, subst, ◌∙◌, eq-eqb, ne_eqb, nat_eq, append-nil, append_assoc}
 use Rattle.std.specs.Option.{option_eq}
 use Rattle.vt_can.specs.declared.frames.frame.Frame.{Frame}
@@ -25,7 +25,7 @@ use Rattle.vt_server.proofs.Silencing.{without-own}
 use Rattle.vt_names.proofs.Filing.{set_at-first, set_at-later, with_set-first, with_set-later, without-first, without-later, set_at-address}
 use Rattle.vt_names.proofs.Holding.{by_eq}
 
--- ---- which set an act leaves
+-- ---- the set after an act
 
 pub message-set : (a : ℕ) (p : AddressView) (verdict : Verdict) (o : Option Set) (bytes : Option (List ℕ)) → (after_message a p verdict o bytes).set ≡ p.set
 message-set a p verdict None bytes = refl
@@ -45,7 +45,7 @@ pub operator-set : (now a : ℕ) (p : AddressView) (action : ActionValue) (shown
 operator-set now a p action shown None = refl
 operator-set now a p action shown (Some state) = action-set now a p (action_on state shown action)
 
--- what holds of the sets that claims, registration, a change of the holder and a preload leave
+-- A predicate that holds for the set after claims, registration, a change of the holder and a preload.
 pub record HoldsOfSets (Q : Option Set → Type 0) (a : ℕ) (p : AddressView) : Type 0 where
   pub none : Q None
   pub same : Q p.set
@@ -55,7 +55,7 @@ pub record HoldsOfSets (Q : Option Set → Type 0) (a : ℕ) (p : AddressView) :
   pub rebound : Q (after_change p p.set).set
   pub preloaded : Q (Some (preloaded a))
 
--- holds of that after any act
+-- The predicate holds for the set after any act.
 module _ (Q : Option Set → Type 0) (now a : ℕ) (p : AddressView) (holds : HoldsOfSets Q a p) where
   came-holds : (n : FrameMeaning) (frame : Frame) (verdict : Verdict) → let c = came now p.terminal a (heard_at now p.place) n frame in
       Q (after_message a (record p { place = c.place }) verdict p.set c.message).set
@@ -81,7 +81,7 @@ module _ (Q : Option Set → Type 0) (now a : ℕ) (p : AddressView) (holds : Ho
   outcome-holds (Operates action shown) = subst Q (sym (operator-set now a p action shown p.place.content.pool)) holds.same
   outcome-holds (Raises event) = holds.same
 
--- ---- the address of the set stays
+-- ---- the address of a set is unchanged
 
 abbrev pub HasAddress : ℕ → Option Set → Type 0
 HasAddress a None = Unit {0}
@@ -135,7 +135,7 @@ outcome-address now a p h has = outcome-holds (HasAddress a) now a p (record {
   preloaded = refl;
 }) h
 
--- ---- a set that was written, there and elsewhere
+-- ---- a written set, at its address and at others
 
 at-with : (a : ℕ) (x : Set) (sets : List Set) → x.address ≡ a → set_at a (with_set x sets) ≡ Some x
 at-with a x [] its = set_at-first a x [] its
@@ -163,7 +163,7 @@ at-put_other : (a b : ℕ) (o : Option Set) (sets : List Set) → HasAddress b o
 at-put_other a b None sets has ne = at-without_other a b sets ne
 at-put_other a b (Some x) sets has ne = at-with_other a x sets (λ h. ne (sym h ∙ has))
 
--- ---- the part
+-- ---- the view of an address after an act
 
 pub part-act : (a : ℕ) (s : State) (h : Act) → let after = outcome s.now a (part a s) h in
     part a (after_act s a h) ≡ record (part a s) { set = after.set; place = after.place }
@@ -175,7 +175,7 @@ part-act a s h =
       place = at-own a s.places after.place i;
     })
 
--- the part without times, by what happens on a part without times
+-- the view of an address without times
 abbrev pub bare : ℕ → State → AddressView
 bare a s = untimed_part (part a s)
 
@@ -227,7 +227,7 @@ frames-elsewhere a b after ne =
     frames-append a (map (ToOne b) after.frames) (refusal after.refused)
     ∙ (λ i. frames-other a b after.frames ne i ++ frames-refusal a after.refused i)
 
--- ---- what happens there among all that happens
+-- ---- the acts at an address among all acts
 
 abbrev pub turns : ℕ → AddressView → List Act → AddressView
 turns a p [] = p

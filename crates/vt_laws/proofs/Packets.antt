@@ -1,4 +1,4 @@
--- What frames come of a frame of the transport protocols, and how many.
+-- The frames sent for a frame of the transport protocols: their identifiers and their number.
 use Rattle.std.proofs.Common.{◌≡◌, ◌<◌, ◌≤◌, ◌⊎◌, inl, inr, ◌||◌, nat_lt, ◌+◌, ◌-◌, ℕ, zero, suc, min, Bool, true, false, cond, eqb, List, [], ◌∷◌, ◌++◌, map, length, slice_index, drop, Option, Some, None, refl, sym, ap, subst, ◌∙◌, arith}
 use Rattle.std.proofs.lemmas.List.{length-map}
 use Rattle.std.specs.Option.{option_map, option_to_list}
@@ -16,7 +16,7 @@ use Rattle.vt_transport.specs.Wire.{tp_frame, packet_frame}
 use Rattle.vt_can.specs.frames.Identifier.{parts_of, raw_of, pgn_of, addressed}
 use Rattle.byteorder.specs.Endian.{little_number}
 
--- ---- a test whose outcomes are of a type that is private to the crate below
+-- ---- a test with results of a type private to vt_transport
 
 record Holds {T : Type 0} (P : T → Type 0) (x : T) : Type 0 where
   pub it : P x
@@ -31,7 +31,7 @@ cond-holds {T} {P} b x y first second = cases b
 some-holds : {T : Type 0} {P : Option T → Type 0} {x : T} → Holds (λ y. P (Some y)) x → Holds P (Some x)
 some-holds holds = record { it = holds.it }
 
--- ---- frames to an address by their identifiers: messages, what manages its sessions, and packets
+-- ---- frames to an address by their identifiers: messages, session control frames, and packets
 
 abbrev pub IsReply : ℕ → ℕ → Frame → Type 0
 IsReply own a f =
@@ -84,13 +84,13 @@ pub answer-replies : (now own a : ℕ) (sending : Option (Timed transport.Messag
 answer-replies now own a None frame = tt
 answer-replies now own a (Some current) frame = (answer-holds now own a current frame).it
 
--- ---- how many
+-- ---- the number of frames
 
 numbers-few : (next count : ℕ) → length (numbers_from next count) ≡ count
 numbers-few next zero = refl
 numbers-few next (suc count) = ap suc (numbers-few (suc next) count)
 
--- the packets that a CTS asks for
+-- A CTS asks for at most 255 packets.
 clear-few : (own a now : ℕ) (current : Timed transport.Message) (count next : ℕ) → count < 256 → length (sender.clear_to_send own a now current count next).frames ≤ 255
 clear-few own a now current count next small =
     let last = sender.packet_count_of current.session in
@@ -104,7 +104,7 @@ clear-few own a now current count next small =
     sender_frame : ℕ → ℕ → Timed transport.Message → ℕ → Frame
     sender_frame own a current = packet_frame own a current.session.bytes
 
--- what the receiver and the sender make of a frame: only a CTS is answered by the sender, and it isn't the receiver's
+-- The sender answers only a CTS, and the receiver never answers one.
 module _ (now own a : ℕ) (session : Option (Timed tp_session.SessionState)) (current : Timed transport.Message) (frame : Frame) (small : slice_index frame.bytes.items 1 < 256) where
   either-few : Holds
       (λ o. (length (sender.answered own a now (Some current) o).frames ≡ 0)
@@ -125,7 +125,7 @@ module _ (now own a : ℕ) (session : Option (Timed tp_session.SessionState)) (c
       (cond-holds (eqb pgn 0xEB00) _ _ (record { it = inl refl }) (record { it = inl refl })))
       (record { it = inl refl })
 
--- all that is sent for a frame, with one reply at most where a message is whole
+-- The frames sent for one frame, and the reply to a completed message, are at most 255 together.
 pub option-few : {R : Type 0} (spelled : R → Frame) (o : Option R) → length (option_to_list (option_map spelled o)) ≤ 1
 option-few spelled None = omega arith
 option-few spelled (Some r) = omega arith

@@ -1,4 +1,4 @@
--- A pool stands only where a set is registered, and where a set is shown or selected, after every input.
+-- After every input only registered sets have a pool, and the shown set and the selected set have one.
 use Rattle.std.proofs.Common.{◌≡◌, ℕ, Bool, true, false, cond, List, [], ◌++◌, Option, Some, None, is_some, refl, sym, ap, subst, ◌∙◌, nat_eq, inl, inr}
 use Rattle.std.specs.Option.{option_eq, option_map}
 use Rattle.vt_can.specs.declared.frames.frame.Frame.{Frame}
@@ -28,7 +28,7 @@ use Rattle.vt_server.proofs.Puts.{acts-append, beside}
 use Rattle.vt_laws.proofs.Choices.{selected-is, selected-to, shown-is, shown-to, some-shown}
 use Rattle.vt_laws.proofs.Own.{part-act, part-act_other}
 
--- ---- a pool stands where a set does
+-- ---- only addresses with a set have a pool
 
 abbrev IsBacked : Option Set → Option SetState → Type 0
 IsBacked set pool = is_some pool ≡ true → is_some set ≡ true
@@ -133,7 +133,7 @@ backed-kept a = record {
   chosen = λ s selected shown lost backed. backed;
 }
 
--- ---- what is chosen has a pool
+-- ---- the chosen sets have a pool
 
 selected-has : (s : State) (a : ℕ) → selected_now s ≡ Some a → HasPool s a
 selected-has s a e = by (selected-to s a e)
@@ -153,7 +153,7 @@ shown-has s a e = by (shown-to s a e)
     by (inl loud) = ap (λ (o : Option SetState). is_some o) loud.alarm.pool
     by (inr is) = selected is.1
 
--- ---- events of the Working Set leave the pools
+-- ---- events of the Working Set remove no pool
 
 raise-leaves : (a : ℕ) (s : State) (b event : ℕ) → is_some (pool_of (after_act s b (Raises event)) a) ≡ is_some (pool_of s a)
 raise-leaves a s b event =
@@ -176,7 +176,7 @@ change-leaves a s was now = cases (option_eq nat_eq was now)
         ap (λ (t : State). is_some (pool_of t a)) (acts-append s (raised_at was DEACTIVATE) (raised_at now ACTIVATE))
         ∙ raised-leaves a (after_acts s (raised_at was DEACTIVATE)) now ACTIVATE ∙ raised-leaves a s was DEACTIVATE
 
--- ---- what is shown and selected after a step has a pool
+-- ---- the shown and the selected set after a step have a pool
 
 record AreThere (s : State) : Type 0 where
   pub shown : (a : ℕ) → s.shown ≡ Some a → HasPool s a
@@ -250,7 +250,7 @@ kept s e are =
       selected = after.selected;
     }
 
--- the events of a change leave the set that is shown
+-- The events of a change leave the shown set unchanged.
 settled-shows : (s : State) → (settled s).shown ≡ shown_now s
 unfolding settled
 settled-shows s = shown-acts (choosing s) (events_of_change s.shown (shown_now s))

@@ -1,4 +1,4 @@
--- The frames of an act are messages to the address, what manages its sessions, or packets.
+-- The frames of an act are messages to the address, session control frames, or packets.
 use Rattle.std.proofs.Common.{inl, inr, ◌||◌, ℕ, Bool, true, false, cond, nat_eq, List, [], ◌∷◌, ◌++◌, length, Option, Some, None, refl}
 use Rattle.std.specs.Option.{option_eq}
 use Rattle.vt_can.specs.declared.frames.frame.Frame.{Frame}

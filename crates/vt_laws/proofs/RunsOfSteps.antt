@@ -1,4 +1,4 @@
--- A step leaves of the pool of each address what the runs there leave.
+-- The pool of each address after a step is the result of the runs there.
 use Rattle.std.proofs.Common.{◌≡◌, ◌≢◌, ℕ, Bool, true, false, cond, eqb, List, [], ◌∷◌, ◌++◌, map, Option, Some, None, Result, Ok, Err, is_some, refl, sym, ap, subst, ◌∙◌, eq-eqb, ne_eqb}
 use Rattle.std.proofs.lemmas.List.Elements.{filter-append}
 use Rattle.std.specs.Prelude.{IfSome, IsSomeAnd}
@@ -41,13 +41,13 @@ use Rattle.vt_laws.proofs.Bringing.{Holds, holds-there, holds-then, heard-holds}
 use Rattle.vt_laws.proofs.InForce.{IsPlain, plain-accepts, plain-stay, silences-plain, change-plain, operated-plain}
 use Rattle.vt_laws.proofs.Leading.{Follows, follows-same, follows-then, MayFollow, act-follows}
 
--- ---- where runs are
+-- ---- the addresses of runs
 
--- each run is at the address
+-- Each run is at the address.
 abbrev AreAt : ℕ → List Run → Type 0
 AreAt a rs = AllByRecursion (λ run. run.address ≡ a) rs
 
--- the run of a command that is done is there, and so on to any act
+-- The run of a command is at the address of its set.
 effect-at : (a : ℕ) (old : ObjectMap) (command : Command) (r : Result ObjectMap ℕ) → AreAt a (runs_of_effect a old command r)
 effect-at a old command (Ok middle) = (refl, tt)
 effect-at a old command (Err bits) = tt
@@ -80,7 +80,7 @@ event-at : (a : ℕ) (o : Option SetState) (event : ℕ) → AreAt a (runs_of_ev
 event-at a None event = tt
 event-at a (Some state) event = (refl, tt)
 
--- the runs of an act are at its address
+-- The runs of an act are at its address.
 runs-at : (now a : ℕ) (p : AddressView) (h : Act) → AreAt a (runs_at now a p h)
 runs-at now a p (Hears n f verdict) = message-at a p.set p.place.content.pool (came now p.terminal a p.place n f).message
 runs-at now a p Rebinds = tt
@@ -92,7 +92,7 @@ runs-at now a p FallsSilent = tt
 runs-at now a p (Operates action shown) = operator-at a p.place.sending p.place.content.pool (λ state. action_on state shown action)
 runs-at now a p (Raises event) = event-at a p.place.content.pool event
 
--- of runs at one address all are there, and none is elsewhere
+-- Runs at one address are all there, and none is elsewhere.
 all-there : (a : ℕ) (rs : List Run) → AreAt a rs → runs_there a rs ≡ rs
 all-there a [] at = refl
 all-there a (run ∷ rs) at =
@@ -103,9 +103,9 @@ none-there a q [] other at = refl
 none-there a q (run ∷ rs) other at =
     ap (λ (b : Bool). cond b (run ∷ runs_there q rs) (runs_there q rs)) (ne_eqb run.address q (λ (is : run.address ≡ q). other (sym is ∙ at.0))) ∙ none-there a q rs other at.1
 
--- ---- an act, and each address
+-- ---- one act, at each address
 
--- what is written at an address leaves the pools of the others
+-- A write at one address leaves the pools of the others unchanged.
 put-follows : (s : State) (a q : ℕ) (o : AddressOutcome) (rs : List Run) → AreAt a rs → (q ≡ a → Follows (pool_of s a) rs o.place.content.pool)
     → Follows (pool_of s q) (runs_there q rs) (pool_of (put a o s) q)
 put-follows s a q o rs at follows = by_eq q a here elsewhere
@@ -121,7 +121,7 @@ put-follows s a q o rs at follows = by_eq q a here elsewhere
         subst (λ (l : List Run). Follows (pool_of s q) l (pool_of (put a o s) q)) (sym (none-there a q rs other at))
         (subst (λ (p : AddressState). Follows (pool_of s q) [] p.content.pool) (sym (at-other a q s.places o.place other)) (follows-same (pool_of s q)))
 
--- so an act leaves of each pool what its runs there leave
+-- The pool of each address after an act is the result of the act's runs there.
 one-follows : (s : State) (a : ℕ) (h : Act) (q : ℕ) → (q ≡ a → MayFollow s.now a (part a s) h)
     → Follows (pool_of s q) (runs_there q (runs_at s.now a (part a s) h)) (pool_of (after_act s a h) q)
 one-follows s a h q may =
@@ -130,7 +130,7 @@ one-follows s a h q may =
     subst (λ (t : State). Follows (pool_of s q) (runs_there q rs) (pool_of t q)) (sym (act-is s a h))
     (put-follows s a q o rs (runs-at s.now a (part a s) h) (λ same. act-follows s.now a (part a s) h (may same)))
 
--- an act that may happen in every state accepts no pool
+-- An act that may happen in every state accepts no pool.
 plain-may : (now a : ℕ) (p : AddressView) (h : Act) → IsPlain a h → MayFollow now a p h
 plain-may now a p (Hears n f verdict) plain = λ last. plain-accepts now a p (Hears n f verdict) last plain
 plain-may now a p Rebinds plain = λ last. refl
@@ -142,14 +142,14 @@ plain-may now a p FallsSilent plain = λ last. refl
 plain-may now a p (Operates action shown) plain = λ last. refl
 plain-may now a p (Raises event) plain = plain
 
--- runs, and then more
+-- Runs in sequence at one address.
 more-follow : (x y z : Option SetState) (q : ℕ) (rs ss : List Run) → Follows x (runs_there q rs) y → Follows y (runs_there q ss) z
     → Follows x (runs_there q (rs ++ ss)) z
 more-follow x y z q rs ss first second =
     subst (λ (l : List Run). Follows x l z) (sym (filter-append (λ (run : Run). eqb run.address q) rs ss))
     (follows-then x y z (runs_there q rs) (runs_there q ss) first second)
 
--- acts that accept no pool
+-- The pool of each address after acts that accept no pool is the result of their runs there.
 acts-follow : (s : State) (hs : List (ℕ × Act)) (q : ℕ) → AllAt IsPlain hs → Follows (pool_of s q) (runs_there q (runs_of_acts s hs)) (pool_of (after_acts s hs) q)
 acts-follow s [] q plain = follows-same (pool_of s q)
 acts-follow s (h ∷ hs) q plain =
@@ -157,35 +157,35 @@ acts-follow s (h ∷ hs) q plain =
     more-follow (pool_of s q) (pool_of t q) (pool_of (after_acts t hs) q) q (runs_at s.now h.0 (part h.0 s) h.1) (runs_of_acts t hs)
     (one-follows s h.0 h.1 q (λ same. plain-may s.now h.0 (part h.0 s) h.1 plain.0)) (acts-follow t hs q plain.1)
 
--- ---- what time ends
+-- ---- timeouts and closings
 
--- an act that begins no run
+-- An act begins no run.
 abbrev BeginsNone : ℕ → Act → Type 0
 BeginsNone a h = (now : ℕ) (p : AddressView) → runs_at now a p h ≡ []
 
--- acts of which none begins a run have none
+-- Acts that begin no run have no runs.
 none-begun : (s : State) (hs : List (ℕ × Act)) → AllAt BeginsNone hs → runs_of_acts s hs ≡ []
 none-begun s [] none = refl
 none-begun s (h ∷ hs) none =
     let t = after_act s h.0 h.1 in ap (λ (l : List Run). l ++ runs_of_acts t hs) (none.0 s.now (part h.0 s)) ∙ none-begun t hs none.1
 
--- no run, and a pool stays or goes
+-- Without runs a pool is unchanged or removed.
 lapse-follows : (s : State) (hs : List (ℕ × Act)) (q : ℕ) → AllAt IsPlain hs → AllAt BeginsNone hs → Follows (pool_of s q) [] (pool_of (after_acts s hs) q)
 lapse-follows s hs q plain none =
     subst (λ (l : List Run). Follows (pool_of s q) (runs_there q l) (pool_of (after_acts s hs) q)) (none-begun s hs none) (acts-follow s hs q plain)
 
--- a set that falls silent begins no run
+-- The closing of a silent set begins no run.
 silences-none : (sets : List Set) → AllAt BeginsNone (map (λ set. (set.address, FallsSilent)) sets)
 silences-none [] = tt
 silences-none (set ∷ sets) = (λ now p. refl, silences-none sets)
 
--- by the time of sessions
+-- The timeouts of sessions change no pool.
 due-follows : (s : State) (holds : ℕ → Bool) (what : Act) (q : ℕ) → ((a : ℕ) → IsPlain a what) → ((a : ℕ) → BeginsNone a what)
     → Follows (pool_of s q) [] (pool_of (after_acts s (each_below holds what 256)) q)
 due-follows s holds what q plain none =
     lapse-follows s (each_below holds what 256) q (at-below IsPlain holds what 256 (λ a lt. plain a)) (at-below BeginsNone holds what 256 (λ a lt. none a))
 
--- by all that time ends
+-- All acts of a frame's time leave pools unchanged or remove them.
 lapsed-follows : (s : State) (q : ℕ) → Follows (pool_of s q) [] (pool_of (lapsed s) q)
 unfolding lapsed
 lapsed-follows s q =
@@ -203,12 +203,12 @@ lapsed-follows s q =
 
 -- ---- a frame
 
--- the events of another set's being shown
+-- The pool of each address after the events of a change of the shown set is the result of their runs.
 settling-follows : (s : State) (q : ℕ) → Follows (pool_of s q) (runs_there q (runs_of_settling s)) (pool_of (settled s) q)
 unfolding settled
 settling-follows s q = acts-follow (choosing s) (events_of_change s.shown (shown_now s)) q (change-plain s.shown (shown_now s))
 
--- what is written at an address leaves the pools of the others
+-- A write at one address leaves the pools of the others, and their runs, unchanged.
 put-holds : (pools : Pools) (s : State) (a q : ℕ) (o : AddressOutcome) (x : Option ObjectMap) (rs : List Run) → AreAt a rs → Holds (pools q) [] (pool_of s q)
     → Holds x rs o.place.content.pool → Holds (with_at a x pools q) (runs_there q rs) (pool_of (put a o s) q)
 put-holds pools s a q o x rs at there here = by_eq q a mine other
@@ -226,14 +226,14 @@ put-holds pools s a q o x rs at there here = by_eq q a mine other
         (subst (λ (l : List Run). Holds (pools q) l (pool_of (put a o s) q)) (sym (none-there a q rs not at))
         (subst (λ (p : AddressState). Holds (pools q) [] p.content.pool) (sym (at-other a q s.places o.place not)) there))
 
--- runs, and then more
+-- Runs in sequence at one address, from the objects accepted last.
 more-hold : (last : Option ObjectMap) (x z : Option SetState) (q : ℕ) (rs ss : List Run) → Holds last (runs_there q rs) x → Follows x (runs_there q ss) z
     → Holds last (runs_there q (rs ++ ss)) z
 more-hold last x z q rs ss first second =
     subst (λ (l : List Run). Holds last l z) (sym (filter-append (λ (run : Run). eqb run.address q) rs ss))
     (holds-then last x z (runs_there q rs) (runs_there q ss) first second)
 
--- a frame at its source, which is not the terminal
+-- The pool of each address after a frame at its source is the result of the frame's runs, if the source is not the terminal.
 one-heard : (pools : Pools) (s : State) (source : ℕ) (n : FrameMeaning) (f : Frame) (verdict : Verdict) (q : ℕ) → ((r : ℕ) → Holds (pools r) [] (pool_of s r))
     → Holds (accepted_by_acts s (heard_at_source s.claims.own source n f verdict) pools q)
     (runs_there q (runs_of_acts s (heard_at_source s.claims.own source n f verdict)))
@@ -262,7 +262,7 @@ one-heard pools s source n f verdict q is = cases (eqb source s.claims.own)
         let t = after_act s source h in
         more-hold (with_at source x pools q) (pool_of t q) (pool_of t q) q (runs_at s.now source p h) [] own (follows-same (pool_of t q))
 
--- all that a frame makes happen
+-- The pool of each address after all acts of a frame is the result of their runs.
 frame-holds : (pools : Pools) (s : State) (source : ℕ) (n : FrameMeaning) (f : Frame) (verdict : Verdict) (q : ℕ) → ((r : ℕ) → Holds (pools r) [] (pool_of s r))
     → Holds (accepted_by_acts (before s source n) (acts s source n f verdict) pools q)
     (runs_there q (runs_of_acts (before s source n) (acts s source n f verdict))) (pool_of (acted s source n f verdict) q)
@@ -282,7 +282,7 @@ frame-holds pools s source Tp f verdict q is = one-heard pools s source Tp f ver
 frame-holds pools s source Etp f verdict q is = one-heard pools s source Etp f verdict q is
 frame-holds pools s source Nothing f verdict q is = one-heard pools s source Nothing f verdict q is
 
--- a frame, by which the address is lost or not
+-- The pool of each address after a frame is the result of its runs, whether the own address is lost or not.
 hearing-holds : (pools : Pools) (old s : State) (source : ℕ) (n : FrameMeaning) (f : Frame) (verdict : Verdict) (q : ℕ)
     → ((r : ℕ) → Holds (pools r) [] (pool_of s r))
     → Holds (accepted_in_hearing s source n f verdict pools q) (runs_there q (runs_of_hearing s source n f verdict)) (pool_of (hearing old s source n f verdict).after q)
@@ -304,7 +304,7 @@ hearing-holds pools old s source n f verdict q is = cases (is_lost_by (answer_to
 
 -- ---- a step
 
--- to select a set changes no pool
+-- The selection of a set changes no pool.
 selecting-same : (s : State) (action : ActionValue) (q : ℕ) → pool_of (selecting s action) q ≡ pool_of s q
 selecting-same s (Press id) q = refl
 selecting-same s (Release id) q = refl
@@ -317,7 +317,7 @@ selecting-same s (actions.Set a) q = cases (is_some (pool_of s a))
     cases true = refl
     cases false = refl
 
--- so it is of an action of the operator
+-- The pool of each address after an action of the operator is the result of its runs.
 operating-follows : (s : State) (action : ActionValue) (shown : Bool) (q : ℕ)
     → Follows (pool_of s q) (runs_there q (runs s (ActionAt action shown))) (pool_of (step s (ActionAt action shown)).after q)
 operating-follows s action shown q = cases s.lost
@@ -340,7 +340,7 @@ operating-follows s action shown q = cases s.lost
     cases true = follows-same (pool_of s q)
     cases false = subst (λ (pool : Option SetState). Follows pool (runs_there q (runs_of_operating u hs)) (pool_of (settled t) q)) (selecting-same s action q) operated
 
--- a step leaves of each pool what its runs there leave, of the one that was accepted last
+-- The pool of each address after a step is the result of its runs, from the pool accepted last.
 step-holds : (s : State) (e : JudgedInput) (q : ℕ) → Holds (accepted_after s e (objects_in s) q) (runs_there q (runs s e)) (pool_of (step s e).after q)
 step-holds s (FrameAt time f verdict) q = cases s.lost
   where
@@ -361,7 +361,7 @@ step-holds s (ActionAt action shown) q =
     holds-then (objects_in s q) (pool_of s q) (pool_of (step s (ActionAt action shown)).after q) [] (runs_there q (runs s (ActionAt action shown)))
     (holds-there (pool_of s q)) (operating-follows s action shown q)
 
--- in the words of the law
+-- If there is a pool, the runs lead from the objects accepted last to its objects.
 in-law : (last : Option ObjectMap) (rs : List Run) (pool : Option SetState) → Holds last rs pool → IfSome pool (λ new. IsSomeAnd last (λ old. Lead old rs new.objects))
 in-law last rs None holds = tt
 in-law None rs (Some new) holds = absurd holds

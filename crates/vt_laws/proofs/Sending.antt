@@ -1,4 +1,4 @@
--- The frames of a step go to one address as messages, sessions and packets, or to all as claims and statuses.
+-- The frames of a step to one address are messages, session control frames and packets; those to all are claims and statuses.
 use Rattle.std.proofs.Common.{◌≡◌, ◌<◌, ◌^◌, inl, inr, ◌||◌, ℕ, Bool, true, false, cond, nat_eq, List, [], ◌∷◌, ◌++◌, map, Option, Some, None, IfSome, refl, sym, ap, subst, ◌∙◌, arith}
 use Rattle.std.specs.Option.{option_eq}
 use Rattle.vt_can.specs.declared.frames.frame.Frame.{Frame}
@@ -27,7 +27,7 @@ use Rattle.vt_laws.proofs.Replies.{outcome-replies}
 use Rattle.vt_server.proofs.Puts.{beside, beside-act, sent_by_one-is}
 use Rattle.vt_laws.proofs.Stepping.{selecting-same}
 
--- ---- by the law on identifiers
+-- ---- the identifiers of frames, by the law on identifiers
 
 module _ (law : PartsAreIdentifiers) where
   module _ (own a : ℕ) (own-fits : own < 2 ^ 8) (fits : a < 2 ^ 8) where
@@ -69,9 +69,9 @@ addressed-refusal : (own : ℕ) (o : Option OperatorFault) → AreAddressed own 
 addressed-refusal own None = tt
 addressed-refusal own (Some fault) = (tt, tt)
 
--- ---- what acts send
+-- ---- the items sent by acts
 
--- an act sends nothing, or its address is one
+-- An act sends nothing, or its address is below 256.
 abbrev Fits : ℕ → Act → Type 0
 Fits a Rebinds = Unit {0}
 Fits a FallsSilent = Unit {0}
@@ -130,7 +130,7 @@ module _ (law : PartsAreIdentifiers) where
         (acts-send t (etp_due t) t-is (at-below Fits (λ b. is_overdue t.now (t.places b).etp) EtpExpires 256 (λ b lt. lt)))
         (acts-send u (sending_due u) u-is (at-below Fits (λ b. is_overdue u.now (u.places b).sending) SendingExpires 256 (λ b lt. lt))))
 
-    -- ---- to all
+    -- ---- frames to all
 
     own-claim : (name : ℕ) → IsToAll own (claim_from own name)
     own-claim name = inl (claim-parts law own 255 own-fits (omega arith))

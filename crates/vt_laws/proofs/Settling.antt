@@ -1,4 +1,4 @@
--- The list of the sets after a step.
+-- The effect of each step on the list of sets.
 use Rattle.std.proofs.Common.{◌≡◌, ◌≢◌, ℕ, Bool, true, false, cond, not, eqb, List, [], ◌∷◌, map, Option, Some, None, refl, sym, ap, subst, ◌∙◌, eq-eqb, ne_eqb}
 use Rattle.std.specs.List.{filter}
 use Rattle.vt_can.specs.declared.frames.frame.Frame.{Frame}
@@ -36,9 +36,9 @@ use Rattle.vt_laws.proofs.Stepping.{selecting-same}
 use Rattle.vt_laws.proofs.Timeless.{Laws}
 use Rattle.vt_names.proofs.Holding.{by_eq, none-some}
 
--- ---- the sets that fall silent
+-- ---- silent sets
 
--- without the sets of the addresses of these
+-- The list without the sets at the addresses of other sets.
 abbrev gone : List Set → List Set → List Set
 gone [] sets = sets
 gone (x ∷ xs) sets = gone xs (without x.address sets)
@@ -77,7 +77,7 @@ lapsed-list s time apart =
     (λ set. not (is_silent (now-third t i) (places-third t (λ (x : AddressState). x.heard) set.address (λ now b p. refl) (λ now b p. refl) (λ now b p. refl) i)))
     (sets-third t i))
 
--- ---- what keeps the list
+-- ---- acts that keep the list
 
 all-sets : (P : Act → Type 0) (hs : List (ℕ × Act)) → AllAt (λ a h. P h) hs → AllActs P hs
 all-sets P [] all = tt
@@ -100,7 +100,7 @@ came-kept n f verdict is now a p =
     let c = came now p.terminal a (heard_at now p.place) n f in
     is now a p ∙ message-set a (record p { place = c.place }) verdict p.set c.message
 
--- ---- what a frame from the terminal's own address may say
+-- ---- the meanings of frames from the terminal's own address
 
 abbrev IsHeeded : FrameMeaning → Type 0
 IsHeeded (Claim name) = Unit {0}
@@ -145,7 +145,7 @@ module _ (law : OtherHoldersStay) (s : State) (orderly : IsOrderly s) (is : IsSe
   everywhere : (a : ℕ) → SetIsHeld (set_at a s.sets) (holder s a)
   everywhere a = by_eq a s.claims.own (λ h. none-held (set_at a s.sets) (holder s a) (ap (λ b. set_at b s.sets) h ∙ is.elsewhere)) (is.held a)
 
-  -- a frame that its source alone looks at
+  -- A frame that acts at its source alone.
   one-list : (source : ℕ) (n : FrameMeaning) (f : Frame) (verdict : Verdict) (sets : List Set) → (source ≡ s.claims.own → IsHeeded n) → (IsHeeded n → ⊥)
       → (after_act s source (Hears n f verdict)).sets ≡ sets → (after_acts s (heard_at_source s.claims.own source n f verdict)).sets ≡ sets
   one-list source n f verdict sets heeded not-heeded these =
@@ -173,7 +173,7 @@ module _ (law : OtherHoldersStay) (s : State) (orderly : IsOrderly s) (is : IsSe
   acts-list source Etp f verdict heeded = kept-list source Etp f verdict (came-kept Etp f verdict (λ now a p. refl))
   acts-list source Nothing f verdict heeded = kept-list source Nothing f verdict (came-kept Nothing f verdict (λ now a p. refl))
 
--- ---- the holders are all that counts of the state after it
+-- ---- the list depends on the holders of the state alone
 
 answer-same : (s u : State) (source : ℕ) (n : FrameMeaning) → u.claims ≡ s.claims → answer_to u source n ≡ answer_to s source n
 answer-same s u source (Claim name) same = ap (λ (c : Claimed). answer c source name) same
@@ -264,7 +264,7 @@ module _ (laws : Laws) (s : State) (orderly : IsOrderly s) (is : IsSettled s) wh
       cases true = refl
       cases false = action-list action shown
 
--- ---- none at the terminal's own address
+-- ---- no set at the terminal's own address
 
 none-join : (b : Bool) (q : ℕ) (x : Set) (sets : List Set) → x.address ≢ q → set_at q sets ≡ None → set_at q (cond b (with_set x sets) sets) ≡ None
 none-join true q x sets ne none = at-with_other q x sets ne ∙ none

@@ -1,4 +1,4 @@
--- What an input costs is within the budgets of the pools that were accepted last.
+-- The cost of an input is within the budgets of the pools accepted last.
 use Rattle.std.proofs.Common.{◌≡◌, ◌≤◌, ◌-◌, ℕ, List, [], ◌∷◌, Option, sym, ap, subst, ◌∙◌, arith}
 use Rattle.std.proofs.lemmas.List.Sums.{sum_by-cons}
 use Rattle.std.specs.Prelude.{sum_by}
@@ -12,7 +12,7 @@ use Rattle.vt_laws.specs.Costs.{CostsAreWithin, used, steps_of, printed, budget_
 use Rattle.vt_laws.specs.Headline.{NeverSticks, Pools, Run, EndsInTime, accepted_after, runs}
 use Rattle.vt_laws.proofs.Ending.{AllInTime}
 
--- a run that ends uses no more steps than it begins with
+-- A run that ends uses no more steps than it has at its start.
 used-within : (most : ℕ) (end : End) (new : ObjectMap) (left : ℕ) → end ≡ Ended new left → used most end ≤ most
 used-within most end new left is = subst (λ (e : End). used most e ≤ most) (sym is) (below most left)
   where
@@ -20,7 +20,7 @@ used-within most end new left is = subst (λ (e : End). used most e ≤ most) (s
     below n m = omega arith
 
 module _ (never : NeverSticks) (ready : PoolsAreReady) where
-  -- and it begins with the budgets that the pool's report prints
+  -- A run has at its start the budgets that the pool's report prints.
   begins-with : (last : Option ObjectMap) (run : Run) → EndsInTime last run → total_budget (shape_in run.objects) run.raised ≡ printed last run.raised
   begins-with last run ends =
       let pool = ready ends.accepted ends.verified.stored ends.verified.acceptable in

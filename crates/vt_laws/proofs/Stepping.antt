@@ -1,4 +1,4 @@
--- A step takes the part of each address through what happens there, and so does a run.
+-- A step, and a run, changes the view of each address by the happenings there.
 use Rattle.std.proofs.Common.{◌≡◌, ◌≢◌, ℕ, Bool, true, false, cond, List, [], ◌∷◌, ◌++◌, Option, Some, None, is_some, refl, sym, ap, subst, ◌∙◌}
 use Rattle.vt_can.specs.declared.frames.frame.Frame.{Frame}
 use Rattle.vt_can.specs.frames.Frame.{source_of}
@@ -26,12 +26,12 @@ use Rattle.vt_laws.proofs.Taking.{Takes, then-takes, takes-beside, acts-take, la
 use Rattle.vt_laws.proofs.Overdue.{so}
 use Rattle.vt_laws.proofs.Timeless.{Laws}
 
--- while the terminal has its own address
+-- The view while the terminal has its own address.
 pub own-bare : (a : ℕ) (s : State) → s.lost ≡ false → own_part a s ≡ bare a s
 own-bare a s has = ap (λ b. untimed_part (with_holder (part a s) (cond b None (holder s a)))) has
 
--- From a part of an address, a state and what was sent are what the address makes of happenings, also where the
--- terminal lost its address.
+-- The view of an address after a step and the frames to it are its response to these happenings, also if the terminal loses its
+-- address.
 pub record Ends (a : ℕ) (p : AddressView) (sent : List Sent) (t : State) (hs : List Happening) : Type 0 where
   pub part : own_part a t ≡ part_after_all a p hs
   pub frames : frames_to a sent ≡ frames_of_all a p hs
@@ -56,7 +56,7 @@ module _ (laws : Laws) (a : ℕ) (s : State) (orderly : IsOrderly s) (is : IsOth
     frames = sym (ap (λ (o : Response). o.frames ++ []) (response-has a (bare a u) Lost still));
   }
 
-  -- after what its time ended
+  -- A frame after the timeouts and closings of its time.
   hearing-ends : (old u : State) (f : Frame) (verdict : Verdict) → u.claims ≡ s.claims → u.lost ≡ false
       → let step = hearing old u (source_of f) (notice_of s.claims.own s.claims.name f) f verdict in Ends a (bare a u) step.sent step.after (frame_happenings a u f verdict)
   hearing-ends old u f verdict same still =
@@ -83,7 +83,7 @@ module _ (laws : Laws) (a : ℕ) (s : State) (orderly : IsOrderly s) (is : IsOth
 
 -- ---- an action of the operator
 
--- what selecting another set leaves
+-- The selection of another set changes nothing else.
 pub selecting-same : {X : Type 0} (read : State → X) → ((s : State) (o : Option ℕ) → read (record s { selected = o }) ≡ read s) → (s : State) (action : ActionValue)
     → read (selecting s action) ≡ read s
 selecting-same read same s (Press id) = refl

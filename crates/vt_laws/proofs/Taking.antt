@@ -1,4 +1,4 @@
--- What an address takes of a stage of a step, and of several stages after one another.
+-- The response of an address to one stage of a step, and to several in sequence.
 use Rattle.std.proofs.Common.{◌≡◌, ◌<◌, ℕ, Bool, true, false, cond, ◌&&◌, List, [], ◌∷◌, ◌++◌, Option, Some, None, is_some, refl, sym, ap, subst, ◌∙◌, nat_eq, append_assoc, append-nil}
 use Rattle.std.specs.Option.{option_eq}
 use Rattle.vt_can.specs.transport.Sessions.{is_overdue}
@@ -17,7 +17,7 @@ use Rattle.vt_server.proofs.Acts.{of}
 use Rattle.vt_laws.proofs.Overdue.{so, of-tp, of-etp, of-sending, of-silences}
 use Rattle.vt_laws.proofs.Timeless.{Laws}
 
--- ---- happenings while the terminal has its address, and after one another
+-- ---- happenings while the terminal has its address, and in sequence
 
 pub response-has : (a : ℕ) (p : AddressView) (h : Happening) → p.lost ≡ false → response a p h ≡ response_while a p h
 response-has a p h has = ap (λ b. cond b (without_effect p) (response_while a p h)) has
@@ -32,7 +32,7 @@ frames-responses a p (x ∷ xs) ys =
     ap (λ l. (response a p x).frames ++ l) (frames-responses a (response a p x).part xs ys)
     ∙ sym (append_assoc (response a p x).frames (frames_of_all a (response a p x).part xs) (frames_of_all a (part_after_all a (response a p x).part xs) ys))
 
--- From a part of an address, what was sent and the state that is left are what the address makes of happenings.
+-- The view of an address after a stage and the frames to it are its response to these happenings.
 pub record Takes (a : ℕ) (p : AddressView) (sent : List Sent) (t : State) (hs : List Happening) : Type 0 where
   pub has : t.lost ≡ false
   pub part : bare a t ≡ part_after_all a p hs
@@ -47,7 +47,7 @@ then-takes a p xs ys t u hs ks before next = record {
       ∙ ap (λ q. frames_of_all a p hs ++ frames_of_all a q ks) before.part ∙ sym (frames-responses a p hs ks);
 }
 
--- what goes to all, or nowhere, goes to no address
+-- Items sent to all, or not sent, add no frame to an address.
 pub takes-beside : (a : ℕ) (p : AddressView) (xs ys : List Sent) (t : State) (hs : List Happening) → frames_to a xs ≡ [] → Takes a p ys t hs → Takes a p (xs ++ ys) t hs
 takes-beside a p xs ys t hs none taken = record {
   has = taken.has;
@@ -84,7 +84,7 @@ module _ (laws : Laws) (a : ℕ) (s : State) (hs : List (ℕ × Act)) (has : s.l
       frames-cases true is = sym (ap (λ (o : Response). o.frames ++ []) (response-has a (bare a s) h has ∙ is refl))
       frames-cases false is = refl
 
--- ---- what the time of a frame ends
+-- ---- the acts by the time of a frame
 
 module _ (laws : Laws) (a : ℕ) (s : State) (small : a < 256) (apart : AreApart s.sets) (has : s.lost ≡ false) where
   abbrev first : State
@@ -105,7 +105,7 @@ module _ (laws : Laws) (a : ℕ) (s : State) (small : a < 256) (apart : AreApart
   has-third : third.lost ≡ false
   has-third = lost-acts laws a second (sending_due second) has-second
 
-  -- nothing is sent to a set that falls silent
+  -- Nothing is sent to a set that falls silent.
   silent-takes : Takes a (bare a third) [] (after_acts third (silences third)) (if_so (is_some (set_at a s.sets) && is_silent s.now (s.places a).heard) FellSilent)
   silent-takes =
       let b = is_some (set_at a s.sets) && is_silent s.now (s.places a).heard in

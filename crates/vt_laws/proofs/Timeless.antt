@@ -1,4 +1,4 @@
--- What happens at an address depends on no time, apart from the times that its sessions have afterwards.
+-- The outcome at an address does not depend on times, except for the times of its sessions.
 use Rattle.std.proofs.Common.{◌≡◌, ℕ, Bool, true, false, cond, ◌||◌, ◌&&◌, ◌++◌, List, [], Option, Some, None, refl, ap, ◌∙◌, sym, nat_eq, is_some}
 use Rattle.std.specs.Option.{option_eq}
 use Rattle.vt_can.specs.declared.frames.frame.Frame.{Frame}
@@ -31,7 +31,7 @@ use Rattle.vt_node.specs.declared.bus.FrameMeaning.{FrameMeaning}
 use Rattle.vt_node.specs.declared.bus.FrameMeaning.TheVariants.{Claim, ClaimRequest, Master, Member, Message, Tp, Etp, Nothing}
 use Rattle.vt_server.specs.declared.output.OperatorFault.TheVariants.{Busy}
 
--- what the crates below promise of holders and of times
+-- the laws of the crates below on holders and on times
 pub record Laws : Type 0 where
   pub holders : OtherHoldersStay
   pub tp : tp.IsTimeless
@@ -50,7 +50,7 @@ place-twice place = λ i. record place {
   heard = None;
 }
 
--- ---- claims, registration and messages, at two places that are alike without times
+-- ---- claims, registration and messages, in two states of an address that are the same without times
 
 module _ (p : AddressView) (x : AddressState) (alike : untimed_place p.place ≡ untimed_place x) where
   abbrev q : AddressView
@@ -141,7 +141,7 @@ module _ (laws : Laws) where
       }
   came-timeless now own a place Nothing frame = λ i. record { place = place-twice place i; frames = []; message = None }
 
-  -- what came, apart from times, decides what comes of it
+  -- The outcome of a frame depends only on the effect of the frame on the sessions, without times.
   came-outcome : (a : ℕ) (p : AddressView) (verdict : Verdict) (c : Came) → untimed_outcome (after_came a p verdict c) ≡ untimed_outcome (after_came a p verdict (untimed_came c))
   came-outcome a p verdict c =
       ap (behind c.frames) (message-timeless (record p { place = c.place }) (untimed_place c.place) (place-twice c.place) a verdict p.set c.message)
@@ -206,7 +206,7 @@ operator-timeless : (now a : ℕ) (p : AddressView) (action : ActionValue) (show
 operator-timeless now a p action shown None = kept-timeless p (untimed_place p.place) (place-twice p.place) p.set
 operator-timeless now a p action shown (Some state) = action-timeless now a p (action_on state shown action)
 
--- ---- whatever happens
+-- ---- any act
 
 pub outcome-timeless : (laws : Laws) (now a : ℕ) (p : AddressView) (h : Act) → untimed_outcome (outcome now a p h) ≡ untimed_outcome (outcome 0 a (untimed_part p) h)
 outcome-timeless laws now a p (Hears n frame verdict) =

@@ -1,4 +1,4 @@
--- Pools stay in force where something happens at an address, and a run on one that is in force ends in time.
+-- Acts at an address keep pools in force, and each run on a pool in force ends in time.
 use Rattle.std.proofs.Common.{◌≡◌, ◌≤◌, ◌+◌, length, ℕ, Bool, true, false, cond, eqb, List, [], ◌∷◌, ◌++◌, Option, Some, None, Result, Ok, Err, refl, sym, ap, subst, ◌∙◌, inl, inr, ◌⊎◌, arith, append-nil}
 use Rattle.std.proofs.lemmas.Bool.{eqb-true}
 use Rattle.std.specs.Prelude.{IfSome}
@@ -47,7 +47,7 @@ use Rattle.vt_node.specs.declared.bus.FrameMeaning.{FrameMeaning}
 use Rattle.vt_node.specs.declared.bus.FrameMeaning.TheVariants.{Claim, ClaimRequest, Master, Member, Message, Tp, Etp, Nothing}
 use Rattle.vt_laws.proofs.FewRaised.{few-selected, few-entered}
 
--- what the crates below promise
+-- the laws of the crates below
 pub record Laws : Type 0 where
   pub order : CommandsKeepOrder
   pub shapes : CommandsKeepShapes
@@ -71,15 +71,15 @@ either-each last false x y first second = second
 not-both : (n : ℕ) → eqb n TRANSFER ≡ true → eqb n END_OF_POOL ≡ true → ⊥
 not-both n first second = let a = eqb-true n TRANSFER first in let b = eqb-true n END_OF_POOL second in omega arith
 
--- what may happen while pools are in force: a transfer that ends is judged rightly, what is preloaded was accepted, and the
--- events that are raised are those of being shown
+-- the acts that may happen while pools are in force: the verdict on an upload is right, a preloaded pool is an accepted one, and
+-- the only events raised are Activate and Deactivate
 abbrev pub MayHappen : ℕ → ℕ → AddressView → Act → Type 0
 MayHappen now a p (Hears n f verdict) = IsJudged now a p n f verdict
 MayHappen now a p (Raises event) = (event ≡ 2) ⊎ (event ≡ 1)
 MayHappen now a p (Preloads contents) = (pool : Objects) × IsVerified pool × (contents ≡ map_of pool)
 MayHappen now a p _ = Unit {0}
 
--- the run of a macro's commands is that of the list of one event
+-- The run of a macro's commands is the run of a list of one event.
 pub one-run : (store : ObjectMap) (b : ℕ) (cs : List Command) → store_of (run b store cs) ≡ store_of (run (0 + b) store (cs ++ []))
 one-run store b cs = ap (λ (n : ℕ). store_of (run n store cs)) (plus-zero b) ∙ ap (λ (l : List Command). store_of (run (0 + b) store l)) (sym (append-nil cs))
   where
@@ -89,7 +89,7 @@ one-run store b cs = ap (λ (n : ℕ). store_of (run n store cs)) (plus-zero b) 
 module _ (laws : Laws) (last : Option ObjectMap) where
   -- ---- runs
 
-  -- a run of few events on the pool that was accepted last
+  -- A run of few events on the pool accepted last ends in time.
   pub run-ends : (a : ℕ) (before : ObjectMap) (pool : Objects) (store : ObjectMap) (raised : List Raised) → last ≡ Some (map_of pool) → IsVerified pool → IsReady pool store
       → length raised ≤ 3 → EndsInTime last (record { address = a; before = before; objects = store; raised = raised })
   run-ends a before pool store raised is-last verified ready few =
@@ -327,7 +327,7 @@ module _ (laws : Laws) (last : Option ObjectMap) where
   raised-keeps event which None is = tt
   raised-keeps event which (Some state) is = raised-in-force state event which is
 
-  -- ---- what happens at an address
+  -- ---- any act at an address
 
   changed-keeps : (p : AddressView) (o : Option Set) → IsEach last p.place.content.pool → IsEach last (after_change p o).place.content.pool
   changed-keeps p None is = is

@@ -1,4 +1,4 @@
--- The step is a function of the input alone: whatever findings of pools are right, they give the same step.
+-- A step is a function of its input alone: all right findings on pools give the same step.
 use Rattle.std.specs.Prelude.{◌≡◌, List}
 use Rattle.vt_server.specs.Findings.{IsEventOf, IsFound}
 use Rattle.vt_server.specs.States.{TakesInput, TakesInputs}
@@ -7,8 +7,8 @@ use Rattle.vt_server.specs.Terminals.{State}
 use Rattle.vt_server.specs.declared.input.Input.{Input}
 use Rattle.vt_server.specs.declared.output.Output.{Output}
 
--- Two events of an input with right findings make one step of it. So a terminal that takes an input from a state is in one
--- state after it, and has sent the same; and so too for inputs one after the other.
+-- Two events of an input with right findings have the same step. A terminal therefore reaches one state and sends the same
+-- outputs after one input, and after a list of inputs.
 pub record StepsAreOne : Type 0 where
   pub events : (s : State) (input : Input) (e f : JudgedInput) → IsEventOf input e → IsEventOf input f → IsFound s e → IsFound s f → step s e ≡ step s f
   pub input : (old : State) (input : Input) (new other : State) (before after later : List Output) → TakesInput old input new before after

@@ -1,4 +1,4 @@
--- The claims of a run, and the holders that they make (docs/PROFILE.md, "The holder of an address", "Loss of the address").
+-- The claims received in a run, and the holders after them (docs/PROFILE.md, "The holder of an address", "Loss of the address").
 use Rattle.std.specs.Prelude.{◌≡◌, ℕ, ◌==◌, ◌&&◌, Bool, false, nat_lt, if◌then◌else◌, List, [], ◌∷◌, ◌++◌}
 use Rattle.vt_can.specs.frames.Frame.{source_of}
 use Rattle.vt_names.specs.Claims.{Claim, IsHolder}
@@ -12,13 +12,13 @@ abbrev pub claim_of : ℕ → FrameMeaning → List Claim
 claim_of source (notices.Claim name) = record { address = source; name = name } ∷ []
 claim_of source _ = []
 
--- a lower NAME claims the own address
+-- whether a lower NAME claims the own address
 abbrev pub takes_address : ℕ → ℕ → ℕ → FrameMeaning → Bool
 takes_address own name source (notices.Claim other) = (source == own) && nat_lt other name
 takes_address own name source _ = false
 
--- The claims that a terminal hears, the latest first, after those before: all up to the one by which it loses its
--- own address. Echoes are none.
+-- The claims that a terminal receives, the latest first, before the earlier ones: all before the one by which it loses its own
+-- address. Echoes do not count.
 abbrev pub claims_heard : ℕ → ℕ → List Claim → List JudgedInput → List Claim
 claims_heard own name before [] = before
 claims_heard own name before (FrameAt time frame verdict ∷ events) =

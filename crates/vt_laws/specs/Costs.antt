@@ -1,4 +1,4 @@
--- What an input costs, as one number (docs/PROFILE.md, "Costs and budgets", "Steps").
+-- The cost of an input as one number of steps (docs/PROFILE.md, "Costs and budgets", "Steps").
 use Rattle.std.specs.Prelude.{◌≤◌, ◌+◌, ◌-◌, ℕ, List, sum_by, Option, Some, None}
 use Rattle.std.specs.List.{AllByRecursion}
 use Rattle.vt_stores.specs.Stores.{ObjectMap}
@@ -10,34 +10,34 @@ use Rattle.vt_server.specs.Steps.{JudgedInput}
 use Rattle.vt_server.specs.Terminals.{State}
 use Rattle.vt_laws.specs.Headline.{Pools, AreInForce, Run, accepted_after, runs}
 
--- the steps that are used of those that a run begins with; one that sticks uses more than it has
+-- the steps used out of those at the start of a run; a run that sticks uses more than it has
 abbrev pub used : ℕ → End → ℕ
 used most (Ended store left) = most - left
 used most (Sticks why store) = most + 1
 
--- the steps that the macros of a run take
+-- the steps of the macros of a run
 abbrev pub steps_of : Run → ℕ
 steps_of run = used (total_budget (shape_in run.objects) run.raised) (run_of run.objects run.raised)
 
--- what the report of the pool prints for events, added up
+-- the sum of the budgets that a pool's report prints for events
 abbrev pub printed : Option ObjectMap → List Raised → ℕ
 printed None raised = 0
 printed (Some pool) raised = total_budget (shape_in pool) raised
 
--- the budgets of a run by the pool that was accepted last at its address
+-- the budgets of a run, by the pool accepted last at its address
 abbrev pub budget_of : Pools → Run → ℕ
 budget_of pools run = printed (pools run.address) run.raised
 
--- the steps that the macros of an input take; its command takes one more (vt_machine, `Lives`: `IsDone`)
+-- the steps of all macros of an input; its command takes one more (vt_machine, `Lives`: `IsDone`)
 abbrev pub steps_in : State → JudgedInput → ℕ
 steps_in s e = sum_by steps_of (runs s e)
 
--- what they may take: the budgets of the events that the input's command or action raises, and of those by which another set is shown
+-- the bound on these steps: the budgets of the events of the input's command or action, and of a change of the shown set
 abbrev pub cost_of : Pools → State → JudgedInput → ℕ
 cost_of pools s e = sum_by (budget_of pools) (runs s e)
 
--- No run takes more steps than its budgets, so none sticks; and no input takes more than the sum of them, by the pools that were
--- accepted last at each address, in its course too.
+-- No run takes more steps than its budgets, so none sticks. All runs of an input take no more than the sum of the budgets. The
+-- budgets are those of the pool accepted last at each address, also during the input.
 pub record IsWithinCosts (pools : Pools) (s : State) (e : JudgedInput) : Type 0 where
   pub each : AllByRecursion (λ run. steps_of run ≤ budget_of pools run) (runs s e)
   pub whole : steps_in s e ≤ cost_of pools s e

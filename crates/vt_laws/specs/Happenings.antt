@@ -1,4 +1,4 @@
--- One address among all: what happens there, and what it makes of that (docs/PROFILE.md, "One address").
+-- The happenings at one address, and their effect on its view (docs/PROFILE.md, "One address").
 use Rattle.std.specs.Prelude.{◌≡◌, ◌≢◌, ℕ, ◌==◌, ◌&&◌, Bool, true, false, if◌then◌else◌, List, [], ◌∷◌, ◌++◌, Option, Some, None, nat_eq, is_some}
 use Rattle.std.specs.List.{AllZip}
 use Rattle.std.specs.Option.{option_eq}
@@ -21,10 +21,10 @@ use Rattle.vt_server.specs.Steps.{JudgedInput, FrameAt, ActionAt, step, after_al
 use Rattle.vt_server.specs.Terminals.{State, holder, part, after_acts}
 use Rattle.vt_server.specs.Transfers.{Verdict}
 
--- A session with the address is silent for too long: one in which it sends, by either protocol, or the one in which it is
--- sent a message. Its set is. The terminal loses its own address. The address has another holder. A frame comes from it,
--- with the verdict on the transfer that the frame ends. The operator acts on its set, whose object is shown or not. An
--- event of its set is raised. A pool is preloaded.
+-- The happenings at an address. A receiving session by either protocol times out, or the sending session does. Its set falls
+-- silent. The terminal loses its own address. The address has another holder. A frame comes from it, with the verdict on the
+-- upload that the frame ends. The operator acts on its set, whose object is shown or not. An event of its Working Set is raised.
+-- A pool is preloaded.
 pub data Happening : Type 0 where
   TpExpired : Happening
   EtpExpired : Happening
@@ -37,16 +37,16 @@ pub data Happening : Type 0 where
   EventRaised : ℕ → Happening
   Preloaded : ObjectMap → Happening
 
--- ---- what the address makes of it, by its own part alone
+-- ---- the response of an address, by its own view alone
 
 abbrev pub with_holder : AddressView → Option ℕ → AddressView
 with_holder p name = record p { holder = name }
 
--- An act at the address; no time is looked at.
+-- The response to an act at the address. It does not depend on the time.
 abbrev pub by_act : ℕ → AddressView → Act → Response
 by_act address p act = response_of p (outcome 0 address p act)
 
--- while the terminal has its own address; the loss takes the holder out of the part
+-- the response while the terminal has its own address; the loss removes the holder from the view
 abbrev pub response_while : ℕ → AddressView → Happening → Response
 response_while address p TpExpired = by_act address p TpExpires
 response_while address p EtpExpired = by_act address p EtpExpires
@@ -59,7 +59,7 @@ response_while address p (Operated action shown) = by_act address p (Operates ac
 response_while address p (EventRaised event) = by_act address p (Raises event)
 response_while address p (Preloaded contents) = by_act address p (Preloads contents)
 
--- After the loss nothing has effect.
+-- After the loss of the own address no happening has an effect.
 abbrev pub response : ℕ → AddressView → Happening → Response
 response address p happening = if p.lost then without_effect p else response_while address p happening
 
@@ -71,11 +71,11 @@ abbrev pub frames_of_all : ℕ → AddressView → List Happening → List Frame
 frames_of_all address p [] = []
 frames_of_all address p (h ∷ happenings) = (response address p h).frames ++ frames_of_all address (response address p h).part happenings
 
--- The part of an address in a state, without times. It has a holder while the terminal has its own address.
+-- The view of an address in a state, without times. It has a holder only while the terminal has its own address.
 abbrev pub own_part : ℕ → State → AddressView
 own_part address s = untimed_part (with_holder (part address s) (if s.lost then None else holder s address))
 
--- ---- the happenings of an address, which is not the terminal's own
+-- ---- the happenings of an address other than the terminal's own
 
 abbrev pub if_so : Bool → Happening → List Happening
 if_so true happening = happening ∷ []
@@ -84,7 +84,7 @@ if_so false happening = []
 abbrev pub is_at : ℕ → Option ℕ → Bool
 is_at address found = option_eq nat_eq found (Some address)
 
--- by the time of a frame: its sessions, and its set
+-- the happenings by the time of a frame: timeouts of sessions, and the closing of a silent set
 abbrev pub lapses : ℕ → State → List Happening
 lapses address s =
     if_so (is_overdue s.now (s.places address).tp) TpExpired
@@ -92,11 +92,11 @@ lapses address s =
     ++ (if_so (is_overdue s.now (s.places address).sending) SendingExpired
     ++ if_so (is_some (set_at address s.sets) && is_silent s.now (s.places address).heard) FellSilent))
 
--- the terminal loses its address by a frame
+-- whether the terminal loses its address by a frame
 abbrev pub loses : State → Frame → Bool
 loses s frame = is_lost_by (answer_to s (source_of frame) (notice_of s.claims.own s.claims.name frame))
 
--- what is heard of addresses after a frame by which the own one is not lost
+-- the address claims after a frame by which the own address is not lost
 abbrev pub claims_after : State → Frame → Claimed
 claims_after s frame = hear_claim s (source_of frame) (notice_of s.claims.own s.claims.name frame)
 
@@ -105,12 +105,12 @@ holder_change address old new =
     if option_eq nat_eq (holder_of old.addresses address) (holder_of new.addresses address) then []
     else HolderIs (holder_of new.addresses address) ∷ []
 
--- the events of another set's being shown than before
+-- the events of a change of the shown set
 abbrev pub events_at : ℕ → Option ℕ → Option ℕ → List Happening
 events_at address was now =
     if option_eq nat_eq was now then [] else if_so (is_at address was) (EventRaised DEACTIVATE) ++ if_so (is_at address now) (EventRaised ACTIVATE)
 
--- a change of the holder comes before the frame
+-- the happenings of a frame, after a change of the holder
 abbrev pub heard_happenings : ℕ → State → Frame → Verdict → List Happening
 heard_happenings address s frame verdict =
     holder_change address s.claims (claims_after s frame) ++ if_so (source_of frame == address) (FrameHeard frame verdict)
@@ -138,39 +138,38 @@ abbrev pub happenings_all : ℕ → State → List JudgedInput → List Happenin
 happenings_all address s [] = []
 happenings_all address s (e ∷ events) = happenings address s e ++ happenings_all address (step s e).after events
 
--- ---- Each address takes its own happenings, and no other.
+-- ---- each address is changed by its own happenings alone
 
 pub record EachTakesItsOwn : Type 0 where
-  -- a step, and what it leaves at an address, with the frames to it
+  -- a step, the view of an address after it, and the frames to the address
   pub part_after : (address : ℕ) (s : State) (e : JudgedInput) → IsOrderly s → IsOther address s
       → own_part address (step s e).after ≡ part_after_all address (own_part address s) (happenings address s e)
   pub frames_after : (address : ℕ) (s : State) (e : JudgedInput) → IsOrderly s → IsOther address s
       → frames_to address (step s e).sent ≡ frames_of_all address (own_part address s) (happenings address s e)
-  -- an input that makes nothing happen there leaves it as it was
+  -- An input without a happening at an address leaves its view unchanged.
   pub quiet : (address : ℕ) (s : State) (e : JudgedInput) → IsOrderly s → IsOther address s → happenings address s e ≡ []
       → own_part address (step s e).after ≡ own_part address s
-  -- a pool that is preloaded, at its address and elsewhere
+  -- a preloaded pool, at its address and at others
   pub preloaded : (address : ℕ) (s : State) (contents : ObjectMap) → s.lost ≡ false
       → own_part address (preloading s address contents) ≡ part_after_all address (own_part address s) (Preloaded contents ∷ [])
   pub preloaded_elsewhere : (address other : ℕ) (s : State) (contents : ObjectMap) → other ≢ address
       → own_part other (preloading s address contents) ≡ own_part other s
 
--- ---- The happenings of an address decide, whatever else is heard.
+-- ---- the happenings of an address decide its view, whatever other nodes send
 
--- The same frame, action or other happening. What is found of pools in the course of a frame or an action may be put otherwise,
--- as where two verdicts on a transfer are right.
+-- The same frame, action or other happening. The findings on pools may differ, as where two verdicts on an upload are right.
 abbrev pub AreAlike : Happening → Happening → Type 0
 AreAlike (FrameHeard frame verdict) (FrameHeard other found) = frame ≡ other
 AreAlike (Operated action shown) (Operated other seen) = action ≡ other
 AreAlike h k = h ≡ k
 
--- what two runs leave at an address, and send it
+-- the same view of an address after two runs, and the same frames to it
 pub record IsSameAt (address : ℕ) (s t : State) (xs ys : List JudgedInput) : Type 0 where
   pub part : own_part address (after_all s xs) ≡ own_part address (after_all t ys)
   pub frames : frames_to address (sent_by_all s xs) ≡ frames_to address (sent_by_all t ys)
 
--- Two runs with the same happenings of an address, from the same part of it, leave the same part and send it the same frames,
--- whatever else they hear: with the same findings of pools, and with any that are right.
+-- Two runs with the same happenings at an address, from the same view of it, leave the same view and send it the same frames,
+-- whatever other nodes send. The findings may be the same, or different but right.
 pub record OwnHappeningsDecide : Type 0 where
   pub same : (address : ℕ) (s t : State) (xs ys : List JudgedInput) → IsOrderly s → IsOrderly t → IsOther address s → IsOther address t
       → own_part address s ≡ own_part address t → happenings_all address s xs ≡ happenings_all address t ys → IsSameAt address s t xs ys
@@ -178,7 +177,7 @@ pub record OwnHappeningsDecide : Type 0 where
       → AreFound s xs → AreFound t ys
       → own_part address s ≡ own_part address t → AllZip AreAlike (happenings_all address s xs) (happenings_all address t ys) → IsSameAt address s t xs ys
 
--- ---- A set with a NAME has that of its address's holder, after every input. (None stands at the own address.)
+-- ---- after every input a set with a NAME has that of its address's holder (the own address has no set)
 
 abbrev pub NameIsHeld : Option ℕ → Option ℕ → Type 0
 NameIsHeld None holder = Unit {0}

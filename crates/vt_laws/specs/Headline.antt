@@ -1,5 +1,5 @@
--- The promise over all that a terminal does: its sets are those of the written machine, and that machine never sticks
--- (docs/PROOFS.md, "The headline").
+-- The headline: the sets of a terminal are those of the written machine, and that machine never sticks (docs/PROOFS.md, "The
+-- headline").
 use Rattle.std.specs.Prelude.{◌≡◌, ◌≤◌, ℕ, Bool, length, if◌then◌else◌, List, [], ◌∷◌, ◌++◌, Option, Some, None, Result, Ok, Err, IfSome}
 use Rattle.std.specs.List.{AllByRecursion}
 use Rattle.std.specs.FinMap as finite
@@ -43,12 +43,12 @@ use Rattle.vt_server.specs.declared.output.Output.{Output}
 
 -- ---- pools in force
 
--- what was accepted last at each address: a pool that was preloaded or uploaded, or an update with the objects that it left
+-- the pool accepted last at each address: a preloaded or uploaded one, or an update with the objects that it kept
 abbrev pub Pools : Type 0
 Pools = ℕ → Option ObjectMap
 
--- The objects come from the pool that was accepted last: the same IDs, kinds, macro entries and macro bytes, one working set,
--- and references and chains in order.
+-- The objects come from the pool accepted last: they have the same IDs, kinds, macro entries and macro bytes, one working set,
+-- and valid references and chains.
 pub record IsInForce (last : Option ObjectMap) (state : SetState) : Type 0 where
   pub accepted : Objects
   pub is_last : last ≡ Some (map_of accepted)
@@ -58,7 +58,7 @@ pub record IsInForce (last : Option ObjectMap) (state : SetState) : Type 0 where
 abbrev pub AreInForce : Pools → State → Type 0
 AreInForce pools s = (address : ℕ) → IfSome (pool_of s address) (IsInForce (pools address))
 
--- ---- which pools are accepted in the course of an input
+-- ---- pools accepted during an input
 
 abbrev pub accepted_by : Verdict → Option ObjectMap → Option ObjectMap
 accepted_by (Accepts objects) last = Some objects
@@ -67,7 +67,7 @@ accepted_by _ last = last
 abbrev pub accepted_with : Bool → Verdict → Option ObjectMap → Option ObjectMap
 accepted_with ends verdict last = if ends then accepted_by verdict last else last
 
--- the end of a transfer whose pool is accepted, and a pool that is preloaded
+-- the pool accepted by an act: an accepted upload that ends, or a preloaded pool
 abbrev pub accepted_at : ℕ → ℕ → AddressView → Act → Option ObjectMap → Option ObjectMap
 accepted_at now address p (Hears notice frame verdict) last =
     accepted_with (ends_transfer p.set (came now p.terminal address p.place notice frame).message) verdict last
@@ -84,7 +84,7 @@ accepted_in_hearing s source notice frame verdict pools =
     if is_lost_by (answer_to s source notice) then pools
     else accepted_by_acts (before s source notice) (acts s source notice frame verdict) pools
 
--- An action of the operator brings no pool, and nor does a frame after the loss of the address.
+-- An action of the operator accepts no pool, and a frame after the loss of the address accepts none.
 abbrev pub accepted_after : State → JudgedInput → Pools → Pools
 accepted_after s (FrameAt time frame verdict) pools =
     if s.lost then pools
@@ -95,17 +95,17 @@ abbrev pub accepted_after_all : State → List JudgedInput → Pools → Pools
 accepted_after_all s [] pools = pools
 accepted_after_all s (e ∷ events) pools = accepted_after_all (step s e).after events (accepted_after s e pools)
 
--- ---- the runs of the machine in the course of an input
+-- ---- runs of the machine during an input
 
--- A run of the machine: the objects that the set of an address had, those that a command or an action made of them, or the same at
--- an event of the Working Set, and the events that are raised on these.
+-- A run of the machine: the objects of a set before it, those after the change by a command or an action (the same for an event
+-- of the Working Set), and the events raised on these.
 pub record Run : Type 0 where
   pub address : ℕ
   pub before : ObjectMap
   pub objects : ObjectMap
   pub raised : List Raised
 
--- A command that is done raises its events on the objects that it leaves.
+-- A command that is done raises its events on the objects after its own change.
 abbrev pub runs_of_effect : ℕ → ObjectMap → Command → Result ObjectMap ℕ → List Run
 runs_of_effect address old command (Ok middle) = record { address = address; before = old; objects = middle; raised = events_of old command } ∷ []
 runs_of_effect address old command (Err bits) = []
@@ -114,12 +114,12 @@ abbrev pub runs_of_command : ℕ → Option SetState → Option Command → List
 runs_of_command address (Some state) (Some command) = runs_of_effect address state.objects command (effect state.objects command)
 runs_of_command address _ _ = []
 
--- Only the master of a set is heard.
+-- Only messages from the master of a set begin runs.
 abbrev pub runs_of_message : ℕ → Option Set → Option SetState → Option (List ℕ) → List Run
 runs_of_message address (Some set) pool (Some bytes) = runs_of_command address pool (command_at bytes)
 runs_of_message address _ pool _ = []
 
--- An action makes its own change first. One that is refused makes none, as one whose message is long while another is sent.
+-- An action makes its own change first. A refused action makes none; a long message is refused while another is being sent.
 abbrev pub runs_of_action : ℕ → Option (Timed Message) → ObjectMap → Option operating.Action → List Run
 runs_of_action address sending old (Some (operating.Acts message start raised)) =
     if is_busy message sending then []
@@ -154,7 +154,7 @@ abbrev pub runs_of_acts : State → List (ℕ × Act) → List Run
 runs_of_acts s [] = []
 runs_of_acts s (h ∷ acts) = runs_at s.now h.0 (part h.0 s) h.1 ++ runs_of_acts (after_act s h.0 h.1) acts
 
--- the events of another set's being shown
+-- the runs of a change of the shown set
 abbrev pub runs_of_settling : State → List Run
 runs_of_settling s = runs_of_acts (choosing s) (events_of_change s.shown (shown_now s))
 
@@ -166,18 +166,18 @@ runs_of_hearing s source notice frame verdict =
 abbrev pub runs_of_operating : State → List (ℕ × Act) → List Run
 runs_of_operating s happens = runs_of_acts s happens ++ runs_of_settling (after_acts s happens)
 
--- those of a command or an action, and those of the events that another set is shown
+-- the runs of an input: of its command or action, and of a change of the shown set
 abbrev pub runs : State → JudgedInput → List Run
 runs s (FrameAt time frame verdict) =
     if s.lost then [] else runs_of_hearing (lapsed (at_time s time)) (source_of frame) (notice_of s.claims.own s.claims.name frame) frame verdict
 runs s (ActionAt action shown) =
     if s.lost then [] else runs_of_operating (selecting s action) (at_shown s.shown (Operates action shown))
 
--- ---- what is promised of them
+-- ---- the promise on runs
 
--- A run on the objects of the pool that was accepted last at its address ends, and does not stick: each command finds the objects
--- that it names, of kinds that they may have, and the steps are at most the budgets that the pool's report prints for the events,
--- of which there are few. The events run in turn, and each of them ends within its own budget.
+-- A run on the objects of the pool accepted last at its address ends and does not stick. Each command finds its objects, of kinds
+-- that it may have. The steps are at most the budgets that the pool's report prints for the events, at most three. The events run
+-- in turn, each within its own budget.
 pub record EndsInTime (last : Option ObjectMap) (run : Run) : Type 0 where
   pub accepted : Objects
   pub is_last : last ≡ Some (map_of accepted)
@@ -187,8 +187,8 @@ pub record EndsInTime (last : Option ObjectMap) (run : Run) : Type 0 where
   pub in_turn : EndInTurn run.objects run.raised ends.new
   pub few : length run.raised ≤ 3
 
--- So the whole cost of an input is one for its command, the budgets of what that raises, and those of the two events by which
--- another set is shown. A pool that is accepted in its course is the last one for the runs at its address.
+-- An input begins at most three runs, so its cost is bounded: one for its command, the budgets of its events, and those of the
+-- two events of a change of the shown set. A pool accepted during the input counts for the runs at its address.
 pub record RunsEnd (pools : Pools) (s : State) (e : JudgedInput) : Type 0 where
   pub each : AllByRecursion (λ run. EndsInTime (pools run.address) run) (runs s e)
   pub few : length (runs s e) ≤ 3
@@ -197,8 +197,8 @@ abbrev pub AllEnd : Pools → State → List JudgedInput → Type 0
 AllEnd pools s [] = Unit {0}
 AllEnd pools s (e ∷ events) = RunsEnd (accepted_after s e pools) s e × AllEnd (accepted_after s e pools) (step s e).after events
 
--- No drawing of the objects sticks: each reference that is shown leads to an object of a kind that may stand there, or is NULL
--- where it may be, and all that a drawing looks up is there. On the way to each element stand few objects.
+-- No drawing of the objects sticks. Each shown reference leads to an object of a kind allowed there, or is NULL where that is
+-- allowed. Every object that a drawing looks up is there. The path to each element has few objects.
 pub record DrawsWhatIsThere (store : ObjectMap) : Type 0 where
   pub never_sticks : (mask : ℕ) → Sticks store mask → ⊥
   pub finds_all : (mask : ℕ) → FindsAll store mask
@@ -207,20 +207,20 @@ pub record DrawsWhatIsThere (store : ObjectMap) : Type 0 where
   pub of_keys : (mask : ℕ) (path : List ℕ) → IfSome (at_path store (key_entries store mask) origin path)
       (λ e. IsChained store (soft_key_mask_of (finite.get store mask)) (passed store (key_entries store mask) path) e.id)
 
--- The runs of events end in time, and what these leave are pools in force, each of which is the one that was accepted last, and
--- whose drawings do not stick.
+-- The runs of events end in time. The pools after them are in force, each from the pool accepted last, and their drawings do not
+-- stick.
 pub record EventsKeep (pools : Pools) (old : State) (events : List JudgedInput) : Type 0 where
   pub runs_end : AllEnd pools old events
   pub in_force : AreInForce (accepted_after_all old events pools) (after_all old events)
   pub drawn : (address : ℕ) → IfSome (pool_of (after_all old events) address) (λ state. DrawsWhatIsThere state.objects)
 
--- What inputs leave: the sets and outputs of the written machine, which keeps the promise.
+-- After inputs the sets and outputs are those of the written machine, and the machine keeps the promise.
 pub record Keeps (pools : Pools) (old : State) (inputs : List Input) (new : State) (sent_before sent_after : List Output) : Type 0 where
   pub takes : TakesInputs old inputs new sent_before sent_after
   pub keeps : EventsKeep pools old takes.events
 
--- A terminal has no pool at first; an accepted pool that is preloaded is in force, beside those that are; and whatever events it
--- takes then keep the promise, and so do whatever inputs.
+-- A terminal has no pool at first. An accepted pool that is preloaded is in force beside those in force already. Any events, and
+-- any inputs, then keep the promise.
 pub record NeverSticks : Type 0 where
   pub first : (s : State) → ((address : ℕ) → s.places address ≡ empty) → AreInForce (λ address. None) s
   pub preloaded : (pools : Pools) (s : State) (address : ℕ) (pool : Objects) → IsVerified pool → AreInForce pools s

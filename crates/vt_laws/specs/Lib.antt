@@ -1,4 +1,4 @@
--- What the contracts of this crate cite.
+-- Definitions cited by the laws of vt_laws.
 pub mod Certain
 pub mod ClaimsHeard
 pub mod Costs

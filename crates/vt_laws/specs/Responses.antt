@@ -1,10 +1,10 @@
--- What an address makes of something that happens there: its part afterwards, without times, and the frames to it.
+-- The response of an address to a happening: the view of the address after it, without times, and the frames to the address.
 use Rattle.std.specs.Prelude.{ℕ, ◌==◌, if◌then◌else◌, List, [], ◌∷◌, ◌++◌}
 use Rattle.vt_can.specs.declared.frames.frame.Frame.{Frame}
 use Rattle.vt_server.specs.Parts.{AddressView, AddressOutcome, untimed_part}
 use Rattle.vt_server.specs.Terminals.{Sent, ToOne, ToAll, Refused}
 
--- the part after it, without times, and the frames to the address
+-- the view after a happening, without times, and the frames to the address
 pub record Response : Type 0 where
   pub part : AddressView
   pub frames : List Frame
@@ -15,7 +15,7 @@ without_effect p = record { part = p; frames = [] }
 abbrev pub response_of : AddressView → AddressOutcome → Response
 response_of p after = record { part = untimed_part (record p { set = after.set; place = after.place }); frames = after.frames }
 
--- ---- the frames to an address; claims and status messages go to all and are not counted
+-- ---- the frames to an address, not counting claims and status messages, which go to all
 
 abbrev pub frame_to : ℕ → Sent → List Frame
 frame_to address (ToOne to frame) = if to == address then frame ∷ [] else []

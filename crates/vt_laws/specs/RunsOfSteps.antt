@@ -1,4 +1,4 @@
--- The runs that are listed of an input are those of the step (docs/PROFILE.md, "The step", "Runs").
+-- The listed runs of an input are the runs of its step (docs/PROFILE.md, "The step", "Runs").
 use Rattle.std.specs.Prelude.{◌≡◌, ℕ, Bool, ◌==◌, List, [], ◌∷◌, Some, Ok, IfSome, IsSomeAnd}
 use Rattle.std.specs.List.{AllByRecursion, filter}
 use Rattle.std.specs.Option.{option_map}
@@ -17,11 +17,11 @@ use Rattle.vt_server.specs.Steps.{JudgedInput, step}
 use Rattle.vt_server.specs.Terminals.{State, pool_of}
 use Rattle.vt_laws.specs.Headline.{Pools, Run, accepted_after, runs}
 
--- the objects that the machine leaves
+-- the objects after a run
 abbrev pub left_by : Run → ObjectMap
 left_by run = store_of (run_of run.objects run.raised)
 
--- Runs one after the other: the first from the objects before, and each from those that the one before it leaves.
+-- Runs in sequence: the first starts from the objects before, and each other one from the objects after its predecessor.
 abbrev pub Lead : ObjectMap → List Run → ObjectMap → Type 0
 Lead old [] new = new ≡ old
 Lead old (run ∷ runs) new = (run.before ≡ old) × Lead (left_by run) runs new
@@ -29,19 +29,19 @@ Lead old (run ∷ runs) new = (run.before ≡ old) × Lead (left_by run) runs ne
 abbrev pub runs_there : ℕ → List Run → List Run
 runs_there address runs = filter (λ run. run.address == address) runs
 
--- How a run begins: by a command that is done, by an action of the operator, or by an event of the Working Set.
+-- The beginning of a run: a command that is done, an action of the operator, or an event of the Working Set.
 pub data IsBegun (run : Run) : Type 0 where
   ByCommand : (command : Command) → effect run.before command ≡ Ok run.objects → run.raised ≡ events_of run.before command → IsBegun run
   ByAction : (state start : SetState) (shown : Bool) (action : ActionValue) (message : List ℕ) → state.objects ≡ run.before
       → action_on state shown action ≡ Some (Acts message start run.raised) → start.objects ≡ run.objects → IsBegun run
   ByEvent : (event : objects.Event) → run.objects ≡ run.before → run.raised ≡ raise (working_set_in run.before) event ∷ [] → IsBegun run
 
--- the objects that each set has
+-- the objects of each set
 abbrev pub objects_in : State → Pools
 objects_in s address = option_map (λ state. state.objects) (pool_of s address)
 
--- Each run begins as a run may. And the objects of a set after an input are those that the runs there leave, from those before, or
--- from those of the pool that was accepted there in its course: no run is left out, and nothing but these changes an object.
+-- Each run begins with a command, an action or an event. The objects of a set after an input are the result of the runs there,
+-- from the objects before or from a pool accepted during the input: no run is missing, and nothing else changes an object.
 pub record RunsAreOfSteps : Type 0 where
   pub begun : (s : State) (e : JudgedInput) → AllByRecursion IsBegun (runs s e)
   pub lead : (s : State) (e : JudgedInput) (address : ℕ) → IfSome (pool_of (step s e).after address)

@@ -1,4 +1,4 @@
--- Where the frames of a step go, and how many there are (docs/PROFILE.md, "The outputs of one input").
+-- The destinations and the number of the frames of a step (docs/PROFILE.md, "The outputs of one input").
 use Rattle.std.specs.Prelude.{◌≡◌, ◌<◌, ◌≤◌, ◌^◌, ◌⊎◌, ℕ, List, [], ◌∷◌, length, slice_index, IfSome}
 use Rattle.vt_can.specs.declared.frames.frame.Frame.{Frame}
 use Rattle.vt_can.specs.Assigned.{ADDRESS_CLAIMED, ETP_CM, GLOBAL_ADDRESS, NULL_ADDRESS, TP_CM, TP_DT, VT_TO_ECU}
@@ -6,15 +6,15 @@ use Rattle.vt_can.specs.frames.Identifier.{parts_of, addressed}
 use Rattle.vt_server.specs.Steps.{JudgedInput, FrameAt, ActionAt, step}
 use Rattle.vt_server.specs.Terminals.{State, Sent, ToOne, ToAll, Refused}
 
--- to one address: a message, with priority 5; what manages its sessions, by either protocol, or a packet of a message
--- to it, with priority 7
+-- a frame to one address: a message, with priority 5; a session control frame of either protocol, or a packet of a message, with
+-- priority 7
 abbrev pub IsToOne : ℕ → ℕ → Frame → Type 0
 IsToOne own address frame =
     (parts_of frame.id ≡ addressed 5 VT_TO_ECU address own)
     ⊎ ((parts_of frame.id ≡ addressed 7 TP_CM address own)
     ⊎ ((parts_of frame.id ≡ addressed 7 ETP_CM address own) ⊎ (parts_of frame.id ≡ addressed 7 TP_DT address own)))
 
--- to all: the terminal's claim, Cannot Claim, or a status
+-- a frame to all: the terminal's claim, Cannot Claim, or a status
 abbrev pub IsToAll : ℕ → Frame → Type 0
 IsToAll own frame =
     (parts_of frame.id ≡ addressed 6 ADDRESS_CLAIMED GLOBAL_ADDRESS own)
@@ -30,12 +30,12 @@ abbrev pub AreAddressed : ℕ → List Sent → Type 0
 AreAddressed own [] = Unit {0}
 AreAddressed own (s ∷ sent) = IsAddressed own s × AreAddressed own sent
 
--- the terminal's own address is one, and that of the set that is shown
+-- The terminal's own address and the address of the shown set are bytes.
 pub record HasAddresses (s : State) : Type 0 where
   pub own : s.claims.own < 2 ^ 8
   pub shown : IfSome s.shown (λ address. address < 2 ^ 8)
 
--- Byte 1 of a frame, which in a CTS counts packets, is a byte.
+-- Byte 1 of a frame, the number of packets in a CTS, is below 256.
 abbrev pub HasByte : JudgedInput → Type 0
 HasByte (FrameAt time frame verdict) = slice_index frame.bytes.items 1 < 2 ^ 8
 HasByte (ActionAt action shown) = Unit {0}

@@ -13,45 +13,44 @@ use Rattle.vt_server.specs.Terminals.{State, holder}
 use Rattle.vt_node.specs.declared.bus.FrameMeaning.{FrameMeaning}
 use Rattle.vt_node.specs.declared.bus.FrameMeaning.TheVariants.{Claim, Master, Member}
 
--- the sets that are not silent by the time of a frame, in their order
+-- the sets that are not silent at the time of a frame, in their order
 abbrev pub heard_sets : State → ℕ → List Set
 heard_sets s time = filter (λ set. not (silent (at_time s time) set)) s.sets
 
--- a set without a NAME, or with the NAME of its address's holder
+-- whether a set has no NAME or the NAME of its address's holder
 abbrev pub stays : State → Set → Bool
 stays s set = stays_under set.name (holder s set.address)
 
--- a set of an address takes the holder's NAME where it has none
+-- the set with its holder's NAME, if it is of this address and has no NAME
 abbrev pub named_at : State → ℕ → Set → Set
 named_at s address set = if set.address == address then with_holder_name set set.name (holder s address) else set
 
--- By what a frame says, and by the holders after it. A claim closes each set with a NAME that isn't its address's
--- holder, the others keep their order, and a set of its source without a NAME takes the holder's. A master message
--- registers, a member message adds, and nothing else changes the list.
+-- The sets after a frame, by its meaning and the holders after it. A claim closes each set with a NAME that is not its address's
+-- holder, the others keep their order, and a set of its source without a NAME takes the holder's. A master message registers a
+-- set, a member message adds a member, and nothing else changes the list.
 abbrev pub sets_after : State → ℕ → FrameMeaning → List Set → List Set
 sets_after t source (Claim name) sets = map (named_at t source) (filter (stays t) sets)
 sets_after t source (Master count) sets = registering source (holder t source) count sets
 sets_after t source (Member name) sets = joining (set_at source sets) name sets
 sets_after t source _ sets = sets
 
--- With the frame by which the address is lost only the silent sets go, and after it none does. An action of the operator
--- changes no set.
+-- The frame by which the address is lost closes the silent sets only. Later frames, and actions of the operator, close none.
 abbrev pub sets_by : State → State → JudgedInput → List Set
 sets_by s t (FrameAt time frame verdict) =
     if s.lost then s.sets else if loses s frame then heard_sets s time
     else sets_after t (source_of frame) (notice_of s.claims.own s.claims.name frame) (heard_sets s time)
 sets_by s t (ActionAt action shown) = s.sets
 
--- ---- of what states it holds
+-- ---- the states for which the law holds
 
--- no set has the terminal's own address, and one with a NAME has that of its address's holder
+-- No set has the terminal's own address, and each set with a NAME has the NAME of its address's holder.
 pub record IsSettled (s : State) : Type 0 where
   pub elsewhere : set_at s.claims.own s.sets ≡ None
   pub held : SetsAreHeld s
 
 pub record SetsAfterSteps : Type 0 where
   pub listed : (s : State) (e : JudgedInput) → IsOrderly s → IsSettled s → (step s e).after.sets ≡ sets_by s (step s e).after e
-  -- before the first input, after a preload at another address than the terminal's, and after every input
+  -- before the first input, after a preload at another address than the terminal's own, and after every input
   pub first : (s : State) → s.sets ≡ [] → IsSettled s
   pub preloaded : (address : ℕ) (s : State) (contents : ObjectMap) → address ≢ s.claims.own → IsSettled s
       → IsSettled (preloading s address contents)

@@ -1,4 +1,4 @@
--- The set that is selected and the one that is shown (docs/PROFILE.md, "The shown set and the selected set").
+-- The selected set and the shown set (docs/PROFILE.md, "The shown set and the selected set").
 use Rattle.std.specs.Prelude.{◌≡◌, ◌≤◌, ◌<◌, ◌⊎◌, ◌↔◌, ℕ, true, false, Some, None, is_some, slice_get}
 use Rattle.std.specs.FinMap as finite
 use Rattle.vt_kinds.specs.declared.masks.AlarmMask.{AlarmMask}
@@ -13,18 +13,18 @@ use Rattle.vt_server.specs.Parts.{Preloads}
 use Rattle.vt_server.specs.Steps.{JudgedInput, step, settled, preloading}
 use Rattle.vt_server.specs.Terminals.{State, pool_of, after_act}
 
--- ---- which set is selected, and which is shown
+-- ---- the choice of the selected and the shown set
 
 abbrev pub HasPool : State → ℕ → Type 0
 HasPool s address = is_some (pool_of s address) ≡ true
 
--- the set that was registered at this place of the order, counted from 0, is that of an address
+-- The set at this index of the order of registration has the address.
 pub record IsRegisteredAt (s : State) (place address : ℕ) : Type 0 where
   pub set : Set
   pub there : slice_get s.sets place ≡ Some set
   pub address_is : set.address ≡ address
 
--- the active mask of the set is an Alarm Mask of this priority
+-- The active mask of the set is an Alarm Mask of this priority.
 pub record HasAlarm (s : State) (address priority : ℕ) : Type 0 where
   pub state : SetState
   pub pool : pool_of s address ≡ Some state
@@ -32,11 +32,11 @@ pub record HasAlarm (s : State) (address priority : ℕ) : Type 0 where
   pub active : finite.get state.objects (active_in state.objects) ≡ Some (objects.AlarmMask mask)
   pub priority_is : mask.priority ≡ priority
 
--- a lower number, or the same and registered no later
+-- a lower priority number, or the same number and not registered later
 abbrev pub ComesFirst : ℕ → ℕ → ℕ → ℕ → Type 0
 ComesFirst priority place other later = (priority < other) ⊎ ((priority ≡ other) × (place ≤ later))
 
--- Of all sets with an alarm it is the one of the lowest number, and of those with that number the one that was registered first.
+-- Among all sets with an alarm this one has the lowest number, and among equal ones it was registered first.
 pub record IsLoudest (s : State) (address : ℕ) : Type 0 where
   pub place : ℕ
   pub priority : ℕ
@@ -44,18 +44,18 @@ pub record IsLoudest (s : State) (address : ℕ) : Type 0 where
   pub alarm : HasAlarm s address priority
   pub least : (later next other : ℕ) → IsRegisteredAt s later next → HasAlarm s next other → ComesFirst priority place other later
 
--- Of all sets with a pool it is the one that was registered first.
+-- Among all sets with a pool this one was registered first.
 pub record IsFirstWithPool (s : State) (address : ℕ) : Type 0 where
   pub place : ℕ
   pub registered : IsRegisteredAt s place address
   pub has_pool : HasPool s address
   pub first : (later next : ℕ) → IsRegisteredAt s later next → HasPool s next → place ≤ later
 
--- no set has an alarm
+-- No set has an alarm.
 abbrev pub IsQuiet : State → Type 0
 IsQuiet s = (place address priority : ℕ) → IsRegisteredAt s place address → HasAlarm s address priority → ⊥
 
--- the one that was selected keeps its place while it has a pool
+-- the former selected set, if it has a pool; else the first set with a pool
 abbrev pub IsSelected : State → ℕ → Type 0
 IsSelected s address =
     ((s.selected ≡ Some address) × HasPool s address)
@@ -64,17 +64,16 @@ IsSelected s address =
 abbrev pub IsChosen : State → ℕ → Type 0
 IsChosen s address = IsLoudest s address ⊎ (IsQuiet s × IsSelected s address)
 
--- ---- what every input leaves
+-- ---- invariants of every input
 
--- A pool stands only where a set is registered, and the set that is shown has a pool; so has the one that is selected, while the
--- terminal has its address.
+-- Only registered sets have a pool. The shown set has a pool, and so has the selected set while the terminal has its own address.
 pub record PoolsAreOfSets (s : State) : Type 0 where
   pub registered : (address : ℕ) → HasPool s address → is_some (set_at address s.sets) ≡ true
   pub shown : (address : ℕ) → s.shown ≡ Some address → HasPool s address
   pub selected : (address : ℕ) → s.lost ≡ false → s.selected ≡ Some address → HasPool s address
 
--- Where an address is chosen, it is the one of the alarm that comes first, or of the set that is selected where there is none; and one
--- is chosen wherever a set has a pool. It is shown at the end of each step, chosen by what happened in its course, and after a preload.
+-- The chosen address is that of the first alarm, or, if there is none, that of the selected set. Some address is chosen whenever
+-- a set has a pool. It is shown at the end of each step and after a preload.
 pub record ShownAreChosen : Type 0 where
   pub selected : (s : State) (address : ℕ) → (selected_now s ≡ Some address) ↔ IsSelected s address
   pub shown : (s : State) (address : ℕ) → (shown_now s ≡ Some address) ↔ IsChosen s address
@@ -82,7 +81,7 @@ pub record ShownAreChosen : Type 0 where
   pub settled_shows : (s : State) → (settled s).shown ≡ shown_now s
   pub preloading_shows : (s : State) (address : ℕ) (contents : ObjectMap)
       → (preloading s address contents).shown ≡ shown_now (after_act s address (Preloads contents))
-  -- before the first input, after a preload and after every input
+  -- before the first input, after a preload, and after every input
   pub first : (s : State) → ((address : ℕ) → s.places address ≡ empty) → s.selected ≡ None → s.shown ≡ None → PoolsAreOfSets s
   pub preloaded : (address : ℕ) (s : State) (contents : ObjectMap) → IsOrderly s → PoolsAreOfSets s → PoolsAreOfSets (preloading s address contents)
   pub kept : (s : State) (e : JudgedInput) → IsOrderly s → PoolsAreOfSets s → PoolsAreOfSets (step s e).after

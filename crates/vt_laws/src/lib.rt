@@ -1,8 +1,8 @@
-//! What is promised of a terminal over all its inputs: the headline, and the laws on its addresses, its sets and its outputs.
+//! Laws on a terminal over all its inputs: the headline, and laws on its addresses, its sets and its outputs.
 //!
-//! Each function is a law: its contract is a statement over the definitions of vt_server and the crates below, which hold by their
-//! contracts of the code, and calling it changes nothing. `the_machine_never_sticks` is the headline. docs/PROOFS.md says what each
-//! means.
+//! Each law is the contract of a function that changes nothing. It is a statement over the definitions of vt_server and the crates
+//! below; the contracts of the code carry it over to the code. `the_machine_never_sticks` is the headline. docs/PROOFS.md explains
+//! each law.
 #![tactic(auto)]
 
 ghost use Rattle.vt_laws.specs.Certain.{StepsAreOne};
@@ -16,10 +16,9 @@ ghost use Rattle.vt_laws.specs.RunsOfSteps.{RunsAreOfSteps};
 ghost use Rattle.vt_laws.specs.SetLists.{SetsAfterSteps};
 ghost use Rattle.vt_laws.specs.ShownSets.{ShownAreChosen};
 
-/// The headline: whatever inputs a terminal takes after its pools were accepted, each set's objects and the outputs are those of the
-/// written machine, and that machine never sticks. Each command of a macro finds its object, of a kind that it may
-/// change, each event ends within the steps that the pool's report prints for it, and each reference that is shown leads to an
-/// object of its place's kind.
+/// The headline: after its pools were accepted, a terminal gives for any inputs the sets and outputs of the written machine, and
+/// that machine never sticks. Each command of a macro finds its object, of a kind that it may change. Each event ends within the
+/// steps that the pool's report prints for it. Each shown reference leads to an object of a kind allowed there.
 pub fn the_machine_never_sticks()
     ensures { NeverSticks }
 {
@@ -36,15 +35,15 @@ pub fn the_machine_never_sticks()
     vt_layout::laws::paths_are_chained();
 }
 
-/// The law that the runs of which the headline speaks are those of the step. Each begins by a command that is done, an action of the
-/// operator, or an event of the Working Set. Where a set has a pool after an input, its objects are those that the runs at its
-/// address leave, one after the other, from those before, or from those of the pool that was accepted there in its course.
+/// The runs of the headline are the runs of the step. Each begins with a command that is done, an action of the operator, or an
+/// event of the Working Set. If a set has a pool after an input, its objects are the result of the runs at its address, one after
+/// the other, starting from the objects before the input or from a pool accepted during it.
 pub fn runs_are_of_steps()
     ensures { RunsAreOfSteps }
 {}
 
-/// The law that no run of macros in the course of an input takes more steps than the budgets of its events, by the report of the pool
-/// that was accepted last at its address, and that all of them take no more than the sum of these.
+/// No run of macros during an input takes more steps than the budgets of its events, by the report of the pool accepted last at
+/// its address. All runs together take no more than the sum of these budgets.
 pub fn costs_are_within()
     ensures { CostsAreWithin }
 {
@@ -52,8 +51,8 @@ pub fn costs_are_within()
     vt_machine::laws::pools_are_ready();
 }
 
-/// The law that the step is a function of the input alone. Whatever verdict on a transfer is right, and whatever is rightly found
-/// to be shown, the step is one: a terminal that takes inputs from a state is in one state after them, and has sent the same.
+/// The step is a function of the input alone: all right verdicts on an upload, and all right findings of shown objects, give one
+/// step. Inputs from one state lead to one state and to the same outputs.
 pub fn steps_are_one()
     ensures { StepsAreOne }
 {
@@ -62,8 +61,8 @@ pub fn steps_are_one()
     vt_verify::laws::refusals_are_true();
 }
 
-/// The law that a step takes the part of each address through what happens there and no more, and sends the
-/// address just the frames of that.
+/// A step changes the view of each address by the happenings there alone, and sends the address the frames of these happenings
+/// alone.
 pub fn each_takes_its_own()
     ensures { EachTakesItsOwn }
 {
@@ -73,9 +72,8 @@ pub fn each_takes_its_own()
     vt_transport::laws::answers_are_timeless();
 }
 
-/// The law that two runs with the same happenings of an address, from the same part of it, leave the same part
-/// and send it the same frames, whatever else is heard on the bus: with the same findings of pools, and with any
-/// that are right in both runs.
+/// Two runs with the same happenings at an address, from the same view of it, leave the same view and send it the same frames,
+/// whatever other nodes send. The findings on pools may differ, if they are right in both runs.
 pub fn own_happenings_decide()
     ensures { OwnHappeningsDecide }
 {
@@ -88,9 +86,9 @@ pub fn own_happenings_decide()
     vt_verify::laws::refusals_are_true();
 }
 
-/// The law that a step leaves each set with a NAME under an address whose holder has that NAME. So to close the
-/// sets of the addresses whose holder is another is to close each set whose NAME isn't its address's holder. No
-/// two sets have one address, and what is heard of addresses stands by rising NAME, as the laws on steps want.
+/// After a step each set with a NAME is at an address whose holder has that NAME. Closing the sets of addresses with a new holder
+/// therefore closes each set whose NAME is not its address's holder. No two sets have one address, and address claims are kept by
+/// rising NAME; the laws on steps require both.
 pub fn sets_hold_their_address()
     ensures { SetsHoldTheirAddress }
 {
@@ -100,17 +98,17 @@ pub fn sets_hold_their_address()
     vt_transport::laws::answers_are_timeless();
 }
 
-/// The law that a frame of a step to one address is a message, a packet of one, or what manages a session with it,
-/// and one to all a claim or a status; and that a step sends at most 1,024 outputs.
+/// A step sends to one address only messages, packets of messages and session control frames, and to all only claims and
+/// statuses. A step sends at most 1,024 outputs.
 pub fn sent_are_addressed()
     ensures { SentAreAddressed }
 {
     vt_can::laws::parts_are_identifiers();
 }
 
-/// The law that by the time of a frame the sets that are silent are gone; that a claim closes each set with a NAME
-/// that isn't its address's holder, that the others keep their order, and that a set of its source without a NAME
-/// takes the holder's; and what each other input does to the list of the sets.
+/// The list of sets after a step: the time of a frame closes the silent sets. A claim closes each set with a NAME that is not its
+/// address's holder, the others keep their order, and a set of its source without a NAME takes the holder's. The law states the
+/// effect of each other input too.
 pub fn sets_after_steps()
     ensures { SetsAfterSteps }
 {
@@ -120,15 +118,15 @@ pub fn sets_after_steps()
     vt_transport::laws::answers_are_timeless();
 }
 
-/// The law that the set that is chosen is the one of the alarm of the lowest priority number, of equal ones the one that was registered
-/// first, and where there is no alarm the one that is selected; and that it is shown at the end of each step and after a preload. A
-/// pool stands only where a set is registered, and a set is shown, or before the loss of the address selected, only where it has one.
+/// The shown set is the one with the alarm of the lowest priority number (of equal ones the first registered), or the selected
+/// set if there is no alarm. It is shown at the end of each step and after a preload. Only registered sets have a pool, and only
+/// a set with a pool is shown, or, before the loss of the address, selected.
 pub fn shown_are_chosen()
     ensures { ShownAreChosen }
 {}
 
-/// The law that the holder of each address after a run is the least NAME among those whose last claim in it was of
-/// the address, over all claims but the one by which the terminal loses its own, and those after.
+/// The holder of each address after a run is the least NAME among those whose last claim was of that address. The claims of the
+/// run count only before the one by which the terminal loses its own address.
 pub fn holders_are_of_runs()
     ensures { HoldersOfRuns }
 {

@@ -1,4 +1,4 @@
--- A path goes along a chain of inclusions.
+-- A path to an element follows a chain of inclusions.
 use Rattle.std.proofs.Common.{sym, ◌≡◌, ◌≤◌, ℕ, suc, Bool, true, false, eqb, List, [], ◌∷◌, length, Option, Some, None, refl, ap, subst, ◌∙◌, arith, ◌++◌}
 use Rattle.std.proofs.lemmas.Option.{same_Some}
 use Rattle.std.specs.Prelude.{Contains, IsTrue, slice_get}
@@ -24,13 +24,13 @@ use Rattle.vt_layout.specs.declared.element.Position.{Position}
 use Rattle.vt_layout.specs.Drawings.{origin, entered, along, at_path, entries_in, mask_entries, key_entries, IsChained, PathsAreChained, Sticks, led_through, through, passed_below, passed}
 use Rattle.vt_layout.proofs.Reaching.{names_of, names_of_keys, entered_entry, name_of}
 
--- IDs lead from an object to another along inclusions, and there are so many at least
+-- a chain of at least `least` inclusions from one object to another
 record IsWay (store : ObjectMap) (from : ℕ) (rest : List ℕ) (least to : ℕ) : Type 0 where
   is : IsChain (inclusions_of store) (from ∷ rest)
   last : slice_get (from ∷ rest) (length rest) ≡ Some to
   each : least ≤ length rest
 
--- the names of a list are included by an object
+-- an object includes all IDs of a list
 abbrev AreIncluded : ObjectMap → ℕ → List ℕ → Type 0
 AreIncluded store id names = (name : ℕ) → eqb name 65535 ≡ false → Contains names name → Contains (included_by (finite.get store id)) name
 
@@ -42,7 +42,7 @@ value_is value next (Some x) is = same_Some value next is
 no_pointer : (store : ObjectMap) (next : ℕ) (p : ObjectPointer) → finite.get store next ≡ Some (objects.ObjectPointer p) → IsTrue (is_element (finite.get store next)) → ⊥
 no_pointer store next p at shows = let never = subst (λ (o : Option Seen). IsTrue (is_element o)) at shows in absurd cc
 
--- one place more in front
+-- a chain with one more element in front
 way_more : (store : ObjectMap) (id name next : ℕ) (rest : List ℕ) (least to : ℕ) → finite.get store 65535 ≡ None → Contains (inclusions_of store id) name → stands_for store name ≡ Some next
     → IsTrue (is_element (finite.get store next)) → IsWay store next rest least to → IsWay store id (led_through name (finite.get store name) ++ rest) (suc least) to
 way_more store id name next rest least to null first stands shows way = by (finite.get store name) refl stands
@@ -70,7 +70,7 @@ way_more store id name next rest least to null first stands shows way = by (fini
         let le = moved.each in
         record { is = (first, moved.is); last = moved.last; each = omega (arith, le) }
 
--- a place of a list that is included
+-- the entry at an index of an included list makes the chain longer
 way_step : (store : ObjectMap) (id : ℕ) (entries : List Child) (from : Position) (place : ℕ) (next : Element) (rest : List ℕ) (least to : ℕ) → finite.get store 65535 ≡ None
     → AreIncluded store id (ids_in entries) → entered store from place (slice_get entries place) ≡ Some next → IsWay store next.id rest least to
     → IsWay store id (through store (slice_get entries place) ++ rest) (suc least) to
@@ -143,7 +143,7 @@ paths_chained = record {
       chained store (soft_key_mask_of (finite.get store mask)) (passed store (key_entries store mask) path) (length path) e.id sound (way_of_keys store mask path e null leads);
 }
 
--- so no path has more places
+-- no path is longer than the longest chain
 short_way : (store : ObjectMap) (id : ℕ) (rest : List ℕ) (least to : ℕ) → IsSound store → IsWay store id rest least to → least ≤ 32
 short_way store id rest least to sound way = let short = sound.shallow (id ∷ rest) way.is in let each = way.each in omega (arith, each, short)
 
@@ -156,7 +156,7 @@ pub short_of_keys : (store : ObjectMap) (mask : ℕ) (path : List ℕ) (e : Elem
 short_of_keys store mask path e sound null leads =
     short_way store (soft_key_mask_of (finite.get store mask)) (passed store (key_entries store mask) path) (length path) e.id sound (way_of_keys store mask path e null leads)
 
--- ---- references of what is met
+-- ---- references of the objects that a drawing meets
 
 all_among : {A : Type 0} (P : A → Type 0) (xs : List A) (x : A) → AllByRecursion P xs → Contains xs x → P x
 all_among P [] x all h = absurd (Contains-nil x h)

@@ -1,4 +1,4 @@
--- Lines on a page, and the drawing that they are of.
+-- The lines of a page are those of its drawing.
 use Rattle.std.proofs.Common.{◌≡◌, ◌≤◌, ◌<◌, ◌+◌, ℕ, zero, suc, Bool, true, false, cond, eqb, List, [], ◌∷◌, ◌++◌, map, length, take, Some, None, refl, sym, ap, subst, ◌∙◌, arith}
 use Rattle.std.proofs.lemmas.List.{append_assoc}
 use Rattle.std.proofs.lemmas.Bool.{ltb-true, ltb-false, lt-ltb, le-ltb, ne_eqb}
@@ -36,7 +36,7 @@ pub elements_append : (store : ObjectMap) (xs ys : List Element) (sheet : Sheet)
 elements_append store xs ys sheet =
     ap (λ lines. with_lines lines sheet) (map_append (line store) xs ys) ∙ lines_append (map (line store) xs) (map (line store) ys) sheet
 
--- a page with one element too many
+-- a full page: one element too many
 abbrev pub over : Sheet → Sheet
 over sheet = record { text = sheet.text; count = 2001 }
 
@@ -55,7 +55,7 @@ last_line l sheet le = by (nat_lt sheet.count 2000) refl
     by true less = let lt = ltb-true sheet.count 2000 less in absurd (omega (arith, lt, le))
     by false less = refl
 
--- which stays as it is
+-- a full page is unchanged by further lines
 full_line : (l : List ℕ) (sheet : Sheet) → sheet.count ≡ 2001 → with_line l sheet ≡ sheet
 full_line l sheet is =
     let same : over sheet ≡ sheet = ap (λ (n : ℕ). record { text = sheet.text; count = n }) (sym is) in
@@ -75,7 +75,7 @@ less_both n m = by (nat_lt n m) refl
     by true is = let lt = ltb-true n m is in sym (lt-ltb (suc n) (suc m) (omega (arith, lt)))
     by false is = let ge = ltb-false n m is in sym (le-ltb (suc n) (suc m) (omega (arith, ge)))
 
--- so many more lines have room
+-- `room` more lines fit on a page
 room_left : (n room : ℕ) → n + room ≡ 2000 → (t : List ℕ) (lines : List (List ℕ)) → finished (with_lines lines (record { text = t; count = n }))
     ≡ t ++ (flat_map (λ line. line) (take room lines) ++ cond (nat_lt room (length lines)) (codes "more\n") [])
 room_left n zero is t [] =
@@ -121,7 +121,7 @@ whole_drawing store mask sound null = record {
   keys_drawn = walk_is_all store (key_entries store mask) (λ path e leads. short_of_keys store mask path e sound null leads);
 }
 
--- its lines are those of the walk
+-- the lines of a drawing are those of the walk
 lines_of : (store : ObjectMap) (ps : List Placed) → map (λ p. line store p.element) ps ≡ map (line store) (bare ps)
 lines_of store [] = refl
 lines_of store (p ∷ ps) = ap (λ lines. line store p.element ∷ lines) (lines_of store ps)
@@ -142,7 +142,7 @@ screen_is address store mask text sound null active is = record {
   is = is ∙ ap (λ lines. heading address mask ++ cut lines) (sym (lines_of store (whole store mask) ∙ ap (map (line store)) (whole_bare store mask)));
 }
 
--- ---- one screen
+-- ---- the screen is unique
 
 screens_once : (address : ℕ) (store : ObjectMap) (one other : List ℕ) → working_sets (shape_in store) ≡ 1 → IsScreen address store one → IsScreen address store other → one ≡ other
 screens_once address store one other sets first second =

@@ -1,4 +1,4 @@
--- What a drawing looks up is there.
+-- A drawing finds all that it looks up, in a store in order.
 use Rattle.std.proofs.Common.{◌≡◌, ◌⊎◌, inl, inr, ℕ, zero, suc, Bool, true, false, cond, ◌&&◌, eqb, List, [], ◌∷◌, Option, Some, None, refl, sym, ap, subst, ◌∙◌}
 use Rattle.std.proofs.lemmas.Bool.{eqb-true}
 use Rattle.std.specs.Prelude.{IsTrue, slice_get}
@@ -37,7 +37,7 @@ IsRight store s = IsTrue (is_in_order store s)
 
 -- ---- one slot
 
--- It has NULL, where NULL may stand, or names an object of an allowed kind, and the value of a pointer fits.
+-- The slot is NULL, where NULL is allowed, or refers to an object of an allowed kind, and a pointer's value fits.
 slot_case : (P : Type 0) (store : ObjectMap) (s : Slot) → IsRight store s → (eqb s.id 65535 ≡ true → s.null ≡ true → P)
     → (eqb s.id 65535 ≡ false → IsTrue (is_one_of s.kinds (kind_in store s.id)) → IsTrue (value_fits store s (pointer_value (finite.get store s.id))) → P) → P
 slot_case P store s right null there = by (eqb s.id 65535) refl right
@@ -49,12 +49,12 @@ slot_case P store s right null there = by (eqb s.id 65535) refl right
         let fits = value_fits store s (pointer_value (finite.get store s.id)) in
         there is (first_of allows_kind fits right) (second_of allows_kind fits right)
 
--- a kind other than a pointer's
+-- a kind other than Object Pointer
 not_pointer : (kind : Kind) → IsTrue (is_member sets.AllButPointers kind) → is_pointer kind ≡ false
 not_pointer kinds.ObjectPointer is = absurd cc
 not_pointer _ is = refl
 
--- what stands behind a pointer: NULL, or an object of an allowed kind that is no pointer
+-- the value of a pointer is NULL, or an object of an allowed kind that is no pointer
 value_found : (store : ObjectMap) (s : Slot) (p : ObjectPointer) → finite.get store s.id ≡ Some (objects.ObjectPointer p) → IsTrue (allows store s p.value)
     → IsRight store (slot kinds.ObjectPointer places.Value p.value) → IsFound store s.kinds s.null s.id
 value_found store s p at fits right =
@@ -69,7 +69,7 @@ value_found store s p at fits right =
     there (Some o) is fits other =
         StandsFor p.value (kind_of o) (ap (behind store s.id) at ∙ ap (option_map (λ value. p.value)) is) (ap (option_map kind_of) is) fits (not_pointer (kind_of o) other)
 
--- what a slot names
+-- the ID of a slot is found
 slot_found : (store : ObjectMap) (s : Slot) → IsSound store → IsRight store s → IsFound store s.kinds s.null s.id
 slot_found store s sound right =
     slot_case (IsFound store s.kinds s.null s.id) store s right (λ is null. Null (eqb-true s.id 65535 is) null) (λ other. named (finite.get store s.id) refl)
@@ -80,9 +80,9 @@ slot_found store s sound right =
     named (Some (objects.ObjectPointer p)) at is fits = value_found store s p at fits (sound.slots s.id (objects.ObjectPointer p) at).0
     named (Some o) at is fits = StandsFor s.id (kind_of o) (ap (behind store s.id) at) (ap (option_map kind_of) at) is refl
 
--- ---- lists of names
+-- ---- lists of IDs
 
--- each name of a list of slots
+-- each ID of a list of slots is found
 listed_found : (store : ObjectMap) (kind : Kind) (place : ℕ → Place) (may_stand : Kinds) (null : Bool) (index : ℕ) (names : List ℕ) → IsSound store
     → ((i : ℕ) → allowed kind (place i) ≡ may_stand) → ((i : ℕ) → may_be_null (place i) ≡ null) → AllByRecursion (IsRight store) (listed kind place index names)
     → AllByRecursion (IsFound store may_stand null) names
@@ -93,12 +93,12 @@ listed_found store kind place may_stand null index (name ∷ names) sound are nu
   listed_found store kind place may_stand null (suc index) names sound are nulls right.1,
 )
 
--- each child
+-- each child is found
 children_found : (store : ObjectMap) (kind : Kind) (may_stand : Kinds) (children : List Child) → IsSound store → ((i : ℕ) → allowed kind (places.Child i) ≡ may_stand)
     → AllByRecursion (IsRight store) (children_of kind children) → AllByRecursion (IsFound store may_stand false) (ids_in children)
 children_found store kind may_stand children sound are right = listed_found store kind places.Child may_stand false 0 (ids_in children) sound are (λ i. refl) right
 
--- the item of an index is one of the items
+-- the item at an index is one of the items
 item_all : (P : ℕ → Type 0) (items : List ℕ) (index : Option ℕ) → AllByRecursion P items → AllByRecursion P (item_of items index)
 item_all P items None all = tt
 item_all P items (Some index) all = at items index all
@@ -108,7 +108,7 @@ item_all P items (Some index) all = at items index all
     at (item ∷ items) zero all = (all.0, tt)
     at (item ∷ items) (suc index) all = at items index all.1
 
--- each name that an object draws
+-- each ID that an object draws is found
 names_found : (store : ObjectMap) (id : ℕ) (o : Option Seen) → IsSound store → finite.get store id ≡ o
     → AllByRecursion (IsFound store (kinds_listed (option_map kind_of o)) (null_listed (option_map kind_of o))) (drawn_in store o)
 names_found store id None sound at = tt
@@ -132,25 +132,25 @@ names_found store id (Some (objects.InputList o)) sound at =
     (listed_found store kinds.InputList places.Item sets.Drawn true 0 o.items sound (λ i. refl) (λ i. refl) (sound.slots id (objects.InputList o) at).1)
 names_found store id (Some _) sound at = tt
 
--- each key of a soft key mask
+-- each key of a soft key mask is found
 keys_found : (store : ObjectMap) (id : ℕ) (o : Option Seen) → IsSound store → finite.get store id ≡ o → AllByRecursion (IsFound store sets.Keys true) (keys_of o)
 keys_found store id (Some (objects.SoftKeyMask o)) sound at =
     listed_found store kinds.SoftKeyMask places.Key sets.Keys true 0 o.keys sound (λ i. refl) (λ i. refl) (sound.slots id (objects.SoftKeyMask o) at)
 keys_found store id _ sound at = tt
 
--- What holds of the names of entries holds of the entries.
+-- A property of the IDs of entries holds for the entries.
 by_names : (P : ℕ → Type 0) (entries : List Child) → AllByRecursion P (ids_in entries) → AllByRecursion (λ entry. P entry.id) entries
 by_names P [] all = tt
 by_names P (entry ∷ entries) all = (all.0, by_names P entries all.1)
 
--- each entry that is drawn within an object
+-- each entry drawn within an object is found
 entries_found : (store : ObjectMap) (id : ℕ) → IsSound store → AreFoundIn store id
 entries_found store id sound =
     let is_found : ℕ → Type 0 = IsFound store (kinds_listed (kind_in store id)) (null_listed (kind_in store id)) in
     by_names is_found (entries_in store (finite.get store id))
     (subst (AllByRecursion is_found) (sym (names_of store (finite.get store id))) (names_found store id (finite.get store id) sound refl))
 
--- each entry of the soft key mask of a mask
+-- each entry of the soft key mask of a mask is found
 key_entries_found : (store : ObjectMap) (mask : ℕ) → IsSound store → AllByRecursion (λ entry. IsFound store sets.Keys true entry.id) (key_entries store mask)
 key_entries_found store mask sound =
     let id = soft_key_mask_of (finite.get store mask) in
@@ -159,7 +159,7 @@ key_entries_found store mask sound =
 
 -- ---- masks
 
--- the active mask of a working set
+-- the active mask of a working set is a mask or NULL
 mask_found : (store : ObjectMap) (id mask : ℕ) (o : Option Seen) → IsSound store → finite.get store id ≡ o → option_map kind_of o ≡ Some kinds.WorkingSet → mask_of o ≡ mask
     → (mask ≡ 65535) ⊎ IsTrue (is_one_of sets.Masks (kind_in store mask))
 mask_found store id mask (Some (objects.WorkingSet o)) sound at kind is =
@@ -168,7 +168,7 @@ mask_found store id mask (Some (objects.WorkingSet o)) sound at kind is =
     (sound.slots id (objects.WorkingSet o) at).0 (λ same null. inl (eqb-true o.active_mask 65535 same)) (λ other there fits. inr there))
 mask_found store id mask _ sound at kind is = absurd cc
 
--- what a slot for a soft key mask names
+-- a slot for a soft key mask refers to one or is NULL
 keys_or_null : (store : ObjectMap) (s : Slot) → s.kinds ≡ sets.SoftKeyMasks → IsRight store s → (s.id ≡ 65535) ⊎ (kind_in store s.id ≡ Some kinds.SoftKeyMask)
 keys_or_null store s are right =
     slot_case ((s.id ≡ 65535) ⊎ (kind_in store s.id ≡ Some kinds.SoftKeyMask)) store s right (λ same null. inl (eqb-true s.id 65535 same))
@@ -178,7 +178,7 @@ keys_or_null store s are right =
     only (Some kinds.SoftKeyMask) is = refl
     only _ is = absurd cc
 
--- the soft key mask of a mask
+-- the soft key mask of a mask is a soft key mask or NULL
 keys_mask_found : (store : ObjectMap) (mask : ℕ) (o : Option Seen) → IsSound store → finite.get store mask ≡ o
     → (soft_key_mask_of o ≡ 65535) ⊎ (kind_in store (soft_key_mask_of o) ≡ Some kinds.SoftKeyMask)
 keys_mask_found store mask (Some (objects.DataMask o)) sound at =
@@ -189,7 +189,7 @@ keys_mask_found store mask _ sound at = inl refl
 
 -- ---- values
 
--- the own value where a slot has NULL, and otherwise that of the variable that it names
+-- the value exists: the object's own if the slot is NULL, or else the variable's
 has_value : {A : Type 0} (read : Option Seen → Option A) (variables : Kinds) → ((o : Option Seen) → IsTrue (is_one_of variables (option_map kind_of o)) → (v : A) × (read o ≡ Some v))
     → (store : ObjectMap) (s : Slot) (own : A) → s.kinds ≡ variables → IsRight store s → (v : A) × (cond (eqb s.id 65535) (Some own) (read (finite.get store s.id)) ≡ Some v)
 has_value {A} read variables reads store s own are right =
@@ -201,7 +201,7 @@ has_value {A} read variables reads store s own are right =
     shown : (b : Bool) → eqb s.id 65535 ≡ b → cond (eqb s.id 65535) (Some own) (read (finite.get store s.id)) ≡ cond b (Some own) (read (finite.get store s.id))
     shown b is = ap (λ (c : Bool). cond c (Some own) (read (finite.get store s.id))) is
 
--- the number that a slot for a number variable leads to
+-- a slot for a number variable has a number
 has_number : (store : ObjectMap) (s : Slot) (own : ℕ) → s.kinds ≡ sets.NumberVariables → IsRight store s → HasNumber store s.id own
 has_number = has_value number_in sets.NumberVariables reads
   where
@@ -209,7 +209,7 @@ has_number = has_value number_in sets.NumberVariables reads
     reads (Some (objects.NumberVariable o)) is = (o.value, refl)
     reads _ is = absurd cc
 
--- the text that a slot for a string variable leads to
+-- a slot for a string variable has a text
 has_text : (store : ObjectMap) (s : Slot) (own : List ℕ) → s.kinds ≡ sets.StringVariables → IsRight store s → HasText store s.id own
 has_text = has_value text_in sets.StringVariables reads
   where
@@ -217,7 +217,7 @@ has_text = has_value text_in sets.StringVariables reads
     reads (Some (objects.StringVariable o)) is = (o.text, refl)
     reads _ is = absurd cc
 
--- the values of an element that is there
+-- an existing element has its values
 values_there : (store : ObjectMap) (id : ℕ) (o : Option Seen) → IsSound store → finite.get store id ≡ o → IsTrue (is_element o) → HasValues store o
 values_there store id None sound at is = absurd cc
 values_there store id (Some (objects.InputBoolean o)) sound at is =

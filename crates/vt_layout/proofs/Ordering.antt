@@ -1,4 +1,4 @@
--- Paths in lexicographic order, and that a list of elements is fixed by which there are.
+-- Paths in lexicographic order: a sorted list of elements is fixed by its set of elements.
 use Rattle.std.proofs.Common.{◌≡◌, ◌≤◌, inl, inr, ℕ, zero, suc, List, [], ◌∷◌, ◌++◌, map, Option, Some, None, refl, sym, ap, subst, ◌∙◌, arith}
 use Rattle.std.specs.Prelude.{Contains}
 use Rattle.std.specs.List.{AllByRecursion}
@@ -13,7 +13,7 @@ use Rattle.vt_layout.specs.Drawings.{Placed, shifted, element, entries_in, IsBef
 use Rattle.vt_layout.proofs.Walking.{Places, under, placed_with, placed_from, all_placed}
 use Rattle.vt_macros.proofs.Faultless.{all_append}
 
--- ---- before
+-- ---- the order of two paths
 
 never_itself : (path : List ℕ) → IsBefore path path → ⊥
 never_itself [] is = is
@@ -28,7 +28,7 @@ never_both (a ∷ path) (b ∷ other) (inl less) (inr same) = let is = same.0 in
 never_both (a ∷ path) (b ∷ other) (inr same) (inl less) = let is = same.0 in omega (arith, less, is)
 never_both (a ∷ path) (b ∷ other) (inr one) (inr two) = never_both path other one.1 two.1
 
--- ---- one list in order
+-- ---- a sorted list is unique
 
 abbrev AreAfter : List ℕ → List Placed → Type 0
 AreAfter path ps = AllByRecursion (λ q. IsBefore path q.path) ps
@@ -38,14 +38,14 @@ after_is path [] after q h = absurd (Contains-nil q h)
 after_is path (p ∷ ps) after q h =
     cons_case (IsBefore path q.path) p q ps h (λ same. subst (λ (r : Placed). IsBefore path r.path) same after.0) (after_is path ps after.1 q)
 
--- the first elements are one
+-- the first elements are equal
 first_same : (p q : Placed) (ps qs : List Placed) → IsInOrder (p ∷ ps) → IsInOrder (q ∷ qs) → Contains (q ∷ qs) p → Contains (p ∷ ps) q → p ≡ q
 first_same p q ps qs one two there here =
     cons_case (p ≡ q) q p qs there sym
     (λ later. cons_case (p ≡ q) p q ps here (λ same. same)
     (λ after. absurd (never_both p.path q.path (after_is p.path ps one.0 q after) (after_is q.path qs two.0 p later))))
 
--- what is in the one rest is in the other
+-- the rests have the same elements
 rest_has : (p q : Placed) (ps qs : List Placed) → IsInOrder (p ∷ ps) → p ≡ q → ((r : Placed) → Contains (p ∷ ps) r → Contains (q ∷ qs) r) → (r : Placed) → Contains ps r → Contains qs r
 rest_has p q ps qs one same has r h =
     cons_case (Contains qs r) q r qs (has r (Contains-tail p r ps h))
@@ -74,7 +74,7 @@ drawings_once store mask one other first second =
 
 -- ---- the walk goes in order
 
--- paths that begin with a place from one on
+-- a path begins with an index of at least `place`
 abbrev StartsFrom : ℕ → List ℕ → Type 0
 StartsFrom place [] = ⊥
 StartsFrom place (q ∷ path) = place ≤ q
@@ -82,7 +82,7 @@ StartsFrom place (q ∷ path) = place ≤ q
 abbrev StartFrom : ℕ → List Placed → Type 0
 StartFrom place ps = AllByRecursion (λ p. StartsFrom place p.path) ps
 
--- paths that begin with a place
+-- all paths begin with an index
 abbrev StartAt : ℕ → List Placed → Type 0
 StartAt place ps = AllByRecursion (λ p. (rest : List ℕ) × (p.path ≡ place ∷ rest)) ps
 
@@ -102,7 +102,7 @@ under_in_order : (place : ℕ) (ps : List Placed) → IsInOrder ps → IsInOrder
 under_in_order place [] in_order = in_order
 under_in_order place (p ∷ ps) in_order = (under_after place p.path ps in_order.0, under_in_order place ps in_order.1)
 
--- a place goes before all that is below it
+-- an element is before all elements below it
 place_first : (place : ℕ) (ps : List Placed) → StartFrom 0 ps → AreAfter (place ∷ []) (map (under place) ps)
 place_first place [] some = some
 place_first place (p ∷ ps) some = (inr (refl, starts p.path some.0), place_first place ps some.1)
@@ -123,7 +123,7 @@ joined_in_order place [] qs one at two from = two
 joined_in_order place (p ∷ ps) qs one at two from =
     (all_append (λ q. IsBefore p.path q.path) ps qs one.0 (earlier place p.path qs at.0 from), joined_in_order place ps qs one.1 at.1 two from)
 
--- what a walk is like
+-- the paths of a walk are in order and not empty
 pub record GoesInOrder (inner : Places) : Type 0 where
   pub in_order : (entries : List Child) (from : Position) → IsInOrder (inner entries from)
   pub some : (entries : List Child) (from : Position) → StartFrom 0 (inner entries from)

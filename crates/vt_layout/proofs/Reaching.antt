@@ -1,4 +1,4 @@
--- What is shown is what is drawn.
+-- The objects shown are the elements drawn.
 use Rattle.std.proofs.Common.{◌≡◌, ◌⊎◌, inl, inr, ℕ, zero, suc, Bool, true, false, cond, eqb, List, [], ◌∷◌, ◌++◌, map, Option, Some, None, refl, sym, ap, subst, ◌∙◌}
 use Rattle.std.proofs.lemmas.Option.{same_Some}
 use Rattle.std.specs.Prelude.{Contains, IsTrue, slice_get}
@@ -16,13 +16,13 @@ use Rattle.vt_layout.specs.Drawings.{Placed, origin, shifted, unmoved, element, 
 use Rattle.vt_layout.proofs.Walking.{placed}
 use Rattle.std.proofs.lemmas.List.Elements.{Contains-append_left, Contains-append_right, Contains-append_cases}
 
--- ---- names
+-- ---- IDs in lists
 
 ids_unmoved : (ids : List ℕ) → ids_in (map unmoved ids) ≡ ids
 ids_unmoved [] = refl
 ids_unmoved (id ∷ ids) = ap (λ more. id ∷ more) (ids_unmoved ids)
 
--- what an object draws, by its entries
+-- the IDs of an object's entries are the IDs that it draws
 pub names_of : (store : ObjectMap) (o : Option Seen) → ids_in (entries_in store o) ≡ drawn_in store o
 names_of store None = refl
 names_of store (Some (objects.Container o)) = by (eqb o.hidden 0)
@@ -36,7 +36,7 @@ names_of store (Some _) = refl
 pub names_of_keys : (store : ObjectMap) (mask : ℕ) → ids_in (key_entries store mask) ≡ soft_keys store mask
 names_of_keys store mask = ids_unmoved (soft_keys store mask)
 
--- the entry of a name
+-- the entry of an ID in a list
 entry_of : (P : Type 0) (entries : List Child) (name : ℕ) → Contains (ids_in entries) name → ((place : ℕ) (entry : Child) → slice_get entries place ≡ Some entry → entry.id ≡ name → P) → P
 entry_of P [] name h then = absurd (Contains-nil name h)
 entry_of P (entry ∷ entries) name h then =
@@ -50,9 +50,9 @@ name_of (first ∷ entries) zero entry is =
     subst (λ (e : Child). Contains (first.id ∷ ids_in entries) e.id) (same_Some first entry is) (Contains-head first.id (ids_in entries))
 name_of (first ∷ entries) (suc place) entry is = Contains-tail first.id entry.id (ids_in entries) (name_of entries place entry is)
 
--- ---- what is shown is met
+-- ---- shown objects are met
 
--- some path from entries leads to the object
+-- some path from the entries leads to the object
 record IsMetFrom (store : ObjectMap) (entries : List Child) (id : ℕ) : Type 0 where
   path : List ℕ
   to : Element
@@ -66,13 +66,13 @@ element_is store place id at is = by (record { place = place; id = id; at = at }
     by e true is = refl
     by e false is = absurd cc
 
--- an entry that stands for an element
+-- an entry that resolves to an element
 entered_is : (store : ObjectMap) (entries : List Child) (from : Position) (place id : ℕ) (entry : Child) → slice_get entries place ≡ Some entry → stands_for store entry.id ≡ Some id
     → IsTrue (is_element (finite.get store id)) → entered store from place (slice_get entries place) ≡ Some (record { place = place; id = id; at = shifted from entry })
 entered_is store entries from place id entry there stands is =
     ap (entered store from place) there ∙ ap (element store place (shifted from entry)) stands ∙ element_is store place id (shifted from entry) is
 
--- what an entry names is met
+-- the element that an entry resolves to is met
 named_met : (P : Type 0) (store : ObjectMap) (entries : List Child) (from : Position) (id : ℕ) → IsNamed store (ids_in entries) id
     → ((place : ℕ) (at : Position) → entered store from place (slice_get entries place) ≡ Some (record { place = place; id = id; at = at }) → P) → P
 named_met P store entries from id named then =
@@ -85,7 +85,7 @@ met_first store entries id named =
     named_met (IsMetFrom store entries id) store entries origin id named
     (λ place at is. record { path = place ∷ []; to = record { place = place; id = id; at = at }; leads = ap (along store []) is; is = refl })
 
--- one place more
+-- a path with one more index
 along_more : (store : ObjectMap) (path : List ℕ) (place : ℕ) (o : Option Element) (e : Element) → along store path o ≡ Some e
     → along store (path ++ place ∷ []) o ≡ entered store e.at place (slice_get (entries_in store (finite.get store e.id)) place)
 along_more store path place None e leads = absurd cc
@@ -128,9 +128,9 @@ shown_met store mask other (Within id _ shown named) =
       | inr met ↦ inr (met_within store (key_entries store mask) id other met named)
     ]
 
--- ---- what is met is shown
+-- ---- met objects are shown
 
--- what an entry at a place stands for
+-- the entry that resolves to an element
 pub entered_entry : (P : Type 0) (store : ObjectMap) (entries : List Child) (from : Position) (place : ℕ) (e : Element) → entered store from place (slice_get entries place) ≡ Some e
     → ((entry : Child) → slice_get entries place ≡ Some entry → stands_for store entry.id ≡ Some e.id → IsTrue (is_element (finite.get store e.id)) → P) → P
 entered_entry P store entries from place e is then = by (slice_get entries place) refl is
@@ -150,7 +150,7 @@ entered_entry P store entries from place e is then = by (slice_get entries place
     by None there same = absurd cc
     by (Some entry) there same = by_entry entry there (stands_for store entry.id) refl same
 
--- it is named
+-- the IDs of the entries resolve to the element
 entered_named : (P : Type 0) (store : ObjectMap) (entries : List Child) (from : Position) (place : ℕ) (e : Element) → entered store from place (slice_get entries place) ≡ Some e
     → (IsNamed store (ids_in entries) e.id → P) → P
 entered_named P store entries from place e is so =
@@ -182,7 +182,7 @@ in_mask store mask id named = InMask id (subst (λ (names : List ℕ). IsNamed s
 among_keys : (store : ObjectMap) (mask : ℕ) (id : ℕ) → IsNamed store (ids_in (key_entries store mask)) id → IsShown store mask id
 among_keys store mask id named = AmongKeys id (subst (λ (names : List ℕ). IsNamed store names id) (names_of_keys store mask) named)
 
--- ---- both
+-- ---- shown objects are drawn, and drawn ones shown
 
 abbrev IsDrawn : List Placed → ℕ → Type 0
 IsDrawn drawing id = (p : Placed) × Contains drawing p × (p.element.id ≡ id)

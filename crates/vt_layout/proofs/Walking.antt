@@ -37,7 +37,7 @@ abbrev pub all_placed : ℕ → ObjectMap → Places
 all_placed zero store entries from = []
 all_placed (suc depth) store entries from = placed_from (all_placed depth store) store 0 entries from
 
--- ---- without the paths it is the walk
+-- ---- the walk with paths has the elements of the walk without
 
 abbrev pub bare : List Placed → List Element
 bare ps = map (λ p. p.element) ps
@@ -71,13 +71,13 @@ unfolding elements
 bare_all zero store entries from = refl
 bare_all (suc depth) store entries from = bare_from (all_placed depth store) (elements depth store) store (bare_all depth store) 0 entries from
 
--- ---- what it meets stands at its path
+-- ---- the elements that the walk meets are at their paths
 
 -- the elements of a list are at their paths
 abbrev AreAt : ObjectMap → List Child → Position → List Placed → Type 0
 AreAt store entries from ps = (p : Placed) → Contains ps p → at_path store entries from p.path ≡ Some p.element
 
--- an element of what stands under a place
+-- an element below an index
 under_case : (P : Type 0) (place : ℕ) (ps : List Placed) (p : Placed) → Contains (map (under place) ps) p → ((q : Placed) → Contains ps q → under place q ≡ p → P) → P
 under_case P place [] p h then = absurd (Contains-nil p h)
 under_case P place (q ∷ qs) p h then =
@@ -85,13 +85,13 @@ under_case P place (q ∷ qs) p h then =
     (λ same. then q (Contains-head q qs) same)
     (λ later. under_case P place qs p later (λ r among is. then r (Contains-tail q r qs among) is))
 
--- a path that leads somewhere has a first place
+-- a path to an element has a first index
 path_case : (P : Type 0) (store : ObjectMap) (entries : List Child) (from : Position) (path : List ℕ) (e : Element) → at_path store entries from path ≡ Some e
     → ((place : ℕ) (rest : List ℕ) → path ≡ place ∷ rest → P) → P
 path_case P store entries from [] e is then = absurd cc
 path_case P store entries from (place ∷ rest) e is then = then place rest refl
 
--- below an element the path goes on in what it draws
+-- below an element, the path goes on in its entries
 goes_on : (store : ObjectMap) (e : Element) (path : List ℕ) (other : Element) → at_path store (entries_in store (finite.get store e.id)) e.at path ≡ Some other
     → along store path (Some e) ≡ Some other
 goes_on store e [] other is = absurd cc
@@ -108,7 +108,7 @@ with_at inner store are place (Some e) p h P then =
     (λ later. under_case P place (inner within e.at) p later
     (λ q among is. then q.path (ap (λ (r : Placed). r.path) (sym is)) (goes_on store e q.path q.element (are within e.at q among) ∙ ap (λ (r : Placed). Some r.element) is)))
 
--- places from one on, in a list of which the others stand from there on
+-- `entries` is the rest of a list, from an index on
 abbrev IsFrom : List Child → ℕ → List Child → Type 0
 IsFrom all place entries = (i : ℕ) → slice_get all (place + i) ≡ slice_get entries i
 
@@ -134,7 +134,7 @@ placed_at zero store entries from p h = absurd (Contains-nil p h)
 placed_at (suc depth) store entries from p h =
     from_at (all_placed depth store) store (placed_at depth store) entries 0 entries from (λ i. ap (slice_get entries) (omega arith)) p h
 
--- ---- and whatever stands at a path is met
+-- ---- all elements at paths are met
 
 under_met : (place : ℕ) (ps : List Placed) (p : Placed) → Contains ps p → Contains (map (under place) ps) (under place p)
 under_met place [] p h = absurd (Contains-nil p h)
@@ -143,7 +143,7 @@ under_met place (q ∷ qs) p h =
     (λ same. subst (λ (r : Placed). Contains (map (under place) (q ∷ qs)) (under place r)) same (Contains-head (under place q) (map (under place) qs)))
     (λ later. Contains-tail (under place q) (under place p) (map (under place) qs) (under_met place qs p later))
 
--- all paths to elements that are so long at most
+-- all elements at paths of at most `depth` indices are met
 abbrev AreMet : ℕ → ObjectMap → Places → Type 0
 AreMet depth store inner = (entries : List Child) (from : Position) (path : List ℕ) (e : Element) → at_path store entries from path ≡ Some e → length path ≤ depth
     → Contains (inner entries from) (placed path e)

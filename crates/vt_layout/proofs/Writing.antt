@@ -1,4 +1,4 @@
--- Entries drawn one after the other, and a page that is full.
+-- Entries drawn one after the other, on a page that may be full.
 use Rattle.std.proofs.Common.{◌≡◌, ◌≤◌, ◌<◌, ◌+◌, ℕ, zero, suc, Bool, true, false, List, [], ◌∷◌, ◌++◌, map, length, drop, take, min, get_or, Result, Ok, Err, Option, Some, None, refl, sym, ap, ap₂, ◌∙◌, arith}
 use Rattle.std.proofs.lemmas.List.{drop_more, drop_all, take_all, append_assoc, length-map, get_or-map}
 use Rattle.std.proofs.lemmas.Bool.{ltb-true, ltb-false}
@@ -29,11 +29,11 @@ use Rattle.vt_layout.specs.Sheets.{Sheet, with_line, with_elements, finished}
 use Rattle.vt_layout.specs.Walks.{Draws, with_drawn, each_from, elements, drawing}
 use Rattle.vt_layout.proofs.Filling.{elements_append, full_stays, longer, next_line, last_line, page_text, screen_is}
 
--- what an entry at a place draws
+-- the elements of an entry at an index
 abbrev of_entry : Draws → ObjectMap → ℕ → Position → Child → List Element
 of_entry draws store place from entry = with_drawn draws store (element store place (shifted from entry) (stands_for store entry.id))
 
--- drawn from a place on, the page becomes the one that is looked for
+-- drawing the entries from an index on makes the goal page of the present one
 abbrev pub Becomes : Draws → ObjectMap → List Child → Position → ℕ → Sheet → Sheet → Type 0
 Becomes draws store entries from place now goal = with_elements store (each_from draws store place (drop place entries) from) now ≡ goal
 
@@ -56,7 +56,7 @@ pub becomes_end : (draws : Draws) (store : ObjectMap) (entries : List Child) (fr
 becomes_end draws store entries from place now goal le becomes =
     ap (λ (es : List Child). with_elements store (each_from draws store place es from) now) (sym (drop_all place entries le)) ∙ becomes
 
--- a level of the walk
+-- one level of the walk
 pub level : (depth least : ℕ) (store : ObjectMap) (entries : List Child) (from : Position) → depth ≡ suc least → elements depth store entries from ≡ each_from (elements least store) store 0 entries from
 unfolding elements
 level depth least store entries from is = ap (λ (n : ℕ). elements n store entries from) is
@@ -65,7 +65,7 @@ pub no_level : (depth : ℕ) (store : ObjectMap) (entries : List Child) (from : 
 unfolding elements
 no_level depth store entries from is = ap (λ (n : ℕ). elements n store entries from) is
 
--- nothing more is drawn on a full page
+-- a full page is unchanged by further elements
 pub full_page : (store : ObjectMap) (elements : List Element) (page : Sheet) → page.count ≡ 2001 → page ≡ with_elements store elements page
 full_page store elements page is = sym (full_stays (map (line store) elements) page is)
 
@@ -74,7 +74,7 @@ unfolding elements
 none_met zero store from = refl
 none_met (suc depth) store from = refl
 
--- what draws nothing leaves the page
+-- a page is unchanged if there are no entries
 pub none_drawn : (depth : ℕ) (store : ObjectMap) (entries : List Child) (from : Position) (page : Sheet) → entries ≡ [] → page ≡ with_elements store (elements depth store entries from) page
 none_drawn depth store entries from page is =
     ap (λ (es : List Element). with_elements store es page) (sym (none_met depth store from))

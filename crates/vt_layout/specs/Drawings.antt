@@ -1,4 +1,4 @@
--- What a mask shows: the elements at all paths, in their order (docs/PROFILE.md, "The drawing").
+-- The drawing of a mask: the elements at all paths, in their order (docs/PROFILE.md, "The drawing").
 use Rattle.std.specs.Prelude.{◌≡◌, ℕ, pos, ◌+ℤ◌, ◌≤◌, ◌<◌, false, ◌==◌, if◌then◌else◌, List, [], ◌∷◌, ◌++◌, map, slice_get, Option, Some, None, Contains, ◌↔◌, ◌⊎◌, length}
 use Rattle.std.specs.List.{AllByRecursion}
 use Rattle.std.specs.FinMap as finite
@@ -20,19 +20,19 @@ use Rattle.vt_effects.specs.Soundness.{IsSound, is_in_order}
 
 -- ---- lists of entries
 
--- the upper left corner of a mask, or of a key
+-- the upper left corner of a mask or of a key
 abbrev pub origin : Position
 origin = record { x = pos 0; y = pos 0 }
 
 abbrev pub shifted : Position → Child → Position
 shifted from entry = record { x = from.x +ℤ entry.x; y = from.y +ℤ entry.y }
 
--- an entry that stands where its list stands
+-- an entry at the position of its list
 abbrev pub unmoved : ℕ → Child
 unmoved id = record { id = id; x = pos 0; y = pos 0 }
 
--- what an object draws within it: its children, and of an input list the item of its index, which is one entry; a hidden
--- container is not entered
+-- the entries that an object draws within itself: its children, or the current item of an input list as one entry; none
+-- for a hidden container
 abbrev pub entries_in : ObjectMap → Option Seen → List Child
 entries_in store (Some (objects.WorkingSet o)) = o.children
 entries_in store (Some (objects.DataMask o)) = o.children
@@ -43,7 +43,7 @@ entries_in store (Some (objects.Button o)) = o.children
 entries_in store (Some (objects.InputList o)) = map unmoved (item_of o.items (number_shown store o.variable o.value))
 entries_in store _ = []
 
--- the entries of a mask, and of its soft key mask
+-- the entries of a mask
 abbrev pub mask_entries : ObjectMap → ℕ → List Child
 mask_entries store mask = entries_in store (finite.get store mask)
 
@@ -52,23 +52,23 @@ key_entries store mask = map unmoved (soft_keys store mask)
 
 -- ---- paths
 
--- the element that an ID stands for: NULL, a pointer and a hidden container are none
+-- the element of an ID; NULL, a pointer and a hidden container are no elements
 abbrev pub element : ObjectMap → ℕ → Position → Option ℕ → Option Element
 element store place at None = None
 element store place at (Some id) = if is_element (finite.get store id) then Some (record { place = place; id = id; at = at }) else None
 
--- the element of an entry at a place, a pointer standing for its value
+-- the element of an entry at an index, for a pointer that of its value
 abbrev pub entered : ObjectMap → Position → ℕ → Option Child → Option Element
 entered store from place None = None
 entered store from place (Some entry) = element store place (shifted from entry) (stands_for store entry.id)
 
--- the element to which places lead, each in what the element before it draws
+-- the element at the end of indices, each into the entries of the element before it
 abbrev pub along : ObjectMap → List ℕ → Option Element → Option Element
 along store path None = None
 along store [] (Some e) = Some e
 along store (place ∷ path) (Some e) = along store path (entered store e.at place (slice_get (entries_in store (finite.get store e.id)) place))
 
--- the element at a path from a list of entries: a place in it, then places in the elements that are reached
+-- the element at a path from a list of entries: an index into the list, then indices into the elements on the way
 abbrev pub at_path : ObjectMap → List Child → Position → List ℕ → Option Element
 at_path store entries from [] = None
 at_path store entries from (place ∷ path) = along store path (entered store from place (slice_get entries place))
@@ -80,13 +80,13 @@ pub record Placed : Type 0 where
   pub path : List ℕ
   pub element : Element
 
--- in lexicographic order
+-- a path is before another in lexicographic order
 abbrev pub IsBefore : List ℕ → List ℕ → Type 0
 IsBefore path [] = ⊥
 IsBefore [] (place ∷ path) = Unit {0}
 IsBefore (place ∷ path) (other ∷ others) = (place < other) ⊎ ((place ≡ other) × IsBefore path others)
 
--- each before all after it
+-- each element is before all later ones
 abbrev pub IsInOrder : List Placed → Type 0
 IsInOrder [] = Unit {0}
 IsInOrder (p ∷ ps) = AllByRecursion (λ q. IsBefore p.path q.path) ps × IsInOrder ps
@@ -96,7 +96,7 @@ pub record AreAll (store : ObjectMap) (entries : List Child) (drawn : List Place
   pub in_order : IsInOrder drawn
   pub are : (p : Placed) → Contains drawn p ↔ (at_path store entries origin p.path ≡ Some p.element)
 
--- The drawing of a mask: its own, and then that of its soft key mask.
+-- The drawing of a mask: the elements of its own entries, and then those of its soft key mask.
 pub record IsDrawing (store : ObjectMap) (mask : ℕ) (drawing : List Placed) : Type 0 where
   pub in_mask : List Placed
   pub of_keys : List Placed
@@ -104,30 +104,30 @@ pub record IsDrawing (store : ObjectMap) (mask : ℕ) (drawing : List Placed) : 
   pub mask_drawn : AreAll store (mask_entries store mask) in_mask
   pub keys_drawn : AreAll store (key_entries store mask) of_keys
 
--- ---- what holds of it
+-- ---- properties of drawings
 
--- A mask has one drawing, in a store that is in order and has nothing under NULL.
+-- The drawing of a mask is unique. It exists in a store in order without an object with the ID NULL.
 pub record DrawingsAreOne : Type 0 where
   pub there : (store : ObjectMap) (mask : ℕ) → IsSound store → finite.get store 0xFFFF ≡ None → (drawing : List Placed) × IsDrawing store mask drawing
   pub one : (store : ObjectMap) (mask : ℕ) (one other : List Placed) → IsDrawing store mask one → IsDrawing store mask other → one ≡ other
 
--- To be shown is to be an element of the drawing, however long.
+-- The objects shown are the elements of the drawing, however long.
 abbrev pub ShownAreDrawn : Type 0
 ShownAreDrawn = (store : ObjectMap) (mask : ℕ) (drawing : List Placed) → IsDrawing store mask drawing
     → (id : ℕ) → IsShown store mask id ↔ ((p : Placed) × Contains drawing p × (p.element.id ≡ id))
 
--- a name in a list that is drawn
+-- the ID is in a drawn list
 abbrev pub IsListed : ObjectMap → ℕ → ℕ → Type 0
 IsListed store mask name =
     Contains (drawn_in store (finite.get store mask)) name ⊎ Contains (soft_keys store mask) name
     ⊎ ((id : ℕ) × IsShown store mask id × Contains (drawn_in store (finite.get store id)) name)
 
--- what a drawing meets: the working set, the mask, its soft key mask, what their lists and those of elements name, and the elements
+-- the IDs met by a drawing: the working set, the mask, its soft key mask, the IDs in drawn lists, and the elements
 abbrev pub IsMet : ObjectMap → ℕ → ℕ → Type 0
 IsMet store mask id =
     (kind_in store id ≡ Some kinds.WorkingSet) ⊎ (id ≡ mask) ⊎ (id ≡ soft_key_mask_of (finite.get store mask)) ⊎ IsListed store mask id ⊎ IsShown store mask id
 
--- It sticks at a reference that is not in order: to no object, or to one of a kind that may not stand there, through a pointer too.
+-- A drawing is stuck at a reference not in order: to no object or to one of a wrong kind, through a pointer too.
 pub record Sticks (store : ObjectMap) (mask : ℕ) : Type 0 where
   pub id : ℕ
   pub met : IsMet store mask id
@@ -137,13 +137,13 @@ pub record Sticks (store : ObjectMap) (mask : ℕ) : Type 0 where
   pub among : Contains (slots_of object) slot
   pub wrong : is_in_order store slot ≡ false
 
--- No drawing of a store in order sticks.
+-- No drawing of a store in order gets stuck.
 abbrev pub DrawingsNeverStick : Type 0
 DrawingsNeverStick = (store : ObjectMap) (mask : ℕ) → IsSound store → Sticks store mask → ⊥
 
 -- ---- the inclusions on a path
 
--- a name, and behind a pointer its value
+-- a listed ID, followed by its value if it is a pointer
 abbrev pub led_through : ℕ → Option Seen → List ℕ
 led_through name (Some (objects.ObjectPointer o)) = name ∷ o.value ∷ []
 led_through name _ = name ∷ []
@@ -152,7 +152,7 @@ abbrev pub through : ObjectMap → Option Child → List ℕ
 through store None = []
 through store (Some entry) = led_through entry.id (finite.get store entry.id)
 
--- the IDs that places lead through below an element
+-- the IDs along indices below an element
 abbrev pub passed_below : ObjectMap → List ℕ → Option Element → List ℕ
 passed_below store path None = []
 passed_below store [] (Some e) = []
@@ -160,19 +160,19 @@ passed_below store (place ∷ path) (Some e) =
     through store (slice_get (entries_in store (finite.get store e.id)) place)
     ++ passed_below store path (entered store e.at place (slice_get (entries_in store (finite.get store e.id)) place))
 
--- the IDs that a path leads through from a list of entries
+-- the IDs along a path from a list of entries
 abbrev pub passed : ObjectMap → List Child → List ℕ → List ℕ
 passed store entries [] = []
 passed store entries (place ∷ path) =
     through store (slice_get entries place) ++ passed_below store path (entered store origin place (slice_get entries place))
 
--- Each includes the next, from an object to another, with no more inclusions than the terminal allows.
+-- Each ID includes the next, from one object to another, with no more inclusions than the terminal allows.
 pub record IsChained (store : ObjectMap) (from : ℕ) (passed : List ℕ) (to : ℕ) : Type 0 where
   pub is : IsChain (inclusions_of store) (from ∷ passed)
   pub last : slice_get (from ∷ passed) (length passed) ≡ Some to
   pub short : length passed ≤ terminal.inclusions
 
--- A path to an element of a store in order goes along a chain of inclusions, from the mask or its soft key mask.
+-- The path to an element of a store in order follows a chain of inclusions, from the mask or its soft key mask.
 pub record PathsAreChained : Type 0 where
   pub in_mask : (store : ObjectMap) (mask : ℕ) (path : List ℕ) (e : Element) → IsSound store → finite.get store 0xFFFF ≡ None
       → at_path store (mask_entries store mask) origin path ≡ Some e → IsChained store mask (passed store (mask_entries store mask) path) e.id

@@ -1,4 +1,4 @@
--- The line of an element (docs/PROFILE.md, "The drawing and the screen text").
+-- The text line of an element (docs/PROFILE.md, "The drawing and the screen text").
 use Rattle.std.specs.Prelude.{ℕ, ℤ, pos, ◌+ℤ◌, Bool, false, nat_le, ◌==◌, ◌&&◌, not, if◌then◌else◌, List, [], ◌∷◌, ◌++◌, codes, take, Option, Some, None}
 use Rattle.std.specs.Fmt.{decimal, signed_decimal}
 use Rattle.std.specs.List.{flat_map}
@@ -15,16 +15,16 @@ use Rattle.vt_layout.specs.declared.element.Element.{Element}
 
 -- ---- parts of lines
 
--- the name of the kind, the ID, and where the element stands
+-- the name of the kind, the ID and the position of an element
 abbrev pub standing : List ℕ → Element → List ℕ
 standing name e =
     name ++ (codes " " ++ (decimal e.id ++ (codes " " ++ (signed_decimal e.at.x ++ (codes " " ++ signed_decimal e.at.y)))))
 
--- a size
+-- a size as text
 abbrev pub sized : ℕ → ℕ → List ℕ
 sized width height = codes " " ++ (decimal width ++ (codes "x" ++ decimal height))
 
--- a number
+-- a number as text
 abbrev pub numbered : ℕ → List ℕ
 numbered n = codes " " ++ decimal n
 
@@ -32,7 +32,7 @@ numbered n = codes " " ++ decimal n
 abbrev pub coded : ℕ → List ℕ
 coded code = codes " code " ++ decimal code
 
--- a value: none where a variable is not there, at which a drawing sticks
+-- a value as text; empty if its variable is missing, where a drawing gets stuck
 abbrev pub valued : Option ℕ → List ℕ
 valued None = []
 valued (Some n) = numbered n
@@ -41,38 +41,38 @@ abbrev pub decided : Option ℕ → List ℕ
 decided None = []
 decided (Some n) = if n == 0 then codes " false" else codes " true"
 
--- a number as it is shown, with offset, scale and decimals
+-- a number with its offset, scale and decimals
 abbrev pub shown : ℤ → ℕ → ℕ → Option ℕ → List ℕ
 shown offset places decimals None = []
 shown offset places decimals (Some n) = codes " " ++ shown_text (pos n +ℤ offset) places decimals
 
--- a byte from 20 to 7E but `"` and `\`
+-- a byte from 20 to 7E, except `"` and `\`
 abbrev pub is_plain : ℕ → Bool
 is_plain byte = nat_le 0x20 byte && nat_le byte 0x7E && not (byte == 0x22) && not (byte == 0x5C)
 
 abbrev pub escaped : ℕ → List ℕ
 escaped byte = if is_plain byte then byte ∷ [] else codes "\\x" ++ encode_upper (byte ∷ [])
 
--- the first 64 bytes of a text
+-- the first 64 bytes of a text, in quotes
 abbrev pub quoted : Option (List ℕ) → List ℕ
 quoted None = []
 quoted (Some text) = codes " \"" ++ (flat_map escaped (take 64 text) ++ codes "\"")
 
--- of a string variable
+-- the text of a string variable, or None
 abbrev pub text_in : Option Seen → Option (List ℕ)
 text_in (Some (objects.StringVariable o)) = Some o.text
 text_in _ = None
 
--- the text that an object shows: that of its variable, if it has one
+-- the text that an object shows: its variable's text, if it has a variable
 abbrev pub text_shown : ObjectMap → ℕ → List ℕ → Option (List ℕ)
 text_shown store variable own = if variable == 0xFFFF then Some own else text_in (finite.get store variable)
 
--- an input that is disabled
+-- the mark of a disabled input
 abbrev pub switched : Option Bool → List ℕ
 switched (Some false) = codes " off"
 switched _ = []
 
--- ---- the line of each kind, without `off`; what is no element has none
+-- ---- the line of each kind, without `off`; empty for an object that is no element
 
 abbrev pub described : ObjectMap → Element → Option Seen → List ℕ
 described store e (Some (objects.WorkingSet o)) = standing (codes "workset") e
@@ -101,7 +101,7 @@ described store e (Some (objects.ArchedBar o)) =
 described store e (Some (objects.Picture o)) = standing (codes "picture") e ++ numbered o.width
 described store e _ = []
 
--- the line of an element, with its end
+-- the line of an element, with its newline
 abbrev pub line_of : ObjectMap → Element → Option Seen → List ℕ
 line_of store e o = described store e o ++ (switched (is_enabled o) ++ codes "\n")
 

@@ -1,4 +1,4 @@
--- What a drawing looks up: its mask and soft key mask, the names in its lists, and the variables of its elements
+-- The look-ups of a drawing: its mask and soft key mask, the IDs in its lists, and the variables of its elements
 -- (docs/PROFILE.md, "The drawing").
 use Rattle.std.specs.Prelude.{◌≡◌, ℕ, Bool, true, false, List, Option, Some, None, ◌⊎◌, IsTrue}
 use Rattle.std.specs.List.{AllByRecursion}
@@ -19,26 +19,26 @@ use Rattle.vt_shown.specs.Showing.{stands_for, number_shown, soft_key_mask_of, I
 use Rattle.vt_layout.specs.Drawings.{entries_in, key_entries}
 use Rattle.vt_layout.specs.Lines.{text_shown}
 
--- ---- names
+-- ---- listed IDs
 
--- the kinds that may stand in the list of an object: no Working Set in that of a Working Set
+-- the kinds allowed in the list of an object: all drawn kinds, without Working Set in the list of a Working Set
 abbrev pub kinds_listed : Option Kind → Kinds
 kinds_listed (Some kinds.WorkingSet) = sets.DrawnInWorkingSet
 kinds_listed _ = sets.Drawn
 
--- An item of an input list may be NULL, and no child may.
+-- NULL is allowed as an item of an input list, and not as a child.
 abbrev pub null_listed : Option Kind → Bool
 null_listed (Some kinds.InputList) = true
 null_listed _ = false
 
--- A name stands for an object of these kinds, which is no pointer; or it is NULL, where NULL may stand, or a pointer with NULL.
+-- A listed ID resolves to an object of these kinds, or is NULL, where NULL is allowed, or a pointer with NULL.
 pub data IsFound (store : ObjectMap) (allowed : Kinds) (null : Bool) (name : ℕ) : Type 0 where
   Null : name ≡ 0xFFFF → null ≡ true → IsFound store allowed null name
   NullPointer : pointer_value (finite.get store name) ≡ Some 0xFFFF → IsFound store allowed null name
   StandsFor : (id : ℕ) (kind : Kind) → stands_for store name ≡ Some id → kind_in store id ≡ Some kind
       → is_member allowed kind ≡ true → is_pointer kind ≡ false → IsFound store allowed null name
 
--- each name that is drawn within an object
+-- all IDs that an object draws within itself are found
 abbrev pub AreFoundIn : ObjectMap → ℕ → Type 0
 AreFoundIn store id =
     AllByRecursion (λ entry. IsFound store (kinds_listed (kind_in store id)) (null_listed (kind_in store id)) entry.id)
@@ -46,14 +46,14 @@ AreFoundIn store id =
 
 -- ---- values
 
--- the number or the text that a line shows is there
+-- the number or the text of a line exists
 abbrev pub HasNumber : ObjectMap → ℕ → ℕ → Type 0
 HasNumber store variable own = (n : ℕ) × (number_shown store variable own ≡ Some n)
 
 abbrev pub HasText : ObjectMap → ℕ → List ℕ → Type 0
 HasText store variable own = (text : List ℕ) × (text_shown store variable own ≡ Some text)
 
--- The element is there, with each value of its line. The lines of all other kinds have none.
+-- The element exists, with each value of its line. The lines of all other kinds have no values.
 abbrev pub HasValues : ObjectMap → Option Seen → Type 0
 HasValues store None = ⊥
 HasValues store (Some (objects.InputBoolean o)) = HasNumber store o.variable o.value
@@ -69,7 +69,7 @@ HasValues store (Some o) = Unit {0}
 
 -- ---- the look-ups of a drawing
 
--- All that the drawing of a mask looks up is there, and is of a kind that may be drawn there.
+-- All that the drawing of a mask looks up exists, and is of an allowed kind.
 pub record FindsAll (store : ObjectMap) (mask : ℕ) : Type 0 where
   pub active : IsActive store mask → (mask ≡ 0xFFFF) ⊎ IsTrue (is_one_of sets.Masks (kind_in store mask))
   pub in_mask : AreFoundIn store mask
@@ -78,6 +78,6 @@ pub record FindsAll (store : ObjectMap) (mask : ℕ) : Type 0 where
   pub in_elements : (id : ℕ) → IsShown store mask id → AreFoundIn store id
   pub values : (id : ℕ) → IsShown store mask id → HasValues store (finite.get store id)
 
--- So it is in a store that is in order.
+-- A drawing of a store in order finds all that it looks up.
 abbrev pub DrawingsFindAll : Type 0
 DrawingsFindAll = (store : ObjectMap) (mask : ℕ) → IsSound store → FindsAll store mask

@@ -16,7 +16,7 @@ use Rattle.vt_layout.specs.Lines.{line}
 abbrev pub most_lines : ℕ
 most_lines = 2000
 
--- the lines, or the first of them and a last line that there are more
+-- all lines, or the first of them and a last line `more`
 abbrev pub cut : List (List ℕ) → List ℕ
 cut lines = flat_map (λ line. line) (take most_lines lines) ++ (if nat_lt most_lines (length lines) then codes "more\n" else [])
 
@@ -35,13 +35,13 @@ pub record IsScreen (address : ℕ) (store : ObjectMap) (text : List ℕ) : Type
   pub drawn : IsDrawing store mask drawing
   pub is : text ≡ heading address mask ++ cut (map (λ p. line store p.element) drawing)
 
--- A vector has gained the screen.
+-- The screen has been appended to a vector.
 pub record GainsScreen (address : ℕ) (store : ObjectMap) (old new : List ℕ) : Type 0 where
   pub text : List ℕ
   pub is_screen : IsScreen address store text
   pub gained : new ≡ old ++ text
 
--- A working set has one screen, in a store that is in order and has nothing under NULL.
+-- The screen of a working set is unique. It exists in a store in order without an object with the ID NULL.
 pub record ScreensAreOne : Type 0 where
   pub there : (address : ℕ) (store : ObjectMap) (mask : ℕ) → IsSound store → finite.get store 0xFFFF ≡ None → IsActive store mask
       → (text : List ℕ) × IsScreen address store text

@@ -1,4 +1,4 @@
--- The elements of a list of entries, in their order, as far as some places deep.
+-- The elements of a list of entries, in their order, with paths of at most `depth` indices.
 use Rattle.std.specs.Prelude.{ℕ, zero, suc, List, [], ◌∷◌, ◌++◌, Option, Some, None}
 use Rattle.std.specs.FinMap as finite
 use Rattle.vt_kinds.specs.declared.entries.Child.{Child}
@@ -9,16 +9,16 @@ use Rattle.vt_layout.specs.declared.element.Element.{Element}
 use Rattle.vt_layout.specs.declared.element.Position.{Position}
 use Rattle.vt_layout.specs.Drawings.{origin, shifted, element, entries_in, mask_entries, key_entries}
 
--- how what entries stand for is drawn from a position
+-- the elements of entries drawn from a position
 abbrev pub Draws : Type 0
 Draws = List Child → Position → List Element
 
--- an element, and what it draws
+-- an element, followed by the elements within it
 abbrev pub with_drawn : Draws → ObjectMap → Option Element → List Element
 with_drawn draws store None = []
 with_drawn draws store (Some e) = e ∷ draws (entries_in store (finite.get store e.id)) e.at
 
--- entries that stand from a place on
+-- the elements of entries, the first of them at index `place`
 abbrev pub each_from : Draws → ObjectMap → ℕ → List Child → Position → List Element
 each_from draws store place [] from = []
 each_from draws store place (entry ∷ entries) from =
@@ -28,7 +28,7 @@ unfoldable pub elements : ℕ → ObjectMap → Draws
 elements zero store entries from = []
 elements (suc depth) store entries from = each_from (elements depth store) store 0 entries from
 
--- those of a mask and of its soft key mask
+-- the elements of a mask and of its soft key mask
 abbrev pub drawing : ObjectMap → ℕ → List Element
 drawing store mask =
     elements terminal.inclusions store (mask_entries store mask) origin ++ elements terminal.inclusions store (key_entries store mask) origin

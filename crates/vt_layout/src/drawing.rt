@@ -1,5 +1,5 @@
-//! The walk through what a mask shows, in the order of its drawing. Each element has one line, and a page takes 2,000, so
-//! a walk ends soon, however many paths there are.
+//! The walk through the elements of a mask, in the order of its drawing. Each element has one line, and a page holds
+//! 2,000 lines, so that a walk ends soon, however many paths there are.
 
 ghost use Rattle.std.specs.Prelude.{◌≡◌, ◌==◌, if◌then◌else◌, [], ◌+◌, ◌*◌, ℕ, None, Some, OnOk, IfSome, IfNone, map};
 ghost use Rattle.std.specs.Option.{option_map, option_to_list};
@@ -17,13 +17,13 @@ use crate::values::number_shown;
 use std::alloc::AllocError;
 use vt_objects::{Child, Container, InputList, Object, ObjectId, Store};
 
-/// The most inclusions in a row.
+/// The most inclusions in a chain.
 const MOST_INCLUSIONS: u8 = 32;
 
 /// The upper left corner of a mask, or of a key.
 const ORIGIN: Position = Position { x: 0, y: 0 };
 
-/// Draws what a mask draws, and then its soft keys.
+/// Draws the elements of a mask, and then its soft keys.
 pub(crate) fn draw_mask<S: Store>(
     store: &S,
     mask: ObjectId,
@@ -39,7 +39,7 @@ pub(crate) fn draw_mask<S: Store>(
     draw_soft_keys(store, soft_key_mask(object), page)
 }
 
-/// The soft key mask of a mask, NULL of what is none.
+/// The soft key mask of a mask. NULL if the object is not a mask.
 fn soft_key_mask(object: &Object<Vec<u8>>) -> ObjectId
     ensures { result ≡ soft_key_mask_of (Some (seen object.now)) }
 {
@@ -60,7 +60,7 @@ fn draw_soft_keys<S: Store>(store: &S, id: ObjectId, page: &mut Page) -> Result<
     }
 }
 
-/// The keys of a soft key mask, none of what is none.
+/// The keys of a soft key mask. Empty if the object is not a soft key mask.
 fn keys_of(object: &Object<Vec<u8>>) -> &[ObjectId]
     ensures { result.now ≡ keys_of (Some (seen object.now)) }
 {
@@ -80,7 +80,7 @@ fn draw_keys<S: Store>(store: &S, keys: &[ObjectId], page: &mut Page) -> Result<
     Ok(())
 }
 
-/// Draws what entries stand for from a position, as far as some places deep.
+/// Draws the elements of entries from a position, with paths of at most `depth` indices.
 #[cycle(drawing)]
 fn draw_entries<S: Store>(
     store: &S,
@@ -101,7 +101,7 @@ fn draw_entries<S: Store>(
     Ok(())
 }
 
-/// Draws what an entry at a position stands for.
+/// Draws the element of an entry, from the position of the entry's list.
 #[cycle(drawing)]
 fn draw_entry<S: Store>(
     store: &S,
@@ -127,7 +127,7 @@ fn draw_entry<S: Store>(
     }
 }
 
-/// Draws what an element draws within it.
+/// Draws the elements within an element.
 #[cycle(drawing)]
 fn draw_within<S: Store>(
     store: &S,
@@ -151,7 +151,7 @@ fn draw_within<S: Store>(
     }
 }
 
-/// The entries of a container, none where it is hidden.
+/// The entries of a container. Empty if it is hidden.
 fn if_visible(container: &Container) -> &[Child]
     ensures { result.now ≡ (if container.now.hidden == 0 then container.now.children else []) }
 {
@@ -162,7 +162,7 @@ fn if_visible(container: &Container) -> &[Child]
     }
 }
 
-/// Draws the item of a list's index, where the list stands.
+/// Draws the current item of an input list, at the position of the list.
 #[cycle(drawing)]
 fn draw_item<S: Store>(
     store: &S,
@@ -180,7 +180,7 @@ fn draw_item<S: Store>(
     }
 }
 
-/// The item of a list's index, if there is one.
+/// The current item of an input list, if there is one.
 fn item<S: Store>(store: &S, list: &InputList) -> Option<ObjectId>
     ensures { option_to_list result ≡ item_of list.now.items (number_shown (S.contents store.now) list.now.variable list.now.value) }
 {
@@ -188,7 +188,7 @@ fn item<S: Store>(store: &S, list: &InputList) -> Option<ObjectId>
     list.items.as_slice().get(index as usize).copied()
 }
 
-/// The object that an ID stands for, if it is there, and its own ID: a pointer stands for its value.
+/// The object that an ID resolves to, directly or through a pointer, and its own ID. `None` if it is missing.
 fn standing<S: Store>(store: &S, id: ObjectId) -> Option<(ObjectId, &Object<Vec<u8>>)>
     ensures some { IfSome result (λ found. (stands_for (S.contents store.now) id ≡ Some found.0) × (finite.get (S.contents store.now) found.0 ≡ Some (seen found.1.now))) }
     ensures none { IfNone result (stands_for (S.contents store.now) id ≡ None) }
@@ -203,7 +203,7 @@ fn standing<S: Store>(store: &S, id: ObjectId) -> Option<(ObjectId, &Object<Vec<
     }
 }
 
-/// Neither a pointer nor a hidden container.
+/// Whether an object is neither a pointer nor a hidden container.
 fn is_element(object: &Object<Vec<u8>>) -> bool
     ensures { result ≡ is_element (Some (seen object.now)) }
 {

@@ -1,4 +1,4 @@
-//! Where elements stand.
+//! Elements and their positions.
 
 ghost use Rattle.std.specs.Prelude.{◌≡◌, ◌≤◌, ◌+ℤ◌, nat_abs, ℕ, ◌+◌, ◌^◌};
 ghost use Rattle.vt_layout.specs.Drawings.{shifted};
@@ -6,14 +6,14 @@ ghost use Rattle.vt_layout.specs.Sheets.{IsNear};
 
 use vt_objects::{Child, ObjectId};
 
-/// A place in pixels, from the upper left corner of a mask, or of a key.
+/// A position in pixels, from the upper left corner of a mask or of a key.
 #[derive(Clone, Copy, Debug, PartialEq, Eq)]
 pub(crate) struct Position {
     pub(crate) x: i32,
     pub(crate) y: i32,
 }
 
-/// An element where it is met: at a place of the list that it stands in, at a position.
+/// An element of the drawing: its index in its list, its ID and its position.
 #[derive(Clone, Copy, Debug, PartialEq, Eq)]
 pub(crate) struct Element {
     pub(crate) place: usize,
@@ -22,7 +22,7 @@ pub(crate) struct Element {
 }
 
 impl Position {
-    /// Where an entry stands whose list stands here.
+    /// The position of an entry, if its list is at this position.
     pub(crate) fn shifted(&self, entry: &Child) -> Position
         requires { IsNear 1 self.now }
         ensures is { result ≡ shifted self.now entry.now }

@@ -2,7 +2,7 @@
 //! (ISO 11783-6; docs/PROFILE.md, "The drawing and the screen text").
 //!
 //! - `draw` appends the screen of a working set.
-//! - `laws` has what the definitions come to.
+//! - `laws` has the theorems about the definitions.
 #![tactic(auto)]
 
 mod drawing;
@@ -16,5 +16,5 @@ mod values;
 
 pub use screen::draw;
 
-/// A growth that was refused.
+/// A refused allocation.
 pub use std::alloc::AllocError as OutOfMemory;

@@ -1,4 +1,4 @@
-//! The line of each kind of element.
+//! Writes the line of each kind of element.
 
 ghost use Rattle.std.specs.Prelude.{◌≡◌, ◌++◌, [], if◌then◌else◌, Some, OnOk, string_bytes, codes};
 ghost use Rattle.std.specs.Fmt.{decimal};
@@ -47,7 +47,7 @@ fn is_disabled(object: &Object<Vec<u8>>) -> bool
     }
 }
 
-/// Writes what an element is.
+/// Writes the line of an element, without `off` and the newline.
 fn describe<S: Store>(
     text: &mut String,
     store: &S,
@@ -79,7 +79,7 @@ fn describe<S: Store>(
     }
 }
 
-/// The name of a kind, a place and a size.
+/// Writes the line of an element with a size: name, ID, position and size.
 fn describe_box(
     text: &mut String,
     name: &str,
@@ -93,7 +93,7 @@ fn describe_box(
     write_size(text, width, height)
 }
 
-/// A key has no place on the screen but that in its soft key mask.
+/// Writes the line of a key. A key's position is the index in its soft key mask.
 fn describe_key(text: &mut String, element: Element, o: &Key) -> Result<(), AllocError>
     ensures { OnOk result (string_bytes text.new ≡ string_bytes text.old ++ (codes "key " ++ (decimal element.id ++ (numbered element.place ++ coded o.now.key_code)))) }
 {
@@ -103,7 +103,7 @@ fn describe_key(text: &mut String, element: Element, o: &Key) -> Result<(), Allo
     write_code(text, o.key_code)
 }
 
-/// A button, with its key code.
+/// Writes the line of a button, with its key code.
 fn describe_button(text: &mut String, element: Element, o: &Button) -> Result<(), AllocError>
     ensures { OnOk result (string_bytes text.new ≡ string_bytes text.old ++ (standing (codes "button") element ++ (sized o.now.width o.now.height ++ coded o.now.key_code))) }
 {
@@ -111,7 +111,7 @@ fn describe_button(text: &mut String, element: Element, o: &Button) -> Result<()
     write_code(text, o.key_code)
 }
 
-/// A line, with its direction.
+/// Writes the line of a Line object, with its direction.
 fn describe_direction(text: &mut String, element: Element, o: &Line) -> Result<(), AllocError>
     ensures { OnOk result (string_bytes text.new ≡ string_bytes text.old ++ (standing (codes "line") element ++ (sized o.now.width o.now.height ++ numbered o.now.direction))) }
 {
@@ -119,7 +119,7 @@ fn describe_direction(text: &mut String, element: Element, o: &Line) -> Result<(
     write_number(text, u32::from(o.direction))
 }
 
-/// A picture, with the width at which it is shown.
+/// Writes the line of a picture, with its displayed width.
 fn describe_picture(text: &mut String, element: Element, width: u16) -> Result<(), AllocError>
     ensures { OnOk result (string_bytes text.new ≡ string_bytes text.old ++ (standing (codes "picture") element ++ numbered width)) }
 {
@@ -127,7 +127,7 @@ fn describe_picture(text: &mut String, element: Element, width: u16) -> Result<(
     write_number(text, u32::from(width))
 }
 
-/// An input of a truth value.
+/// Writes the line of an Input Boolean.
 fn describe_boolean<S: Store>(
     text: &mut String,
     store: &S,
@@ -141,7 +141,7 @@ fn describe_boolean<S: Store>(
     write_decision(text, value)
 }
 
-/// An input of a text.
+/// Writes the line of an Input String.
 fn describe_input<S: Store>(
     text: &mut String,
     store: &S,
@@ -154,7 +154,7 @@ fn describe_input<S: Store>(
     write_quoted(text, text_shown(store, o.variable, o.text.as_slice()))
 }
 
-/// A text.
+/// Writes the line of an Output String.
 fn describe_text<S: Store>(
     text: &mut String,
     store: &S,
@@ -167,7 +167,7 @@ fn describe_text<S: Store>(
     write_quoted(text, text_shown(store, o.variable, o.text.as_slice()))
 }
 
-/// An input of a number.
+/// Writes the line of an Input Number.
 fn describe_input_number<S: Store>(
     text: &mut String,
     store: &S,
@@ -181,7 +181,7 @@ fn describe_input_number<S: Store>(
     write_shown(text, value, o.offset, o.scale, o.decimals)
 }
 
-/// A number.
+/// Writes the line of an Output Number.
 fn describe_output_number<S: Store>(
     text: &mut String,
     store: &S,
@@ -195,7 +195,7 @@ fn describe_output_number<S: Store>(
     write_shown(text, value, o.offset, o.scale, o.decimals)
 }
 
-/// An input of an item, with the index of the one that is shown.
+/// Writes the line of an Input List, with the index of its current item.
 fn describe_list<S: Store>(
     text: &mut String,
     store: &S,
@@ -208,7 +208,7 @@ fn describe_list<S: Store>(
     write_value(text, number_shown(store, o.variable, u32::from(o.value)))
 }
 
-/// A meter, with its value.
+/// Writes the line of a meter, with its value.
 fn describe_meter<S: Store>(
     text: &mut String,
     store: &S,
@@ -221,7 +221,7 @@ fn describe_meter<S: Store>(
     write_value(text, number_shown(store, o.variable, u32::from(o.value)))
 }
 
-/// A bar, with its value and its target.
+/// Writes the line of a linear bar graph, with its value and its target.
 fn describe_linear_bar<S: Store>(
     text: &mut String,
     store: &S,
@@ -236,7 +236,7 @@ fn describe_linear_bar<S: Store>(
     write_value(text, target)
 }
 
-/// A bar along an arch, with its value and its target.
+/// Writes the line of an arched bar graph, with its value and its target.
 fn describe_arched_bar<S: Store>(
     text: &mut String,
     store: &S,

@@ -1,4 +1,4 @@
-//! The lines of a screen, while they are written.
+//! A page: the lines of a screen as they are written.
 
 ghost use Rattle.std.specs.Prelude.{◌≡◌, ◌↔◌, ◌++◌, IsTrue, IfOk, OnOk, Some, suc, string_bytes};
 ghost use Rattle.std.specs.FinMap as finite;
@@ -16,7 +16,7 @@ use vt_objects::{Object, Store};
 /// The most lines of elements on a screen.
 const MOST_LINES: u16 = 2000;
 
-/// The lines so far, and how many elements there were, one too many at most.
+/// The lines so far, and the number of elements, counted up to one more than fit.
 #[derive(Drop)]
 pub(crate) struct Page {
     text: String,
@@ -35,7 +35,7 @@ impl Model for Page {
 }
 
 impl Page {
-    /// A page with a first line.
+    /// A page with a heading and no elements.
     pub(crate) fn new(heading: String) -> Page
         ensures { result ≡ record { text = string_bytes heading; count = 0 } }
     {
@@ -52,7 +52,7 @@ impl Page {
         self.count > MOST_LINES
     }
 
-    /// Writes the line of an element, while there are not too many.
+    /// Writes the line of an element if it fits, and counts the element.
     pub(crate) fn put<S: Store>(
         &mut self,
         store: &S,
@@ -69,7 +69,7 @@ impl Page {
         write_line(&mut self.text, store, element, object)
     }
 
-    /// The text, with a last line that there are more elements where there are.
+    /// The text, with a last line `more` if there are more elements than lines.
     pub(crate) fn finish(self) -> Result<String, AllocError>
         ensures { IfOk result (λ text. string_bytes text ≡ finished self) }
     {

@@ -1,4 +1,4 @@
-//! The screen of a working set.
+//! Draws the screen of a working set as text.
 
 ghost use Rattle.std.specs.Prelude.{◌≡◌, ◌++◌, None, OnOk, OnErr, IfOk, map, string_bytes};
 ghost use Rattle.std.specs.FinMap as finite;
@@ -12,12 +12,13 @@ use std::alloc::{AllocError, Global};
 use vt_machine::Live;
 use vt_objects::{ObjectId, Store};
 
-/// The bytes of a screen for which there is room at first.
+/// The initial capacity of the screen text, in bytes.
 const ROOM: usize = 4096;
 
-/// Appends the screen of the working set at an address: a line with its active mask, then one for each element that the mask
-/// and its soft keys show, at most 2,000 of them, and a last line where there are more. After `OutOfMemory` the vector is as it
-/// was. It ends after those lines, however many paths lead to elements (ISO 11783-6; docs/PROFILE.md, "The drawing and the screen text").
+/// Appends the screen of the working set at an address: a line with its active mask, then one for each element that the
+/// mask and its soft keys show, at most 2,000 of them, and a last line if there are more. Ends after those lines, however
+/// many paths lead to elements. After `OutOfMemory` the vector is unchanged (ISO 11783-6; docs/PROFILE.md, "The drawing
+/// and the screen text").
 pub fn draw<S: Store>(
     alloc: Global,
     address: u8,
@@ -46,7 +47,7 @@ fn screen<S: Store>(
     page.finish()
 }
 
-/// The first line.
+/// The first line: the address of the working set and its active mask.
 fn heading(alloc: Global, address: u8, mask: ObjectId) -> Result<String, AllocError>
     ensures { IfOk result (λ text. string_bytes text ≡ heading address mask) }
 {

@@ -1,4 +1,4 @@
-//! The parts of lines.
+//! Writes the parts of a line: positions, sizes, numbers and texts.
 
 ghost use Rattle.std.specs.Prelude.{◌≡◌, ◌++◌, ◌<◌, List, OnOk, string_bytes, codes, take, Some};
 ghost use Rattle.std.specs.Option.{option_map};
@@ -10,10 +10,10 @@ use crate::element::Element;
 use std::alloc::AllocError;
 use vt_objects::{Decimal, Decimals, Scale};
 
-/// The most bytes of a text that are shown.
+/// The most bytes of a text that a line shows.
 const MOST_OF_TEXT: usize = 64;
 
-/// The name of a kind, the ID, and where the element stands.
+/// Writes the name of a kind, the ID and the position of an element.
 pub(crate) fn write_standing(
     text: &mut String,
     name: &str,
@@ -27,21 +27,21 @@ pub(crate) fn write_standing(
     write!(text, "{name} {id} {x} {y}")
 }
 
-/// A size in pixels.
+/// Writes a size in pixels.
 pub(crate) fn write_size(text: &mut String, width: u16, height: u16) -> Result<(), AllocError>
     ensures { OnOk result (string_bytes text.new ≡ string_bytes text.old ++ parts.sized width height) }
 {
     write!(text, " {width}x{height}")
 }
 
-/// A number.
+/// Writes a number.
 pub(crate) fn write_number(text: &mut String, number: u32) -> Result<(), AllocError>
     ensures { OnOk result (string_bytes text.new ≡ string_bytes text.old ++ parts.numbered number) }
 {
     write!(text, " {number}")
 }
 
-/// A number, if there is one.
+/// Writes a number, if there is one.
 pub(crate) fn write_value(text: &mut String, value: Option<u32>) -> Result<(), AllocError>
     ensures { OnOk result (string_bytes text.new ≡ string_bytes text.old ++ parts.valued value) }
 {
@@ -51,7 +51,7 @@ pub(crate) fn write_value(text: &mut String, value: Option<u32>) -> Result<(), A
     }
 }
 
-/// Whether a value is true, which all are but 0.
+/// Writes whether a value is true: all values are but 0.
 pub(crate) fn write_decision(text: &mut String, value: Option<u32>) -> Result<(), AllocError>
     ensures { OnOk result (string_bytes text.new ≡ string_bytes text.old ++ parts.decided value) }
 {
@@ -62,14 +62,14 @@ pub(crate) fn write_decision(text: &mut String, value: Option<u32>) -> Result<()
     }
 }
 
-/// A key code.
+/// Writes a key code.
 pub(crate) fn write_code(text: &mut String, code: u8) -> Result<(), AllocError>
     ensures { OnOk result (string_bytes text.new ≡ string_bytes text.old ++ parts.coded code) }
 {
     write!(text, " code {code}")
 }
 
-/// A number as it is shown.
+/// Writes a number with its offset, scale and decimals.
 pub(crate) fn write_shown(
     text: &mut String,
     value: Option<u32>,
@@ -93,7 +93,7 @@ pub(crate) fn write_shown(
     write!(text, " {shown}")
 }
 
-/// The first bytes of a text in quotes, if there is one.
+/// Writes the first bytes of a text in quotes, if there is a text.
 pub(crate) fn write_quoted(text: &mut String, bytes: Option<&[u8]>) -> Result<(), AllocError>
     ensures { OnOk result (string_bytes text.new ≡ string_bytes text.old ++ parts.quoted (option_map (λ b. b.now) bytes.entry)) }
 {
@@ -107,7 +107,7 @@ pub(crate) fn write_quoted(text: &mut String, bytes: Option<&[u8]>) -> Result<()
     text.push_str("\"")
 }
 
-/// A byte as it is, or by its digits.
+/// Writes a byte as it is, or escaped by its digits.
 fn write_escaped(text: &mut String, byte: u8) -> Result<(), AllocError>
     ensures { OnOk result (string_bytes text.new ≡ string_bytes text.old ++ parts.escaped byte) }
 {
@@ -119,7 +119,7 @@ fn write_escaped(text: &mut String, byte: u8) -> Result<(), AllocError>
     text.push_str(&digits)
 }
 
-/// Whether a byte stands for itself: from 20 to 7E, but `"` and `\`.
+/// Whether a byte is written as it is: from 20 to 7E, except `"` and `\`.
 fn is_plain(byte: u8) -> bool
     ensures { result ≡ parts.is_plain byte }
 {

@@ -1,4 +1,4 @@
-//! The values that objects show: those of their variables, if they have any.
+//! The values that objects show: those of their variables, if they have variables.
 
 ghost use Rattle.std.specs.Prelude.{◌≡◌};
 ghost use Rattle.std.specs.Option.{option_map};
@@ -7,7 +7,7 @@ ghost use Rattle.vt_layout.specs.Lines.{text_shown};
 
 use vt_objects::{Object, ObjectId, Store};
 
-/// The number that an object shows; none where its variable is not there, which a store in order rules out.
+/// The number that an object shows. `None` if its variable is missing, which cannot happen in a store in order.
 pub(crate) fn number_shown<S: Store>(store: &S, variable: ObjectId, own: u32) -> Option<u32>
     ensures { result ≡ number_shown (S.contents store.now) variable own }
 {
@@ -20,7 +20,7 @@ pub(crate) fn number_shown<S: Store>(store: &S, variable: ObjectId, own: u32) ->
     }
 }
 
-/// The text that an object shows; none where its variable is not there, which a store in order rules out.
+/// The text that an object shows. `None` if its variable is missing, which cannot happen in a store in order.
 pub(crate) fn text_shown<'a, S: Store>(
     store: &'a S,
     variable: ObjectId,

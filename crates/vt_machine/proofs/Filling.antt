@@ -1,4 +1,4 @@
--- A text that is longer than what is kept is not what is kept.
+-- A text that is longer than the stored one differs from it.
 use Rattle.std.proofs.Common.{◌≡◌, ◌<◌, ℕ, zero, suc, Bool, false, List, [], ◌∷◌, drop, length, refl, sym, ◌∙◌, arith}
 use Rattle.vt_machine.specs.Entering.{is_filled}
 

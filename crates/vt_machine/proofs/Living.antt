@@ -1,4 +1,4 @@
--- What calls on a working set begin with, and what they leave.
+-- The state of a working set before and after each call.
 use Rattle.std.proofs.Common.{◌≡◌, ◌≤◌, ◌<◌, ◌+◌, ◌-◌, ◌*◌, ℕ, zero, suc, Bool, cond, List, [], ◌∷◌, map, length, slice_get, slice_index_or, true, false, Option, Some, None, Ok, refl, sym, ap, subst, ◌∙◌, arith, append-nil}
 use Rattle.std.proofs.lemmas.List.Sums.{sum_by-cons}
 use Rattle.std.proofs.lemmas.Cmp.{nat_cmp_total}
@@ -124,13 +124,13 @@ kind_stays a b id same =
     ap (option_map kind_of) (finite.get-entries a id) ∙ sym (kind_found (finite.entries a) id) ∙ ap (λ (s : Shape). kind_at s id) same
     ∙ kind_found (finite.entries b) id ∙ sym (ap (option_map kind_of) (finite.get-entries b id))
 
--- ---- the key that is held
+-- ---- the held key
 
 pub key_stays : (old new : ObjectMap) (key : Option HeldKey) → shape_in new ≡ shape_in old → holds_key old key ≡ true → holds_key new key ≡ true
 key_stays old new None same is = refl
 key_stays old new (Some key) same is = ap is_key (kind_stays new old key.id same) ∙ is
 
--- one that has a message may be held
+-- an object with a key message may be held
 pub key_held : (m : ObjectMap) (code id mask : ℕ) (message : List ℕ) → key_message code id mask (finite.get m id) ≡ Some message → is_key (kind_in m id) ≡ true
 key_held m code id mask message is = by (finite.get m id) is
   where
@@ -139,7 +139,7 @@ key_held m code id mask message is = by (finite.get m id) is
     by (Some (objects.Button o)) is = refl
     by _ is = absurd cc
 
--- what is held has a message of eight bytes
+-- the held object has a message of eight bytes
 pub message_of_key : (m : ObjectMap) (code id mask : ℕ) (message : Option (List ℕ)) → is_key (kind_in m id) ≡ true → message ≡ key_message code id mask (finite.get m id)
     → (P : Type 0) → ((bytes : List ℕ) → message ≡ Some bytes → length bytes ≡ 8 → P) → P
 message_of_key m code id mask message held is P then = by (finite.get m id) held is
@@ -149,7 +149,7 @@ message_of_key m code id mask message held is P then = by (finite.get m id) held
     by (Some (objects.Button o)) held is = then _ is refl
     by _ held is = absurd cc
 
--- where the object stays of a kind, so does what is held
+-- a held key stays a key, if its object is still of the same kind
 pub key_kept : (old new : ObjectMap) (key : Option HeldKey) → holds_key old key ≡ true → holds_key new (kept_key old new key) ≡ true
 key_kept old new None is = refl
 key_kept old new (Some key) is = by (same_kind (kind_in old key.id) (kind_in new key.id)) refl

@@ -1,4 +1,4 @@
--- Nothing stands under NULL in the store of an acceptable pool, whatever has run on it.
+-- NULL is not the ID of an object in the store of an acceptable pool, whatever has run on it.
 use Rattle.std.proofs.Common.{◌≡◌, ◌<◌, map, Option, Some, None, refl, sym, ap, subst, ◌∙◌}
 use Rattle.std.specs.List.{All}
 use Rattle.std.specs.Option.{option_map}

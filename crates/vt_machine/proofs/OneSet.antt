@@ -1,4 +1,4 @@
--- Where there is one working set, two IDs of working sets are one.
+-- In a store with one working set, all IDs of working sets are equal.
 use Rattle.std.proofs.Common.{◌≡◌, ℕ, suc, Bool, true, false, cond, [], ◌∷◌, filter, length, slice_get, Some, refl, sym, ap, subst, ◌∙◌, arith}
 use Rattle.std.proofs.lemmas.Bool.{eqb-true}
 use Rattle.std.specs.Cmp.{unsigned_tied}
@@ -28,7 +28,7 @@ count_more e es = by (is_working_set (kind_of e.1))
     by true = omega arith
     by false = refl
 
--- what stands under an ID is the first entry or stands behind it
+-- the object of an ID is the first entry or a later one
 entry_case : (P : Type 0) (e : ℕ × Seen) (es : Objects) (q : ℕ) (b : Bool) → eq_by_cmp nat_cmp q e.0 ≡ b → IsSet (e ∷ es) q
     → (q ≡ e.0 → is_working_set (kind_of e.1) ≡ true → P) → (IsSet es q → P) → P
 entry_case P e es q true same is here later =
@@ -84,7 +84,7 @@ masks_are_one m mask other one first second =
     (sym (ap (option_map kind_of) (finite.get-entries m second.0)) ∙ second.1) in
     sym first.2 ∙ ap (λ (k : ℕ). mask_of (finite.get m k)) same ∙ second.2
 
--- ---- the one that is found
+-- ---- the first working set
 
 found_by : (e : ℕ × Seen) (es : Objects) (q : ℕ) (b : Bool) → is_working_set (kind_of e.1) ≡ b → cond b (suc (working_sets (shape_of es))) (working_sets (shape_of es)) ≡ 1
     → IsSet (e ∷ es) q → (working_sets (shape_of es) ≡ 1 → IsSet es q → q ≡ first_set es) → q ≡ cond b e.0 (first_set es)
@@ -110,7 +110,7 @@ set_is m set one is =
 pub active_is : (m : ObjectMap) (set mask : ℕ) → working_sets (shape_in m) ≡ 1 → kind_in m set ≡ Some kinds.WorkingSet → mask ≡ mask_of (finite.get m set) → mask ≡ active_in m
 active_is m set mask one is active = active ∙ ap (λ (k : ℕ). mask_of (finite.get m k)) (set_is m set one is)
 
--- where there is one, there is an ID of it
+-- a store with one working set has its ID
 pub set_kind : (k : Kind) → is_working_set k ≡ true → k ≡ kinds.WorkingSet
 set_kind kinds.WorkingSet is = refl
 set_kind _ is = absurd cc

@@ -1,4 +1,4 @@
--- What stays where an object is changed that names what it named: macros can run as before.
+-- Changes that leave an object's references, macro entries and macro bytes unchanged: macros can run as before.
 use Rattle.std.proofs.Common.{◌≡◌, ℕ, Bool, true, false, cond, ◌==◌, ◌&&◌, eqb, List, [], ◌∷◌, map, filter, length, Option, Some, None, refl, sym, ap, subst, ◌∙◌}
 use Rattle.std.proofs.lemmas.Option.{same_Some}
 use Rattle.std.proofs.lemmas.Bool.{eqb-true}
@@ -34,7 +34,7 @@ use Rattle.vt_effects.proofs.InOrder.{get_there, get_other, kinds_stay}
 use Rattle.vt_effects.proofs.Shapes.{shape_same}
 use Rattle.vt_effects.proofs.ShortChains.{fewer_chains}
 
--- a change that touches no reference, no macro entry and no macro byte
+-- a change that leaves references, macro entries and macro bytes unchanged
 pub record IsPlain (change : Seen → Seen) : Type 0 where
   pub slots : (o : Seen) → slots_of (change o) ≡ slots_of o
   pub same : (o : Seen) → fixed (change o) ≡ fixed o
@@ -82,7 +82,7 @@ texts_plain text = record { slots = slots; same = same; values = values }
     values (objects.StringVariable o) = refl
     values _ = refl
 
--- ---- an object under its ID
+-- ---- one changed object
 
 module _ (m : ObjectMap) (id : ℕ) (old new : Seen) (at : finite.get m id ≡ Some old) (slots : slots_of new ≡ slots_of old) (same : fixed new ≡ fixed old)
     (value : pointer_value (Some new) ≡ pointer_value (Some old)) where
@@ -158,7 +158,7 @@ module _ (m : ObjectMap) (id : ℕ) (old new : Seen) (at : finite.get m id ≡ S
     faultless = λ id. subst (λ (s : Shape). AllByRecursion (λ command. fault s command ≡ None) (commands s id)) (sym still_shaped) (can.faultless id);
   }
 
--- ---- an object that is changed where it is there
+-- ---- a change of an object that may be missing
 
 changed_runs : (m : ObjectMap) (id : ℕ) (change : Seen → Seen) (found : Option Seen) (index : Index) (levels : Levels) → finite.get m id ≡ found → IsPlain change
     → CanRun index m levels → CanRun index (put_at m id change found) levels
@@ -185,7 +185,7 @@ plain_runs m n id change index levels is plain can =
 pub plain_shape : (m n : ObjectMap) (id : ℕ) (change : Seen → Seen) → n ≡ put_at m id change (finite.get m id) → IsPlain change → shape_in n ≡ shape_in m
 plain_shape m n id change is plain = ap shape_in is ∙ changed_shape m id change (finite.get m id) refl plain
 
--- what is written through a store is what a change makes
+-- the store after a write is the store with the changed object
 pub put_changed : (m after : ObjectMap) (id : ℕ) (change : Seen → Seen) (old new : Seen) → Some old ≡ finite.get m id → after ≡ with_object m id new → new ≡ change old
     → after ≡ put_at m id change (finite.get m id)
 put_changed m after id change old new at wrote is =

@@ -1,4 +1,4 @@
--- What the contracts of this crate cite.
+-- The definitions used in the contracts of vt_machine.
 pub mod Entering
 pub mod Lives
 pub mod Operating

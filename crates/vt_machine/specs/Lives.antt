@@ -1,5 +1,5 @@
--- A working set with its object pool: its objects, the key that is held, and the input that is selected, and what calls on it do
--- (docs/PROFILE.md, "Runs", "Steps").
+-- A working set with its objects, its held key and its selected input, and the effects of calls on it (docs/PROFILE.md,
+-- "Runs", "Steps").
 use denote.RattleType.{RattleType}
 use Rattle.std.specs.Prelude.{◌≡◌, ◌≤◌, ◌+◌, ◌-◌, ℕ, Bool, true, false, ◌==◌, if◌then◌else◌, List, [], ◌∷◌, Option, Some, None, Result, Ok, Err, refl}
 use Rattle.std.specs.Coded.{Coded, code_by, coded×, coded_option, coded_ℕ}
@@ -23,7 +23,7 @@ use Rattle.vt_macros.specs.Machines.{Ended, mask_of, run, joined_all, total_budg
 use Rattle.vt_effects.specs.Soundness.{shape_in}
 use Rattle.vt_effects.specs.Soundness.{IsSound}
 
--- a working set's objects, the key held with the mask of its press, and the input selected
+-- a working set's objects, the held key with the mask of its press, and the selected input
 pub record SetState : Type 0 where
   pub objects : ObjectMap
   pub key : Option HeldKey
@@ -40,11 +40,11 @@ state_code =
     (λ p. record { objects = p.0; key = p.1.0; input = p.1.1 })
     (λ _. refl)
 
--- with other objects
+-- the state with its objects replaced
 abbrev pub with_objects : SetState → ObjectMap → SetState
 with_objects state new = record state { objects = new }
 
--- a Key or a Button is held, or nothing
+-- the held object is a Key or a Button
 abbrev pub is_key : Option Kind → Bool
 is_key (Some kinds.Key) = true
 is_key (Some kinds.Button) = true
@@ -56,7 +56,7 @@ holds_key store (Some key) = is_key (kind_in store key.id)
 
 -- ---- the working set and its active mask
 
--- the first that is a Working Set, and NULL where none is
+-- the first Working Set of a list of objects, or NULL
 abbrev pub first_set : Objects → ℕ
 first_set [] = 0xFFFF
 first_set (e ∷ entries) = if is_working_set (kind_of e.1) then e.0 else first_set entries
@@ -64,7 +64,7 @@ first_set (e ∷ entries) = if is_working_set (kind_of e.1) then e.0 else first_
 unfoldable pub working_set_in : ObjectMap → ℕ
 working_set_in store = first_set (map.entries store)
 
--- its active mask, and NULL where there is no working set
+-- the active mask of a store's working set; NULL if there is no working set
 abbrev pub active_in : ObjectMap → ℕ
 active_in store = mask_of (map.get store (working_set_in store))
 
@@ -72,7 +72,7 @@ active_in store = mask_of (map.get store (working_set_in store))
 abbrev pub IsActive : ObjectMap → ℕ → Type 0
 IsActive store mask = (set : ℕ) × (kind_in store set ≡ Some kinds.WorkingSet) × (mask_of (map.get store set) ≡ mask)
 
--- Where there is one working set, it is the one that is found, and there is one active mask.
+-- If a store has one working set, that set is the one found, and its active mask is unique.
 pub record ActiveMasksAreOne : Type 0 where
   pub one : (store : ObjectMap) (mask other : ℕ) → working_sets (shape_in store) ≡ 1 → IsActive store mask → IsActive store other → mask ≡ other
   pub set : (store : ObjectMap) (set : ℕ) → working_sets (shape_in store) ≡ 1 → kind_in store set ≡ Some kinds.WorkingSet → set ≡ working_set_in store
@@ -80,10 +80,10 @@ pub record ActiveMasksAreOne : Type 0 where
   pub mask : (store : ObjectMap) (mask : ℕ) → working_sets (shape_in store) ≡ 1 → IsActive store mask → mask ≡ active_in store
   pub active : (store : ObjectMap) → working_sets (shape_in store) ≡ 1 → IsActive store (active_in store)
 
--- ---- what runs leave
+-- ---- stores after runs
 
--- Commands have run on objects, in so many steps and at most in so many as were left to them. The run ended without sticking, the
--- references and chains are in order, and no kind, no macro entry and no macro byte is another one.
+-- Commands have run on objects, in `steps` steps of at most `most`. The run has ended without getting stuck, the
+-- references and chains are in order, and no kind, no macro entry and no macro byte has changed.
 pub record HasRun (old : ObjectMap) (commands : List Command) (most steps : ℕ) (new : ObjectMap) : Type 0 where
   pub ended : run most old commands ≡ Ended new (most - steps)
   pub within : steps ≤ most
@@ -92,7 +92,7 @@ pub record HasRun (old : ObjectMap) (commands : List Command) (most steps : ℕ)
 
 -- ---- commands
 
--- A command that is done has the effect that it has, and then the macros of the events that it raises run: its own step, and theirs.
+-- A command that is done takes effect, and then the macros of its events run. It takes its own step and theirs.
 pub record IsDone (old : ObjectMap) (command : Command) (steps : ℕ) (new : ObjectMap) : Type 0 where
   pub middle : ObjectMap
   pub done : effect old command ≡ Ok middle
@@ -100,7 +100,7 @@ pub record IsDone (old : ObjectMap) (command : Command) (steps : ℕ) (new : Obj
   pub steps_are : steps ≡ run_steps + 1
   pub has_run : HasRun middle (joined_all (shape_in middle) (events_of old command)) (total_budget (shape_in middle) (events_of old command)) run_steps new
 
--- A command that is refused has an error byte, and changes nothing.
+-- A refused command has an error byte, and changes nothing.
 pub record IsRefused (old : ObjectMap) (command : Command) (bits : ℕ) (new : ObjectMap) : Type 0 where
   pub refused : ◌≡◌ {A = Result ObjectMap ℕ} (effect old command) (Err bits)
   pub same : new ≡ old
@@ -111,12 +111,12 @@ Applied old command (Refused bits) new = IsRefused old command bits new
 
 -- ---- updates
 
--- both are there, of one kind
+-- both objects exist and are of the same kind
 abbrev pub same_kind : Option Kind → Option Kind → Bool
 same_kind (Some kind) (Some other) = kind_number kind == kind_number other
 same_kind _ _ = false
 
--- what was held or selected stays so where the object of its ID is of the kind that it was of
+-- a held or selected object is kept, if its ID has an object of the same kind in both stores
 abbrev pub is_kept : ObjectMap → ObjectMap → ℕ → Bool
 is_kept old new id = same_kind (kind_in old id) (kind_in new id)
 
@@ -128,6 +128,6 @@ abbrev pub kept_input : ObjectMap → ObjectMap → Option ℕ → Option ℕ
 kept_input old new None = None
 kept_input old new (Some input) = if is_kept old new input then Some input else None
 
--- the working set with other objects
+-- the working set with its objects updated
 abbrev pub renewed : SetState → ObjectMap → SetState
 renewed state new = record { objects = new; key = kept_key state.objects new state.key; input = kept_input state.objects new state.input }

@@ -1,5 +1,5 @@
--- The operator's actions on a working set: each is refused by the first test that fails, or comes to a message, a change and the
--- events that it raises, all of them chosen before the first macro runs (docs/PROFILE.md, "The operator").
+-- The operator's actions on a working set. The first test that fails refuses an action; otherwise the message, the change
+-- and the raised events are all chosen before the first macro runs (docs/PROFILE.md, "The operator").
 use Rattle.std.specs.Prelude.{◌≡◌, ◌%◌, ℕ, Bool, true, false, not, ◌==◌, if◌then◌else◌, List, [], ◌∷◌, ◌++◌, Decides, Option, Some, None, Result, Ok, Err}
 use Rattle.std.specs.FinMap as finite
 use Rattle.byteorder.specs.Endian.{little_bytes}
@@ -17,14 +17,14 @@ use Rattle.vt_macros.specs.Machines.{joined_all, total_budget}
 use Rattle.vt_effects.specs.Soundness.{shape_in}
 use Rattle.vt_shown.specs.Showing.{IsShown}
 
--- what an action comes to
+-- the result of an action
 pub data Action : Type 0 where
   Refused : (refusal : OperatorRefusal) → Action
   Acts : (message : List ℕ) (state : SetState) (raised : List Raised) → Action
 
 -- ---- keys
 
--- the message of a Key or a Button, with code 1 for pressed and 0 for released; other objects have none
+-- the message of a Key or a Button, with code 1 for pressed and 0 for released; other objects have no message
 abbrev pub key_bytes : ℕ → ℕ → ℕ → ℕ → ℕ → List ℕ
 key_bytes function code id mask key_code = function ∷ code ∷ little_bytes 2 id ++ little_bytes 2 mask ++ key_code ∷ 0xFF ∷ []
 
@@ -44,7 +44,7 @@ press_with state mask id None key = Refused refusals.WrongKind
 press_with state mask id (Some message) (Some key) = Refused refusals.Held
 press_with state mask id (Some message) None = Acts message (holding state (Some (held id mask))) (raise id events.KeyPress ∷ [])
 
--- where `shown` says whether the object is shown
+-- the press of a key, where `shown` is whether the object is shown
 abbrev pub press : Bool → SetState → ℕ → ℕ → Action
 press false state mask id = Refused refusals.NotShown
 press true state mask id = press_with state mask id (key_message 1 id mask (finite.get state.objects id)) state.key
@@ -53,7 +53,7 @@ abbrev pub or_none : Option (List ℕ) → List ℕ
 or_none None = []
 or_none (Some message) = message
 
--- the mask of the press, and the key code as it is now
+-- the release of the held key: the message has the mask of the press and the present key code
 abbrev pub release_of : SetState → ℕ → Option HeldKey → Action
 release_of state id None = Refused refusals.NotPressed
 release_of state id (Some key) =
@@ -66,7 +66,7 @@ release state id = release_of state id state.key
 
 -- ---- inputs
 
--- whether an input is enabled; other objects are none
+-- whether an input is enabled; None for other objects
 abbrev pub is_enabled : Option Seen → Option Bool
 is_enabled (Some (objects.InputBoolean o)) = Some (not (o.enabled == 0))
 is_enabled (Some (objects.InputString o)) = Some (not (o.enabled == 0))
@@ -77,7 +77,7 @@ is_enabled _ = None
 abbrev pub selecting : SetState → ℕ → SetState
 selecting state id = record state { input = Some id }
 
--- the input that was selected is deselected first; the same one again raises none
+-- the former input is deselected first; no events if the same input is selected again
 abbrev pub select_events : ℕ → Option ℕ → List Raised
 select_events id None = raise id events.InputSelected ∷ []
 select_events id (Some old) =
@@ -92,9 +92,9 @@ abbrev pub select : Bool → SetState → ℕ → Action
 select false state id = Refused refusals.NotShown
 select true state id = select_if state id (is_enabled (finite.get state.objects id))
 
--- ---- what a call answers and leaves
+-- ---- the result of a call and the state after it
 
--- A refused action changes nothing. Another one sends its message, makes its change, and then the macros of its events run.
+-- A refused action changes nothing. Any other sends its message and makes its change, and then its events' macros run.
 pub record HasActed (start : SetState) (raised : List Raised) (steps : ℕ) (new : SetState) : Type 0 where
   pub has_run : HasRun start.objects (joined_all (shape_in start.objects) raised) (total_budget (shape_in start.objects) raised) steps new.objects
   pub key : new.key ≡ start.key
@@ -106,12 +106,12 @@ ComesTo old (Acts message start raised) (Ok acted) new = (acted.message.items �
 ComesTo old (Refused refusal) (Ok acted) new = ⊥
 ComesTo old (Acts message start raised) (Err answered) new = ⊥
 
--- an action on an object that has to be shown by the active mask
+-- an action on an object that the active mask has to show
 abbrev pub ComesToShown : SetState → ℕ → (Bool → ℕ → Action) → Result Acted OperatorRefusal → SetState → Type 0
 ComesToShown old id action result new =
     (shown : Bool) × Decides shown (IsShown old.objects (active_in old.objects) id) × ComesTo old (action shown (active_in old.objects)) result new
 
--- the refusal of an action, if it is refused
+-- the refusal of an action, or None
 abbrev pub refusal_of : Action → Option OperatorRefusal
 refusal_of (Refused refusal) = Some refusal
 refusal_of (Acts message state raised) = None

@@ -1,4 +1,4 @@
-//! Numbers and texts that the operator enters (docs/PROFILE.md, "The operator").
+//! The operator's entries of numbers and texts (docs/PROFILE.md, "The operator").
 
 ghost use Rattle.std.specs.Prelude.{◌≡◌, ◌≤◌, ◌==◌, true, Ok, IfOk, length};
 ghost use Rattle.std.specs.Option.{option_map};
@@ -17,11 +17,11 @@ use vt_effects::byte;
 use vt_objects::{Event, Object, ObjectId, Raised, Store};
 
 impl<S: Store> Live<S> {
-    /// Enters a number in an Input Boolean (0 or 1), an Input Number (from its least to its greatest value, before offset and
-    /// scale) or an Input List (the index of an item) that is shown and enabled. It is kept in the variable of the object, if it has
-    /// one. Refused are, in this order, what is not shown, what is of another kind, what is disabled, and another number; then
-    /// nothing is changed. The event Entry of Value is raised on the object, and where what is kept is another number, Entry of
-    /// New Value and Value too.
+    /// Enters a number in an Input Boolean (0 or 1), an Input Number (from its least to its greatest value, before offset
+    /// and scale) or an Input List (the index of an item). Stores it in the object, or in its variable if it has one.
+    /// Raises Entry of Value on the object, and if the stored number changes, Entry of New Value and Value too. Refuses,
+    /// in this order, an object that is not shown, one of another kind, a disabled one, and a number that is not
+    /// accepted; a refusal changes nothing.
     pub fn enter_number(&mut self, id: ObjectId, number: u32) -> Result<Acted, OperatorRefusal>
         ensures { ComesToShown self.old id (λ shown mask. entering.enter_number shown self.old id number) result self.new }
     {
@@ -34,7 +34,7 @@ impl<S: Store> Live<S> {
         }
     }
 
-    /// Keeps a number, and raises the events of its entry.
+    /// Stores a number, and raises the events of its entry.
     fn keep_number(&mut self, id: ObjectId, place: ObjectId, number: u32) -> Acted
         ensures { ComesTo self.old (entering.store_number self.old id place number) (Ok result) self.new }
     {
@@ -47,10 +47,10 @@ impl<S: Store> Live<S> {
 }
 
 impl<S: Store> Live<S> {
-    /// Enters a text in an Input String that is shown and enabled. It is kept in the variable of the object, if it has one, filled
-    /// with spaces. Refused are, in this order, what is not shown, what is of another kind, what is disabled, and a text of more
-    /// bytes than the object's or its variable's; then nothing is changed. The message has the text as it was entered. The event Entry of Value is raised on the object, and where what
-    /// is kept is another text, Entry of New Value and Value too.
+    /// Enters a text in an Input String. Stores it, filled up with spaces, in the object, or in its variable if it has
+    /// one. Raises Entry of Value on the object, and if the stored text changes, Entry of New Value and Value too. The
+    /// message has the text as entered. Refuses, in this order, an object that is not shown, one of another kind, a
+    /// disabled one, and a text of more bytes than the object's or its variable's; a refusal changes nothing.
     pub fn enter_text(&mut self, id: ObjectId, text: &[u8]) -> Result<Acted, OperatorRefusal>
         ensures { ComesToShown self.old id (λ shown mask. entering.enter_text shown self.old id text.now) result self.new }
     {
@@ -63,7 +63,7 @@ impl<S: Store> Live<S> {
         }
     }
 
-    /// Why `enter_text` would refuse, if it would. Nothing is changed.
+    /// The refusal that `enter_text` would return, or `None` if it would accept the text. Changes nothing.
     pub fn text_fault(&mut self, id: ObjectId, text: &[u8]) -> Option<OperatorRefusal>
         ensures fault { WouldRefuse self.old id (λ shown mask. entering.enter_text shown self.old id text.now) result }
         ensures same { self.new ≡ self.old }
@@ -77,7 +77,7 @@ impl<S: Store> Live<S> {
         }
     }
 
-    /// Keeps a text, and raises the events of its entry.
+    /// Stores a text, and raises the events of its entry.
     fn keep_text(&mut self, id: ObjectId, place: ObjectId, text: &[u8]) -> Acted
         requires fits { text_fits text.now (text_at self.old.objects place) ≡ true }
         requires short { length text.now ≤ 255 }
@@ -91,7 +91,7 @@ impl<S: Store> Live<S> {
     }
 }
 
-/// Where a text is kept that an input takes.
+/// The object that stores the text of an input, or the refusal of the text.
 fn text_place<S: Store>(store: &S, id: ObjectId, text: &[u8]) -> Result<ObjectId, OperatorRefusal>
     ensures place { result ≡ entering.text_place (S.contents store.now) id text.now (finite.get (S.contents store.now) id) }
     ensures fits { IfOk result (λ place. text_fits text.now (text_at (S.contents store.now) place) ≡ true) }
@@ -113,7 +113,7 @@ fn text_place<S: Store>(store: &S, id: ObjectId, text: &[u8]) -> Result<ObjectId
     Ok(place)
 }
 
-/// The text that is kept under an ID.
+/// The stored text of an object, or `None` if it has none.
 fn text_at<S: Store>(store: &S, id: ObjectId) -> Option<&[u8]>
     ensures { option_map (λ text. text.now) result ≡ text_at (S.contents store.now) id }
 {
@@ -133,7 +133,7 @@ fn text_fits<S: Store>(store: &S, id: ObjectId, text: &[u8]) -> bool
     }
 }
 
-/// Whether this text is kept under an ID.
+/// Whether an object stores this text.
 fn is_text<S: Store>(store: &S, id: ObjectId, text: &[u8]) -> bool
     ensures { result ≡ entering.same_text text.now (text_at (S.contents store.now) id) }
 {
@@ -143,7 +143,7 @@ fn is_text<S: Store>(store: &S, id: ObjectId, text: &[u8]) -> bool
     }
 }
 
-/// Whether what is kept is a text, and then spaces alone.
+/// Whether the stored text is `text` filled up with spaces.
 fn is_filled(text: &[u8], kept: &[u8]) -> bool
     ensures { result ≡ entering.is_filled text.now kept.now }
 {
@@ -171,7 +171,7 @@ fn is_blank(bytes: &[u8]) -> bool
     true
 }
 
-/// Keeps a text under an ID, filled with spaces.
+/// Stores a text in an object, filled up with spaces.
 fn put_text<S: Store>(store: &mut S, id: ObjectId, text: &[u8])
     requires { text_fits text.now (text_at (S.contents store.old) id) ≡ true }
     ensures { S.contents store.new ≡ entering.put_at (S.contents store.old) id (entering.with_text text.now) (finite.get (S.contents store.old) id) }
@@ -206,7 +206,7 @@ fn text_message(id: ObjectId, text: &[u8]) -> ArrayVec<u8, 259>
     }
 }
 
-/// Where a number is kept that an input takes.
+/// The object that stores the number of an input, or the refusal of the number.
 fn number_place<S: Store>(store: &S, id: ObjectId, number: u32) -> Result<ObjectId, OperatorRefusal>
     ensures { result ≡ entering.number_place id number (finite.get (S.contents store.now) id) }
 {
@@ -252,14 +252,14 @@ fn place_if(
     Ok(place)
 }
 
-/// Where a value is kept: in the variable of an object, if it has one.
+/// The object that stores a value: the variable, or the object itself if `variable` is NULL.
 fn kept_at(id: ObjectId, variable: ObjectId) -> ObjectId
     ensures { result ≡ entering.kept_at id variable }
 {
     if variable.is_null() { id } else { variable }
 }
 
-/// Whether this number is kept under an ID.
+/// Whether an object stores this number.
 fn is_number<S: Store>(store: &S, id: ObjectId, number: u32) -> bool
     ensures { result ≡ entering.is_number number (finite.get (S.contents store.now) id) }
 {
@@ -272,7 +272,7 @@ fn is_number<S: Store>(store: &S, id: ObjectId, number: u32) -> bool
     }
 }
 
-/// Keeps a number under an ID.
+/// Stores a number in an object.
 fn put_number<S: Store>(store: &mut S, id: ObjectId, number: u32)
     ensures { S.contents store.new ≡ entering.put_at (S.contents store.old) id (entering.with_number number) (finite.get (S.contents store.old) id) }
 {
@@ -303,7 +303,7 @@ fn number_message(id: ObjectId, number: u32) -> ArrayVec<u8, 259>
     message(&bytes)
 }
 
-/// The events of an entry: those of a new value too, where what is kept is another one.
+/// The events of an entry, with those of a new value if the stored value has changed.
 fn entry_events(id: ObjectId, is_new: bool) -> ArrayVec<Raised, 3>
     ensures { result.items ≡ entering.entry_events id is_new }
 {

@@ -1,4 +1,4 @@
-//! A working set with its object pool, and the event machine that runs on it.
+//! A running working set with its object pool and event machine.
 
 ghost use Rattle.std.specs.Prelude.{◌≡◌, ◌≤◌, ℕ, Some, None, IfOk, true, false, length};
 ghost use Rattle.std.specs.Option.{option_map};
@@ -28,40 +28,40 @@ use vt_objects::{Command, Object, ObjectId, Raised, SortedStore, Store};
 use vt_shown::{is_shown, soft_key_mask};
 use vt_verify::{Accepted, AcceptedParts};
 
-/// The key that an operator holds.
+/// The key that the operator holds.
 #[derive(Clone, Copy, Debug, PartialEq, Eq)]
 pub(crate) struct HeldKey {
     /// The Key or Button.
     pub(crate) id: ObjectId,
-    /// The mask that was active at its press.
+    /// The active mask at the press.
     pub(crate) mask: ObjectId,
 }
 
-/// What a command came to.
+/// The result of a command.
 #[derive(Clone, Copy, Debug, PartialEq, Eq)]
 pub enum Outcome {
-    /// It was done, in so many steps: its own, and one for each command of the macros that it set off.
+    /// The command is done. `steps` counts its own step and one for each command of the macros that it triggers.
     Done { steps: u32 },
-    /// It was refused, with this error byte, and nothing was changed.
+    /// The command is refused with this error byte, and nothing has changed.
     Refused { bits: u8 },
 }
 
-/// The object pool of a working set as it is now, with the key that is held and the input that is selected. Its macros run to
-/// their ends: each event takes at most the steps that the pool's report prints, and a call the sum of those of the events that
-/// it raises, `apply` one more for its command. Only the calls that make one take memory
+/// The present object pool of a working set, with the held key and the selected input. Its macros run to their end: each
+/// event takes at most the steps in the pool's report, a call at most the sum for its events, and `apply` one more for
+/// its command. After construction no call allocates, except `renew` and `renew_from`, which construct another
 /// (ISO 11783-6; docs/PROFILE.md, "Runs", "Steps").
 pub struct Live<S: Store> {
     pub(crate) store: S,
     levels: Levels,
     index: Index,
     working_set: ObjectId,
-    /// Room for the search for what is shown: a mark for each object.
+    /// Scratch memory for the search for shown objects: a mark for each object.
     marks: Vec<bool>,
     pub(crate) key: Option<HeldKey>,
     pub(crate) input: Option<ObjectId>,
 }
 
-// Written out, so that its proof is not done again in each crate above.
+// Written by hand, so that the crates above need not prove it again.
 impl<S: Store> Drop for Live<S> {
     fn drop(self) {
         let Live {
@@ -96,8 +96,8 @@ impl<S: Store> Model for Live<S> {
 }
 
 impl<S: Store> Live<S> {
-    /// A working set with the objects of an accepted pool. No key is held, and no input is selected. `OutOfMemory` where a growth
-    /// was refused.
+    /// A working set with the objects of an accepted pool. No key is held, and no input is selected. `OutOfMemory` if an
+    /// allocation is refused.
     pub fn new(alloc: Global, accepted: &Accepted) -> Result<Live<S>, AllocError>
         ensures { IfOk result (λ live. live ≡ record { objects = map_of accepted.now; key = None; input = None }) }
     {
@@ -108,7 +108,7 @@ impl<S: Store> Live<S> {
         Live::of_parts(alloc, store, levels, index, working_set)
     }
 
-    /// A working set of these parts. No key is held, and no input is selected.
+    /// A working set of these parts, with no held key and no selected input.
     fn of_parts(
         alloc: Global,
         store: S,
@@ -132,8 +132,8 @@ impl<S: Store> Live<S> {
         })
     }
 
-    /// The working set with the objects of an accepted update of its store. The key held and the input selected stay where the
-    /// object of their ID is of the kind that it was of. This working set stays as it is, also where a growth was refused
+    /// The working set with the objects of an accepted update of its store. Keeps the held key and the selected input if
+    /// their objects are still of the same kind. This working set is unchanged, also if an allocation is refused
     /// (`OutOfMemory`).
     pub fn renew(&self, accepted: &Accepted) -> Result<Live<S>, AllocError>
         ensures { IfOk result (λ live. live ≡ renewed self.now (map_of accepted.now)) }
@@ -142,8 +142,8 @@ impl<S: Store> Live<S> {
         Ok(live.keeping(self))
     }
 
-    /// This working set with the key held and the input selected in another one, where the object of their ID is of the kind that it
-    /// was of there.
+    /// This working set with the held key and the selected input of `old`, each if its object is of the same kind in
+    /// both.
     fn keeping(mut self, old: &Live<S>) -> Live<S>
         ensures { result ≡ renewed old.now self.objects }
     {
@@ -158,16 +158,16 @@ impl<S: Store> Live<S> {
         *self.marks.allocator()
     }
 
-    /// The objects.
+    /// The objects of the working set.
     pub fn store(&self) -> &S
         ensures objects { S.contents result.now ≡ self.now.objects }
-        // Their references and chains are in order.
+        // The references and chains of the objects are in order.
         ensures sound { IsSound self.now.objects }
     {
         &self.store
     }
 
-    /// The object of an ID, if it is there.
+    /// The object of an ID, or `None` if it is missing.
     pub fn get(&self, id: ObjectId) -> Option<&Object<Vec<u8>>>
         ensures { option_map (λ o. seen o.now) result ≡ finite.get self.now.objects id }
     {
@@ -186,7 +186,7 @@ impl<S: Store> Live<S> {
     pub fn active_mask(&self) -> ObjectId
         ensures mask { IsActive self.now.objects result }
         ensures active { result ≡ active_in self.now.objects }
-        // There is no other working set.
+        // There is exactly one working set.
         ensures one { working_sets (shape_in self.now.objects) ≡ 1 }
     {
         active_mask(&self.store, self.working_set)
@@ -200,9 +200,9 @@ impl<S: Store> Live<S> {
         soft_key_mask(&self.store, self.active_mask())
     }
 
-    /// Raises an event of an object, by its number: runs the macros that are listed for it, and those of the events that their
-    /// commands raise, and answers how many steps that took: 0 for an ID that is not there, and for a number above 26. Event 0 of a
-    /// macro runs the macro itself.
+    /// Raises an event of an object, by its number: runs the macros listed for it, and those of the events that their
+    /// commands raise. Returns the number of steps: 0 for a missing object, and for a number above 26. Event 0 of a macro
+    /// runs the macro itself.
     pub fn raise(&mut self, id: ObjectId, event: u8) -> u32
         ensures run { HasRun self.old.objects (joined (shape_in self.old.objects) (listing id event)) (budget (shape_in self.old.objects) id event) result self.new.objects }
         ensures kept { self.new ≡ with_objects self.old self.new.objects }
@@ -210,7 +210,7 @@ impl<S: Store> Live<S> {
         raise(&self.index, &mut self.store, &mut self.levels, id, event)
     }
 
-    /// Raises events, one after the other.
+    /// Raises events, one after the other. Returns the number of steps.
     pub(crate) fn raise_all(&mut self, raised: &[Raised]) -> u32
         requires { length raised.now ≤ 3 }
         ensures { HasActed self.old raised.now result self.new }
@@ -234,8 +234,8 @@ impl<S: Store> Live<S> {
         )
     }
 
-    /// Does a command, and runs the macros of the events that it raises. Delete Object Pool is for the terminal, and changes nothing
-    /// here.
+    /// Does a command, and runs the macros of the events that it raises. Delete Object Pool changes nothing here: the
+    /// terminal handles it.
     pub fn apply(&mut self, command: &Command<'_>) -> Outcome
         ensures applied { Applied self.old.objects command.now result self.new.objects }
         ensures kept { self.new ≡ with_objects self.old self.new.objects }
@@ -252,7 +252,7 @@ impl<S: Store> Live<S> {
 }
 
 impl Live<SortedStore> {
-    /// As `new`, but what the verifier has made is taken over: no object is copied, and no chain is searched again.
+    /// Like `new`, but takes over the verifier's results: copies no object and searches no chain again.
     pub fn from_accepted(alloc: Global, accepted: Accepted) -> Result<Live<SortedStore>, AllocError>
         ensures { IfOk result (λ live. live ≡ record { objects = map_of accepted; key = None; input = None }) }
     {
@@ -268,7 +268,7 @@ impl Live<SortedStore> {
         Live::of_parts(alloc, objects, levels, index, working_set)
     }
 
-    /// As `renew`, but what the verifier has made is taken over.
+    /// Like `renew`, but takes over the verifier's results.
     pub fn renew_from(&self, accepted: Accepted) -> Result<Live<SortedStore>, AllocError>
         ensures { IfOk result (λ live. live ≡ renewed self.now (map_of accepted)) }
     {
@@ -305,7 +305,7 @@ fn kept_input<S: Store>(old: &S, new: &S, input: Option<ObjectId>) -> Option<Obj
     }
 }
 
-/// Whether an object is there before and after, of one kind.
+/// Whether an object exists before and after, with the same kind.
 fn is_kept<S: Store>(old: &S, new: &S, id: ObjectId) -> bool
     ensures { result ≡ is_kept (S.contents old.now) (S.contents new.now) id }
 {

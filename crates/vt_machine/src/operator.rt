@@ -1,4 +1,4 @@
-//! The operator's actions on a working set (docs/PROFILE.md, "The operator").
+//! The operator's actions on the keys and inputs of a working set (docs/PROFILE.md, "The operator").
 
 ghost use Rattle.std.specs.Prelude.{◌≡◌, ◌≤◌, IfOk, length};
 ghost use Rattle.std.specs.Option.{option_map};
@@ -13,7 +13,7 @@ use byteorder::{ByteOrder, LittleEndian};
 use thiserror::Error;
 use vt_objects::{Event, Object, ObjectId, Raised, Store};
 
-/// Why an action of the operator is refused: the refusals 1 to 7 of docs/PROFILE.md, "Refusals".
+/// The reason to refuse an action of the operator: the refusals 1 to 7 of docs/PROFILE.md, "Refusals".
 #[derive(Clone, Copy, Debug, PartialEq, Eq, Error)]
 pub enum OperatorRefusal {
     /// The object is not shown.
@@ -25,13 +25,13 @@ pub enum OperatorRefusal {
     /// The number is not accepted.
     #[error("the number is not accepted")]
     Range,
-    /// The text is longer than that of the object, or of its variable.
+    /// The text is longer than the text of the object or of its variable.
     #[error("the text is longer than that of the object, or of its variable")]
     TooLong,
     /// The object is of another kind.
     #[error("the object is of another kind")]
     WrongKind,
-    /// The key is not the one that is held.
+    /// The key is not the held key.
     #[error("the key is not the one that is held")]
     NotPressed,
     /// A key is held already.
@@ -39,20 +39,20 @@ pub enum OperatorRefusal {
     Held,
 }
 
-/// What an action of the operator came to.
+/// The result of an action of the operator.
 #[derive(Drop)]
 pub struct Acted {
-    /// The message to the working set, from its function byte on, or no bytes where none is sent. A text of up to 4 bytes is not
-    /// filled to the 8 bytes of a frame.
+    /// The message to the working set, from its function byte on, or no bytes if none is sent. A text of up to 4 bytes is
+    /// not filled up to the 8 bytes of a frame.
     pub message: ArrayVec<u8, 259>,
-    /// How many steps the macros of its events took.
+    /// The number of steps of the macros of its events.
     pub steps: u32,
 }
 
 impl<S: Store> Live<S> {
-    /// Presses a Key or a Button that is shown: its message has code 1 and the mask that is active, the key is held, and its event
-    /// Key Press is raised. Refused are, in this order, what is not shown, what is of another kind, and any key while one is held;
-    /// then nothing is changed.
+    /// Presses a Key or a Button. Its message has code 1 and the active mask, the key is held, and its event Key Press is
+    /// raised. Refuses, in this order, an object that is not shown, one of another kind, and any key while one is held; a
+    /// refusal changes nothing.
     pub fn press(&mut self, id: ObjectId) -> Result<Acted, OperatorRefusal>
         ensures { ComesToShown self.old id (λ shown mask. operating.press shown self.old mask id) result self.new }
     {
@@ -72,11 +72,11 @@ impl<S: Store> Live<S> {
         Ok(Acted { message, steps })
     }
 
-    /// Releases the key that is held: its message has code 0, the mask of the press and the key code as it is now, and its event
-    /// Key Release is raised. It need not be shown. Any other ID is refused as not pressed, and then nothing is changed.
+    /// Releases the held key, shown or not. Its message has code 0, the mask of the press and the present key code, and
+    /// its event Key Release is raised. Refuses any other ID as not pressed, which changes nothing.
     pub fn release(&mut self, id: ObjectId) -> Result<Acted, OperatorRefusal>
         ensures released { ComesTo self.old (operating.release self.old id) result self.new }
-        // What is held is a Key or a Button, so there is a message.
+        // The held key is a Key or a Button, so there is a message.
         ensures message { IfOk result (λ acted. length acted.message.items ≡ 8) }
     {
         let Some(key) = self.key else {
@@ -94,9 +94,9 @@ impl<S: Store> Live<S> {
         Ok(Acted { message, steps })
     }
 
-    /// Selects an input that is shown and enabled: the event Input Deselected is raised on the one that was selected, and then
-    /// Input Selected on this one. The same input again raises none. No message is sent. Refused are, in this order, what is not
-    /// shown, what is no input, and what is disabled; then nothing is changed.
+    /// Selects an input. Raises Input Deselected on the former input, if one was selected, and then Input Selected on
+    /// this one; no event if the input is selected already. Sends no message. Refuses, in this order, an object that is
+    /// not shown, one that is no input, and a disabled one; a refusal changes nothing.
     pub fn select(&mut self, id: ObjectId) -> Result<Acted, OperatorRefusal>
         ensures { ComesToShown self.old id (λ shown mask. operating.select shown self.old id) result self.new }
     {
@@ -116,7 +116,7 @@ impl<S: Store> Live<S> {
     }
 }
 
-/// The message of a Key or a Button; other objects have none.
+/// The message of a Key or a Button; `None` for other objects.
 fn key_message<S: Store>(
     store: &S,
     code: u8,
@@ -159,7 +159,7 @@ pub(crate) fn message(bytes: &[u8]) -> ArrayVec<u8, 259>
     }
 }
 
-/// Whether an input is enabled; other objects are none.
+/// Whether an input is enabled; `None` for other objects.
 fn is_enabled<S: Store>(store: &S, id: ObjectId) -> Option<bool>
     ensures { result ≡ operating.is_enabled (finite.get (S.contents store.now) id) }
 {
@@ -172,7 +172,7 @@ fn is_enabled<S: Store>(store: &S, id: ObjectId) -> Option<bool>
     }
 }
 
-/// The events of an input that becomes the one selected.
+/// The events of the selection of an input.
 fn select_events(id: ObjectId, selected: Option<ObjectId>) -> ArrayVec<Raised, 2>
     ensures { result.items ≡ operating.select_events id selected }
 {

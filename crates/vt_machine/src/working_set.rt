@@ -1,4 +1,4 @@
-//! The working set of a pool.
+//! Finds the working set of a pool.
 
 ghost use Rattle.std.specs.Prelude.{◌≡◌, Some, IfSome, IfNone, map};
 ghost use Rattle.std.specs.Option.{option_map};
@@ -11,7 +11,7 @@ ghost use Rattle.vt_stores.specs.Shapes.{shape_of};
 
 use vt_objects::{Kind, Object, ObjectId};
 
-/// The first Working Set of some objects.
+/// The first Working Set of some objects, or `None`.
 pub(crate) fn working_set(objects: &[(ObjectId, Object<Vec<u8>>)]) -> Option<ObjectId>
     requires { AreStored (map shown objects.now) }
     ensures some { IfSome result (λ id. option_map kind_of (object_at (map shown objects.now) id) ≡ Some kinds.WorkingSet) }

@@ -1,4 +1,4 @@
--- The commands of an acceptable pool's macros name what is there, of kinds that may stand there.
+-- The commands of an acceptable pool's macros refer to existing objects of allowed kinds.
 use Rattle.std.proofs.Common.{◌≡◌, ◌++◌, ◌&&◌, ℕ, Bool, true, false, cond, List, [], ◌∷◌, Option, Some, None, refl, sym, subst, ◌∙◌}
 use Rattle.std.proofs.lemmas.Option.{same_Some}
 use Rattle.std.proofs.lemmas.Bool.{eqb-true}
@@ -19,7 +19,7 @@ use Rattle.vt_verify.specs.Rules.{IsAcceptable}
 use Rattle.vt_chains.specs.Limits.{terminal}
 use Rattle.vt_macros.specs.Machines.{fault}
 
--- ---- lists of which none fails
+-- ---- lists without a failing element
 
 pub all_append : {A : Type 0} (P : A → Type 0) (xs ys : List A) → AllByRecursion P xs → AllByRecursion P ys → AllByRecursion P (xs ++ ys)
 all_append P [] ys all more = more
@@ -63,7 +63,7 @@ all_pass : {A : Type 0} (test : A → Bool) (xs : List A) → first_failing test
 all_pass test [] none = refl
 all_pass test (x ∷ xs) none = all_pass_by (test x) x (first_failing test xs) (list_all test xs) none (all_pass test xs)
 
--- ---- what stands under an ID
+-- ---- the object of an ID
 
 entry_or : (Q : ℕ × Fixed → Type 0) (q k : ℕ) (y f : Fixed) (rest : Option Fixed) (b : Bool) → eq_by_cmp nat_cmp q k ≡ b → cond b (Some y) rest ≡ Some f → Q (k, y)
     → (rest ≡ Some f → Q (q, f)) → Q (q, f)
@@ -110,7 +110,7 @@ faultless_by shape id (Some f) is there fit =
     (found_entry (λ e. first_failing (fits shape) (own_references shape e) ≡ None) shape id f is (each_passes (fits shape) (own_references shape) shape fit)))))
     tt
 
--- each command of each macro
+-- no command of a macro has a fault
 pub faultless : (pool : Objects) (id : ℕ) → IsAcceptable terminal pool → AllByRecursion (λ c. fault (shape_of pool) c ≡ None) (commands (shape_of pool) id)
 unfolding commands
 faultless pool id acceptable =

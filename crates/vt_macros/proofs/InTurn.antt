@@ -1,4 +1,4 @@
--- What a run of events leaves is what they leave one after the other.
+-- A run of several events leaves the same store as the events one after the other.
 use Rattle.std.proofs.Common.{◌≡◌, ◌+◌, ◌++◌, ℕ, zero, suc, List, [], ◌∷◌, Option, Some, None, refl, sym, ap, ◌∙◌, arith, append_assoc}
 use Rattle.std.proofs.lemmas.List.{append-nil}
 use Rattle.std.proofs.lemmas.List.Sums.{sum_by-cons}
@@ -17,7 +17,7 @@ use Rattle.vt_macros.specs.Runs.{EndInTurn, EndsBefore}
 use Rattle.vt_effects.specs.Soundness.{IsSound}
 use Rattle.vt_macros.proofs.Running.{run_none, run_step, runs_end}
 
--- what an end leaves
+-- the store at the end of a run
 abbrev end_store : End → ObjectMap
 end_store (Ended store left) = store
 end_store (Sticks why store) = store
@@ -26,7 +26,7 @@ abbrev end_left : End → ℕ
 end_left (Ended store left) = left
 end_left (Sticks why store) = 0
 
--- ---- more commands, and more steps
+-- ---- runs with more commands and more steps
 
 never_spent : (f : Option Stuck) (m new : ObjectMap) (left : ℕ) → or_sticks f m (Sticks Spent m) ≡ Ended new left → ⊥
 never_spent (Some why) m new left e = cc
@@ -37,13 +37,13 @@ run_zero : (m : ObjectMap) (command : Command) (pending : List Command)
 unfolding run
 run_zero m command pending = refl
 
--- where one run ends, so does another that goes the same way
+-- if one run ends after the same test, so does the other
 goes_on : (f : Option Stuck) (m new : ObjectMap) (left : ℕ) (one other end : End) → (one ≡ Ended new left → other ≡ end) → or_sticks f m one ≡ Ended new left
     → or_sticks f m other ≡ end
 goes_on (Some why) m new left one other end next ended = absurd cc
 goes_on None m new left one other end next ended = next ended
 
--- After a run has ended, the commands behind it run with the steps that are left.
+-- After a run has ended, the commands after it run with the remaining steps.
 run_on : (n left : ℕ) (m new : ObjectMap) (front rest : List Command) (more : ℕ) → run n m front ≡ Ended new left
     → run (n + more) m (front ++ rest) ≡ run (left + more) new rest
 run_on n left m new [] rest more ended =
@@ -61,7 +61,7 @@ run_on (suc n) left m new (c ∷ front) rest more ended =
 
 -- ---- events
 
--- The run of one event, and then of others.
+-- The run of one event, and then of further events.
 both_run : (s : Shape) (m middle new : ObjectMap) (r : Raised) (rs : List Raised) (left rest : ℕ) → run (total_budget s (r ∷ [])) m (joined_all s (r ∷ [])) ≡ Ended middle left
     → run (total_budget s rs) middle (joined_all s rs) ≡ Ended new rest → run (total_budget s (r ∷ rs)) m (joined_all s (r ∷ rs)) ≡ Ended new (rest + left)
 both_run s m middle new r rs left rest first second =
@@ -92,7 +92,7 @@ events_end_in_turn pool m new left (r ∷ rs) acceptable totals is sound ended =
       events_end_in_turn pool own.new new others.left rs acceptable totals shape own.sound (others.ended ∙ ap (λ (s : ObjectMap). Ended s others.left) same),
     )
 
--- ---- commands that are pending
+-- ---- pending commands
 
 pub events_end_before_pending : (pool : Objects) (m : ObjectMap) (r : Raised) (pending : List Command) (more : ℕ) → IsAcceptable terminal pool
     → CostsAreTotals (shape_of pool) → shape_in m ≡ shape_of pool → IsSound m → EndsBefore m r pending more

@@ -1,4 +1,4 @@
--- The macros that stand in the index, in the order in which they are put there.
+-- The macros in the index, in the order in which they are appended.
 use Rattle.std.proofs.Common.{◌≡◌, ◌<◌, ℕ, zero, suc, ◌+◌, Bool, true, false, cond, ◌||◌, List, [], ◌∷◌, ◌++◌, map, take, length, get_or, Option, Some, None, refl, sym, ap, ap₂, subst, ◌∙◌, arith}
 use Rattle.std.proofs.lemmas.Bool.{eqb-true, eq-eqb}
 use Rattle.std.proofs.lemmas.List.{append-nil, take_more}
@@ -16,7 +16,7 @@ use Rattle.vt_verify.specs.Triggers.{run_by_name}
 use Rattle.vt_verify.specs.Orders.{named_macros, IsByRank}
 use Rattle.vt_verify.proofs.ListedEvents.{tied_same}
 
--- the commands of a macro that is among these, and of no other
+-- the commands of a macro in a list of macros; none for other macros
 abbrev pub among : Shape → List ℕ → ℕ → List Command
 among shape ids id = cond (list_any (nat_eq id) ids) (commands shape id) []
 
@@ -38,7 +38,7 @@ one_more shape order i id other got all old lt at is new before =
     (sym (ap (list_any (nat_eq other)) (take_more order i 0 lt ∙ ap (λ (n : ℕ). take i order ++ n ∷ []) (sym at))
     ∙ list_any-append (nat_eq other) (take i order) (id ∷ [])))
 
--- ---- all macros that have commands are among them
+-- ---- all macros with commands are in the list
 
 named_case : (e : ℕ × Fixed) (es : Shape) (id : ℕ) (f : Fixed) (b : Bool) → (b ≡ true → id ≡ e.0) → (fixed_at es id ≡ Some f → Contains (named_macros es) id)
     → run_by_name id f ≡ id ∷ [] → cond b (Some e.1) (fixed_at es id) ≡ Some f → Contains (run_by_name e.0 e.1 ++ named_macros es) id

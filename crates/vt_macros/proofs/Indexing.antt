@@ -1,4 +1,4 @@
--- The index of macros, command by command and macro by macro.
+-- The index of macros grows command by command and macro by macro.
 use Rattle.std.proofs.Common.{◌≡◌, ◌≢◌, ◌<◌, ◌≤◌, ◌⊎◌, inl, inr, ℕ, zero, suc, ◌+◌, Bool, true, false, cond, List, [], ◌∷◌, ◌++◌, map, take, drop, length, get_or, Option, Some, refl, sym, ap, ap₂, subst, ◌∙◌, arith}
 use Rattle.std.proofs.lemmas.List.{append_assoc, append-nil, map-append, length-append, length-map, length-take, take-append-le, drop-append-le, take-append-drop, take_all, drop_all, get_or-set_same, get_or-set_other, get_or-replicate, get_or_past}
 use Rattle.std.proofs.lemmas.Bool.{eqb-true, eq-eqb, cases_lt}
@@ -12,7 +12,7 @@ use Rattle.vt_macros.specs.declared.index.Index.{Index}
 use Rattle.vt_macros.specs.declared.index.Span.{Span}
 use Rattle.vt_macros.specs.Indexes.{part, no_span, command_in, IsWithin}
 
--- ---- parts of lists that grow
+-- ---- spans of growing lists
 
 pub no_part : {A : Type 0} (xs : List A) (s : Span) → xs ≡ [] → part xs s ≡ []
 no_part xs s is = ap (λ xs. part xs s) is ∙ ap (drop s.start) (take_all s.end [] (omega arith)) ∙ drop_all s.start [] (omega arith)
@@ -20,7 +20,7 @@ no_part xs s is = ap (λ xs. part xs s) is ∙ ap (drop s.start) (take_all s.end
 pub part_stays : {A : Type 0} (xs more : List A) (s : Span) → s.end ≤ length xs → part (xs ++ more) s ≡ part xs s
 part_stays xs more s le = ap (drop s.start) (take-append-le s.end xs more le)
 
--- what was appended last
+-- the span of the elements appended last
 pub part_added : {A : Type 0} (xs more : List A) (s : Span) → s.start ≡ length xs → s.end ≡ length xs + length more → part (xs ++ more) s ≡ more
 part_added xs more s start end =
     let all = length-append xs more in
@@ -50,7 +50,7 @@ ends_taken n zero spans all = tt
 ends_taken n (suc k) [] all = tt
 ends_taken n (suc k) (s ∷ spans) all = (all.0, ends_taken n k spans all.1)
 
--- ---- the commands that stand there
+-- ---- the commands at spans
 
 abbrev pub reads : List ℕ → List Span → List (Option Command)
 reads bytes spans = map (λ s. command_at (part bytes s)) spans
@@ -60,7 +60,7 @@ reads_stay bytes more [] all = refl
 reads_stay bytes more (s ∷ spans) all =
     ap₂ (λ (c : Option Command) (cs : List (Option Command)). c ∷ cs) (ap command_at (part_stays bytes more s all.0)) (reads_stay bytes more spans all.1)
 
--- one more command
+-- one more command is read
 pub reads_added : (bytes piece : List ℕ) (spans : List Span) (k : ℕ) (s : Span) → k ≤ length spans → EndBy (length bytes) spans
     → s.start ≡ length bytes → s.end ≡ length bytes + length piece
     → reads (bytes ++ piece) (drop k (spans ++ s ∷ [])) ≡ reads bytes (drop k spans) ++ command_at piece ∷ []
@@ -71,7 +71,7 @@ reads_added bytes piece spans k s le all start end =
     (reads_stay bytes piece (drop k spans) (ends_left (length bytes) k spans all))
     (ap command_at (part_added bytes piece s start end))
 
--- a macro that was there reads as it did
+-- an earlier macro reads as before
 pub macro_stays : (bytes bytes' : List ℕ) (spans spans' : List Span) (s : Span) → take (length bytes) bytes' ≡ bytes → take (length spans) spans' ≡ spans
     → s.end ≤ length spans → EndBy (length bytes) spans → reads bytes' (part spans' s) ≡ reads bytes (part spans s)
 macro_stays bytes bytes' spans spans' s front fronts le all =
@@ -83,9 +83,9 @@ macro_stays bytes bytes' spans spans' s front fronts le all =
     ∙ ap (reads (bytes ++ more)) (part_stays spans after s le)
     ∙ reads_stay bytes more (part spans s) (ends_left (length bytes) s.start (take s.end spans) (ends_taken (length bytes) s.end spans all))
 
--- ---- a macro that is put, command by command
+-- ---- a macro that is appended command by command
 
--- what was there first stays, and what was read of the macro with what is left of it is all of it
+-- the earlier macros are unchanged, and the commands read so far and the remaining ones are all commands of the macro
 pub record IsGrown (first now : Index) (all left : List (Option Command)) : Type 0 where
   pub within : IsWithin now
   pub listings_stay : now.listings ≡ first.listings
@@ -150,7 +150,7 @@ grown_more first now next all left piece grown listings macros bytes pieces =
           ∙ grown.read;
     }
 
--- ---- its place among the macros
+-- ---- the macro's span among the macros
 
 module _ (first now next : Index) (id : ℕ) (all : List (Option Command)) (low : id < 256) (grown : IsGrown first now all []) (within : IsWithin first)
     (bytes : next.bytes.items ≡ now.bytes.items) (pieces : next.pieces.items ≡ now.pieces.items)
@@ -215,7 +215,7 @@ module _ (first now next : Index) (id : ℕ) (all : List (Option Command)) (low 
       ≡ cond (nat_eq other id) all (reads first.bytes.items (part first.pieces.items (get_or first.macros.items other no_span)))
   put_read other = read_case other (nat_eq other id) refl
 
--- ---- before any macro is put
+-- ---- the index before any macro
 
 none_ends : (id n : ℕ) → (id < n) ⊎ (n ≤ id) → (get_or (replicate n no_span) id no_span).end ≤ 0
 none_ends id n (inl lt) = let is = ap (λ (s : Span). s.end) (get_or-replicate n id no_span no_span lt) in omega (arith, is)
@@ -235,15 +235,15 @@ none_within index macros pieces = record {
   of_bytes = subst (λ (ss : List Span). EndBy (length index.bytes.items) ss) (sym pieces) tt;
 }
 
--- ---- a loop over the places of a macro's commands
+-- ---- a loop over the spans of a macro's commands
 
--- one command stands at each place
+-- there are as many spans as commands
 pub as_many : (index : Index) (spans : List Span) (commands : List Command) → map (command_in index) spans ≡ map Some commands → length spans ≡ length commands
 as_many index spans commands is =
     let same = ap length is in
     omega (arith, same, length-map spans (command_in index), length-map commands (λ (c : Command). Some c))
 
--- what is read at the next place is the next command
+-- the command at the next span is the next command
 pub reads_next : (index : Index) (spans : List Span) (commands : List Command) (i : ℕ) (d : Span) → map (command_in index) spans ≡ map Some commands → i < length spans
     → (c : Command) × (command_in index (get_or spans i d) ≡ Some c) × (drop i commands ≡ c ∷ drop (i + 1) commands)
 reads_next index [] commands i d is lt = absurd (omega arith)

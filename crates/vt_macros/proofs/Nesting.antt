@@ -1,4 +1,4 @@
--- Runs within runs.
+-- Runs within runs lead to the store that the code reaches.
 use Rattle.std.proofs.Common.{◌≡◌, ◌≤◌, ◌<◌, ◌+◌, ◌++◌, ℕ, zero, suc, true, false, cond, List, [], ◌∷◌, drop, map, length, slice_index_or, sum_by, Option, Some, None, Result, Ok, Err, is_ok, refl, sym, ap, subst, ◌∙◌, arith}
 use Rattle.std.proofs.lemmas.List.Sums.{sum_by-cons}
 use Rattle.std.specs.Option.{option_to_list}
@@ -30,7 +30,7 @@ use Rattle.vt_macros.proofs.Running.{raised_cost, raised_bound, budget_is, run_s
 use Rattle.vt_effects.proofs.Shapes.{shapes_stay}
 use Rattle.vt_verify.proofs.Costs.{sums_of_sums, same_sums}
 
--- the commands of an event, and what they cost at most
+-- the commands of an event, and the most that they cost
 abbrev pub event_front : Shape → Raised → List Command
 event_front shape r = joined shape (listing_of r)
 
@@ -44,13 +44,13 @@ append_twice (x ∷ xs) ys zs = ap (λ l. x ∷ l) (append_twice xs ys zs)
 pub leads_none : (m : ObjectMap) (front : List Command) → Leads m front 0 m front
 leads_none m front rest left = ap (λ (n : ℕ). run n m (front ++ rest)) (omega arith)
 
--- steps that lead on
+-- steps that follow each other
 pub leads_more : (a b c : ObjectMap) (all front next : List Command) (j k : ℕ) → Leads a all j b (front ++ next) → Leads b front k c [] → Leads a all (j + k) c next
 leads_more a b c all front next j k first second rest left =
     ap (λ (n : ℕ). run n a (all ++ rest)) (omega arith) ∙ first rest (k + left)
     ∙ ap (run (k + left) b) (append_twice front next rest) ∙ second (next ++ rest) left
 
--- ---- a list of parts
+-- ---- the parts of a list
 
 drop_end : {A : Type 0} (xs : List A) (i : ℕ) → length xs ≤ i → drop i xs ≡ []
 drop_end [] zero le = refl
@@ -97,7 +97,7 @@ module _ {A : Type 0} (index : Index) (old : ObjectMap) (front : A → List Comm
         within = omega (arith, within);
       }
 
-  -- what is left costs no more than all
+  -- the remaining parts cost no more than all
   pub part_within : (i j : ℕ) (d : A) (now : ObjectMap) (levels : Levels) → AreRunning index old front most parts i j now levels → i < length parts
       → j + most (slice_index_or parts i d) ≤ sum_by most parts
   part_within i j d now levels running lt =
@@ -116,7 +116,7 @@ joined_is : (shape : Shape) (id event : ℕ) (items : List ℕ) → items ≡ li
 unfolding joined
 joined_is shape id event items is = ap (flat_map (commands shape)) is
 
--- what runs under a shape that has stayed
+-- a run under an unchanged shape
 at_shape : {A : Type 0} (front : Shape → A → List Command) (most : Shape → A → ℕ) (index : Index) (old now new : ObjectMap) (x : A) (k : ℕ) (then : Levels) → shape_in now ≡ shape_in old
     → HaveRun index now (front (shape_in now) x) (most (shape_in now) x) k new then → HaveRun index now (front (shape_in old) x) (most (shape_in old) x) k new then
 at_shape front most index old now new x k then same ran = subst (λ (s : Shape). HaveRun index now (front s x) (most s x) k new then) same ran
@@ -197,7 +197,7 @@ part_of P h [] i d lt all = absurd (omega (arith, lt))
 part_of P h (x ∷ xs) zero d lt all = front_all P (h x) (flat_map h xs) all
 part_of P h (x ∷ xs) (suc i) d lt all = part_of P h xs i d (omega (arith, lt)) (rest_all P (h x) (flat_map h xs) all)
 
--- the pieces of a macro, and what each of them costs at most
+-- the most that the command at a span costs
 abbrev pub piece_most : Index → ObjectMap → Span → ℕ
 piece_most index store piece = sum_by (cost_of store) (commands_at index piece)
 
@@ -238,7 +238,7 @@ piece_ran index old pieces i j k next d now new levels then running lt ran is =
     (subst (λ (most : ℕ). HaveRun index now (commands_at index (slice_index_or pieces i d)) most k new then)
     (ap (λ (s : Shape). sum_by (command_cost (cost s) s) (commands_at index (slice_index_or pieces i d))) running.shape) ran) is
 
--- ---- a command
+-- ---- one command
 
 pub after_can : (index : Index) (m : ObjectMap) (levels then : Levels) (command : Command) (new : ObjectMap) → CanRun index m levels → new ≡ after m command → AreLevels new then → CanRun index new then
 after_can index m levels then command new can is are =
@@ -333,7 +333,7 @@ command_refused index m new levels then command error can none failed is are =
       within = omega arith;
     }
 
--- ---- an event that is read from the list
+-- ---- an event at an index of the list
 
 pub item_ran : (index : Index) (old : ObjectMap) (raised : List Raised) (i j k next number : ℕ) (x d : Raised) (now new : ObjectMap) (levels then : Levels)
     → AreRunning index old (event_front (shape_in old)) (event_most (shape_in old)) raised i j now levels → i < length raised

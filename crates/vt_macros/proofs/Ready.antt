@@ -36,7 +36,7 @@ use Rattle.vt_macros.proofs.Faultless.{front_passes, rest_passes, each_passes}
 use Rattle.vt_stores.proofs.Shapes.{fixed_case, kinds_mapped}
 use Rattle.vt_stores.proofs.Rising.{true_both}
 
--- ---- what stands in a pool
+-- ---- the references of a pool
 
 T_of : (b : Bool) → IsTrue b → T b
 T_of true is = tt
@@ -84,7 +84,7 @@ kind_one : (kinds : Kinds) (id : ℕ) (kind : Option Kind) → is_some kind ≡ 
 kind_one kinds id None there is = absurd cc
 kind_one kinds id (Some kind) there is = member_of kinds id kind is
 
--- an ID that is there and fits, where it is not NULL
+-- an ID other than NULL that exists and fits is of an allowed kind
 pub there_fits : (shape : Shape) (kinds : Kinds) (id : ℕ) (null b : Bool) → (id == 0xFFFF) ≡ b → cond b null (is_some (kind_at shape id)) ≡ true
     → cond b true (references.allows kinds id (kind_at shape id)) ≡ true → b ≡ false → is_one_of kinds (kind_at shape id) ≡ true
 there_fits shape kinds id null true e there fit other = absurd cc
@@ -94,13 +94,13 @@ later_passes : (b : Bool) → {A : Type 0} (x : A) (rest : Option A) → cond b 
 later_passes true x rest none = none
 later_passes false x rest none = absurd cc
 
--- what is there and fits in the pool does so in its store
+-- an ID that exists and fits in the pool does so in its store
 allowed_in : (pool : Objects) (kinds : Kinds) (id : ℕ) (null b : Bool) → AreStored pool → (id == 0xFFFF) ≡ b → cond b null (is_some (kind_at (shape_of pool) id)) ≡ true
     → cond b true (references.allows kinds id (kind_at (shape_of pool) id)) ≡ true → b ≡ false → is_one_of kinds (kind_in (map_of pool) id) ≡ true
 allowed_in pool kinds id null b stored e there fit other =
     subst (λ (k : Option Kind). is_one_of kinds k ≡ true) (kind_is pool id stored) (there_fits (shape_of pool) kinds id null b e there fit other)
 
--- the value of a pointer fits where the pointer stands
+-- a pointer's value fits in place of the pointer
 value_in : (pool : Objects) (s : Slot) (value : ℕ) (b : Bool) → AreStored pool → (value == 0xFFFF) ≡ b → cond b true (is_some (kind_at (shape_of pool) value)) ≡ true
     → cond b true (references.allows s.kinds value (kind_at (shape_of pool) value)) ≡ true
     → cond b true (is_one_of s.kinds (kind_in (map_of pool) value)) ≡ true

@@ -1,4 +1,4 @@
--- Runs end: each step of the machine takes from the cost of the commands that are pending.
+-- Runs end: each step reduces the cost of the pending commands.
 use Rattle.std.proofs.Common.{◌≡◌, ◌≤◌, ◌+◌, ◌++◌, ℕ, zero, suc, max, Bool, true, false, cond, ◌==◌, ◌&&◌, List, [], ◌∷◌, map, filter, Option, Some, None, is_ok, refl, sym, ap, subst, ◌∙◌, arith}
 use Rattle.std.proofs.lemmas.Option.{same_Some}
 use Rattle.std.proofs.lemmas.Bool.{eqb-true}
@@ -48,9 +48,9 @@ sum_mapped : {A B : Type 0} (f : B → ℕ) (g : A → B) (xs : List A) → sum_
 sum_mapped f g [] = refl
 sum_mapped f g (x ∷ xs) = sum_by-cons f (g x) (map g xs) ∙ ap (λ n. f (g x) + n) (sum_mapped f g xs) ∙ sym (sum_by-cons (λ x. f (g x)) x xs)
 
--- ---- what events cost
+-- ---- the costs of events
 
--- what the macros of an event cost that is raised
+-- the cost of the macros of a raised event
 abbrev pub raised_cost : Shape → Raised → ℕ
 raised_cost shape r = total (cost shape) shape (listing_of r)
 
@@ -66,7 +66,7 @@ joined_costs shape rs totals =
     sums_of_sums (command_cost (cost shape) shape) (λ r. joined shape (listing_of r)) rs
     ∙ same_sums (λ r. sum_by (command_cost (cost shape) shape) (joined shape (listing_of r))) (raised_cost shape) rs (λ r. joined_cost shape (listing_of r) totals)
 
--- ---- the mask that is hidden
+-- ---- the hidden mask
 
 mask_kind : (k : Kind) → is_one_of sets.Masks (Some k) ≡ true → is_mask k ≡ true
 mask_kind kinds.DataMask is = refl
@@ -79,7 +79,7 @@ most_of a b n le = omega (arith, le)
 first_most : (a b : ℕ) → a ≤ max a b
 first_most a b = omega arith
 
--- the entry of a mask is among the masks
+-- the cost of a mask's Hide event is at most the greatest of all masks
 mask_or : (f : ℕ → ℕ) (q k : ℕ) (y x : Seen) (rest : Option Seen) (ms : List ℕ) (b c : Bool) → eq_by_cmp nat_cmp q k ≡ b → is_mask (kind_of y) ≡ c
     → cond b (Some y) rest ≡ Some x → is_mask (kind_of x) ≡ true → (rest ≡ Some x → f q ≤ greatest f ms) → f q ≤ greatest f (cond c (k ∷ ms) ms)
 mask_or f q k y x rest ms true true same mask found is later =
@@ -110,7 +110,7 @@ found_mask : (f : ℕ → ℕ) (m : ObjectMap) (q : ℕ) (found : Option Seen) �
 found_mask f m q None is one = absurd cc
 found_mask f m q (Some x) is one = mask_among f (finite.entries m) q x (sym (finite.get-entries m q) ∙ is) (mask_kind (kind_of x) one)
 
--- what hiding a mask costs, where it is one or NULL
+-- the cost of hiding a mask or NULL
 hide_cost : (m : ObjectMap) (shape : Shape) (mask : ℕ) (b : Bool) → shape_of (finite.entries m) ≡ shape
     → (b ≡ false → is_one_of sets.Masks (kind_in m mask) ≡ true)
     → sum_by (raised_cost shape) (cond b [] (raise mask events.Hide ∷ []))
@@ -139,7 +139,7 @@ active_mask_is m set (Some (objects.WorkingSet o)) sound is other =
     in_masks false never fits = first_of (is_one_of sets.Masks (kind_in m o.active_mask)) (value_fits m (slot kinds.WorkingSet places.ActiveMask o.active_mask) (pointer_value (finite.get m o.active_mask))) fits
 active_mask_is m set (Some _) sound is other = absurd cc
 
--- ---- what a command raises
+-- ---- the events that a command raises
 
 plain_bound : (shape : Shape) (rows : List Raised)
     → sum_by (raised_cost shape) rows + 1 ≤ 1 + 0 + sum_by (total (cost shape) shape) (map listing_of rows)
@@ -177,7 +177,7 @@ entries_shape : (m : ObjectMap) (shape : Shape) → shape_in m ≡ shape → sha
 unfolding shape_in
 entries_shape m shape is = is
 
--- what a command triggers costs less than the command
+-- the commands that a command triggers cost less than the command
 follow_bound : (m : ObjectMap) (shape : Shape) (command : Command) → IsSound m → shape_in m ≡ shape → CostsAreTotals shape
     → sum_by (command_cost (cost shape) shape) (follow_ups m command) + 1 ≤ command_cost (cost shape) shape command
 unfolding follow_ups
@@ -187,7 +187,7 @@ follow_bound m shape command sound is totals =
     (subst (λ (n : ℕ). n + 1 ≤ command_cost (cost shape) shape command) (sym (joined_costs shape (raised m command) totals))
     (raised_bound m shape command sound (entries_shape m shape is)))
 
--- ---- no command that is pending has a fault
+-- ---- no pending command has a fault
 
 abbrev NoFault : Shape → List Command → Type 0
 NoFault shape cs = AllByRecursion (λ c. fault shape c ≡ None) cs
@@ -225,7 +225,7 @@ pub run_step : (n : ℕ) (m : ObjectMap) (command : Command) (pending : List Com
 unfolding run
 run_step n m command pending = refl
 
--- a run of commands whose cost is at most the steps
+-- commands that cost at most the given steps run to their end
 pub commands_end : (shape : Shape) → CostsAreTotals shape → working_sets shape ≡ 1 → ((id : ℕ) → NoFault shape (commands shape id)) → (n : ℕ) (m : ObjectMap) (cs : List Command)
     → shape_in m ≡ shape → IsSound m → NoFault shape cs → sum_by (command_cost (cost shape) shape) cs ≤ n → Ends m n (run n m cs)
 commands_end shape totals one none n m [] is sound faultless le =

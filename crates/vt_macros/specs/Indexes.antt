@@ -1,4 +1,4 @@
--- The index of a pool's macros: which run at an event, and which commands each has.
+-- The index of a pool's macros: those that run at an event, and the commands of each macro.
 use Rattle.std.specs.Prelude.{◌≡◌, ◌≤◌, ℕ, List, length, map, take, drop, slice_index_or, Option, Some}
 use Rattle.std.specs.List.{AllByRecursion}
 use Rattle.vt_commands.specs.declared.command.Command.{Command}
@@ -9,27 +9,27 @@ use Rattle.vt_verify.specs.TriggerGraphs.{AreListings}
 use Rattle.vt_macros.specs.declared.index.Index.{Index}
 use Rattle.vt_macros.specs.declared.index.Span.{Span}
 
--- what stands from the start of a span to its end
+-- the elements from the start of a span to its end
 abbrev pub part : {A : Type 0} → List A → Span → List A
 part xs span = drop span.start (take span.end xs)
 
 abbrev pub no_span : Span
 no_span = record { start = 0; end = 0 }
 
--- the command that stands there among the bytes of the macros
+-- the command at a span of the macros' bytes
 abbrev pub command_in : Index → Span → Option Command
 command_in index span = command_at (part index.bytes.items span)
 
--- where the commands of a macro stand
+-- the spans of the commands of a macro
 abbrev pub pieces_in : Index → ℕ → List Span
 pieces_in index id = part index.pieces.items (slice_index_or index.macros.items id no_span)
 
--- Each event has the macros that are listed at it, and each macro its commands.
+-- The index has the listed macros of each event, and the commands of each macro.
 pub record IsIndexOf (shape : Shape) (index : Index) : Type 0 where
   pub listings_are : AreListings shape index.listings
   pub commands_are : (id : ℕ) → map (command_in index) (pieces_in index id) ≡ map Some (commands shape id)
 
--- No span ends past what it is of.
+-- No span ends past the end of its list.
 pub record IsWithin (index : Index) : Type 0 where
   pub count : length index.macros.items ≡ 256
   pub of_pieces : (id : ℕ) → (slice_index_or index.macros.items id no_span).end ≤ length index.pieces.items

@@ -1,4 +1,4 @@
--- What the contracts of this crate cite.
+-- The definitions used in the contracts of vt_macros.
 pub mod Indexes
 pub mod Machines
 pub mod Nested

@@ -1,4 +1,4 @@
--- The event machine: what commands raise, and how the macros of events run (docs/PROFILE.md, "Runs", "Steps").
+-- The event machine: the events that commands raise, and the run of their macros (docs/PROFILE.md, "Runs", "Steps").
 use Rattle.std.specs.Prelude.{ℕ, zero, suc, ◌==◌, if◌then◌else◌, sum_by, List, [], ◌∷◌, ◌++◌, Option, Some, None, is_ok}
 use Rattle.std.specs.List.{list_all, flat_map}
 use Rattle.std.specs.FinMap as finite
@@ -20,18 +20,18 @@ use Rattle.vt_verify.specs.Budgets.{budget}
 use Rattle.vt_effects.specs.Effects.{effect, after}
 use Rattle.vt_effects.specs.Soundness.{shape_in}
 
--- ---- what a command raises
+-- ---- the events that a command raises
 
--- the active mask of a working set, NULL of what is none
+-- the active mask of a working set; NULL for other objects
 abbrev pub mask_of : Option Seen → ℕ
 mask_of (Some (objects.WorkingSet o)) = o.active_mask
 mask_of _ = 0xFFFF
 
--- the mask that was active is hidden, unless there was none
+-- the Hide event of the former active mask; none for NULL
 abbrev pub hide : ℕ → List Raised
 hide mask = if mask == 0xFFFF then [] else raise mask events.Hide ∷ []
 
--- the mask that is active already is neither hidden nor shown
+-- a mask that is active already is neither hidden nor shown
 abbrev pub mask_events : ℕ → ℕ → ℕ → List Raised
 mask_events old set mask =
     if old == mask then raise set events.ActiveMask ∷ [] else hide old ++ row_events (ChangeActiveMask set mask)
@@ -53,20 +53,20 @@ joined shape event = flat_map (commands shape) (listed shape event)
 abbrev pub joined_all : Shape → List Raised → List Command
 joined_all shape raised = flat_map (λ r. joined shape (listing_of r)) raised
 
--- why the machine cannot go on
+-- the reasons why the machine is stuck
 pub data Stuck : Type 0 where
   Missing : Stuck
   Kind : Stuck
   Spent : Stuck
 
--- each object that a command names is there, of a kind that it may be
+-- the fault of a command with a missing object or an object of a kind that is not allowed, or None
 unfoldable pub fault : Shape → Command → Option Stuck
 fault shape command =
     if list_all (is_there shape) (target_references shape 0 command)
     then (if list_all (fits shape) (target_references shape 0 command) then None else Some Kind)
     else Some Missing
 
--- how a run ends: with a store and steps left, or stuck
+-- the end of a run: a store and the remaining steps, or stuck
 pub data End : Type 0 where
   Ended : (store : ObjectMap) (left : ℕ) → End
   Sticks : (why : Stuck) (store : ObjectMap) → End
@@ -75,11 +75,11 @@ abbrev pub or_sticks : Option Stuck → ObjectMap → End → End
 or_sticks (Some why) store next = Sticks why store
 or_sticks None store next = next
 
--- what a command triggers, which goes in front of the commands that are pending
+-- the commands that a command triggers, which run before the pending commands
 unfoldable pub follow_ups : ObjectMap → Command → List Command
 follow_ups store command = joined_all (shape_in (after store command)) (raised store command)
 
--- A step takes the first pending command. With no steps left it sticks.
+-- Each step runs the first pending command. Without remaining steps the machine is stuck.
 unfoldable pub run : ℕ → ObjectMap → List Command → End
 run left store [] = Ended store left
 run zero store (command ∷ pending) = or_sticks (fault (shape_in store) command) store (Sticks Spent store)
@@ -91,6 +91,6 @@ run (suc left) store (command ∷ pending) =
 abbrev pub total_budget : Shape → List Raised → ℕ
 total_budget shape raised = sum_by (λ r. budget shape (listing_of r).id (listing_of r).event) raised
 
--- The run of events begins with the commands that they trigger, and with their budgets.
+-- A run of events begins with the commands that they trigger and the sum of their budgets.
 abbrev pub run_of : ObjectMap → List Raised → End
 run_of store raised = run (total_budget (shape_in store) raised) store (joined_all (shape_in store) raised)

@@ -1,4 +1,4 @@
--- Runs within runs: what the macros of an event leave of the commands that are pending (docs/PROFILE.md, "Runs").
+-- Runs within runs: the macros of an event run before the pending commands (docs/PROFILE.md, "Runs").
 use Rattle.std.specs.Prelude.{◌≡◌, ◌≤◌, ◌+◌, ℕ, List, [], ◌++◌, drop, sum_by, None}
 use Rattle.std.specs.Option.{option_to_list}
 use Rattle.std.specs.List.{AllByRecursion, flat_map}
@@ -17,7 +17,7 @@ use Rattle.vt_macros.specs.Machines.{fault, run}
 use Rattle.vt_effects.specs.Soundness.{shape_in}
 use Rattle.vt_effects.specs.Soundness.{IsSound}
 
--- the macros of a store can run
+-- the macros of a store can run: it is in order, with its index and levels
 pub record CanRun (index : Index) (store : ObjectMap) (levels : Levels) : Type 0 where
   pub indexed : IsIndexOf (shape_in store) index
   pub levelled : AreLevels store levels
@@ -27,26 +27,26 @@ pub record CanRun (index : Index) (store : ObjectMap) (levels : Levels) : Type 0
   pub within : IsWithinBudget terminal.steps (shape_in store)
   pub faultless : (id : ℕ) → AllByRecursion (λ command. fault (shape_in store) command ≡ None) (commands (shape_in store) id)
 
--- So many steps lead from one store to another, and from pending commands to others, whatever is pending behind them.
+-- `steps` steps lead from one store to another, and from pending commands to others, whatever is pending after them.
 abbrev pub Leads : ObjectMap → List Command → ℕ → ObjectMap → List Command → Type 0
 Leads old front steps new next = (rest : List Command) (left : ℕ) → run (steps + left) old (front ++ rest) ≡ run left new (next ++ rest)
 
--- commands have run, in at most so many steps
+-- commands have run, in at most `most` steps
 pub record HaveRun (index : Index) (old : ObjectMap) (front : List Command) (most steps : ℕ) (new : ObjectMap) (levels : Levels) : Type 0 where
   pub can : CanRun index new levels
   pub shape : shape_in new ≡ shape_in old
   pub leads : Leads old front steps new []
   pub within : steps ≤ most
 
--- the command that stands at a place of the macros' bytes
+-- the command at a span of the macros' bytes, as a list
 abbrev pub commands_at : Index → Span → List Command
 commands_at index piece = option_to_list (command_in index piece)
 
--- what a command costs at most on a store
+-- the most that a command costs on a store
 abbrev pub cost_of : ObjectMap → Command → ℕ
 cost_of store command = command_cost (cost (shape_in store)) (shape_in store) command
 
--- ---- while the parts of a list run one after the other, from a place on
+-- ---- a loop that runs the parts of a list one after the other, from an index on
 
 pub record AreRunning {A : Type 0} (index : Index) (old : ObjectMap) (front : A → List Command) (most : A → ℕ) (parts : List A) (place steps : ℕ) (now : ObjectMap) (levels : Levels) : Type 0 where
   pub can : CanRun index now levels

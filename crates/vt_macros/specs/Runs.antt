@@ -1,4 +1,4 @@
--- Runs end (docs/PROFILE.md, "Steps", "Costs and budgets").
+-- All runs of events end within their budgets (docs/PROFILE.md, "Steps", "Costs and budgets").
 use Rattle.std.specs.Prelude.{◌≡◌, ◌≤◌, ◌+◌, ◌++◌, ℕ, List, [], ◌∷◌, None}
 use Rattle.std.specs.FinMap as finite
 use Rattle.vt_commands.specs.declared.command.Command.{Command}
@@ -13,8 +13,8 @@ use Rattle.vt_macros.specs.Machines.{End, Ended, joined, run, total_budget, run_
 use Rattle.vt_effects.specs.Soundness.{shape_in}
 use Rattle.vt_effects.specs.Soundness.{IsSound}
 
--- A run that began with so many steps ends, and does not stick. The store has one working set still, its references and chains
--- are in order, and no kind, no macro entry and no macro byte is another one.
+-- A run of at most `steps` steps ends without getting stuck. The store still has one working set, its references and
+-- chains are in order, and its shape is unchanged: kinds, macro entries and macro bytes.
 pub record Ends (store : ObjectMap) (steps : ℕ) (end : End) : Type 0 where
   pub new : ObjectMap
   pub left : ℕ
@@ -24,31 +24,31 @@ pub record Ends (store : ObjectMap) (steps : ℕ) (end : End) : Type 0 where
   pub sound : IsSound new
   pub shape : shape_in new ≡ shape_in store
 
--- Whatever events are raised on a store of an acceptable pool, each command of their macros finds the objects that it names,
--- of kinds that they may have, and the run ends within the budgets of the events.
+-- On a store of an acceptable pool, the run of any events ends within their budgets: each command of their macros finds
+-- its objects, of allowed kinds.
 abbrev pub RunsEnd : Type 0
 RunsEnd = (pool : Objects) (store : ObjectMap) (raised : List Raised) → IsAcceptable terminal pool → CostsAreTotals (shape_of pool)
     → shape_in store ≡ shape_of pool → IsSound store → Ends store (total_budget (shape_in store) raised) (run_of store raised)
 
--- Events in turn: each begins on the store that those before it leave, with its own budget of steps, and ends.
+-- Events in turn: each begins on the store after the former ones, with its own budget of steps, and ends.
 abbrev pub EndInTurn : ObjectMap → List Raised → ObjectMap → Type 0
 EndInTurn store [] new = new ≡ store
 EndInTurn store (r ∷ raised) new =
     (own : Ends store (total_budget (shape_in store) (r ∷ [])) (run_of store (r ∷ []))) × EndInTurn own.new raised new
 
--- What a run of events leaves is what they leave in turn, each within its own budget.
+-- A run of events leaves the store that they leave in turn, each within its own budget.
 abbrev pub EventsEndInTurn : Type 0
 EventsEndInTurn = (pool : Objects) (store new : ObjectMap) (left : ℕ) (raised : List Raised) → IsAcceptable terminal pool → CostsAreTotals (shape_of pool)
     → shape_in store ≡ shape_of pool → IsSound store → run_of store raised ≡ Ended new left → EndInTurn store raised new
 
--- With commands pending behind it an event ends, within its own budget of steps, and then these commands run on what it leaves,
--- with the steps that are left.
+-- An event before pending commands ends within its own budget of steps. The pending commands then run on its store, with
+-- the remaining steps.
 pub record EndsBefore (store : ObjectMap) (r : Raised) (pending : List Command) (more : ℕ) : Type 0 where
   pub own : Ends store (total_budget (shape_in store) (r ∷ [])) (run_of store (r ∷ []))
   pub goes_on : run (total_budget (shape_in store) (r ∷ []) + more) store (joined (shape_in store) (listing_of r) ++ pending) ≡ run (own.left + more) own.new pending
 
--- So does an event that a command of a macro raises: the store is in order then too, by the laws `commands_keep_order` and
--- `commands_keep_shapes` of vt_effects.
+-- Every event raised before pending commands ends within its own budget, also one raised by a command of a macro: the
+-- store is in order then too, by the laws `commands_keep_order` and `commands_keep_shapes` of vt_effects.
 abbrev pub EventsEndBeforePending : Type 0
 EventsEndBeforePending = (pool : Objects) (store : ObjectMap) (r : Raised) (pending : List Command) (more : ℕ) → IsAcceptable terminal pool
     → CostsAreTotals (shape_of pool) → shape_in store ≡ shape_of pool → IsSound store → EndsBefore store r pending more
@@ -62,6 +62,6 @@ pub record IsReady (pool : Objects) (store : ObjectMap) : Type 0 where
 abbrev pub PoolsAreReady : Type 0
 PoolsAreReady = (pool : Objects) → AreStored pool → IsAcceptable terminal pool → IsReady pool (map_of pool)
 
--- Nothing stands under NULL there.
+-- A store of an acceptable pool has no object with the ID NULL.
 abbrev pub NullIsNoObject : Type 0
 NullIsNoObject = (pool : Objects) (store : ObjectMap) → AreStored pool → IsReady pool store → finite.get store 0xFFFF ≡ None

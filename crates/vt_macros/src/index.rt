@@ -1,4 +1,4 @@
-//! Which macros run at an event, and which commands a macro has, looked up without a walk.
+//! An index of a pool's macros: those that run at an event, and the commands of each macro.
 
 ghost use Rattle.std.specs.Prelude.{◌≡◌, ◌++◌, ◌∷◌, ◌==◌, ◌+◌, ℕ, [], length, map, Some, is_some, IsTrue, IfOk, OnOk, if◌then◌else◌};
 ghost use Rattle.vt_commands.specs.Commands.{command_at};
@@ -13,26 +13,26 @@ use vt_objects::laws::cut_is_one;
 use vt_objects::{Command, ObjectId, split_command};
 use vt_verify::{Accepted, Listings};
 
-/// Places one after the other, from the first one to that behind the last.
+/// A range of indices, from `start` to just before `end`.
 #[derive(Clone, Copy, Debug, PartialEq, Eq)]
 pub struct Span {
     start: usize,
     end: usize,
 }
 
-/// Which macros run at the events of a pool, and which commands they have, in memory of its own. It stays right for
-/// every later store, as no command changes either.
+/// The macros that run at the events of a pool, and their commands, in its own memory. Stays valid for every later store,
+/// since no command changes either.
 pub struct Index {
     listings: Listings,
     /// The bytes of the macros, by rank.
     bytes: Vec<u8>,
-    /// Where each of their commands stands in the bytes.
+    /// The range of each macro command in the bytes.
     pieces: Vec<Span>,
-    /// Where those of each macro stand among the pieces.
+    /// The range of each macro's commands in `pieces`.
     macros: Vec<Span>,
 }
 
-// Written out, so that its proof is not done again in each crate above.
+// Written by hand, so that the crates above need not prove it again.
 impl Drop for Index {
     fn drop(self) {
         let Index {
@@ -54,7 +54,7 @@ impl Index {
         Ok(index.with_listings(listings))
     }
 
-    /// The index of the commands of a pool's macros. None runs at an event.
+    /// The index of the commands of a pool's macros, without listings: no macro runs at an event.
     pub fn of_commands(alloc: Global, accepted: &Accepted) -> Result<Index, AllocError>
         ensures { IfOk result (λ index. (id : ℕ) → map (command_in index) (pieces_in index id) ≡ map Some (commands (shape_of accepted.now) id)) }
     {
@@ -65,7 +65,7 @@ impl Index {
         Ok(index)
     }
 
-    /// The index with what runs at the events of objects.
+    /// Returns the index with its listings replaced.
     pub fn with_listings(mut self, listings: Listings) -> Index
         ensures { result ≡ record { listings = listings; bytes = self.bytes; pieces = self.pieces; macros = self.macros } }
     {
@@ -73,15 +73,15 @@ impl Index {
         self
     }
 
-    /// The macros that run at an event of an object, in the order of its list: none at an ID that is not there, nor
-    /// at a number that is no event's.
+    /// The macros that run at an event of an object, in the order of its list. Empty if the object is missing or `event`
+    /// is not an event's number.
     pub fn macros_at(&self, id: ObjectId, event: u8) -> &[u8]
         ensures { (shape : Shape) → IsIndexOf shape self.now → result.now ≡ listed shape (listing id event) }
     {
         self.listings.at(id, event)
     }
 
-    /// Where the commands of a macro stand, in their order.
+    /// The ranges of the commands of a macro, in order.
     pub fn pieces(&self, id: u8) -> &[Span]
         ensures pieces { result.now ≡ pieces_in self.now id }
         ensures commands { (shape : Shape) → IsIndexOf shape self.now → map (command_in self.now) result.now ≡ map Some (commands shape id) }
@@ -92,7 +92,7 @@ impl Index {
         }
     }
 
-    /// The command that stands at a place. There is one at each of `pieces`.
+    /// The command at a range of the macros' bytes. `Some` for each range of `pieces`.
     pub fn command(&self, piece: &Span) -> Option<Command<'_>>
         ensures { result ≡ command_in self.now piece.now }
     {
@@ -119,10 +119,10 @@ impl Index {
         requires within { IsWithin self.old }
         ensures listings { OnOk result (self.new.listings ≡ self.old.listings) }
         ensures within { OnOk result (IsWithin self.new) }
-        // Its pieces read as they stood, and those of the others stay.
+        // The commands of the macro read as in its bytes, and those of other macros are unchanged.
         ensures commands { OnOk result ((other : ℕ) → map (command_in self.new) (pieces_in self.new other) ≡ (if other == id then map command_at (cut_or_none bytes.now) else map (command_in self.old) (pieces_in self.old other))) }
     {
-        // What is left is cut as the whole is.
+        // The remaining bytes are cut into the same commands as in the whole.
         cut_is_one();
         let start = self.pieces.len();
         let mut rest = bytes;
@@ -150,7 +150,7 @@ impl Index {
     }
 }
 
-/// What stands from the start of a span to its end.
+/// The elements of a span, from its start to its end.
 fn part<T>(all: &[T], span: Span) -> &[T]
     ensures { result.now ≡ part all.now span }
 {

@@ -1,8 +1,9 @@
-//! The macros of a working set (ISO 11783-6): which of them run at an event, and what their commands make of its objects.
+//! The macros of a working set (ISO 11783-6): which of them run at an event, and how their commands change its objects.
 //!
 //! - `Index` has the macros of a pool by the object and event that trigger them, and their commands.
-//! - `events_of` gives the events that a command raises; `raise` and `raise_all` run the macros of events, to their end.
-//! - `laws` has what the definitions come to: the written machine never sticks, and each run ends within the budgets of its events.
+//! - `events_of` returns the events that a command raises; `raise` and `raise_all` run the macros of events, to their
+//!   end.
+//! - `laws` has the theorems: the specified machine never gets stuck, and each run ends within the budgets of its events.
 //!
 //! docs/PROFILE.md, "Runs", "Steps", "Costs and budgets".
 #![tactic(auto)]

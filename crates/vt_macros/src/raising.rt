@@ -8,8 +8,8 @@ ghost use Rattle.vt_macros.specs.Machines as machines;
 use arrayvec::ArrayVec;
 use vt_objects::{Command, Event, Object, ObjectId, Raised, Store, row_events};
 
-/// The events that a command raises where it is done, in their order. Change Active Mask hides the mask that was active, and
-/// where that is the mask that it shows, neither hides nor shows one.
+/// The events that a command raises when it is done, in their order. Change Active Mask hides the former active mask; if
+/// the mask is active already, it neither hides nor shows a mask.
 pub fn events_of<S: Store>(store: &S, command: &Command<'_>) -> ArrayVec<Raised, 3>
     ensures { result.items ≡ machines.events_of (S.contents store.now) command.now }
 {
@@ -21,7 +21,7 @@ pub fn events_of<S: Store>(store: &S, command: &Command<'_>) -> ArrayVec<Raised,
     }
 }
 
-/// The active mask of the working set of an ID, and NULL of what is none.
+/// The active mask of a working set. NULL if the object is not a working set.
 pub fn active_mask<S: Store>(store: &S, working_set: ObjectId) -> ObjectId
     ensures { result ≡ machines.mask_of (finite.get (S.contents store.now) working_set) }
 {
@@ -52,7 +52,7 @@ fn mask_events(active: ObjectId, working_set: ObjectId, mask: ObjectId) -> Array
     events
 }
 
-/// Hides a mask, unless it is NULL.
+/// The Hide event of a mask; no event for NULL.
 fn hide(mask: ObjectId) -> ArrayVec<Raised, 3>
     ensures events { result.items ≡ machines.hide mask }
     ensures room { length result.items ≤ 1 }

@@ -1,4 +1,4 @@
-//! Runs: the macros of events, and those of the events that their commands raise (docs/PROFILE.md, "Runs").
+//! Runs of the macros of events, and of the events raised by their commands (docs/PROFILE.md, "Runs").
 
 ghost use Rattle.std.specs.Prelude.{◌≡◌, ◌<◌, ◌^◌, None, ◌∷◌, [], sum_by};
 ghost use Rattle.std.specs.List.{AllByRecursion};
@@ -15,7 +15,7 @@ use vt_chains::Levels;
 use vt_effects::execute;
 use vt_objects::{Command, ObjectId, Raised, Store};
 
-/// Runs the macros of events, one event after the other, and answers how many steps that took: one for each command.
+/// Runs the macros of events, one event after the other. Returns the number of steps: one for each command.
 #[cycle(run)]
 pub fn raise_all<S: Store>(
     index: &Index,
@@ -34,7 +34,7 @@ pub fn raise_all<S: Store>(
     steps
 }
 
-/// Runs the macros of an event, in the order of its list.
+/// Runs the macros of an event, in the order of its list. Returns the number of steps.
 #[cycle(run)]
 pub fn raise<S: Store>(
     index: &Index,
@@ -53,7 +53,7 @@ pub fn raise<S: Store>(
     steps
 }
 
-/// Runs the commands of a macro.
+/// Runs the commands of a macro. Returns the number of steps.
 #[cycle(run)]
 fn run_macro<S: Store>(index: &Index, store: &mut S, levels: &mut Levels, id: u8) -> u32
     requires { CanRun index.now (S.contents store.old) levels.old }
@@ -66,7 +66,7 @@ fn run_macro<S: Store>(index: &Index, store: &mut S, levels: &mut Levels, id: u8
     steps
 }
 
-/// Does the command that stands at a place.
+/// Runs the macro command at a range of the macros' bytes. Returns the number of steps.
 #[cycle(run)]
 fn run_piece<S: Store>(index: &Index, store: &mut S, levels: &mut Levels, piece: &Span) -> u32
     requires can { CanRun index.now (S.contents store.old) levels.old }
@@ -80,7 +80,7 @@ fn run_piece<S: Store>(index: &Index, store: &mut S, levels: &mut Levels, piece:
     }
 }
 
-/// Does a command, and runs the macros of the events that it raises. A refused command raises none.
+/// Does a command and runs the macros of its events. A refused command raises no event. Returns the number of steps.
 #[cycle(run)]
 fn take<S: Store>(index: &Index, store: &mut S, levels: &mut Levels, command: &Command<'_>) -> u32
     requires can { CanRun index.now (S.contents store.old) levels.old }

@@ -8,7 +8,7 @@ use Rattle.std.proofs.lemmas.Map.Keys.{IsDistinct-head, IsDistinct-tail}
 use Rattle.vt_names.specs.Registry.{Set, Registered, AreApart, AreFiled, set_at, with_set, without, has_place, joined, joining, bound, binding}
 use Rattle.vt_names.proofs.Holding.{by_eq, none-some}
 
--- ---- the first set, and those after it
+-- ---- the first set, and the sets after it
 
 pub set_at-first : (a : ℕ) (s : Set) (sets : List Set) → s.address ≡ a → set_at a (s ∷ sets) ≡ Some s
 set_at-first a s sets h = ap (λ b. cond b (Some s) (set_at a sets)) (eq-eqb s.address a h)
@@ -124,7 +124,7 @@ apart-values (e ∷ es) filed distinct = (
   apart-values es filed.1 (IsDistinct-tail nat_eq e.0 (keys_of es) distinct),
 )
 
--- ---- a set that is there, and what takes its place
+-- ---- an existing set, and its replacement
 
 pub set_at-address : (a : ℕ) (s : Set) (sets : List Set) → set_at a sets ≡ Some s → s.address ≡ a
 set_at-address a s [] there = none-some there
@@ -155,7 +155,7 @@ join_cases : (b : Bool) (a name : ℕ) (s : Set) (sets : List Set) → set_at a 
 join_cases true a name s sets there = refl
 join_cases false a name s sets there = with_set-same a s sets there
 
--- ---- the set of an address, after one was written or taken out
+-- ---- the set of an address, after an insertion or a removal
 
 pub at-with : (q : ℕ) (new : Set) (sets : List Set) → set_at q (with_set new sets) ≡ cond (eqb new.address q) (Some new) (set_at q sets)
 at-with q new [] = refl
@@ -194,7 +194,7 @@ at-without q a (s ∷ sets) =
     ∙ sym (ap (λ b. cond b None (set_at q (s ∷ sets))) (ne_eqb a q (λ h. ne (own ∙ sym h)))))
     (λ other. set_at-later q s (without a sets) other ∙ rest ∙ sym (ap (cond (eqb a q) None) (set_at-later q s sets other))))
 
--- what a registry knows of the set of an address, and what it has after that set was changed
+-- the set of an address in a registry, before and after a change of that set
 module _ (a : ℕ) (es : List (ℕ × Set)) (r : Registered) (filed : AreFiled es) (view : ◌≡◌ {A = List Set} (values_of es) r.sets) where
   pub set-there : (s : Set) → Some s ≡ found a es → set_at a r.sets ≡ Some s
   set-there s there = sym (there ∙ found-set a es filed ∙ ap (set_at a) view)

@@ -1,4 +1,4 @@
--- The NAMEs kept for each address, after a claim.
+-- The NAMEs of each address in the index, after a claim.
 use Rattle.std.proofs.Common.{◌≡◌, ◌≢◌, ℕ, ◌<◌, Bool, true, false, true≢false, cond, ◌&&◌, eqb, eq-eqb, ne_eqb, List, [], ◌∷◌, length, get_or, Option, Some, None, refl, sym, ap, ◌∙◌, arith}
 use Rattle.std.proofs.lemmas.Option.{same_Some}
 use Rattle.std.proofs.lemmas.Bool.{eqb-true}
@@ -29,7 +29,7 @@ option_same (Some x) = eq-eqb x x refl
 pub no-holders : (sets : NameSets) → ((q : ℕ) → q < 256 → (get_or sets q (record { keys = [] })).keys ≡ []) → AreHolders sets []
 no-holders sets none = record { rising = tt; exact = λ q n small. ap (list_any (is_at (nat_cmp n))) (none q small) }
 
--- ---- a claim of the address that the NAME has already
+-- ---- a claim of an address by the NAME that already has it
 
 removed-none : (n : ℕ) (es : Addresses) → address_of es n ≡ None → remove_entry (is_at (nat_cmp n)) es ≡ es
 removed-none n [] none = refl
@@ -52,9 +52,9 @@ pub with-same : (es : Addresses) (n : ℕ) (o : Option ℕ) → IsRising es → 
 with-same es n None rising is = removed-none n es is
 with-same es n (Some a) rising is = inserted-same n a es rising is
 
--- ---- the holder is the least of the set
+-- ---- the holder is the least NAME of the set
 
--- a set as it is read, at any default
+-- the membership of a NAME in a set, read with any default
 read : (sets : NameSets) (q n : ℕ) (d : BTreeSet ℕ) → q < length sets → contains nat_cmp (get_or sets q d) n ≡ has_name sets q n
 read sets q n d small = ap (λ s. contains nat_cmp s n) (get_or_default sets q d (record { keys = [] }) small)
 
@@ -94,7 +94,7 @@ holder-some sets es q h d are long small is least = cases (holder_of es q) refl
         let below = least-holder q x es are.rising first h claimed in
         ap Some (omega arith)
 
--- ---- a NAME that goes from one address to another
+-- ---- a NAME that changes its address
 
 moved : (left claimed : Option ℕ) (q : ℕ) → claimed ≢ left
     → cond (option_eq eqb left (Some q)) false (cond (option_eq eqb claimed (Some q)) true (option_eq eqb left (Some q))) ≡ option_eq eqb claimed (Some q)

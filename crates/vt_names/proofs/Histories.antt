@@ -1,4 +1,4 @@
--- What is kept of all claims that were heard.
+-- The recorded addresses and holders after all claims received.
 use Rattle.std.proofs.Common.{◌≡◌, ◌≢◌, ℕ, Bool, true, false, cond, eqb, List, [], ◌∷◌, Option, Some, None, refl, sym, ap, ◌∙◌, eq-eqb, ne_eqb}
 use Rattle.std.proofs.lemmas.Option.{same_Some}
 use Rattle.vt_names.specs.Claims.{Addresses, IsRising, Claim, AddressesAreLast, HoldersAreLeast, OtherHoldersStay, IsHolder, after_claims, with_address, claimed_address, address_of, holder_of}

@@ -1,4 +1,4 @@
--- The addresses of NAMEs by rising NAME, after a claim.
+-- The addresses of NAMEs, sorted by NAME, after a claim.
 use Rattle.std.proofs.Common.{Option, IfSome, ◌≡◌, ◌≢◌, ℕ, ◌<◌, ◌≤◌, Bool, true, false, cond, eqb, [], ◌∷◌, Some, None, is_some, true≢false, inl, inr, refl, sym, ap, subst, ◌∙◌, arith, eq-eqb, ne_eqb}
 use Rattle.std.proofs.lemmas.Option.{same_Some}
 use Rattle.std.proofs.lemmas.Bool.{eqb-true, cases_order, false≢true}
@@ -10,7 +10,7 @@ use Rattle.std.specs.Map.{remove_entry}
 use Rattle.std.specs.BTreeMap.{insert_entry, is_at}
 use Rattle.vt_names.specs.Claims.{Addresses, AllAbove, IsRising, address_of, holder_of}
 
--- ---- two cases of two numbers, and three
+-- ---- comparison of two numbers, by two or three cases
 
 pub by_eq : {P : Type 0} (x y : ℕ) → (x ≡ y → P) → (x ≢ y → P) → P
 by_eq {P} x y same other = cases (eqb x y) refl
@@ -41,7 +41,7 @@ if-each P None all = tt
 pub tied : (n x : ℕ) → is_at (nat_cmp n) x ≡ eqb n x
 tied n x = unsigned_tied n x
 
--- a list after an entry was inserted before its first, at it, or after it
+-- a list after an insertion before its first entry, at it, or after it
 pub inserted : (P : Addresses → Type 0) (n a : ℕ) (e : ℕ × ℕ) (es : Addresses)
     → (n < e.0 → P ((n, a) ∷ e ∷ es)) → (n ≡ e.0 → P ((e.0, a) ∷ es)) → (e.0 < n → P (e ∷ insert_entry nat_cmp es n a))
     → P (insert_entry nat_cmp (e ∷ es) n a)
@@ -52,7 +52,7 @@ inserted P n a e es less same more =
     (λ h. subst (λ r. P (into r)) (nat_cmp_is n e.0 Equal h) (same h))
     (λ h. subst (λ r. P (into r)) (nat_cmp_is n e.0 Greater h) (more h))
 
--- a list after an entry was taken out, the first or one after it
+-- a list after the removal of its first entry, or of a later one
 pub removed : (P : Addresses → Type 0) (n : ℕ) (e : ℕ × ℕ) (es : Addresses)
     → (n ≡ e.0 → P es) → (n ≢ e.0 → P (e ∷ remove_entry (is_at (nat_cmp n)) es))
     → P (remove_entry (is_at (nat_cmp n)) (e ∷ es))
@@ -211,7 +211,7 @@ holder-removed_other n q (e ∷ es) not =
     (λ h. holder-first q e (remove_entry (is_at (nat_cmp n)) es) h ∙ sym (holder-first q e es h))
     (λ h. holder-later q e (remove_entry (is_at (nat_cmp n)) es) h ∙ rest (λ x. not (holder-later q e es h ∙ x)) ∙ sym (holder-later q e es h)))
 
--- ---- least
+-- ---- the holder is the least NAME
 
 pub no-holder : (q : ℕ) (es : Addresses) → holder_of es q ≡ None → (n : ℕ) → address_of es n ≢ Some q
 no-holder q [] none n = λ e. none-some e

@@ -1,4 +1,4 @@
--- A set is that of the last registration of its address.
+-- Each set is determined by the last registration of its address and the changes since.
 use Rattle.std.proofs.Common.{◌≡◌, ◌≢◌, ℕ, zero, suc, ◌-◌, ◌<◌, ◌≤◌, inl, inr, Bool, true, false, cond, ◌||◌, nat_lt, List, [], ◌∷◌, ◌++◌, length, take, Option, Some, None, refl, sym, ap, ◌∙◌, arith, eq-eqb, ne_eqb, append-nil, subst}
 use Rattle.std.proofs.lemmas.Option.{same_Some}
 use Rattle.std.proofs.lemmas.Bool.{lt-ltb, le-ltb, cases_lt}
@@ -7,7 +7,7 @@ use Rattle.vt_names.specs.Registrations.{RegistryInput, Masters, Joins, Closes, 
 use Rattle.vt_names.proofs.Holding.{by_eq, none-some}
 use Rattle.vt_names.proofs.Filing.{set_at-address, at-with, at-without}
 
--- ---- a registration, and an event that is of another address or says nothing of it
+-- ---- a registration, and a change that does not concern its address
 
 take-none : (n : ℕ) → ◌≡◌ {A = List ℕ} (take n []) []
 take-none zero = refl
@@ -43,7 +43,7 @@ other q e earlier s apart names members is = record {
   members = is.members ∙ sym (ap (take (s.count - 1)) (members is.since));
 }
 
--- ---- a member message, and a NAME
+-- ---- a member message, and a bound NAME
 
 cons-cond : (b : Bool) (x : ℕ) (l m : List ℕ) → x ∷ cond b l m ≡ cond b (x ∷ l) (x ∷ m)
 cons-cond true x l m = refl
@@ -112,7 +112,7 @@ bound-last q n earlier s is = record {
 
 -- ---- the history
 
--- where an event writes a set at its own address
+-- the last registration after a change that writes a set at its own address
 written : (a q : ℕ) (e : RegistryInput) (earlier : List RegistryInput) (new s : Set) (before : List Set) → a ≡ new.address
     → set_at q (with_set new before) ≡ Some s → (a ≡ q → s ≡ new → IsOfLast (e ∷ earlier) q s)
     → (a ≢ q → set_at q before ≡ Some s → IsOfLast (e ∷ earlier) q s) → IsOfLast (e ∷ earlier) q s

@@ -1,4 +1,4 @@
--- The sets after all that was registered.
+-- The addresses, the order and the members of the sets after all changes of the registry.
 use Rattle.std.proofs.Common.{◌≡◌, ◌≢◌, ℕ, zero, suc, ◌<◌, ◌≤◌, Bool, true, false, cond, eqb, List, [], ◌∷◌, ◌++◌, ◌+◌, length, Option, Some, None, is_some, true≢false, refl, sym, ap, subst, ◌∙◌, arith, eq-eqb, ne_eqb}
 use Rattle.std.proofs.lemmas.Option.{same_Some}
 use Rattle.std.proofs.lemmas.Bool.{ltb-true}
@@ -67,7 +67,7 @@ are-within (Closes a ∷ earlier) = within-without a (after_events earlier) (are
 are-within (Preloads a ∷ earlier) = within-with (preloaded a) (after_events earlier) (grind (arith)) (are-within earlier)
 are-within (Binds a n ∷ earlier) = within-bound a (set_at a (after_events earlier)) n (after_events earlier) refl (are-within earlier)
 
--- ---- which addresses have a set
+-- ---- the addresses with a set
 
 is-with : (b : Bool) (new : Set) (o : Option Set) (t : ℕ) (p : Option ℕ) → is_some o ≡ is_some p
     → is_some (cond b (Some new) o) ≡ is_some (cond b (Some t) p)
@@ -78,7 +78,7 @@ is-without : (b : Bool) (o : Option Set) (p : Option ℕ) → is_some o ≡ is_s
 is-without true o p e = refl
 is-without false o p e = e
 
--- a set of an address that has one changes nothing of that
+-- the replacement of a set changes no address with a set
 is-same : (a q : ℕ) (s new : Set) (sets : List Set) → set_at a sets ≡ Some s → new.address ≡ a
     → is_some (set_at q (with_set new sets)) ≡ is_some (set_at q sets)
 is-same a q s new sets there same =
@@ -146,7 +146,7 @@ weaken k m (Some t ∷ times) h r = (less, r.1)
     less : k ≤ t
     less = (grind (arith))
 
--- a set that is there keeps its place
+-- the replacement of a set keeps the order
 times-same : (at : ℕ → Option ℕ) (a : ℕ) (s new : Set) (sets : List Set) → set_at a sets ≡ Some s → new.address ≡ a
     → times_of at (with_set new sets) ≡ times_of at sets
 times-same at a s new [] there same = none-some there
@@ -162,7 +162,7 @@ times-ext at was [] same = refl
 times-ext at was (s ∷ sets) same =
     ap (λ o. o ∷ times_of at sets) (same s.address) ∙ ap (λ l. was s.address ∷ l) (times-ext at was sets same)
 
--- one that is not there comes last
+-- a new set comes last
 rising-last : (at was : ℕ → Option ℕ) (k n : ℕ) (new : Set) (sets : List Set) → k ≤ n → set_at new.address sets ≡ None
     → at new.address ≡ Some n → ((q : ℕ) → q ≢ new.address → at q ≡ was q) → ((q t : ℕ) → was q ≡ Some t → t < n)
     → AreRising k (times_of was sets) → AreRising k (times_of at (with_set new sets))
@@ -205,7 +205,7 @@ rising-without at was k a (s ∷ sets) others r =
     stays rest None r = r
     stays rest (Some t) r = (r.0, rest (suc t) r.1)
 
--- an event that registers, where there is a set or none
+-- a registration, for an address with a set or without one
 module _ (earlier : List RegistryInput) (new : Set) (at : ℕ → Option ℕ)
     (is : (q : ℕ) → at q ≡ cond (eqb new.address q) (Some (since (registered_at earlier q) (length earlier))) (registered_at earlier q))
     (r : AreRising 0 (times_of (registered_at earlier) (after_events earlier))) where

@@ -9,13 +9,13 @@ use Rattle.std.specs.Coded.{Coded, code_by, coded×, coded_ℕ, coded_list}
 use Rattle.vt_names.specs.declared.claims.ClaimMeaning.{ClaimMeaning}
 use Rattle.vt_names.specs.declared.claims.ClaimMeaning.TheVariants.{Nothing, Defend, Lost}
 
--- ---- by all claims that were heard
+-- ---- addresses and holders by all claims received
 
 pub record Claim : Type 0 where
   pub address : ℕ
   pub name : ℕ
 
--- A claim from the null address is a claim of no address.
+-- The address claimed by a claim from an address: none for the null address.
 abbrev pub claimed_address : ℕ → Option ℕ
 claimed_address address = if address == 254 then None else Some address
 
@@ -31,7 +31,7 @@ IsHolder claims address (Some holder) =
     (last_claimed claims holder ≡ Some address)
     × ((name : ℕ) → last_claimed claims name ≡ Some address → holder ≤ name)
 
--- ---- what is kept of them
+-- ---- the recorded addresses
 
 -- the address of each NAME that has one, by rising NAME
 abbrev pub Addresses : Type 0
@@ -41,12 +41,12 @@ abbrev pub AllAbove : ℕ → Addresses → Type 0
 AllAbove name [] = Unit {0}
 AllAbove name (e ∷ addresses) = (name < e.0) × AllAbove name addresses
 
--- by rising NAME, each once
+-- the addresses are sorted by NAME, and each NAME is unique
 abbrev pub IsRising : Addresses → Type 0
 IsRising [] = Unit {0}
 IsRising (e ∷ addresses) = AllAbove e.0 addresses × IsRising addresses
 
--- a node: its address, its NAME, and what it has heard
+-- a node: its address, its NAME, and the recorded addresses
 pub record Claimed : Type 0 where
   pub own : ℕ
   pub name : ℕ
@@ -61,14 +61,14 @@ abbrev pub with_address : Addresses → ℕ → Option ℕ → Addresses
 with_address addresses name None = remove_entry (is_at (nat_cmp name)) addresses
 with_address addresses name (Some address) = insert_entry nat_cmp addresses name address
 
--- after one claim
+-- the recorded addresses after one claim
 abbrev pub after_claim : Addresses → ℕ → ℕ → Addresses
 after_claim addresses address name = with_address addresses name (claimed_address address)
 
 abbrev pub heard : Claimed → ℕ → ℕ → Claimed
 heard c address name = record c { addresses = after_claim c.addresses address name }
 
--- The address of a NAME, and the holder of an address, which is the first of those that have it.
+-- The address of a NAME, and the holder of an address: the first NAME that has it.
 abbrev pub address_of : Addresses → ℕ → Option ℕ
 address_of addresses name = lookup (is_at (nat_cmp name)) addresses
 
@@ -76,13 +76,13 @@ abbrev pub holder_of : Addresses → ℕ → Option ℕ
 holder_of [] address = None
 holder_of (e ∷ addresses) address = if e.1 == address then Some e.0 else holder_of addresses address
 
--- A claim of the own address by a lower NAME means its loss; by a greater one it is to be claimed again.
+-- A claim of the own address by a lower NAME means its loss; by a greater NAME, a new claim of this node.
 abbrev pub answer : Claimed → ℕ → ℕ → ClaimMeaning
 answer c address name =
     if address == c.own then (if nat_lt name c.name then Lost else if nat_lt c.name name then Defend else Nothing)
     else Nothing
 
--- ---- They are those of the claims that were heard.
+-- ---- The recorded addresses and holders are those of all claims received.
 
 abbrev pub after_claims : List Claim → Addresses
 after_claims [] = []
@@ -94,7 +94,7 @@ AddressesAreLast = (claims : List Claim) (name : ℕ) → address_of (after_clai
 abbrev pub HoldersAreLeast : Type 0
 HoldersAreLeast = (claims : List Claim) (address : ℕ) → IsHolder claims address (holder_of (after_claims claims) address)
 
--- ---- A claim changes the holders of two addresses at most: the one that the NAME had, and the one that it claims.
+-- ---- A claim changes the holders of two addresses at most: the former address of its NAME, and the claimed one.
 
 pub record OtherHoldersStay : Type 0 where
   pub rising : (addresses : Addresses) (address name : ℕ) → IsRising addresses → IsRising (after_claim addresses address name)
@@ -102,21 +102,21 @@ pub record OtherHoldersStay : Type 0 where
       → other ≢ address → address_of addresses name ≢ Some other
       → holder_of (after_claim addresses address name) other ≡ holder_of addresses other
 
--- ---- the NAMEs that have each address, kept beside
+-- ---- the index of NAMEs by address
 
--- a set for each address
+-- a set of NAMEs for each address
 abbrev pub NameSets : Type 0
 NameSets = List (BTreeSet ℕ)
 
 abbrev pub has_name : NameSets → ℕ → ℕ → Bool
 has_name sets address name = contains nat_cmp (get_or sets address (record { keys = [] })) name
 
--- the set of each address has exactly the NAMEs that have that address
+-- the set of each address has exactly the NAMEs with that address
 pub record AreHolders (sets : NameSets) (addresses : Addresses) : Type 0 where
   pub rising : IsRising addresses
   pub exact : (address name : ℕ) → address < 256 → has_name sets address name ≡ option_eq nat_eq (address_of addresses name) (Some address)
 
--- one NAME comes into the set of an address, or goes out of it; without an address nothing changes
+-- one NAME is added to the set of an address or removed from it; without an address nothing changes
 abbrev pub ChangesOnly : NameSets → NameSets → Option ℕ → ℕ → Bool → Type 0
 ChangesOnly old new at name has = (address other : ℕ) → address < 256 → has_name new address other
     ≡ (if option_eq nat_eq at (Some address) && other == name then has else has_name old address other)

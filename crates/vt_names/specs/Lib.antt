@@ -1,4 +1,4 @@
--- What the contracts of this crate cite.
+-- Definitions cited by the contracts of vt_names.
 pub mod Claims
 pub mod Names
 pub mod Registrations

@@ -14,7 +14,7 @@ pub record Fields : Type 0 where
   pub industry_group : ℕ
   pub self_configurable : ℕ
 
--- each number fits its bits
+-- each of the ten numbers fits its bits
 pub record AreFields (f : Fields) : Type 0 where
   pub identity : f.identity < 2 ^ 21
   pub manufacturer : f.manufacturer < 2 ^ 11
@@ -34,7 +34,7 @@ raw_of f =
     + f.function * 2 ^ 40 + f.reserved * 2 ^ 48 + f.device_class * 2 ^ 49
     + f.device_class_instance * 2 ^ 56 + f.industry_group * 2 ^ 60 + f.self_configurable * 2 ^ 63
 
--- its ten numbers again
+-- the ten numbers of a NAME
 abbrev pub fields_of : ℕ → Fields
 fields_of raw = record {
   identity = raw % 2 ^ 21;
@@ -49,7 +49,7 @@ fields_of raw = record {
   self_configurable = raw / 2 ^ 63 % 2;
 }
 
--- The ten numbers and the NAME determine each other.
+-- The ten numbers of a NAME and the NAME determine each other.
 pub record FieldsAreNames : Type 0 where
   pub fields_again : (f : Fields) → AreFields f → fields_of (raw_of f) ≡ f
   pub raw_again : (raw : ℕ) → raw < 2 ^ 64 → raw_of (fields_of raw) ≡ raw

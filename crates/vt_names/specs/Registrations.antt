@@ -1,10 +1,10 @@
--- The working sets over all that was registered, and their order (ISO 11783-6; docs/PROFILE.md, "Working sets").
+-- The working sets after all changes of the registry, and their order (ISO 11783-6; docs/PROFILE.md, "Working sets").
 use Rattle.std.specs.Prelude.{◌≡◌, ◌<◌, ◌≤◌, ℕ, suc, ◌-◌, ◌==◌, Bool, true, false, ◌||◌, if◌then◌else◌, List, [], ◌∷◌, ◌++◌, length, map, take, Option, Some, None, is_some}
 use Rattle.std.specs.List.{AllByRecursion}
 use Rattle.vt_names.specs.Registry.{Set, set_at, with_set, without, registering, joining, binding, preloaded, counted}
 
--- What may change the sets: a master message, with the holder of its address and its count; a member message, with
--- its NAME; a closing; a preloading; and a NAME for the set of an address.
+-- A change of the registry: a master message, with the holder of its address and its count; a member message, with
+-- its NAME; a closing; a preloading; or a NAME for the set of an address.
 pub data RegistryInput : Type 0 where
   Masters : ℕ → Option ℕ → ℕ → RegistryInput
   Joins : ℕ → ℕ → RegistryInput
@@ -12,9 +12,9 @@ pub data RegistryInput : Type 0 where
   Preloads : ℕ → RegistryInput
   Binds : ℕ → ℕ → RegistryInput
 
--- ---- by all that happened; lists of events have the latest first
+-- ---- sets by all changes; lists of changes have the latest first
 
--- there is a set of the address after the event, whatever was before
+-- the change registers a set of the address
 abbrev pub registers : ℕ → RegistryInput → Bool
 registers address (Masters other (Some holder) count) = other == address
 registers address (Preloads other) = other == address
@@ -28,8 +28,8 @@ abbrev pub since : Option ℕ → ℕ → ℕ
 since (Some time) now = time
 since None now = now
 
--- When the set of an address was registered, as the number of events before, if there is one. A set that is there
--- keeps its time.
+-- The time of registration of an address's set, as the number of changes before it. A new registration of an
+-- existing set keeps its time.
 abbrev pub registered_at : List RegistryInput → ℕ → Option ℕ
 registered_at [] address = None
 registered_at (event ∷ earlier) address =
@@ -37,13 +37,13 @@ registered_at (event ∷ earlier) address =
     else if closes address event then None
     else registered_at earlier address
 
--- the times rise
+-- the times are strictly rising
 abbrev pub AreRising : ℕ → List (Option ℕ) → Type 0
 AreRising least [] = Unit {0}
 AreRising least (None ∷ times) = ⊥
 AreRising least (Some time ∷ times) = (least ≤ time) × AreRising (suc time) times
 
--- ---- the last registration of an address, and what came since
+-- ---- the last registration of an address, and the changes since
 
 abbrev pub registration_name : RegistryInput → Option ℕ
 registration_name (Masters address holder count) = holder
@@ -53,20 +53,20 @@ abbrev pub registration_count : RegistryInput → ℕ
 registration_count (Masters address holder count) = counted count
 registration_count _ = 1
 
--- the last NAME that an address was bound to, or else another
+-- the last NAME bound to an address, or `first` if there is none
 abbrev pub bound_name : ℕ → List RegistryInput → Option ℕ → Option ℕ
 bound_name address [] first = first
 bound_name address (Binds other name ∷ earlier) first = if other == address then Some name else bound_name address earlier first
 bound_name address (event ∷ earlier) first = bound_name address earlier first
 
--- the NAMEs of the member messages of an address, in their order
+-- the NAMEs in the member messages of an address, in order
 abbrev pub member_names : ℕ → List RegistryInput → List ℕ
 member_names address [] = []
 member_names address (Joins other name ∷ earlier) = member_names address earlier ++ (if other == address then name ∷ [] else [])
 member_names address (event ∷ earlier) = member_names address earlier
 
--- A set is that of the last registration of its address. It has the count of that, the NAME of it or the one that
--- it was bound to since, and of the member messages since as many as there are places: the count less one.
+-- A set is that of the last registration of its address. It has the count of that registration, its NAME or the one
+-- bound to it since, and the first members announced since, up to its count less one.
 pub record IsOfLast (events : List RegistryInput) (address : ℕ) (set : Set) : Type 0 where
   pub since : List RegistryInput
   pub registration : RegistryInput
@@ -78,7 +78,7 @@ pub record IsOfLast (events : List RegistryInput) (address : ℕ) (set : Set) : 
   pub count : set.count ≡ registration_count registration
   pub members : set.members ≡ take (set.count - 1) (member_names address since)
 
--- ---- what is kept of it
+-- ---- the recorded sets
 
 abbrev pub after_event : RegistryInput → List Set → List Set
 after_event (Masters address holder count) sets = registering address holder count sets
@@ -99,8 +99,8 @@ abbrev pub AreWithin : List Set → Type 0
 AreWithin [] = Unit {0}
 AreWithin (set ∷ sets) = (length set.members < set.count) × AreWithin sets
 
--- The sets are those that were registered and not closed since, one for each address, in the order of their
--- registration, each with fewer members than its count, and each as its last registration and what came since have it.
+-- The sets are those registered and not closed since, one for each address, in order of registration. Each has fewer
+-- members than its count, and is determined by its last registration and the changes since.
 pub record SetsAreRegistered : Type 0 where
   pub there : (events : List RegistryInput) (address : ℕ) → is_some (set_at address (after_events events)) ≡ is_some (registered_at events address)
   pub order : (events : List RegistryInput) → AreRising 0 (times_of (registered_at events) (after_events events))

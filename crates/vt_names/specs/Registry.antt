@@ -2,7 +2,7 @@
 use Rattle.std.specs.Prelude.{◌≡◌, ℕ, suc, ◌==◌, Bool, not, nat_lt, if◌then◌else◌, List, [], ◌∷◌, ◌++◌, length, filter, Option, Some, None, refl}
 use Rattle.std.specs.Coded.{Coded, code_by, coded×, coded_ℕ, coded_list, coded_option}
 
--- a set: the address of its master, its NAME, the number of its members with the master, and the others' NAMEs
+-- a set: the address of its master, its NAME, the number of its members with the master, and the NAMEs of the others
 pub record Set : Type 0 where
   pub address : ℕ
   pub name : Option ℕ
@@ -15,7 +15,7 @@ set_code =
     (λ s. (s.address, (s.name, (s.count, s.members))))
     (λ p. record { address = p.0; name = p.1.0; count = p.1.1.0; members = p.1.1.1 }) (λ _. refl)
 
--- the sets in order, and whether there is room for one more, as 1 or 0
+-- the sets in order, and the capacity reserved for one more, 1 or 0
 pub record Registered : Type 0 where
   pub sets : List Set
   pub room : ℕ
@@ -33,37 +33,37 @@ abbrev pub set_at : ℕ → List Set → Option Set
 set_at address [] = None
 set_at address (set ∷ sets) = if is_of address set then Some set else set_at address sets
 
--- A set takes the place of the one of its address, and comes last where there is none.
+-- The list with a set: it replaces the set of its address, or comes last if there is none.
 abbrev pub with_set : Set → List Set → List Set
 with_set new [] = new ∷ []
 with_set new (set ∷ sets) = if is_of new.address set then new ∷ sets else set ∷ with_set new sets
 
--- the others, in their order
+-- the sets of other addresses, in their order
 abbrev pub without : ℕ → List Set → List Set
 without address sets = filter (λ set. not (is_of address set)) sets
 
--- a count of 0 is one of 1
+-- the number of members for a count, where 0 means 1
 abbrev pub counted : ℕ → ℕ
 counted count = if count == 0 then 1 else count
 
--- ---- what registers
+-- ---- changes of the registry
 
 abbrev pub mastered : ℕ → ℕ → ℕ → Set
 mastered address name count = record { address = address; name = Some name; count = counted count; members = [] }
 
--- a master message, with the holder of its address
+-- the sets after a master message, with the holder of its address
 abbrev pub registering : ℕ → Option ℕ → ℕ → List Set → List Set
 registering address None count sets = sets
 registering address (Some holder) count sets = with_set (mastered address holder count) sets
 
--- a set has at most its count less one members
+-- the set has fewer members than its count less one
 abbrev pub has_place : Set → Bool
 has_place set = nat_lt (suc (length set.members)) set.count
 
 abbrev pub joined : Set → ℕ → Set
 joined set name = record set { members = set.members ++ name ∷ [] }
 
--- a member message of the set that is there
+-- the sets after a member message, with the set of its address
 abbrev pub joining : Option Set → ℕ → List Set → List Set
 joining None name sets = sets
 joining (Some set) name sets = if has_place set then with_set (joined set name) sets else sets
@@ -89,7 +89,7 @@ AreApart (set ∷ sets) = (set_at set.address sets ≡ None) × AreApart sets
 
 -- ---- sets kept by address
 
--- each is filed under its address
+-- each set is filed under its address
 abbrev pub AreFiled : List (ℕ × Set) → Type 0
 AreFiled [] = Unit {0}
 AreFiled (e ∷ entries) = (e.0 ≡ e.1.address) × AreFiled entries

@@ -1,4 +1,4 @@
-//! Address claims (ISO 11783-5).
+//! Address claims and the answers to them (ISO 11783-5).
 
 ghost use Rattle.std.specs.Prelude.{◌≡◌, None, Some, [], IfOk, OnOk, OnErr};
 ghost use Rattle.vt_names.specs.Claims.{IsRising, answer, heard, address_of, holder_of, claimed_address, with_address};
@@ -10,25 +10,25 @@ use std::alloc::Global;
 use std::collections::BTreeMap;
 use std::marker::Model;
 
-/// A claim from this address is a claim of no address.
+/// The source address of a claim without an address.
 const NULL_ADDRESS: u8 = 254;
 
-/// What a claim means for the node that heard it.
+/// The meaning of an address claim for this node.
 #[derive(Clone, Copy, Debug, PartialEq, Eq)]
 pub enum ClaimMeaning {
-    /// There is nothing to do.
+    /// The claim needs no answer.
     Nothing,
-    /// A greater NAME claimed the own address: it is to be claimed again.
+    /// A greater NAME claimed the own address: this node claims it again.
     Defend,
-    /// A lower NAME claimed the own address: it is lost.
+    /// A lower NAME claimed the own address: this node loses it.
     Lost,
 }
 
-/// What a node has heard of the addresses of others, seen as its own address and NAME, and the address
-/// of each NAME that has one.
+/// The address claims received by a node, seen as its own address and NAME, and the address of each NAME
+/// that has one.
 ///
-/// A claim is taken in time that grows with the logarithm of the NAMEs heard. docs/PROFILE.md, "The holder
-/// of an address".
+/// A claim takes time that grows with the logarithm of the number of NAMEs. docs/PROFILE.md, "The holder of
+/// an address".
 pub struct Claims {
     own: u8,
     name: Name,
@@ -36,7 +36,7 @@ pub struct Claims {
     holders: Holders,
 }
 
-// Written out, so that its proof is not done again in each crate above.
+// Written out, not derived: the drop is proved once here, and not in each crate above.
 impl Drop for Claims {
     fn drop(self) {
         let Claims {
@@ -61,7 +61,7 @@ impl Model for Claims {
 }
 
 impl Claims {
-    /// The claims that a node has heard before the first: none. It takes no memory.
+    /// Creates the claims of a node, of which there are none yet. Does not allocate.
     pub fn new(alloc: Global, own: u8, name: Name) -> Claims
         ensures { result ≡ record { own = own; name = name; addresses = [] } }
     {
@@ -73,7 +73,7 @@ impl Claims {
         }
     }
 
-    /// Hears that a NAME claims an address, and tells what that means for this node. After `OutOfMemory`
+    /// Records the claim of an address by a NAME, and returns its meaning for this node. After `OutOfMemory`
     /// nothing is changed. docs/PROFILE.md, "The terminal's claims".
     pub fn hear(&mut self, address: u8, name: Name) -> Result<ClaimMeaning, OutOfMemory>
         ensures answer { IfOk result (λ said. said ≡ answer self.old address name) }
@@ -109,7 +109,7 @@ impl Claims {
         self.name
     }
 
-    /// The address of a NAME, that of its last claim. docs/PROFILE.md, "The holder of an address".
+    /// Returns the address of a NAME: that of its last claim. docs/PROFILE.md, "The holder of an address".
     pub fn address_of(&self, name: Name) -> Option<u8>
         ensures address { result ≡ address_of self.now.addresses name }
         ensures rising { IsRising self.now.addresses }
@@ -117,7 +117,7 @@ impl Claims {
         self.addresses.get(&name.raw()).copied()
     }
 
-    /// The holder of an address: the least NAME among those whose last claim was of it.
+    /// Returns the holder of an address: the least NAME among those whose last claim was of it.
     /// docs/PROFILE.md, "The holder of an address".
     pub fn holder(&self, address: u8) -> Option<Name>
         ensures { result ≡ holder_of self.now.addresses address }
@@ -125,7 +125,7 @@ impl Claims {
         self.holders.get(address)
     }
 
-    /// What the claim of an address by a NAME means for this node, without recording it.
+    /// Returns the meaning of a claim of an address by a NAME for this node, and records nothing.
     pub fn answer(&self, address: u8, name: Name) -> ClaimMeaning
         ensures { result ≡ answer self.now address name }
     {
@@ -141,14 +141,14 @@ impl Claims {
     }
 }
 
-// The address that a claim from an address claims.
+// The address claimed by a claim from `address`.
 fn claimed_address(address: u8) -> Option<u8>
     ensures { result ≡ claimed_address address }
 {
     (address != NULL_ADDRESS).then_some(address)
 }
 
-// Records the address of a NAME, or that it has none.
+// Records the address of a NAME, or removes it if there is none.
 fn record(
     addresses: &mut BTreeMap<u64, u8>,
     name: Name,

@@ -1,4 +1,4 @@
-//! The holder of each address, kept beside the addresses of NAMEs.
+//! An index from addresses to their holders.
 
 ghost use Rattle.std.specs.Prelude.{◌≡◌, true, false, [], OnOk, OnErr};
 ghost use Rattle.vt_names.specs.Claims.{Addresses, AreHolders, ChangesOnly, holder_of};
@@ -9,14 +9,14 @@ use std::alloc::Global;
 use std::array;
 use std::collections::BTreeSet;
 
-/// The NAMEs that have each address. The least of them is its holder.
+/// For each address, the NAMEs that have it. The least of them is its holder.
 #[derive(Drop)]
 pub(crate) struct Holders {
     names: [BTreeSet<u64>; 256],
 }
 
 impl Holders {
-    /// No address has a holder. It takes no memory.
+    /// Creates the index without NAMEs. Does not allocate.
     pub(crate) fn new(alloc: Global) -> Holders
         ensures { AreHolders result.names [] }
     {
@@ -25,7 +25,7 @@ impl Holders {
         }
     }
 
-    /// The holder of an address.
+    /// Returns the holder of an address.
     pub(crate) fn get(&self, address: u8) -> Option<Name>
         ensures { (addresses : Addresses) → AreHolders self.now.names addresses → result ≡ holder_of addresses address }
     {
@@ -33,7 +33,7 @@ impl Holders {
         Some(Name::from_raw(*raw))
     }
 
-    /// A NAME has claimed an address, or none.
+    /// Adds a NAME to the address that it claimed, if any.
     pub(crate) fn enter(&mut self, name: Name, claimed: Option<u8>) -> Result<(), OutOfMemory>
         ensures ok { OnOk result (ChangesOnly self.old.names self.new.names claimed name true) }
         ensures err { OnErr result ((addresses : Addresses) → AreHolders self.old.names addresses → AreHolders self.new.names addresses) }
@@ -44,7 +44,7 @@ impl Holders {
         Ok(())
     }
 
-    /// A NAME no longer has the address that it had, or had none.
+    /// Removes a NAME from its former address, if any.
     pub(crate) fn leave(&mut self, name: Name, left: Option<u8>)
         ensures { ChangesOnly self.old.names self.new.names left name false }
     {

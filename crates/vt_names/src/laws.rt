@@ -1,4 +1,4 @@
-//! What the definitions come to: each function is a law, and its body does nothing.
+//! Theorems about NAMEs, claims and working sets. Each is the contract of a function with an empty body.
 
 ghost use Rattle.vt_names.specs.Claims.{AddressesAreLast, HoldersAreLeast, OtherHoldersStay};
 ghost use Rattle.vt_names.specs.Names.{FieldsAreNames};
@@ -9,24 +9,23 @@ pub fn fields_are_names()
     ensures { FieldsAreNames }
 {}
 
-/// The address kept for a NAME is that of its last claim, over all claims heard.
+/// The recorded address of a NAME is that of its last claim, over all claims received.
 pub fn addresses_are_last()
     ensures { AddressesAreLast }
 {}
 
-/// The holder of an address is the least NAME among those whose last claim was of it, over all claims heard.
+/// The holder of an address is the least NAME among those whose last claim was of it, over all claims received.
 pub fn holders_are_least()
     ensures { HoldersAreLeast }
 {}
 
-/// A claim changes the holders of two addresses at most: of the one that its NAME had, and of the one that it claims.
+/// A claim changes the holders of two addresses at most: the former address of its NAME, and the claimed one.
 pub fn other_holders_stay()
     ensures { OtherHoldersStay }
 {}
 
-/// The sets are those that were registered and not closed since, one for each address, in the order of their registration, each
-/// with the count and NAME of its last registration, or the NAME that it was bound to since, and with as many of the members
-/// heard since as it has places.
+/// The sets are those registered and not closed since, one for each address, in order of registration. Each has the count and
+/// the NAME of its last registration, or the NAME bound to it since, and the members announced since, up to its count less one.
 pub fn sets_are_registered()
     ensures { SetsAreRegistered }
 {}

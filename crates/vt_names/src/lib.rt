@@ -1,9 +1,9 @@
-//! NAMEs, who holds an address, and the registry of working sets (ISO 11783-5, ISO 11783-6).
+//! NAMEs, the holders of addresses, and the registry of working sets (ISO 11783-5, ISO 11783-6).
 //!
 //! - `Name` is a NAME, with its ten fields.
-//! - `Claims` keeps what was heard of addresses, and tells what a claim means by `ClaimMeaning`.
-//! - `Registry` keeps the working sets, each a `Set`, or refuses a change by a `RegistryFault`.
-//! - `laws` has what the definitions come to.
+//! - `Claims` records the address claims received. `ClaimMeaning` is the meaning of a claim for this node.
+//! - `Registry` has the working sets, each a `Set`. `RegistryFault` is the reason of a refused change.
+//! - `laws` has theorems about the definitions in specs/.
 //!
 //! docs/PROFILE.md, "Addresses and NAMEs" and "Working sets", has the rules.
 #![tactic(auto)]
@@ -20,5 +20,5 @@ pub use name::Name;
 pub use registry::{Registry, RegistryFault};
 pub use set::Set;
 
-/// A growth that was refused.
+/// A refused allocation.
 pub use std::alloc::AllocError as OutOfMemory;

@@ -5,7 +5,7 @@ ghost use Rattle.vt_names.specs.Names.{fields_of};
 
 use std::marker::Model;
 
-/// The NAME of a node, 64 bits. The lower NAME keeps an address. docs/PROFILE.md, "The NAME".
+/// The 64-bit NAME of a node. Of two NAMEs that claim an address, the lower one keeps it. docs/PROFILE.md, "The NAME".
 #[derive(Clone, Copy, Debug, Default, PartialEq, Eq, PartialOrd, Ord, Hash)]
 pub struct Name {
     raw: u64,
@@ -22,14 +22,14 @@ impl Model for Name {
 }
 
 impl Name {
-    /// The NAME that this number spells.
+    /// Returns the NAME with a number.
     pub fn from_raw(raw: u64) -> Name
         ensures { result ≡ raw }
     {
         Name { raw }
     }
 
-    /// The number that spells it.
+    /// The NAME as a number.
     pub fn raw(self) -> u64
         ensures { result ≡ self }
     {

@@ -14,35 +14,35 @@ use std::alloc::Global;
 use std::marker::Model;
 use thiserror::Error;
 
-/// Why a message does not register.
+/// Why a message changes no working set.
 #[derive(Clone, Copy, Debug, PartialEq, Eq, Error)]
 pub enum RegistryFault {
     /// The master's address has no holder.
     #[error("no NAME holds the address of the master")]
     NotClaimed,
-    /// There is no set of that address.
+    /// There is no working set with the master's address.
     #[error("there is no working set of that address")]
     NotMaster,
-    /// The set has its count less one members already.
+    /// The working set already has all its members: its count less one.
     #[error("the working set has all its members already")]
     TooManyMembers,
-    /// The memory for a new set was refused. A member message never is, nor a master message of a set that is there: they take none.
+    /// The memory for a new set was refused. A member message, or a master message for an existing set, allocates nothing.
     #[error("the memory for a working set was refused")]
     OutOfMemory,
 }
 
-/// The working sets, seen as their list in order of registration, and whether there is room for one more, as 1 or 0.
-/// No two have the same address.
+/// The working sets, seen as their list in order of registration, and the capacity reserved for one more, 1 or 0.
+/// Their addresses are unique.
 ///
 /// docs/PROFILE.md, "Working sets".
 pub struct Registry {
     sets: IndexMap<u8, Set>,
-    // A place for the members of the next set, kept from one that was closed or made beforehand.
+    // Memory for the members of the next set, from a closed set or reserved in advance.
     vacant: Option<Members>,
     alloc: Global,
 }
 
-// Written out, so that its proof is not done again in each crate above.
+// Written out, not derived: the drop is proved once here, and not in each crate above.
 impl Drop for Registry {
     fn drop(self) {
         let Registry {
@@ -68,7 +68,7 @@ impl Model for Registry {
 }
 
 impl Registry {
-    /// No sets. It takes no memory.
+    /// Creates a registry without sets. Does not allocate.
     pub fn new(alloc: Global) -> Registry
         ensures { result.sets ≡ [] }
     {
@@ -79,8 +79,8 @@ impl Registry {
         }
     }
 
-    /// Hears a master message, with the holder of its address. A set that is there keeps its place,
-    /// and loses its members, which takes no memory. After a refusal the sets are as they were.
+    /// Registers a set by a master message, with the holder of its address. An existing set keeps its
+    /// position and loses its members, without an allocation. After an error the sets are unchanged.
     /// docs/PROFILE.md, "Working Set Master".
     pub fn master(
         &mut self,
@@ -106,7 +106,7 @@ impl Registry {
             .map_err(|_| RegistryFault::OutOfMemory)
     }
 
-    /// Hears a member message. After a refusal the sets are as they were. It takes no memory.
+    /// Adds a member by a member message. After an error the sets are unchanged. Does not allocate.
     /// docs/PROFILE.md, "Working Set Member".
     pub fn member(&mut self, address: u8, name: Name) -> Result<(), RegistryFault>
         ensures no_set { set_at address self.old.sets ≡ None → result ≡ Err declared.NotMaster }
@@ -124,14 +124,14 @@ impl Registry {
         Ok(())
     }
 
-    /// Takes the set of an address out, and tells whether there was one. The others keep their order.
-    /// It takes no memory. docs/PROFILE.md, "Closing a set".
+    /// Removes the set of an address, and returns false if there was none. The others keep their order.
+    /// Does not allocate. docs/PROFILE.md, "Closing a set".
     pub fn close(&mut self, address: u8) -> bool
         ensures found { result ≡ is_some (set_at address self.old.sets) }
         ensures sets { self.new.sets ≡ without address self.old.sets }
         ensures room { self.old.room ≤ self.new.room }
     {
-        // Says that no two sets have the same address.
+        // The contract of `len` says that no two sets have the same address.
         let _count = self.sets.len();
         let Some(set) = self.sets.shift_remove(&address) else {
             return false;
@@ -140,10 +140,10 @@ impl Registry {
         true
     }
 
-    /// How many sets there are.
+    /// The number of sets.
     pub fn len(&self) -> usize
         ensures count { result ≡ length self.now.sets }
-        // No two have the same address.
+        // No two sets have the same address.
         ensures apart { AreApart self.now.sets }
     {
         self.sets.len()
@@ -156,7 +156,7 @@ impl Registry {
         self.sets.is_empty()
     }
 
-    /// The set at a place in the order of registration, counted from 0.
+    /// Returns the set at an index in the order of registration.
     pub fn at(&self, index: usize) -> Option<&Set>
         ensures { option_copied result ≡ slice_get self.now.sets index }
     {
@@ -164,14 +164,14 @@ impl Registry {
         Some(set)
     }
 
-    /// The set of an address.
+    /// Returns the set of an address.
     pub fn get(&self, address: u8) -> Option<&Set>
         ensures { option_copied result ≡ set_at address self.now.sets }
     {
         self.sets.get(&address)
     }
 
-    /// Adds a set without a NAME. There is none of that address. After a refusal the sets are as they were.
+    /// Adds a set without a NAME, for an address without a set. After an error the sets are unchanged.
     /// docs/PROFILE.md, "Preloaded sets".
     pub fn preload(&mut self, address: u8) -> Result<(), OutOfMemory>
         requires none { set_at address self.old.sets ≡ None }
@@ -181,7 +181,7 @@ impl Registry {
         self.add(address, None, 1)
     }
 
-    /// Gives the set of an address a NAME. There is one, and it has none. It takes no memory.
+    /// Gives a NAME to the set of an address, which exists and has none. Does not allocate.
     /// docs/PROFILE.md, "Preloaded sets".
     pub fn bind(&mut self, address: u8, name: Name)
         requires unnamed { IsUnnamed (set_at address self.old.sets) }
@@ -193,8 +193,8 @@ impl Registry {
         }
     }
 
-    /// Makes room, so that the next `master` or `member` of an address is not refused for memory. The
-    /// sets stay.
+    /// Reserves capacity for one more set, so that the next `master` or `member` is not refused memory.
+    /// The sets are unchanged.
     pub fn reserve(&mut self, _address: u8) -> Result<(), OutOfMemory>
         ensures ok { OnOk result (0 < self.new.room) }
         ensures sets { self.new.sets ≡ self.old.sets }
@@ -203,7 +203,7 @@ impl Registry {
         self.make_room()
     }
 
-    // Files a set without members under its address.
+    // Inserts a set without members under its address.
     fn add(&mut self, address: u8, name: Option<Name>, count: u8) -> Result<(), OutOfMemory>
         ensures ok { OnOk result (self.new.sets ≡ with_set (record { address = address; name = name; count = counted count; members = [] }) self.old.sets) }
         ensures err { OnErr result (self.new.sets ≡ self.old.sets) }
@@ -217,7 +217,7 @@ impl Registry {
         Ok(())
     }
 
-    // Makes room for one set more, and for its members. What was made of it stays where the rest is refused.
+    // Reserves capacity for one more set and for its members. After a refusal, memory reserved so far is kept.
     fn make_room(&mut self) -> Result<(), OutOfMemory>
         ensures ok { OnOk result (0 < self.new.room) }
         ensures sets { self.new.sets ≡ self.old.sets }

@@ -7,11 +7,11 @@ use crate::name::Name;
 use arrayvec::ArrayVec;
 use std::marker::Model;
 
-/// The NAMEs of a set's members. They stand in memory of their own, so they stay where they are when the set is moved.
+/// The NAMEs of a set's members, boxed so that a move of the set does not copy them.
 pub(crate) type Members = Box<ArrayVec<Name, 254>>;
 
-/// A working set: the address of its master, its NAME if it has one, how many members it has with the
-/// master, and the NAMEs of the others that were heard of. docs/PROFILE.md, "What a set has".
+/// A working set: the address of its master, its NAME if it has one, the number of its members with the master,
+/// and the announced NAMEs of the others. docs/PROFILE.md, "What a set has".
 #[derive(Debug, Drop)]
 pub struct Set {
     address: u8,
@@ -34,7 +34,7 @@ impl Model for Set {
 }
 
 impl Set {
-    /// A set of a NAME or without one, with a place for its members, of which it has none. A count of 0 is one of 1.
+    /// Creates a set without members, in the given memory for members. A count of 0 means 1.
     pub(crate) fn new(address: u8, name: Option<Name>, count: u8, mut members: Members) -> Set
         ensures { result ≡ record { address = address; name = name; count = counted count; members = [] } }
     {
@@ -47,7 +47,7 @@ impl Set {
         }
     }
 
-    /// Begins anew, by a master message of a NAME. A count of 0 is one of 1.
+    /// Registers the set again by a master message, and removes its members. A count of 0 means 1.
     pub(crate) fn restart(&mut self, name: Name, count: u8)
         ensures { self.new ≡ mastered self.old.address name count }
     {
@@ -56,7 +56,7 @@ impl Set {
         self.members.clear();
     }
 
-    /// The place of its members, which another set may take.
+    /// Returns the memory of the members, for another set.
     pub(crate) fn into_members(self) -> Members {
         self.members
     }
@@ -68,7 +68,7 @@ impl Set {
         self.address
     }
 
-    /// The NAME of the master. A set that was preloaded has none until a claim of its address is heard.
+    /// The NAME of the master. A preloaded set has none before a claim of its address.
     pub fn name(&self) -> Option<Name>
         ensures { result ≡ self.now.name }
     {
@@ -90,7 +90,7 @@ impl Set {
         self.members.as_slice()
     }
 
-    /// Takes a member, and tells whether there was a place for it.
+    /// Adds a member. Returns false if the set has all its members.
     pub(crate) fn join(&mut self, name: Name) -> bool
         ensures place { result ≡ has_place self.old }
         ensures set { self.new ≡ if has_place self.old then joined self.old name else self.old }

@@ -1,4 +1,4 @@
--- What stands at each address, and what is written at one of them.
+-- Values by address after a write at one address.
 use Rattle.std.proofs.Common.{◌≡◌, ◌≢◌, ℕ, Bool, true, false, cond, eqb, List, length, get_or, ◌<◌, inl, inr, Option, None, refl, sym, ap, subst, ◌∙◌, eq-eqb, ne_eqb}
 use Rattle.std.proofs.lemmas.Bool.{cases_lt}
 use Rattle.std.proofs.Math.ListN.{get_or-eq_default}
@@ -7,9 +7,9 @@ use Rattle.std.specs.Prelude.{slice_set}
 use Rattle.vt_node.specs.ByAddress.{with_at}
 use Rattle.vt_names.proofs.Holding.{by_eq}
 
--- ---- equal or not, some or none
+-- A value by address is a function from addresses, or a list with an entry for each of the 256 addresses.
 
--- ---- what stands at addresses
+-- ---- functions from addresses
 
 pub at-own : {X : Type 0} (a : ℕ) (places : ℕ → X) (x : X) → with_at a x places a ≡ x
 at-own a places x = ap (λ b. cond b x (places a)) (eq-eqb a a refl)
@@ -33,7 +33,7 @@ places-twice a places x y = λ i b. at b i
     at : (b : ℕ) → with_at a x (with_at a y places) b ≡ with_at a x places b
     at b = cases b (eqb b a)
 
--- where one address has another value, and the others keep theirs
+-- a function that differs from another at one address at most
 pub places-written : {X : Type 0} (a : ℕ) (old new : ℕ → X) (x : X) → new a ≡ x → ((b : ℕ) → b ≢ a → new b ≡ old b) → new ≡ with_at a x old
 places-written a old new x here others = λ i b. at b i
   where
@@ -43,9 +43,9 @@ places-written a old new x here others = λ i b. at b i
         (λ is. ap new is ∙ here ∙ sym (ap (λ c. cond c x (old b)) (eq-eqb b a is)))
         (λ ne. others b ne ∙ sym (at-other a b old x ne))
 
--- ---- arrays of a place for each address
+-- ---- lists with an entry for each address
 
--- places that all have the default have it everywhere
+-- a list of defaults has the default at every index
 pub all-default : {X : Type 0} (places : List X) (d : X) → length places ≡ 256 → ((q : ℕ) → q < 256 → get_or places q d ≡ d)
     → (address : ℕ) → get_or places address d ≡ d
 all-default places d long each address = elim (cases_lt address (length places)) as (λ _. get_or places address d ≡ d) [
@@ -53,7 +53,7 @@ all-default places d long each address = elim (cases_lt address (length places))
   | inr h ↦ get_or-eq_default places d h
 ]
 
--- what stands at each address after a write
+-- the value at each address after a write
 pub place-written : {X : Type 0} (places : List (Option X)) (a n : ℕ) (o : Option X) → n ≡ a → a < length places
     → (λ (q : ℕ). get_or (slice_set places n o) q None) ≡ with_at a o (λ q. get_or places q None)
 place-written places a n o is within = ap (λ k. λ (q : ℕ). get_or (slice_set places k o) q None) is ∙ (λ i q. at q i)

@@ -1,4 +1,4 @@
--- The sets in order of registration: which stands at an address, and what a write changes.
+-- The sets in order of registration: the set of an address, and the effect of a write.
 use Rattle.std.proofs.Common.{◌≡◌, ◌≢◌, ℕ, List, [], ◌∷◌, None, sym, ap, ◌∙◌, refl}
 use Rattle.vt_names.specs.Registry.{Set, set_at, with_set, without}
 use Rattle.vt_names.proofs.Filing.{set_at-first, set_at-later, with_set-first, with_set-later, without-later}

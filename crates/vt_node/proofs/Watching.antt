@@ -1,4 +1,4 @@
--- When the addresses of sets were last heard, and which set is silent.
+-- The earliest time of the last frame of a set, and the first silent set.
 use Rattle.std.proofs.Common.{◌≡◌, ◌≢◌, ◌≤◌, ◌-◌, ℕ, suc, true, false, cond, not, min, List, [], ◌∷◌, drop, Option, Some, None, Result, Ok, Err, OnErr, unwrap_or, refl, sym, ap, subst, ◌∙◌, arith}
 use Rattle.std.proofs.lemmas.Option.{same_Some}
 use Rattle.std.proofs.lemmas.Bool.{le-ltb}
@@ -82,7 +82,7 @@ module _ (e : ℕ) (heard : ℕ → Option ℕ) where
   since-registering a None count sets is all = all
   since-registering a (Some name) count sets is all = since-with_set (mastered a name count) sets is all
 
--- a set may be registered whose address was heard at a time
+-- the earliest time after a master message, with the time of its address
 pub since-mastered : (e : ℕ) (heard : ℕ → Option ℕ) (a : ℕ) (holder : Option ℕ) (count : ℕ) (sets new : List Set) (o : Option ℕ)
     (result : Result (Unit {0}) RegistryFault) → o ≡ heard a → AreHeardSince e heard sets
     → (result ≢ Err OutOfMemory → new ≡ registering a holder count sets) → OnErr result (new ≡ sets) → AreHeardSince (sooner e o) heard new
@@ -99,7 +99,7 @@ since-mastered e heard a holder count sets new o result is all sets_are kept =
         (since-registering (sooner e (heard a)) heard a holder count sets (since-sooner e (heard a)) since)
     cases (Err f) registered same = subst (AreHeardSince (sooner e (heard a)) heard) (sym same) since
 
--- an address is heard, or has no time any more
+-- the earliest time after a frame from an address, or after the removal of its time
 pub since-heard : (e f : ℕ) (heard new : ℕ → Option ℕ) (a now : ℕ) (sets : List Set) → f ≡ min e now → new ≡ with_at a (Some now) heard
     → AreHeardSince e heard sets → AreHeardSince f new sets
 since-heard e f heard new a now sets least is all = since-each e f heard new each sets all
@@ -120,7 +120,7 @@ since-awaited e heard new a sets is all = since-each e e heard new each sets all
         (λ same. subst (IsHeardSince e) (sym (ap (λ (h : ℕ → Option ℕ). h q) is ∙ ap (with_at a None heard) same ∙ at-own a heard None)) tt)
         (λ ne. subst (IsHeardSince e) (sym (ap (λ (h : ℕ → Option ℕ). h q) is ∙ at-other a q heard None ne)) since)
 
--- a set is preloaded
+-- the earliest time after a preloading
 pub since-preloaded : (e : ℕ) (heard new : ℕ → Option ℕ) (a : ℕ) (sets left : List Set) → left ≡ with_set (preloaded a) sets → new ≡ with_at a None heard
     → AreHeardSince e heard sets → AreHeardSince e new left
 since-preloaded e heard new a sets left is awaited all =
@@ -129,7 +129,7 @@ since-preloaded e heard new a sets left is awaited all =
     (subst (IsHeardSince e) (sym (ap (λ (h : ℕ → Option ℕ). h a) awaited ∙ at-own a heard None)) tt)
     (since-awaited e heard new a sets awaited all))
 
--- a frame line comes
+-- the earliest time after the start of a frame line
 pub since-begun : (e f : ℕ) (heard new : ℕ → Option ℕ) (now : ℕ) (sets : List Set) → f ≡ min e now
     → ((q : ℕ) → new q ≡ Some (unwrap_or (heard q) now)) → AreHeardSince e heard sets → AreHeardSince f new sets
 since-begun e f heard new now sets least is all =
@@ -139,7 +139,7 @@ since-begun e f heard new now sets least is all =
     each None since = omega arith
     each (Some last) since = let within : e ≤ last = since in omega arith
 
--- ---- which set is silent
+-- ---- the first silent set
 
 pub none-silent_of : (now e : ℕ) (heard : ℕ → Option ℕ) (sets : List Set) → now - e ≤ 3000000 → AreHeardSince e heard sets → first_silent_of now heard sets ≡ None
 none-silent_of now e heard [] soon all = refl

@@ -1,4 +1,4 @@
--- What a frame says to the terminal (docs/PROFILE.md, "Messages of address claim", "Working sets").
+-- The meaning of a frame for the terminal (docs/PROFILE.md, "Messages of address claim", "Working sets").
 use Rattle.std.specs.Prelude.{ℕ, ◌==◌, ◌&&◌, ◌||◌, Bool, nat_le, nat_eq, if◌then◌else◌, List, [], ◌∷◌, length, Option, slice_index}
 use Rattle.std.specs.List.{starts_with}
 use Rattle.byteorder.specs.Endian.{little_number}
@@ -17,8 +17,8 @@ name_in bytes = little_number 8 bytes
 abbrev pub asks_for_claim : List ℕ → Bool
 asks_for_claim bytes = starts_with nat_eq bytes (0x00 ∷ 0xEE ∷ 0x00 ∷ [])
 
--- A frame of a group to a destination. Shorter frames of the groups of claims and sets say nothing; those of the
--- transport protocols are the receivers' to look at.
+-- The meaning of a frame, by its parameter group and destination. Frames of claims and sets that are too short are
+-- ignored; frames of the transport protocols are tested by the receivers.
 abbrev pub group_notice : ℕ → ℕ → Option ℕ → List ℕ → FrameMeaning
 group_notice own pgn destination bytes =
     if pgn == ADDRESS_CLAIMED then (if is_to GLOBAL_ADDRESS destination && nat_le 8 (length bytes) then Claim (name_in bytes) else Nothing)
@@ -34,7 +34,7 @@ group_notice own pgn destination bytes =
 abbrev pub frame_notice : ℕ → Frame → FrameMeaning
 frame_notice own frame = let p = parts_of frame.id in group_notice own (pgn_of p) (destination_of p) frame.bytes.items
 
--- Of the frames from the terminal's own address only a claim by another NAME says anything; the others are echoes.
+-- A frame from the terminal's own address is ignored as an echo, except for a claim by another NAME.
 abbrev pub unless_echo : ℕ → FrameMeaning → FrameMeaning
 unless_echo name (Claim other) = if other == name then Nothing else Claim other
 unless_echo name _ = Nothing

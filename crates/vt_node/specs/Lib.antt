@@ -1,4 +1,4 @@
--- What the contracts of this crate cite.
+-- Definitions cited by the contracts of vt_node.
 pub mod Bus
 pub mod ByAddress
 pub mod Messages

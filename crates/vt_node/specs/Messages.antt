@@ -1,4 +1,4 @@
--- Messages from the terminal (docs/PROFILE.md, "Other messages", "Messages of address claim").
+-- Messages of the terminal as bytes (docs/PROFILE.md, "Other messages", "Messages of address claim").
 use Rattle.std.specs.Prelude.{ℕ, ◌==◌, nat_le, if◌then◌else◌, List, [], ◌∷◌, length, drop, Option, Some, None}
 use Rattle.byteorder.specs.Endian.{little_number, little_bytes}
 use Rattle.vt_can.specs.declared.frames.frame.Frame.{Frame}
@@ -9,16 +9,16 @@ use Rattle.vt_can.specs.frames.Identifier.{addressed, raw_of}
 abbrev pub message_to : ℕ → ℕ → List ℕ → Frame
 message_to own address bytes = record { id = raw_of (addressed 5 VT_TO_ECU address own); bytes = record { items = bytes } }
 
--- Address Claimed of a NAME at an address, and from the null address Cannot Claim
+-- Address Claimed of a NAME from an address, or Cannot Claim from the null address
 abbrev pub claim_from : ℕ → ℕ → Frame
 claim_from address name = record { id = raw_of (addressed 6 ADDRESS_CLAIMED GLOBAL_ADDRESS address); bytes = record { items = little_bytes 8 name } }
 
--- the status of Get Memory: whether there is less than asked for
+-- the status of Get Memory: 1 if there is less memory than asked for
 abbrev pub memory_status : ℕ → ℕ
 memory_status asked = if nat_le asked 1048576 then 0 else 1
 
--- The reply to a message that asks what the terminal is, if it is one: Get Memory with the version,
--- Get Number of Soft Keys, Get Text Font Data and Get Hardware.
+-- The reply to a request for technical data of the terminal: Get Memory with the version, Get Number of
+-- Soft Keys, Get Text Font Data and Get Hardware.
 abbrev pub technical_by : ℕ → List ℕ → Option (List ℕ)
 technical_by function bytes =
     if function == 0xC0 then

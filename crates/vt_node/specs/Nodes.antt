@@ -1,4 +1,4 @@
--- The terminal as a node of the bus: what it has heard of addresses, and its sessions (docs/PROFILE.md, "The holder of an
+-- The terminal as a node of the bus: the address claims received, and its sessions (docs/PROFILE.md, "The holder of an
 -- address", "Transport").
 use Rattle.std.specs.Prelude.{◌≡◌, ◌≢◌, ℕ, List, refl}
 use Rattle.std.specs.Coded.{Coded, code_by, coded×, coded_ℕ}
@@ -19,8 +19,8 @@ use Rattle.vt_extended.specs.Protocol as etp
 use Rattle.vt_extended.specs.SessionState as etp_session
 use Rattle.vt_node.specs.Receiving.{Taken, taken, frames_in, message_in}
 
--- the claims heard, the sessions of both receivers by source and of the sender by destination, and the bytes for which the
--- receivers have room set aside
+-- the claims received, the sessions of both receivers by source and of the sender by destination, and the number of bytes
+-- reserved by each receiver
 pub record NodeState : Type 0 where
   pub claims : Claimed
   pub tp : ByAddress tp_session.SessionState
@@ -40,32 +40,32 @@ node_code =
     (λ p. record { claims = p.0; tp = p.1.0; etp = p.1.1.0; sending = p.1.1.1.0; tp_room = p.1.1.1.1.0; etp_room = p.1.1.1.1.1 })
     (λ _. refl)
 
--- what the receivers make of a frame at a time
+-- the result of a frame in each receiver, at a time
 abbrev pub tp_taken : NodeState → ℕ → Frame → Taken tp_session.SessionState
 tp_taken node now frame = taken tp.protocol now node.claims.own (source_of frame) (finite.get node.tp (source_of frame)) frame
 
 abbrev pub etp_taken : NodeState → ℕ → Frame → Taken etp_session.SessionState
 etp_taken node now frame = taken etp.protocol now node.claims.own (source_of frame) (finite.get node.etp (source_of frame)) frame
 
--- what the sender makes of it
+-- the answer of the sender to a frame, at a time
 abbrev pub sender_answer : NodeState → ℕ → Frame → sender.Answer
 sender_answer node now frame =
     sender.answered node.claims.own (source_of frame) now (finite.get node.sending (source_of frame)) (tp_frame node.claims.own frame)
 
--- A receiver answers what it makes of a frame, and the sessions of other sources stay.
+-- A receiver returns the result of a frame, and the sessions of other sources are unchanged.
 pub record HasTaken {S : Type 0} (taken : Taken S) (source : ℕ) (old new : ByAddress S) (heard : Heard) : Type 0 where
   pub frames : frames_in heard ≡ taken.frames
   pub message : message_in heard ≡ taken.message
   pub session : finite.get new source ≡ taken.session
   pub others : (other : ℕ) → other ≢ source → finite.get new other ≡ finite.get old other
 
--- So too the sender.
+-- The sender returns its answer to a frame, and the sessions of other destinations are unchanged.
 pub record HasAnswered (given : sender.Answer) (to : ℕ) (old new : ByAddress Message) (frames : List Frame) : Type 0 where
   pub frames_are : frames ≡ given.frames
   pub session : finite.get new to ≡ given.session
   pub others : (other : ℕ) → other ≢ to → finite.get new other ≡ finite.get old other
 
--- The session of the least address that is overdue is gone, and its abort is the frame.
+-- The overdue session of the least address is removed, and the frame is its abort.
 pub record HasExpired {S : Type 0} (abort : ℕ → S → Frame) (old new : ByAddress S) (now : ℕ) (frame : Frame) : Type 0 where
   pub address : ℕ
   pub session : S

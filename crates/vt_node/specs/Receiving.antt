@@ -1,4 +1,4 @@
--- What a receiver makes of a frame from an address (docs/PROFILE.md, "The TP receiver", "The ETP receiver").
+-- The result of a frame in a receiver (docs/PROFILE.md, "The TP receiver", "The ETP receiver").
 use Rattle.std.specs.Prelude.{ℕ, List, [], ◌∷◌, Option, Some, None}
 use Rattle.std.specs.Option.{option_map, option_to_list}
 use Rattle.vt_can.specs.declared.frames.frame.Frame.{Frame}
@@ -9,7 +9,7 @@ use Rattle.vt_can.specs.transport.Messages.{Message}
 use Rattle.vt_can.specs.transport.Protocols.{Protocol, SessionOutcome}
 use Rattle.vt_can.specs.transport.Steps.{stepped}
 
--- the session of the address afterwards, the frames to it, and the message that is whole
+-- the session of a source after a frame, the frames sent to it, and the completed message
 pub record Taken (S : Type 0) : Type 0 where
   pub session : Option (Timed S)
   pub frames : List Frame
@@ -18,12 +18,12 @@ pub record Taken (S : Type 0) : Type 0 where
 abbrev pub taken_of : {S R : Type 0} → (R → Frame) → SessionOutcome S R → Taken S
 taken_of spelled out = record { session = out.session; frames = option_to_list (option_map spelled out.reply); message = out.message }
 
--- by a protocol at a time: from the terminal's own address, that of the source, and its session
+-- the result of a frame, by the protocol, the time, the terminal's own address, the source and its session
 abbrev pub taken : {S F R : Type 0} → Protocol S F R → ℕ → ℕ → ℕ → Option (Timed S) → Frame → Taken S
 taken protocol now own address session frame =
     taken_of (protocol.reply_frame own address) (stepped protocol now session (protocol.frame_in own frame))
 
--- the frames and the message of what a receiver answers
+-- the frames and the message in a receiver's answer
 abbrev pub frames_in : Heard → List Frame
 frames_in heard.Nothing = []
 frames_in (heard.Reply frame) = frame ∷ []

@@ -1,9 +1,9 @@
--- When each address was last heard (docs/PROFILE.md, "Silence").
+-- The times of the last frames of addresses, as a value (docs/PROFILE.md, "Silence").
 use Rattle.std.specs.Prelude.{ℕ, ◌-◌, Bool, false, nat_lt, if◌then◌else◌, List, [], ◌∷◌, Option, Some, None, get_or, refl}
 use Rattle.std.specs.Coded.{Coded, code_by, coded×, coded_list, coded_bool, coded_ℕ}
 use Rattle.vt_names.specs.Registry.{Set}
 
--- the time of the last frame of each address, and whether the next frame line gives it one
+-- the time of the last frame of each address, and whether it waits for the time of the next frame line
 pub record Times : Type 0 where
   pub last : List ℕ
   pub awaited : List Bool
@@ -26,7 +26,7 @@ abbrev pub is_silent : ℕ → Option ℕ → Bool
 is_silent now None = false
 is_silent now (Some last) = nat_lt 3000000 (now - last)
 
--- the first set of these whose address is silent, by when the addresses were last heard
+-- the address of the first silent set, by the times of last frames
 abbrev pub first_silent_of : ℕ → (ℕ → Option ℕ) → List Set → Option ℕ
 first_silent_of now heard [] = None
 first_silent_of now heard (set ∷ sets) = if is_silent now (heard set.address) then Some set.address else first_silent_of now heard sets

@@ -1,4 +1,4 @@
-//! What a frame says to the terminal (ISO 11783-5, ISO 11783-6).
+//! Decoding of frames for the terminal (ISO 11783-5, ISO 11783-6).
 
 ghost use Rattle.std.specs.Prelude.{◌≡◌, ◌≤◌, length};
 ghost use Rattle.byteorder.specs.Endian.{little_number};
@@ -13,14 +13,14 @@ use vt_can::assigned::{
 };
 use vt_names::Name;
 
-/// What a frame says to the terminal.
+/// The meaning of a frame for the terminal.
 #[derive(Clone, Copy, Debug, PartialEq, Eq)]
 pub enum FrameMeaning {
     /// A NAME claims the source address.
     Claim(Name),
-    /// The terminal is asked for its claim.
+    /// A request for the terminal's address claim.
     ClaimRequest,
-    /// The source is the master of a working set, with so many members.
+    /// The source is the master of a working set with `count` members.
     Master { count: u8 },
     /// A NAME is a member of the working set of the source.
     Member(Name),
@@ -30,11 +30,11 @@ pub enum FrameMeaning {
     Tp,
     /// A frame of the extended transport protocol.
     Etp,
-    /// Nothing that the terminal looks at.
+    /// A frame to be ignored.
     Nothing,
 }
 
-/// What a frame says to the terminal of an address and NAME. docs/PROFILE.md, "Echoes".
+/// Returns the meaning of a frame for the terminal with this address and NAME. docs/PROFILE.md, "Echoes".
 pub fn notice_of(own: u8, name: Name, frame: &Frame) -> FrameMeaning
     ensures { result ≡ notice_of own name frame.now }
 {
@@ -45,7 +45,7 @@ pub fn notice_of(own: u8, name: Name, frame: &Frame) -> FrameMeaning
     unless_echo(name, notice)
 }
 
-// Of what comes from the own address, only a claim by another NAME says anything.
+// Ignores a notice from the own address as an echo, except for a claim by another NAME.
 fn unless_echo(name: Name, notice: FrameMeaning) -> FrameMeaning
     ensures { result ≡ unless_echo name notice }
 {

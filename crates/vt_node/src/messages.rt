@@ -1,4 +1,4 @@
-//! Messages from the terminal.
+//! Messages of the terminal.
 
 ghost use Rattle.std.specs.Prelude.{◌≡◌, [], ◌∷◌};
 ghost use Rattle.vt_node.specs.Messages.{message_to, claim_from, memory_status, technical_reply};
@@ -18,10 +18,10 @@ const CLAIM_PRIORITY: u8 = 6;
 /// The version of the standard that the terminal reports.
 const VERSION: u8 = 3;
 
-/// The memory that the terminal has for pools, in bytes.
+/// The terminal's memory for object pools, in bytes.
 const MEMORY: u32 = 1_048_576;
 
-/// A message to the master of a set.
+/// A message to the master of a working set.
 pub fn message_to(own: u8, address: u8, bytes: [u8; 8]) -> Frame
     ensures { result ≡ message_to own address bytes }
 {
@@ -43,7 +43,7 @@ pub fn claim_from(address: u8, name: Name) -> Frame
     }
 }
 
-/// The reply to a message that asks what the terminal is, if it is one.
+/// The reply to a request for technical data of the terminal, or `None` for any other message.
 /// docs/PROFILE.md, "Other messages".
 pub fn technical_reply(bytes: &[u8]) -> Option<[u8; 8]>
     ensures { result ≡ technical_reply bytes.now }

@@ -1,4 +1,4 @@
-//! The terminal as a node of the bus.
+//! The address claims and the transport sessions of the terminal.
 
 ghost use Rattle.std.specs.Prelude.{◌≡◌, ◌≢◌, ◌↔◌, [], true, None, Some, is_some, length, IfOk, IfSome, IfNone, IsSome, OnOk, OnErr, Err};
 ghost use Rattle.std.specs.FinMap as finite;
@@ -25,7 +25,7 @@ use vt_can::{Frame, Heard};
 use vt_names::{ClaimMeaning, Claims, Name};
 use vt_transport::SendFault;
 
-/// What a node has heard of addresses, and the messages that it receives and sends in packets, at one address of its own.
+/// The address claims received by a node, and its transport sessions, both for one own address.
 pub struct Node {
     claims: Claims,
     tp: vt_transport::Receiver,
@@ -33,7 +33,7 @@ pub struct Node {
     sender: vt_transport::Sender,
 }
 
-// Written out, so that its proof is not done again in each crate above.
+// Written out, not derived: the drop is proved once here, and not in each crate above.
 impl Drop for Node {
     fn drop(self) {
         let Node {
@@ -59,7 +59,7 @@ impl Model for Node {
 }
 
 impl Node {
-    /// A node that has heard nothing. It takes no memory.
+    /// Creates a node without claims and sessions. Does not allocate.
     pub fn new(alloc: Global, own: u8, name: Name) -> Node
         ensures claims { result.claims ≡ record { own = own; name = name; addresses = [] } }
         ensures tp { result.tp ≡ finite.empty }
@@ -87,7 +87,7 @@ impl Node {
         self.claims.name()
     }
 
-    /// The address of a NAME.
+    /// Returns the address of a NAME.
     pub fn address_of(&self, name: Name) -> Option<u8>
         ensures address { result ≡ address_of self.now.claims.addresses name }
         ensures rising { IsRising self.now.claims.addresses }
@@ -95,21 +95,21 @@ impl Node {
         self.claims.address_of(name)
     }
 
-    /// The holder of an address.
+    /// Returns the holder of an address.
     pub fn holder(&self, address: u8) -> Option<Name>
         ensures { result ≡ holder_of self.now.claims.addresses address }
     {
         self.claims.holder(address)
     }
 
-    /// What the claim of an address by a NAME means for this node.
+    /// Returns the meaning of a claim of an address by a NAME for this node.
     pub fn answer(&self, address: u8, name: Name) -> ClaimMeaning
         ensures { result ≡ answer self.now.claims address name }
     {
         self.claims.answer(address, name)
     }
 
-    /// Records that a NAME claims an address.
+    /// Records the claim of an address by a NAME. After `OutOfMemory` nothing is changed.
     pub fn hear_claim(&mut self, address: u8, name: Name) -> Result<(), OutOfMemory>
         ensures ok { OnOk result (self.new ≡ record self.old { claims = heard self.old.claims address name }) }
         ensures err { OnErr result (self.new ≡ self.old) }
@@ -118,8 +118,8 @@ impl Node {
         Ok(())
     }
 
-    /// Makes the room that a frame of the transport protocol wants, and tells the size and the first byte of the message
-    /// that it will complete, if it will. The sessions stay.
+    /// Reserves the memory for a frame of the transport protocol, and returns the size and the first byte of the message
+    /// that the frame will complete, if any. The sessions are unchanged.
     pub fn prepare_tp(
         &mut self,
         now: u64,
@@ -133,7 +133,8 @@ impl Node {
         self.tp.prepare(now, frame)
     }
 
-    /// So too for a frame of the extended transport protocol.
+    /// Reserves the memory for a frame of the extended transport protocol, and returns the size and the first byte of the
+    /// message that the frame will complete, if any. The sessions are unchanged.
     pub fn prepare_etp(
         &mut self,
         now: u64,
@@ -147,7 +148,7 @@ impl Node {
         self.etp.prepare(now, frame)
     }
 
-    /// Hears a frame of the transport protocol, for which there is room.
+    /// Handles a frame of the transport protocol as the receiver. Its memory is reserved by `prepare_tp`.
     pub fn hear_tp(&mut self, now: u64, frame: &Frame) -> Heard
         requires { HasCapacityFor tp.protocol (tp_frame self.old.claims.own frame.now) self.old.tp_room }
         ensures taken { HasTaken (tp_taken self.old now frame.now) (source_of frame.now) self.old.tp self.new.tp result }
@@ -159,7 +160,7 @@ impl Node {
         }
     }
 
-    /// Hears a frame of the extended transport protocol, for which there is room.
+    /// Handles a frame of the extended transport protocol as the receiver. Its memory is reserved by `prepare_etp`.
     pub fn hear_etp(&mut self, now: u64, frame: &Frame) -> Heard
         requires { HasCapacityFor etp.protocol (etp_frame self.old.claims.own frame.now) self.old.etp_room }
         ensures taken { HasTaken (etp_taken self.old now frame.now) (source_of frame.now) self.old.etp self.new.etp result }
@@ -178,7 +179,7 @@ impl Node {
         self.sender.is_sending(address)
     }
 
-    /// Hears a frame of the transport protocol as the one that sends.
+    /// Handles a frame of the transport protocol as the sender, and returns the frames to send.
     pub fn hear_as_sender(&mut self, now: u64, frame: &Frame) -> ArrayVec<Frame, 255>
         ensures answered { HasAnswered (sender_answer self.old now frame.now) (source_of frame.now) self.old.sending self.new.sending result.items }
         ensures rest { self.new ≡ record self.old { sending = self.new.sending } }
@@ -186,7 +187,7 @@ impl Node {
         self.sender.hear(now, frame)
     }
 
-    /// Ends the receiving session that is overdue at the least address, and answers its abort.
+    /// Ends the overdue receiving session of the least address, and returns its abort.
     pub fn expire_tp(&mut self, now: u64) -> Option<Frame>
         ensures some { IfSome result (HasExpired (abort_by tp.protocol self.old.claims.own) self.old.tp self.new.tp now) }
         ensures none { IfNone result (NoneExpires self.old.tp self.new.tp now) }
@@ -205,7 +206,7 @@ impl Node {
         self.etp.expire(now)
     }
 
-    /// Ends the sending session that is overdue at the least address, and answers its abort.
+    /// Ends the overdue sending session of the least address, and returns its abort.
     pub fn expire_sending(&mut self, now: u64) -> Option<Frame>
         ensures some { IfSome result (HasExpired (timeout_frame self.old.claims.own) self.old.sending self.new.sending now) }
         ensures none { IfNone result (NoneExpires self.old.sending self.new.sending now) }
@@ -215,7 +216,7 @@ impl Node {
         self.sender.expire(now)
     }
 
-    /// Starts to send a message of 9 to 1785 bytes, and answers its request to send.
+    /// Starts to send a message of 9 to 1785 bytes, and returns its request to send.
     pub fn start(&mut self, now: u64, to: u8, message: &[u8]) -> Result<Frame, SendFault>
         requires { has_size message.now ≡ true }
         ensures ok { IfOk result (λ frame. (finite.get self.old.sending to ≡ None)

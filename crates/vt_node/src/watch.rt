@@ -1,4 +1,4 @@
-//! When each address was last heard.
+//! The time of the last frame of each address.
 
 ghost use Rattle.std.specs.Prelude.{◌≡◌, ◌<◌, ◌-◌, ℕ, Some, None, false, unwrap_or, length, get_or};
 ghost use Rattle.vt_node.specs.Watches.{is_silent};
@@ -7,11 +7,11 @@ ghost use Rattle.vt_node.specs.Watches.{heard_of, heard_in};
 
 use std::marker::Model;
 
-/// More than so many microseconds without a frame close a set.
+/// The longest time without a frame before a set is closed, in microseconds.
 pub(crate) const SILENCE: u64 = 3_000_000;
 
-/// The time of the last frame of each of the 256 addresses, in microseconds. An address that was preloaded has none until
-/// the next frame line, whose time counts then.
+/// The time of the last frame of each of the 256 addresses, in microseconds. A preloaded address has none until the next
+/// frame line, and then the time of that line.
 #[derive(Drop)]
 pub(crate) struct Watch {
     last: [u64; 256],
@@ -45,7 +45,7 @@ impl Watch {
         }
     }
 
-    /// A frame line comes.
+    /// Gives each address without a time the time of a frame line.
     pub(crate) fn begin(&mut self, now: u64)
         ensures { (address : ℕ) → heard_of self.new address ≡ Some (unwrap_or (heard_of self.old address) now) }
     {
@@ -55,7 +55,7 @@ impl Watch {
         }
     }
 
-    /// A frame comes from an address.
+    /// Records a frame from an address.
     pub(crate) fn hear(&mut self, address: u8, now: u64)
         ensures { heard_of self.new ≡ with_at address (Some now) (heard_of self.old) }
     {
@@ -63,7 +63,7 @@ impl Watch {
         self.awaited[usize::from(address)] = false;
     }
 
-    /// An address is preloaded: its silence begins with the next frame line.
+    /// Removes the time of an address, so that its silence begins with the next frame line.
     pub(crate) fn preload(&mut self, address: u8)
         ensures { heard_of self.new ≡ with_at address None (heard_of self.old) }
     {
@@ -71,7 +71,7 @@ impl Watch {
         self.awaited[usize::from(address)] = true;
     }
 
-    /// When an address was last heard.
+    /// The time of the last frame of an address.
     pub(crate) fn last_heard(&self, address: u8) -> Option<u64>
         ensures { result ≡ heard_of self.now address }
     {
@@ -81,7 +81,7 @@ impl Watch {
         Some(self.last[usize::from(address)])
     }
 
-    /// Whether an address was silent for too long.
+    /// Whether an address has sent no frame for more than 3,000,000 microseconds.
     pub(crate) fn is_silent(&self, address: u8, now: u64) -> bool
         ensures { result ≡ is_silent now (heard_of self.now address) }
     {
@@ -92,7 +92,7 @@ impl Watch {
     }
 }
 
-/// Gives each address without a time this one.
+/// Gives each address without a time the time `now`.
 fn begin_each(last: &mut [u64], awaited: &mut [bool], now: u64)
     requires { length awaited.old ≡ length last.old }
     ensures heard { (q : ℕ) → q < length last.old → heard_in last.new awaited.new q ≡ Some (unwrap_or (heard_in last.old awaited.old q) now) }

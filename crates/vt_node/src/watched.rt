@@ -1,4 +1,4 @@
-//! The working sets, and when the addresses were last heard (docs/PROFILE.md, "Working sets", "Silence").
+//! The working sets, with the time of the last frame of each address (docs/PROFILE.md, "Working sets", "Silence").
 
 ghost use Rattle.std.specs.Prelude.{◌≡◌, ◌≢◌, ◌<◌, ◌≤◌, ℕ, None, Some, Err, [], length, slice_get, unwrap_or, OnOk, OnErr, if◌then◌else◌};
 ghost use Rattle.std.specs.Option.{option_copied};
@@ -19,11 +19,11 @@ use vt_names::{Name, Registry, RegistryFault, Set};
 pub struct WatchedRegistry {
     registry: Registry,
     watch: Watch,
-    // No set was last heard earlier, so most frame lines look at no set.
+    // A lower bound of the times of last frames of sets. Most frame lines read nothing else.
     earliest: u64,
 }
 
-// Written out, so that its proof is not done again in each crate above.
+// Written out, not derived: the drop is proved once here, and not in each crate above.
 impl Drop for WatchedRegistry {
     fn drop(self) {
         let WatchedRegistry {
@@ -47,17 +47,17 @@ impl Model for WatchedRegistry {
     ghost invariant = { λ w. AreHeardSince w.earliest (heard_of w.watch) w.registry.sets };
 }
 
-/// What a look at the sets finds.
+/// The result of a search of the sets.
 #[derive(Clone, Copy)]
 struct Found {
-    /// The first that is silent.
+    /// The address of the first silent set.
     silent: Option<u8>,
-    /// The earliest time at which one was last heard.
+    /// The earliest time of the last frame of a set.
     earliest: u64,
 }
 
 impl WatchedRegistry {
-    /// No sets. It takes no memory.
+    /// Creates a registry without sets. Does not allocate.
     pub fn new(alloc: Global) -> WatchedRegistry
         ensures sets { result.sets ≡ [] }
         ensures heard { (address : ℕ) → heard_of result.watch address ≡ Some 0 }
@@ -69,30 +69,30 @@ impl WatchedRegistry {
         }
     }
 
-    /// How many sets there are.
+    /// The number of sets.
     pub fn len(&self) -> usize
         ensures count { result ≡ length self.now.sets }
-        // No two have the same address.
+        // No two sets have the same address.
         ensures apart { AreApart self.now.sets }
     {
         self.registry.len()
     }
 
-    /// The set at a place in the order of registration, counted from 0.
+    /// Returns the set at an index in the order of registration.
     pub fn at(&self, index: usize) -> Option<&Set>
         ensures { option_copied result ≡ slice_get self.now.sets index }
     {
         self.registry.at(index)
     }
 
-    /// The set of an address.
+    /// Returns the set of an address.
     pub fn get(&self, address: u8) -> Option<&Set>
         ensures { option_copied result ≡ set_at address self.now.sets }
     {
         self.registry.get(address)
     }
 
-    /// Makes room, so that the next `master` or `member` of an address is not refused for memory.
+    /// Reserves capacity for one more set, so that the next `master` or `member` is not refused memory.
     pub fn reserve(&mut self, address: u8) -> Result<(), OutOfMemory>
         ensures ok { OnOk result (0 < self.new.room) }
         ensures sets { self.new.sets ≡ self.old.sets }
@@ -102,7 +102,7 @@ impl WatchedRegistry {
         self.registry.reserve(address)
     }
 
-    /// Hears a master message, with the holder of its address.
+    /// Registers a set by a master message, with the holder of its address.
     pub fn master(
         &mut self,
         address: u8,
@@ -117,7 +117,7 @@ impl WatchedRegistry {
         self.registry.master(address, holder, count)
     }
 
-    /// Hears a member message.
+    /// Adds a member by a member message.
     pub fn member(&mut self, address: u8, name: Name) -> Result<(), RegistryFault>
         ensures sets { self.new.sets ≡ joining (set_at address self.old.sets) name self.old.sets }
         ensures watch { self.new.watch ≡ self.old.watch }
@@ -125,7 +125,7 @@ impl WatchedRegistry {
         self.registry.member(address, name)
     }
 
-    /// Adds a set without a NAME, whose silence begins with the next frame line. There is none of that address. After a refusal
+    /// Adds a set without a NAME, for an address without a set. Its silence begins with the next frame line. After an error
     /// nothing is changed.
     pub fn preload(&mut self, address: u8) -> Result<(), OutOfMemory>
         requires none { set_at address self.old.sets ≡ None }
@@ -139,7 +139,7 @@ impl WatchedRegistry {
         Ok(())
     }
 
-    /// Gives the set of an address a NAME. There is one, and it has none.
+    /// Gives a NAME to the set of an address, which exists and has none.
     pub fn bind(&mut self, address: u8, name: Name)
         requires unnamed { IsUnnamed (set_at address self.old.sets) }
         ensures sets { self.new.sets ≡ binding (set_at address self.old.sets) name self.old.sets }
@@ -148,7 +148,7 @@ impl WatchedRegistry {
         self.registry.bind(address, name);
     }
 
-    /// Takes the set of an address out. The others keep their order.
+    /// Removes the set of an address. The others keep their order.
     pub fn close(&mut self, address: u8)
         ensures sets { self.new.sets ≡ without address self.old.sets }
         ensures room { self.old.room ≤ self.new.room }
@@ -157,7 +157,7 @@ impl WatchedRegistry {
         self.registry.close(address);
     }
 
-    /// A frame line comes.
+    /// Gives each address without a time the time of a frame line.
     pub fn begin(&mut self, now: u64)
         ensures heard { (address : ℕ) → heard_of self.new.watch address ≡ Some (unwrap_or (heard_of self.old.watch address) now) }
         ensures sets { self.new.sets ≡ self.old.sets }
@@ -167,7 +167,7 @@ impl WatchedRegistry {
         self.watch.begin(now);
     }
 
-    /// A frame comes from an address.
+    /// Records a frame from an address.
     pub fn hear(&mut self, address: u8, now: u64)
         ensures heard { heard_of self.new.watch ≡ with_at address (Some now) (heard_of self.old.watch) }
         ensures sets { self.new.sets ≡ self.old.sets }
@@ -177,7 +177,7 @@ impl WatchedRegistry {
         self.watch.hear(address, now);
     }
 
-    /// The first set that is silent for too long, in the order of registration. Nothing is changed.
+    /// Returns the address of the first silent set in order of registration. Nothing is changed.
     pub fn first_silent(&mut self, now: u64) -> Option<u8>
         ensures found { result ≡ first_silent_of now (heard_of self.old.watch) self.old.sets }
         ensures same { self.new ≡ self.old }
@@ -191,7 +191,7 @@ impl WatchedRegistry {
     }
 }
 
-/// Looks at all sets.
+/// Searches all sets for the first silent one and for the earliest time.
 fn look(registry: &Registry, watch: &Watch, now: u64) -> Found
     ensures silent { result.silent ≡ first_silent_of now (heard_of watch.now) registry.now.sets }
     ensures earliest { AreHeardSince result.earliest (heard_of watch.now) registry.now.sets }
@@ -210,7 +210,7 @@ fn look(registry: &Registry, watch: &Watch, now: u64) -> Found
     found
 }
 
-/// Looks at a set before those of which this was found.
+/// Extends the result of a search to the set of an address, which precedes the sets searched so far.
 fn look_at(watch: &Watch, address: u8, now: u64, found: Found) -> Found
     ensures silent { result.silent ≡ (if is_silent now (heard_of watch.now address) then Some address else found.silent) }
     ensures earliest { result.earliest ≡ sooner found.earliest (heard_of watch.now address) }
@@ -224,7 +224,7 @@ fn look_at(watch: &Watch, address: u8, now: u64, found: Found) -> Found
     Found { silent, earliest }
 }
 
-/// The earlier of two times, of which there may be one.
+/// The earlier of two times. The second one may be absent.
 fn sooner(earliest: u64, heard: Option<u64>) -> u64
     ensures { result ≡ sooner earliest heard }
 {

@@ -1,11 +1,11 @@
--- A number is rounded to one whole number alone.
+-- The rounded number is unique.
 use Rattle.std.proofs.Common.{◌≡◌, ℕ, zero, suc, ◌+◌, ◌*◌, ◌^◌, ◌<◌, ◌≤◌, ℤ, pos, negsuc, ◌-ℤ◌, neg_ℤ, nat_abs, refl, sym, ap, ◌∙◌, arith, inl, inr}
 use Rattle.std.proofs.Math.Nat.{mul-le-mul_right, pow-suc}
 use Rattle.std.proofs.lemmas.Bool.{cases_lt}
 use Rattle.vt_objects.specs.Decimals.{IsRounded, decimal_text, ShownIsOne}
 use Rattle.vt_objects.proofs.Rounding.{apart, IsNearest, abs_pos, abs_neg, abs_of_neg}
 
--- ---- of two nearest numbers neither is below the other
+-- ---- two nearest numbers are equal
 
 below : (x a q r : ℕ) → 0 < a → q < r → IsNearest x a q → IsNearest x a r → ⊥
 below x a q zero some lt one other = absurd (omega arith)
@@ -28,7 +28,7 @@ nearest_is_one x a q r some one other =
       ]
     ]
 
--- ---- numbers below zero
+-- ---- negative numbers
 
 apart_above : (x y : ℕ) → nat_abs (pos x -ℤ neg_ℤ (pos y)) ≡ x + y
 apart_above x zero = omega arith
@@ -40,7 +40,7 @@ apart_below zero (suc y) = let sum : apart 0 (suc y) ≡ 0 + suc y = omega arith
 apart_below (suc x) zero = let sum : apart (suc x) 0 ≡ suc x + 0 = omega arith in abs_neg (suc x) 0 ∙ sum
 apart_below (suc x) (suc y) = omega arith
 
--- ---- what a rounded number is to its magnitude
+-- ---- a rounded number and its magnitude
 
 from_pos : (m places decimals q : ℕ) → IsRounded (pos m) places decimals (pos q) → IsNearest (m * 10 ^ decimals) (10 ^ places) q
 from_pos m places decimals q is =
@@ -59,7 +59,7 @@ from_neg m places decimals q is =
       away = λ tie. let far : nat_abs (neg_ℤ (pos (suc m * 10 ^ decimals))) ≤ nat_abs (neg_ℤ (pos (suc q * 10 ^ places))) = is.away (ap (λ (n : ℕ). 2 * n) same ∙ tie) in omega (arith, scaled, number);
     }
 
--- a number above zero is rounded to none below it
+-- a nonnegative number never rounds to a negative one
 not_below : (m places decimals q : ℕ) → 0 < 10 ^ places → IsRounded (pos m) places decimals (negsuc q) → ⊥
 not_below m places decimals q some is =
     let same = apart_below (suc q * 10 ^ places) (m * 10 ^ decimals) in
@@ -67,7 +67,7 @@ not_below m places decimals q some is =
     let more : suc q * 10 ^ places ≡ q * 10 ^ places + 10 ^ places = omega arith in
     omega (arith, same)
 
--- a number below zero is rounded to none above it, and to zero as its magnitude is
+-- a negative number that rounds to zero has a magnitude whose nearest number is zero
 to_zero : (m places decimals : ℕ) → IsRounded (negsuc m) places decimals (pos 0) → IsNearest (suc m * 10 ^ decimals) (10 ^ places) 0
 to_zero m places decimals is =
     let none : 0 * 10 ^ places ≡ 0 = omega arith in
@@ -86,7 +86,7 @@ not_above m places decimals q some is =
     let more : suc q * 10 ^ places ≡ q * 10 ^ places + 10 ^ places = omega arith in
     omega (arith, same)
 
--- ---- one rounded number, one text
+-- ---- the text of a rounded number is unique
 
 some_unit : (places : ℕ) → 0 < 10 ^ places
 some_unit zero = omega arith

@@ -1,4 +1,4 @@
--- The nearest whole number, and its digits.
+-- The nearest whole number of a quotient, and its decimal text.
 use Rattle.std.proofs.Common.{◌≡◌, ℕ, zero, suc, ◌+◌, ◌-◌, ◌*◌, ◌/◌, ◌%◌, ◌^◌, ◌<◌, ◌≤◌, ℤ, pos, negsuc, ◌-ℤ◌, ◌*ℤ◌, neg_ℤ, nat_abs, Bool, true, false, cond, ltb, ◌&&◌, List, [], ◌++◌, codes, refl, sym, ap, subst, ◌∙◌, arith, inl, inr}
 use Rattle.std.proofs.Math.Nat.{mod-lt, div-add-mod, div-le_of_le-mul}
 use Rattle.std.proofs.lemmas.Bool.{ltb-true, ltb-false, le-ltb, lt-ltb, cases_lt}
@@ -6,9 +6,9 @@ use Rattle.std.specs.Prelude.{int_lt, nat_lt}
 use Rattle.std.specs.Fmt.{decimal}
 use Rattle.vt_objects.specs.Decimals.{IsRounded, IsShown, decimal_text, fraction_text, signed_text, shown_text}
 
--- ---- how far two whole numbers are apart
+-- ---- the distance of two numbers
 
--- one of the two differences is 0
+-- the distance of two numbers: one of the two differences is 0
 abbrev pub apart : ℕ → ℕ → ℕ
 apart x y = (x - y) + (y - x)
 
@@ -40,7 +40,7 @@ neg_times (suc q) a = refl
 
 -- ---- the nearest whole number
 
--- x divided by a, half up
+-- q is x divided by a, rounded half up
 pub record IsNearest (x a q : ℕ) : Type 0 where
   pub near : 2 * apart (q * a) x ≤ a
   pub away : 2 * apart (q * a) x ≡ a → x ≤ q * a
@@ -66,7 +66,7 @@ nearest_at_most : (x a : ℕ) → 0 < a → (2 * x + a) / (2 * a) ≤ x
 nearest_at_most x zero some = absurd (omega arith)
 nearest_at_most x (suc b) some = at_most x b ((2 * x + suc b) / (2 * suc b)) ((2 * x + suc b) % (2 * suc b)) (div-add-mod (2 * x + suc b) (2 * suc b))
 
--- a number of units has no more whole ones than the number that was divided
+-- the integer digits of a rounded number fit below 10 ^ 10
 pub whole_below : (number unit a : ℕ) → 0 < a → number < 2 ^ 33 → (2 * (number * unit) + a) / (2 * a) / unit < 10 ^ 10
 whole_below number unit a some small =
     let most : (2 * (number * unit) + a) / (2 * a) ≤ unit * number = let m = nearest_at_most (number * unit) a some in omega arith in
@@ -118,7 +118,7 @@ is_shown (negsuc n) places decimals m q negative text size some is sign digits =
       digits = digits ∙ ap (λ (b : Bool). text_of b decimals q) sign ∙ sym (text_neg decimals q);
     }
 
--- the text that is written is the one that is computed
+-- the written text is shown_text
 pub shown_text_is : (n : ℤ) (places decimals m q : ℕ) (negative : Bool) (text : List ℕ) → m ≡ nat_abs n
     → q ≡ (2 * (m * 10 ^ decimals) + 10 ^ places) / (2 * 10 ^ places)
     → negative ≡ (int_lt n (pos 0) && nat_lt 0 q)

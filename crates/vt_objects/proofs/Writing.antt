@@ -1,4 +1,4 @@
--- The attributes of each kind among the fields of its record.
+-- Each attribute of a kind is one field of its record, and that field's name is unique.
 use Rattle.std.proofs.Common.{◌≡◌, ℕ, zero, suc, ◌%◌, ◌^◌, Bool, true, false, not, ◌||◌, ◌&&◌, ◌==◌, if◌then◌else◌, eqb, List, ◌∷◌, [], take, slice_get, Option, Some, None, refl, ap, ap₂, arith, subst, ◌∙◌, sym}
 use Rattle.std.proofs.lemmas.Option.{same_Some}
 use Rattle.std.specs.List.{AllByRecursion}
@@ -105,7 +105,7 @@ stand kinds.InputAttributes number attribute e = by_number kinds.InputAttributes
 stand kinds.ObjectPointer number attribute e = by_number kinds.ObjectPointer number attribute e
 stand kinds.Macro number attribute e = by_number kinds.Macro number attribute e
 
--- ---- no name stands twice
+-- ---- names are unique
 
 abbrev code : fields.Field → ℕ
 code names.Colour = 0
@@ -203,7 +203,7 @@ clash : (b : Bool) → b ≡ true → not b ≡ true → ⊥
 clash true e f = absurd cc
 clash false e f = absurd cc
 
--- the first name stands nowhere else
+-- the first of distinct names does not appear later
 alone : (first name : fields.Field) (others : List (Option fields.Field)) (place : ℕ) → (not (has first others) && are_distinct others) ≡ true
     → first ≡ name → slice_get others place ≡ Some (Some name) → ⊥
 alone first name others place distinct same e =
@@ -224,7 +224,7 @@ same_place (Some first ∷ others) distinct name (suc a) (suc b) e f =
 once : (kind : Kind) (name : fields.Field) (place other : ℕ) → IsNamed kind name place → IsNamed kind name other → place ≡ other
 once kind name place other e f = same_place (names_of kind) (once_each kind) name place other e f
 
--- ---- the bytes of a field
+-- ---- the bytes of a written field
 
 one : (v : ℕ) → little_bytes 1 (v % 256 ^ 1) ≡ take 1 (little_bytes 4 v)
 one v = ap (λ (b : ℕ). b ∷ []) (omega arith)

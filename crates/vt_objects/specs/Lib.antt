@@ -1,3 +1,3 @@
--- What the contracts of this crate cite.
+-- The specifications that the contracts of vt_objects use.
 pub mod Decimals
 pub mod Writing

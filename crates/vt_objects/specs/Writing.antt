@@ -1,4 +1,4 @@
--- The attributes of a kind among the fields of its record, and what Change Attribute puts in such a field
+-- The attributes of a kind as fields of its record, and the value that Change Attribute stores in such a field
 -- (docs/PROFILE.md, "Attribute numbers").
 use Rattle.std.specs.Prelude.{◌≡◌, ℕ, Some, take, slice_get}
 use Rattle.std.specs.Int.{w32, cast_signed}
@@ -12,23 +12,23 @@ use Rattle.vt_kinds.specs.Layout.{RecordField, Number, Unsigned, Signed, ScaleBy
 use Rattle.vt_kinds.specs.Attributes.{attribute_at, width, lowest}
 use Rattle.vt_kinds.specs.Records.{fields_of, names_of}
 
--- the field of a record in which values of a type stand
+-- the record field for values of a type
 abbrev pub field_of : ValueType → RecordField
 field_of types.SignedLong = Number (Signed w32)
 field_of types.Scale = ScaleBytes
 field_of types.Decimals = DecimalPlaces
 field_of type = Number (Unsigned (width type))
 
--- what such a field has after the change
+-- the field's value after the change
 abbrev pub written : ValueType → ℕ → Value
 written types.SignedLong value = number (integer (cast_signed w32 (lowest types.SignedLong value)))
 written type value = number (natural (lowest type value))
 
--- at this place of the record of a kind stands the field of this name
+-- the field at this index in the record of a kind has this name
 abbrev pub IsNamed : Kind → names.Field → ℕ → Type 0
 IsNamed kind name place = slice_get (names_of kind) place ≡ Some (Some name)
 
--- the field of an attribute's name is of its type
+-- the field at this index has an attribute's name and type
 pub record IsField (kind : Kind) (attribute : Attribute) (place : ℕ) : Type 0 where
   pub named : IsNamed kind attribute.field place
   pub typed : slice_get (fields_of kind) place ≡ Some (field_of attribute.value_type)
@@ -36,7 +36,7 @@ pub record IsField (kind : Kind) (attribute : Attribute) (place : ℕ) : Type 0 
 pub record AttributesAreFields : Type 0 where
   -- Each attribute of a kind is a field of its record, by name and type.
   pub stand : (kind : Kind) (number : ℕ) (attribute : Attribute) → attribute_at kind number ≡ Some attribute → (place : ℕ) × IsField kind attribute place
-  -- No name stands twice in a record.
+  -- Names are unique in a record.
   pub once : (kind : Kind) (name : names.Field) (place other : ℕ) → IsNamed kind name place → IsNamed kind name other → place ≡ other
-  -- A field gets the lowest bytes of the value, as they are.
+  -- A field stores the lowest bytes of the value, unchanged.
   pub bytes : (type : ValueType) (value : ℕ) → field_spelling (field_of type) (written type value) ≡ take (width type) (little_bytes 4 value)

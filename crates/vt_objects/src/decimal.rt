@@ -1,4 +1,4 @@
-//! Numbers as they are shown.
+//! The decimal text of shown numbers.
 
 ghost use Rattle.std.specs.Prelude.{◌≡◌, ◌<◌, ◌≤◌, ◌+◌, ◌*◌, ◌/◌, ◌^◌, ◌++◌, ◌+ℤ◌, pos, length, codes, [], if◌then◌else◌, int_lt, nat_lt, ◌&&◌, nat_abs};
 ghost use Rattle.std.specs.Fmt.{decimal};
@@ -10,8 +10,7 @@ use arrayvec::ArrayString;
 use itoa::Buffer;
 use vt_kinds::{Decimals, Scale};
 
-/// A number and how it is shown: value and offset are added, multiplied by the scale, and rounded to the
-/// decimals, half away from zero.
+/// A number to show: value plus offset, times the scale, rounded to the decimals, half away from zero.
 #[derive(Clone, Copy, Debug, PartialEq, Eq)]
 pub struct Decimal {
     pub value: u32,
@@ -21,8 +20,8 @@ pub struct Decimal {
 }
 
 impl Decimal {
-    /// The text that is shown, of at most 19 bytes: `-` where the rounded number is below zero, then its
-    /// digits with just as many decimals as are asked for.
+    /// The shown text, at most 19 bytes: `-` if the rounded number is below zero, then its digits with exactly
+    /// `decimals` decimals.
     pub fn shown(&self) -> ArrayString<20>
         ensures text { IsShown (pos self.now.value +ℤ self.now.offset) (scale_places self.now.scale) self.now.decimals result.bytes }
         ensures computed { result.bytes ≡ shown_text (pos self.now.value +ℤ self.now.offset) (scale_places self.now.scale) self.now.decimals }
@@ -37,7 +36,7 @@ impl Decimal {
     }
 }
 
-/// A value with its offset.
+/// The value plus its offset.
 fn sum(value: u32, offset: i32) -> i64
     ensures sum { result ≡ pos value +ℤ offset }
     ensures most { nat_abs result < 2 ^ 33 }
@@ -45,7 +44,7 @@ fn sum(value: u32, offset: i32) -> i64
     i64::from(value) + i64::from(offset)
 }
 
-/// A sum without its sign.
+/// The absolute value of a sum.
 fn size(sum: i64) -> u64
     ensures { result ≡ nat_abs sum }
 {
@@ -64,7 +63,7 @@ fn rounded(number: u64, unit: u64, divisor: u64) -> u64
     (2 * (number * unit) + divisor) / (2 * divisor)
 }
 
-/// Whether a sum is shown as below zero, which it is not where it is rounded to 0.
+/// Whether a sum is shown with `-`: it is negative and does not round to 0.
 fn is_below_zero(sum: i64, magnitude: u64) -> bool
     ensures { result ≡ (int_lt sum (pos 0) && nat_lt 0 magnitude) }
 {
@@ -81,7 +80,7 @@ fn power_of_ten(exponent: u8) -> u64
     10u64.pow(u32::from(exponent))
 }
 
-/// A whole number of units, with a sign, in decimal.
+/// A number of units with its sign, in decimal.
 fn written(negative: bool, magnitude: u64, decimals: u8, unit: u64) -> ArrayString<20>
     requires decimals { decimals ≤ 7 }
     requires unit { unit ≡ 10 ^ decimals }
@@ -99,7 +98,7 @@ fn written(negative: bool, magnitude: u64, decimals: u8, unit: u64) -> ArrayStri
     text
 }
 
-/// `-` for a negative number.
+/// `-` for a negative number, else empty.
 fn sign(negative: bool) -> ArrayString<20>
     ensures text { result.bytes ≡ if negative then codes "-" else [] }
     ensures most { length result.bytes ≤ 1 }
@@ -111,7 +110,7 @@ fn sign(negative: bool) -> ArrayString<20>
     text
 }
 
-/// Appends the point, and a number below 10 to the decimals in as many digits.
+/// Appends the decimal point and `fraction`, padded with zeros to `decimals` digits.
 fn push_fraction(text: &mut ArrayString<20>, decimals: u8, fraction: u64)
     requires some { 0 < decimals }
     requires decimals { decimals ≤ 7 }

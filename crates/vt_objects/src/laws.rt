@@ -1,4 +1,4 @@
-//! What the definitions come to: each function is a law, and calling it changes nothing.
+//! Theorems about objects and commands. Each is the contract of a function with an empty body.
 
 ghost use Rattle.vt_objects.specs.Decimals.{ShownIsOne};
 ghost use Rattle.vt_objects.specs.Writing.{AttributesAreFields};
@@ -6,12 +6,12 @@ ghost use Rattle.vt_objects.specs.Writing.{AttributesAreFields};
 pub use vt_commands::laws::cut_is_one;
 pub use vt_writing::laws::objects_have_records;
 
-/// A number is shown in one way alone.
+/// The shown text of a number is unique.
 pub fn shown_is_one()
     ensures { ShownIsOne }
 {}
 
-/// Each attribute of a kind is the field of its name in the record, which gets the lowest bytes of the value as they are.
+/// Each attribute of a kind is a field of its record, and Change Attribute stores the value's lowest bytes there.
 pub fn attributes_are_fields()
     ensures { AttributesAreFields }
 {}

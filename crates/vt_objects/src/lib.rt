@@ -1,20 +1,20 @@
-//! The objects of an ISOBUS virtual terminal (ISO 11783-6): their kinds, their fields, what they name, the
-//! commands that change them, and the stores that hold them.
+//! The objects of an ISOBUS virtual terminal (ISO 11783-6): their kinds, fields and references, the commands that
+//! change them, and the stores that hold them.
 //!
 //! - Objects: `Object` is one of the 29 kinds (`Kind`, `Kinds`), each a type of its own, under an `ObjectId`; `Scale`, `Decimals`
-//!   and `Decimal` make the numbers that are shown, and `Entries`, `ShortText`, `LongText`, `MacroBytes` and `PictureBytes` hold
-//!   what stands in lists, texts and bytes.
-//! - References: `slots` gives each `Slot` of an object, at its `Place`; `attribute` the `Attribute` of a number.
-//! - Commands: `Command` is read from its bytes, `targets` gives each `Target` that it names, and `row_events` each `Event` that is
-//!   `Raised` by it.
-//! - Stores: `Store` is a map of objects, `SortedStore` and `ListStore` are two.
-//! - `laws` has what the definitions come to.
+//!   and `Decimal` format shown numbers, and `Entries`, `ShortText`, `LongText`, `MacroBytes` and `PictureBytes` are the
+//!   lists, texts and bytes.
+//! - References: `slots` yields each reference of an object as a `Slot`, with its `Place`; `attribute` looks up an `Attribute`.
+//! - Commands: `Command` is decoded from its bytes, `targets` returns each `Target` of it, and `row_events` each `Event` that
+//!   it raises, as a `Raised`.
+//! - Stores: `Store` is a map of objects; `SortedStore` and `ListStore` implement it.
+//! - `laws` has the theorems.
 //!
-//! The objects stand in vt_kinds, the commands in vt_commands and the stores in vt_stores; this crate exports all three, and has
-//! the shown numbers.
+//! The objects are in vt_kinds, the commands in vt_commands and the stores in vt_stores; this crate exports all three
+//! and adds the shown numbers.
 //!
-//! docs/PROFILE.md has the tables: "Records" for the kinds and their fields, "References and inclusions" for what they
-//! name, "Attributes" for what Change Attribute writes, "Commands" for the bytes of the commands.
+//! docs/PROFILE.md has the tables: "Records" for the kinds and their fields, "References and inclusions" for the
+//! references, "Attributes" for Change Attribute, "Commands" for the bytes of the commands.
 #![tactic(auto)]
 
 mod decimal;

@@ -1,4 +1,4 @@
--- What was written is read again.
+-- The objects written to a pool are the objects read back from it.
 use Rattle.std.proofs.Common.{◌≡◌, ℕ, Bool, true, false, cond, eqb, not, List, [], ◌∷◌, ◌++◌, length, reverse, filter, Option, Some, None, refl, sym, ap, subst, ◌∙◌, arith}
 use Rattle.std.specs.List.{AllByRecursion, IsDistinct, list_any}
 use Rattle.std.proofs.lemmas.Bool.{eqb-true, eq-eqb}
@@ -13,7 +13,7 @@ use Rattle.vt_pool.specs.Places.{with_entry}
 use Rattle.vt_pool.proofs.InPlace.{entry_at, get-contents, ids_with}
 use Rattle.vt_records.proofs.Taken.{same_record}
 
--- ---- the same bytes are the same records
+-- ---- equal bytes hold equal records
 
 pub joined_one : (a b : List Entry) → AreRecords a → AreRecords b → joined a ≡ joined b → a ≡ b
 joined_one [] [] one other e = refl
@@ -26,7 +26,7 @@ joined_one (r ∷ a) (s ∷ b) one other e =
     let object = same.same_object in
     ap (λ (es : List Entry). r ∷ es) later ∙ ap (λ (id : ℕ). (id, r.1) ∷ b) id ∙ ap (λ (o : Seen). (s.0, o) ∷ b) object
 
--- ---- distinct IDs
+-- ---- distinct IDs are their own first occurrences
 
 all_kept : (x : ℕ) (xs : List ℕ) → AllByRecursion (λ y. eqb x y ≡ false) xs → filter (λ other. not (eqb x other)) xs ≡ xs
 all_kept x [] apart = refl
@@ -38,7 +38,7 @@ firsts (x ∷ xs) apart =
     ap (λ (l : List ℕ). x ∷ filter (λ other. not (eqb x other)) l) (firsts xs (IsDistinct-tail eqb x xs apart))
     ∙ ap (λ (l : List ℕ). x ∷ l) (all_kept x xs (IsDistinct-head eqb x xs apart))
 
--- ---- what a list has under an ID
+-- ---- the object of an ID in a list
 
 abbrev or_else : Option Seen → Option Seen → Option Seen
 or_else (Some x) y = Some x
@@ -75,7 +75,7 @@ turned (e ∷ es) q apart =
     ∙ ap (λ (o : Option Seen). or_else o (entry_at (e ∷ []) q)) (turned es q (IsDistinct-tail eqb e.0 (ids es) apart))
     ∙ turned_cases (eqb q e.0) q e es refl (IsDistinct-head eqb e.0 (ids es) apart)
 
--- ---- lists with the same IDs and the same objects
+-- ---- lists with equal IDs and equal objects are equal
 
 tail_cases : (b : Bool) (q : ℕ) (d e : Entry) (ds es : List Entry) → eqb q e.0 ≡ b → AllByRecursion (λ y. eqb e.0 y ≡ false) (ids ds) → AllByRecursion (λ y. eqb e.0 y ≡ false) (ids es)
     → cond b (Some d.1) (entry_at ds q) ≡ cond b (Some e.1) (entry_at es q) → entry_at ds q ≡ entry_at es q
@@ -106,7 +106,7 @@ same_entries (d ∷ ds) (e ∷ es) order apart same =
     let rest = same_entries ds es later (IsDistinct-tail eqb e.0 (ids es) apart) (λ q. tail_cases (eqb q e.0) q d e ds es refl apart_too others (at q)) in
     ap (λ (l : List Entry). d ∷ l) rest ∙ ap (λ (id : ℕ). (id, d.1) ∷ es) id ∙ ap (λ (o : Seen). (e.0, o) ∷ es) object
 
--- ---- the objects of a pool
+-- ---- the objects of a pool stay valid
 
 distinct_cases : (b : Bool) (xs : List ℕ) (id : ℕ) → list_any (eqb id) xs ≡ b → IsDistinct eqb xs → IsDistinct eqb (cond b xs (xs ++ id ∷ []))
 distinct_cases true xs id is apart = apart

@@ -1,4 +1,4 @@
--- What one more record leaves in force.
+-- The objects in force after one more record.
 use Rattle.std.proofs.Common.{◌≡◌, ◌≢◌, ℕ, Bool, true, false, cond, eqb, ◌||◌, not, List, [], ◌∷◌, ◌++◌, reverse, filter, refl, sym, ap, ◌∙◌}
 use Rattle.std.specs.List.{list_any}
 use Rattle.std.proofs.lemmas.Bool.{eqb-true, eqb-false, ne_eqb, eq-eqb}
@@ -13,7 +13,7 @@ use Rattle.vt_pool.proofs.InPlace.{with_id, ids_with, contents_with}
 
 -- ---- the order of first occurrence
 
--- the IDs without one of them
+-- the IDs of a list except one
 abbrev without : ℕ → List ℕ → List ℕ
 without x xs = filter (λ other. not (eqb x other)) xs
 
@@ -51,7 +51,7 @@ first_push [] id = refl
 first_push (x ∷ xs) id =
     ap (λ (l : List ℕ). x ∷ without x l) (first_push xs id) ∙ front_cases (eqb id x) x id (first_occurrences xs) refl
 
--- ---- what is in force
+-- ---- the objects in force
 
 pub nothing_in_force : IsInForce [] []
 nothing_in_force = record { order = refl; last = refl }

@@ -1,4 +1,4 @@
--- What stands at the front of some bytes, by how many bytes it takes.
+-- Splitting a number of bytes off the front succeeds if there are enough bytes, and fails otherwise.
 use Rattle.std.proofs.Common.{◌≡◌, ℕ, zero, suc, ◌+◌, ◌*◌, ◌<◌, ◌≤◌, List, [], ◌∷◌, length, take, drop, Some, None, refl, sym, ap, ◌∙◌, arith, inl, inr}
 use Rattle.std.proofs.lemmas.Bool.{cases_lt, le-ltb, lt-ltb}
 use Rattle.std.proofs.lemmas.List.{length-drop, drop-drop}

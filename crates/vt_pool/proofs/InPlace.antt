@@ -1,4 +1,4 @@
--- Where the entry of an ID stands in a list of entries, and what it has.
+-- The index of an ID in a list of entries, and lookups and replacements there.
 use Rattle.std.proofs.Common.{◌≡◌, ℕ, suc, ◌+◌, ◌<◌, ◌≤◌, Bool, true, false, cond, eqb, ltb, ◌||◌, not, List, [], ◌∷◌, ◌++◌, length, get_or, set, map, Option, Some, None, refl, sym, ap, subst, ◌∙◌, arith}
 use Rattle.std.specs.List.{list_any, position_or_len, position}
 use Rattle.std.proofs.lemmas.Bool.{eqb-true, false≢true, ltb-true, ltb-false}
@@ -12,7 +12,7 @@ use Rattle.vt_stores.specs.Stores.{shown}
 use Rattle.vt_pool.specs.Pools.{Entry, ids, contents}
 use Rattle.vt_pool.specs.Places.{with_entry}
 
--- what a list has under an ID
+-- the object of an ID in a list
 abbrev pub entry_at : List Entry → ℕ → Option Seen
 entry_at [] q = None
 entry_at (e ∷ es) q = cond (eqb q e.0) (Some e.1) (entry_at es q)
@@ -26,7 +26,7 @@ find_entry (e ∷ es) q =
 pub get-contents : (es : List Entry) (q : ℕ) → finite.get (contents es) q ≡ entry_at es q
 get-contents es q = finite.get-from_entries nat_cmp_total es q ∙ find_entry es q
 
--- ---- the first place of an ID
+-- ---- the first index of an ID
 
 abbrev pub place_of : ℕ → List Entry → ℕ
 place_of q es = position_or_len (eqb q) (ids es)
@@ -66,7 +66,7 @@ no_place false k n is e = ltb-false k n is
 position_some : {X : Type 0} (p : X → Bool) (xs : List X) (i : ℕ) → position p xs ≡ Some i → (position_or_len p xs ≡ i) × (i < length xs)
 position_some p xs i e = some_place (ltb (position_or_len p xs) (length xs)) (position_or_len p xs) (length xs) i refl e
 
--- ---- what a look-up finds
+-- ---- the result of a lookup
 
 pub got_none : {B : Type 0} (q : ℕ) (items : List (ℕ × Object B)) (keys : List ℕ) → keys ≡ ids (map shown items) → position (eqb q) keys ≡ None
     → ◌≡◌ {A = Option Seen} None (finite.get (contents (map shown items)) q)
@@ -90,7 +90,7 @@ got_some q items keys place x same found is =
     let shows : get_or es place (shown x) ≡ shown x = get_or-map shown items place x (shown x) in_items ∙ ap shown (sym is) in
     sym (get-contents es q ∙ got ∙ ap (λ (e : Entry). Some e.1) shows)
 
--- ---- an entry in its place
+-- ---- replacing an entry at its index
 
 with_new_cases : (b : Bool) (e : Entry) (es : List Entry) (id : ℕ) (o : Seen) → (b || list_any (eqb id) (ids es)) ≡ false
     → (list_any (eqb id) (ids es) ≡ false → with_entry es id o ≡ es ++ (id, o) ∷ []) → cond b ((id, o) ∷ es) (e ∷ with_entry es id o) ≡ e ∷ es ++ (id, o) ∷ []
@@ -113,7 +113,7 @@ pub with_old : (es : List Entry) (id : ℕ) (o : Seen) → place_of id es < leng
 with_old [] id o lt = absurd (omega arith)
 with_old (e ∷ es) id o lt = with_old_cases (eqb id e.0) e es id o lt (with_old es id o)
 
--- ---- the IDs and the objects that it leaves
+-- ---- the IDs and objects after a replacement
 
 abbrev pub with_id : List ℕ → ℕ → List ℕ
 with_id keys id = cond (list_any (eqb id) keys) keys (keys ++ id ∷ [])
@@ -164,7 +164,7 @@ contents_with es id o =
     ∙ ap (λ b. cond b (Some o) (finite.get (contents es) q)) (unsigned_tied q id)
     ∙ ap (cond (eqb q id) (Some o)) (get-contents es q)))
 
--- ---- what a list of objects shows after a write or a push
+-- ---- the view of a list after a write or a push
 
 place_cases : (b : Bool) (k n : ℕ) → (b ≡ false → k < n) → cond (not b) (1 + k) 0 < suc n
 place_cases true k n later = omega arith
@@ -193,7 +193,7 @@ shown_push items keys id w same none =
     let es = map shown items in
     map_push shown items (id, w) ∙ sym (with_new es id (seen w) (ap (λ (l : List ℕ). list_any (eqb id) l) (sym same) ∙ none))
 
--- the IDs stay those of the objects
+-- the IDs still match the objects
 pub same_ids : (keys after : List ℕ) (es left : List Entry) (id : ℕ) (o : Seen) → keys ≡ ids es → after ≡ with_id keys id → left ≡ with_entry es id o → after ≡ ids left
 same_ids keys after es left id o same is gives =
     is ∙ ap (λ (l : List ℕ). with_id l id) same ∙ sym (ap ids gives ∙ ids_with es id o)

@@ -1,4 +1,4 @@
--- Records, joined, and the fault of what follows them.
+-- Joined records, and the fault of the bytes after them.
 use Rattle.std.proofs.Common.{◌≡◌, ℕ, ◌+◌, ◌-◌, ◌<◌, List, [], ◌∷◌, ◌++◌, length, Result, Ok, Err, refl, sym, ap, subst, ◌∙◌, append_assoc, arith}
 use Rattle.std.specs.Prelude.{IfErr}
 use Rattle.std.proofs.lemmas.List.{length-append, flat_map_more}
@@ -26,7 +26,7 @@ pub records_push : (records : List Entry) (id : ℕ) (o : Seen) → AreRecords r
 records_push [] id o are has = (has, tt)
 records_push (r ∷ records) id o are has = (are.0, records_push records id o are.1 has)
 
--- ---- the fault of what follows
+-- ---- the fault of the bytes after whole records
 
 fault_there : (bytes : List ℕ) (records : List Entry) (rest : List ℕ) (at offset : ℕ) (Faulty : List ℕ → ℕ → Type 0) → AreRecords records → bytes ≡ joined records ++ rest → at ≡ length bytes - length rest
     → 0 < length rest → Faulty rest offset → IsFaultAt bytes (at + offset) Faulty
@@ -50,7 +50,7 @@ is_fault bytes records rest at (stops.Scale offset) are parts place some is = fa
 is_fault bytes records rest at (stops.Decimals offset) are parts place some is = fault_there bytes records rest at offset (IsImproper DecimalPlaces) are parts place some is
 is_fault bytes records rest at stops.OutOfMemory are parts place some is = fault_first bytes records rest at _ are parts place some tt
 
--- ---- whole records leave nothing
+-- ---- no bytes remain after whole records
 
 pub joined_whole : (front records : List Entry) (rest : List ℕ) → AreRecords front → AreRecords records → NoRecordBegins rest → joined front ++ rest ≡ joined records → rest ≡ []
 joined_whole [] [] rest are whole none parts = parts

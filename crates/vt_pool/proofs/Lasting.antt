@@ -1,4 +1,4 @@
--- A fault that more bytes do not cure.
+-- A fault other than Truncated and OutOfMemory lasts: more bytes do not cure it.
 use Rattle.std.proofs.Common.{◌≡◌, ℕ, ◌≤◌, List, [], ◌∷◌, ◌++◌, length, drop, Option, Some, refl, sym, ap, subst, ◌∙◌, append_assoc, arith, inl, inr}
 use Rattle.std.proofs.lemmas.List.{length-append}
 use Rattle.vt_kinds.specs.declared.kind.Kind.{Kind}
@@ -13,7 +13,7 @@ use Rattle.vt_pool.specs.Arriving.{FaultsLast}
 use Rattle.vt_records.proofs.Tables.{values_again}
 use Rattle.vt_records.proofs.Causes.{kind_there}
 
--- ---- the head of a record, and what stands behind it
+-- ---- the head of a record with more bytes after it
 
 same_id : (rest more : List ℕ) → 3 ≤ length rest → id_at (rest ++ more) ≡ id_at rest
 same_id [] more le = absurd (omega arith)
@@ -45,7 +45,7 @@ values_more rest more kind vs head has =
       parts = same_behind rest more head ∙ ap (λ (l : List ℕ). l ++ more) has.parts ∙ append_assoc (spelling (fields_of kind) vs) has.tail more;
     }
 
--- ---- where a value is not proper, no record begins
+-- ---- no record begins with a value not allowed
 
 not_proper : (sort : RecordField) (later : ℕ) (fs : List RecordField) (vs : List Value) → IsFirstImproper sort later fs vs → Proper fs vs → ⊥
 not_proper sort later [] vs first proper = absurd first
@@ -72,7 +72,7 @@ improper_none sort later all kind vs has first id o tail is parts =
     let proper : Proper (fields_of kind) vs = subst (λ (l : List Value). Proper (fields_of kind) l) same (subst (λ (k : Kind). Proper (fields_of k) (values_of o)) one is.proper) in
     not_proper sort later (fields_of kind) vs first proper
 
--- ---- faults
+-- ---- lasting faults
 
 null_more : (rest more : List ℕ) → HasNullId rest → HasNullId (rest ++ more)
 null_more rest more is = record { head = longer rest more is.head; null = same_id rest more is.head ∙ is.null }

@@ -1,4 +1,4 @@
--- Where a pool's bytes end in the front of a record, they have no fault that lasts.
+-- Bytes that end inside a record have no lasting fault.
 use Rattle.std.proofs.Common.{◌≡◌, ℕ, List, [], ◌∷◌, ◌++◌, length, drop, Option, Some, None, sym, ap, subst, ◌∙◌, append_assoc, arith, inl, inr}
 use Rattle.std.specs.Prelude.{IfNone}
 use Rattle.vt_kinds.specs.Layout.{RecordField, ScaleBytes, DecimalPlaces}
@@ -11,7 +11,7 @@ use Rattle.vt_pool.specs.Arriving.{AreWholeTo, IsUnfinished, IsReadTo, HasNoFaul
 use Rattle.vt_records.proofs.Taken.{same_record}
 use Rattle.vt_records.proofs.Causes.{truncated_none, null_none, other_none}
 
--- ---- what follows the same whole records
+-- ---- the bytes after the same whole records
 
 same_rest : (front records : List Entry) (rest other : List ℕ) → AreRecords front → AreRecords records → NoRecordBegins rest → NoRecordBegins other → joined front ++ rest ≡ joined records ++ other → rest ≡ other
 same_rest [] [] rest other are whole none apart parts = parts
@@ -28,7 +28,7 @@ nothing_begins : (rest : List ℕ) → IsUnfinished rest → NoRecordBegins rest
 nothing_begins rest (inl nil) id o tail has parts = let len = ap length (sym nil ∙ parts) in absurd (omega arith)
 nothing_begins rest (inr cut) id o tail has parts = truncated_none rest cut id o tail has parts
 
--- ---- bytes that are too few have no other fault
+-- ---- truncated bytes have no other fault
 
 null_apart : (rest : List ℕ) → IsTruncated rest → HasNullId rest → ⊥
 null_apart rest (inl lt) null = let head = null.head in absurd (omega arith)

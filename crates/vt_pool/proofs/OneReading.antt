@@ -1,4 +1,4 @@
--- The bytes of a pool have one reading.
+-- The bytes of a pool have at most one reading.
 use Rattle.std.proofs.Common.{◌≡◌, ℕ, ◌<◌, Bool, true, false, cond, eqb, not, List, [], ◌∷◌, ◌++◌, length, filter, Option, Some, None, refl, sym, ap, subst, ◌∙◌, append_assoc, arith, inl, inr}
 use Rattle.std.specs.List.{AllByRecursion, IsDistinct}
 use Rattle.std.proofs.lemmas.List.{append-nil}
@@ -16,7 +16,7 @@ use Rattle.vt_records.proofs.Taken.{same_record}
 use Rattle.vt_records.proofs.Causes.{truncated_none, null_none, other_none}
 use Rattle.vt_pool.proofs.Again.{joined_one, same_entries}
 
--- ---- no ID stands twice among the first occurrences
+-- ---- first occurrences are unique
 
 abbrev without : ℕ → List ℕ → List ℕ
 without x xs = filter (λ other. not (eqb x other)) xs
@@ -58,7 +58,7 @@ firsts_distinct (x ∷ xs) =
     let rest = first_occurrences xs in
     IsDistinct-cons eqb x (without x rest) (out x rest) (without_distinct x rest (firsts_distinct xs))
 
--- ---- what is in force is one
+-- ---- the objects in force are unique
 
 in_force_one : (records p q : List Entry) → IsInForce records p → IsInForce records q → p ≡ q
 in_force_one records p q is other =
@@ -70,7 +70,7 @@ pools_one records others p q are too same is other =
     let one : others ≡ records = joined_one others records too are (sym same) in
     in_force_one records p q is (subst (λ (rs : List Entry). IsInForce rs q) one other)
 
--- ---- where the records end is one place
+-- ---- the end of the whole records is unique
 
 rest_one : (xs ys : List Entry) (rest other : List ℕ) → AreRecords xs → AreRecords ys → NoRecordBegins rest → NoRecordBegins other → joined xs ++ rest ≡ joined ys ++ other → rest ≡ other
 rest_one [] [] rest other are too never none e = e
@@ -83,7 +83,7 @@ rest_one (r ∷ xs) (s ∷ ys) rest other are too never none e =
     (sym (append_assoc (record_of r.0 r.1) (joined xs) rest) ∙ e ∙ append_assoc (record_of s.0 s.1) (joined ys) other) in
     rest_one xs ys rest other are.1 too.1 never none same.same_rest
 
--- ---- the causes exclude one another
+-- ---- causes of faults exclude one another
 
 some_kind : {A : Type 0} {P : Type 0} (o : Option A) (x : A) → o ≡ Some x → o ≡ None → P
 some_kind o x some none = let no = sym some ∙ none in absurd cc
@@ -98,12 +98,12 @@ null_named rest null other = other.named null.null
 improper_known : (sort : RecordField) (rest : List ℕ) (at : ℕ) → IsImproper sort rest at → HasOtherType rest → ⊥
 improper_known sort rest at is other = some_kind _ is.kind is.read.known other.no_kind
 
--- the type is at fault, or not
+-- whether the type is at fault
 abbrev IsOfType : Bool → List ℕ → Type 0
 IsOfType true rest = HasOtherType rest
 IsOfType false rest = HasOtherType rest → ⊥
 
--- what stands before a fault, and what begins with it
+-- the records before a fault, and the faulty bytes after them
 record Stands (bytes : List ℕ) (of_type : Bool) : Type 0 where
   pub records : List Entry
   pub whole : AreRecords records
@@ -136,7 +136,7 @@ stands bytes (faults.Decimals at) is named =
     stands_at bytes at (IsImproper DecimalPlaces) false (λ rest offset f. f.no_record) (λ rest offset f. improper_known DecimalPlaces rest offset f) is
 stands bytes (faults.OutOfMemory at) is named = absurd (named tt)
 
--- ---- faults
+-- ---- the faults of a pool
 
 nothing_begins : NoRecordBegins []
 nothing_begins = truncated_none [] (inl (omega arith))

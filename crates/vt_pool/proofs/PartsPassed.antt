@@ -1,4 +1,4 @@
--- Passing over the fields of a record part by part, as a loop does.
+-- Skipping the fields of a record in a loop has the same result as reading them.
 use Rattle.std.proofs.Common.{◌≡◌, ℕ, ◌+◌, ◌-◌, ◌*◌, ◌<◌, ◌≤◌, Bool, true, false, cond, ltb, List, ◌∷◌, length, get_or, map, take, drop, Option, Some, None, Result, Ok, Err, refl, sym, ap, subst, ◌∙◌, arith}
 use Rattle.std.specs.Option.{option_or}
 use Rattle.std.proofs.lemmas.List.{length-append, length-drop, length-take-le, length-map, get_or-map, drop_more, drop_all}
@@ -22,7 +22,7 @@ use Rattle.vt_records.proofs.Numbers.{IsBytes, IsBytes-drop, number_short}
 use Rattle.vt_records.proofs.Tables.{rows_take}
 use Rattle.vt_pool.proofs.Fronts.{bytes_front, bytes_short, number_front, signed_front, signed_short, rows_front, rows_short}
 
--- ---- counts
+-- ---- counts of lists
 
 abbrev pub counts_so : EntryCounts → layout.Counts
 counts_so counts = record { objects = counts.objects; macros = counts.macros; others = counts.others }
@@ -37,7 +37,7 @@ same_counts counts Objects n = refl
 same_counts counts Macros n = refl
 same_counts counts Others n = refl
 
--- ---- what is given in the end
+-- ---- the final result
 
 abbrev faulty : ℕ → Option RecordFault → Option PoolFault
 faulty at None = None
@@ -47,7 +47,7 @@ abbrev pub ended : List ℕ → Option PoolFault → Result (List ℕ) PoolFault
 ended rest None = Ok rest
 ended rest (Some fault) = Err fault
 
--- what comes of fields so many bytes from the record's first, and of a fault that was met before
+-- the result for fields at this offset from the record's first byte, given the first fault so far
 abbrev pub given : ℕ → Option PoolFault → ℕ → List RecordField → Option (List Value × List ℕ) → Result (List ℕ) PoolFault
 given at met offset fs None = Err (faults.Truncated at)
 given at met offset fs (Some read) = ended read.1 (option_or met (faulty at (misfit offset fs read.0)))
@@ -60,7 +60,7 @@ pub given_passes : (at : ℕ) (fs : List RecordField) (read : Option (List Value
 given_passes at fs None = refl
 given_passes at fs (Some read) = passes_cases at read (misfit 3 fs read.0)
 
--- ---- one part
+-- ---- one field
 
 or_none : (m : Option PoolFault) → option_or m None ≡ m
 or_none None = refl
@@ -146,9 +146,9 @@ part_short (Bytes of) fs counts rest lt =
 part_short ScaleBytes fs counts rest lt = rw (number_short 4 rest lt) refl
 part_short DecimalPlaces fs counts rest lt = rw (number_short 1 rest lt) refl
 
--- ---- as a loop goes on
+-- ---- one step of the loop
 
--- The parts before a place have been passed over: what comes of the others is what comes of all.
+-- Invariant of the loop: the first fields are skipped, and the result for the others is the result for all.
 pub record IsPassed (fs : List RecordField) (all : List ℕ) (at i : ℕ) (met : Option PoolFault) (counts : EntryCounts) (rest : List ℕ) : Type 0 where
   pub within : length rest + 3 ≤ length all
   pub rest_fits : IsBytes rest
@@ -163,11 +163,11 @@ begins fs all at fits head =
       so_far = ap (λ (k : ℕ). given at None k fs (values_at fs no_counts (drop 3 all))) three;
     }
 
--- the field of the part at a place
+-- the field at an index
 abbrev field_at : List RecordField → ℕ → RecordField
 field_at fs i = get_or fs i DecimalPlaces
 
--- what passing over all the fields gives
+-- the result of reading all fields
 abbrev passed : List RecordField → List ℕ → Result (List Value × List ℕ) RecordFault
 passed fs all = fitting fs (values_at fs no_counts (drop 3 all))
 
@@ -240,7 +240,7 @@ ends fs all at i met counts rest le so_far =
     given_is fs all at (ended rest met)
     (sym so_far.so_far ∙ ap (λ (l : List RecordField). given at met (length all - length rest) l (values_at l (counts_so counts) rest)) none ∙ ap (ended rest) (or_none met))
 
--- ---- as it returns
+-- ---- the returned result
 
 err_seen : {X : Type 0} (view : X → List ℕ) (at : ℕ) (fault : PoolFault) (read : Result (List Value × List ℕ) RecordFault) → PassesFields (λ r. r) at (Err fault) read → PassesFields view at (Err fault) read
 err_seen view at fault (Ok x) is = is

@@ -1,4 +1,4 @@
--- How far a pool is read: the records so far, and what they leave in force.
+-- Progress of reading a pool: the records so far, and the objects in force after them.
 use Rattle.std.proofs.Common.{◌≡◌, ℕ, ◌-◌, ◌<◌, List, [], ◌∷◌, ◌++◌, length, sym, subst}
 use Rattle.vt_kinds.specs.Records.{Seen, record_of, HasRecord}
 use Rattle.vt_records.specs.declared.stop.RecordFault.{RecordFault}

@@ -1,4 +1,4 @@
--- How far the bytes of a pool are read, and the fault of theirs that lasts.
+-- The position up to which a pool's bytes are read, and their lasting fault.
 use Rattle.std.proofs.Common.{◌≡◌, ℕ, ◌<◌, ◌≤◌, Bool, true, false, cond, eqb, leb, ◌&&◌, List, [], ◌∷◌, ◌++◌, length, drop, Option, Some, None, Result, Ok, Err, refl, sym, ap, subst, ◌∙◌, append_assoc, arith, inl, inr}
 use Rattle.std.proofs.lemmas.List.{length-append, length-drop, drop_at, drop_all, drop-append-le}
 use Rattle.byteorder.specs.Endian.{little_number}
@@ -27,7 +27,7 @@ use Rattle.vt_pool.proofs.Lasting.{faults_last}
 
 -- ---- a record at the front
 
--- some object's record stands there, and after it bytes
+-- the bytes begin with the record of some object
 pub record BeginsRecord (all rest : List ℕ) : Type 0 where
   pub id : ℕ
   pub object : Seen
@@ -43,7 +43,7 @@ begins_record all h fits e =
     let of_object : IsRead all (held h.id (kind_of o) (values_of o, h.rest)) = subst (λ (vs : List Value). IsRead all (held h.id (kind_of o) (vs, h.rest))) (sym there.its_values) of_kind in
     record { id = h.id; object = o; has = record { named = of_object.named; fields_fit = of_object.fields_fit; proper = of_object.proper }; parts = of_object.parts }
 
--- ---- reading a record never stops for want of memory
+-- ---- reading a record never runs out of memory
 
 values_memory : (kind : Kind) (rest : List ℕ) (vs : Option (List Value × List ℕ)) → IsBytes rest → values_at (fields_of kind) no_counts rest ≡ vs → fitting (fields_of kind) vs ≡ Err stops.OutOfMemory → ⊥
 values_memory kind rest None fits is e = absurd cc
@@ -77,7 +77,7 @@ no_memory (a ∷ b ∷ c ∷ rest) fits e =
     let id = little_number 2 (a ∷ b ∷ []) in
     id_memory (eqb id 0xFFFF) id c rest rest_fits (sym (record_at-long a b c rest) ∙ e)
 
--- ---- whole records up to a place
+-- ---- whole records up to a position
 
 pub none_whole : (bytes : List ℕ) → AreWholeTo bytes 0
 none_whole bytes = record { records = []; whole = tt; parts = refl; place_is = refl }
@@ -120,7 +120,7 @@ next_whole pool at place fits to ends = next_cases pool at place (record_at (dro
 pub all_whole : (pool : List ℕ) (at : ℕ) → AreWholeTo pool at → length pool ≤ at → IsReadTo pool at None
 all_whole pool at to le = (to, inl (drop_all at pool le))
 
--- ---- where reading stops
+-- ---- the first faulty record
 
 fault_is : (pool : List ℕ) (at : ℕ) (stop : RecordFault) → IsBytes pool → AreWholeTo pool at → at < length pool → record_at (drop at pool) ≡ Err stop → IsFault pool (fault_at stop at)
 fault_is pool at stop fits to lt is =
@@ -145,7 +145,7 @@ read_cases pool at fault (Err stop) fits to lt is stops =
 pub stops_there : (pool : List ℕ) (at : ℕ) (fault : PoolFault) → IsBytes pool → AreWholeTo pool at → at < length pool → PassesRecord (length pool) at (Err fault) (record_at (drop at pool)) → IsReadTo pool at (lasting_of fault)
 stops_there pool at fault fits to lt stops = read_cases pool at fault (record_at (drop at pool)) fits to lt refl stops
 
--- ---- more bytes
+-- ---- more bytes after a read
 
 pub were_whole : (bytes : List ℕ) (place : ℕ) → WereReadTo bytes place None → AreWholeTo bytes place
 were_whole bytes place were = subst (λ (l : List ℕ). AreWholeTo l place) (sym were.parts) (whole_more were.before were.more place were.read.0)

@@ -1,4 +1,4 @@
--- Passing over the record at the front of some bytes, by its ID and type and then its fields.
+-- Skipping the record at the front of bytes: its ID and type, then its fields.
 use Rattle.std.proofs.Common.{◌≡◌, ◌≢◌, ℕ, ◌-◌, ◌≤◌, Bool, cond, List, length, take, drop, Option, Some, Result, Ok, Err, refl, sym, ap, subst, ◌∙◌, arith}
 use Rattle.std.proofs.lemmas.Bool.{eq-eqb, ne_eqb}
 use Rattle.std.proofs.lemmas.List.{drop-drop, length-drop}
@@ -41,7 +41,7 @@ kind_head all r s id type k head first second is kind =
     kind_cases all id type k (sym kind)
     (head_is all r s id type head first second ∙ ap (λ (b : Bool). cond b (Err stops.NullId) (of_kind id type (drop 3 all) (kind_at type))) (ne_eqb id 0xFFFF is))
 
--- ---- behind the head
+-- ---- the fields after the head
 
 pub stops_at_head : (count at : ℕ) (all : List ℕ) (stop : RecordFault) → HeadGives (Err stop) all → PassesRecord count at (Err (fault_at stop at)) (record_at all)
 stops_at_head count at all stop is = rw is refl

@@ -1,4 +1,4 @@
--- A pool that is read as its pieces arrive (docs/PROFILE.md, "Object Pool Transfer (11)").
+-- A pool upload, read while its pieces arrive (docs/PROFILE.md, "Object Pool Transfer (11)").
 use Rattle.std.specs.Prelude.{◌≡◌, ◌⊎◌, ℕ, List, [], ◌++◌, length, drop, Option, Some, None, refl}
 use Rattle.std.specs.Coded.{Coded, code_by, coded×, coded_ℕ, coded_list}
 use Rattle.vt_records.specs.declared.fault.PoolFault.{PoolFault}
@@ -6,7 +6,7 @@ use Rattle.vt_records.specs.declared.fault.PoolFault.TheVariants.{Truncated, Out
 use Rattle.vt_pool.specs.Pools.{Entry, AreRecords, joined, IsFault}
 use Rattle.vt_records.specs.Faults.{IsTruncated}
 
--- the bytes that have arrived, and how many more may come that take no memory
+-- the bytes so far, and the spare capacity for more bytes without an allocation
 pub record Arrived : Type 0 where
   pub bytes : List ℕ
   pub room : ℕ
@@ -16,7 +16,7 @@ arrived_code =
     code_by (List ℕ × ℕ) (coded× (coded_list coded_ℕ) coded_ℕ)
     (λ a. (a.bytes, a.room)) (λ p. record { bytes = p.0; room = p.1 }) (λ _. refl)
 
--- neither more bytes nor more memory cure the fault
+-- a lasting fault: more bytes or more memory do not cure it
 abbrev pub IsLasting : PoolFault → Type 0
 IsLasting (Truncated at) = ⊥
 IsLasting (OutOfMemory at) = ⊥
@@ -27,31 +27,31 @@ lasting_of (Truncated at) = None
 lasting_of (OutOfMemory at) = None
 lasting_of fault = Some fault
 
--- The fault of a pool's first bytes is the fault of the pool.
+-- A lasting fault of a pool's first bytes is also a fault of the whole pool.
 abbrev pub FaultsLast : Type 0
 FaultsLast = (bytes more : List ℕ) (fault : PoolFault) → IsFault bytes fault → IsLasting fault → IsFault (bytes ++ more) fault
 
--- No such fault can be named yet.
+-- The bytes have no lasting fault.
 abbrev pub HasNoFaultYet : List ℕ → Type 0
 HasNoFaultYet bytes = (fault : PoolFault) → IsFault bytes fault → IsLasting fault → ⊥
 
--- Whole records stand before a place.
+-- Whole records end at a position.
 pub record AreWholeTo (bytes : List ℕ) (place : ℕ) : Type 0 where
   pub records : List Entry
   pub whole : AreRecords records
   pub parts : bytes ≡ joined records ++ drop place bytes
   pub place_is : place ≡ length (joined records)
 
--- What follows whole records is the front of one more, if anything.
+-- The bytes are empty or end inside one record.
 abbrev pub IsUnfinished : List ℕ → Type 0
 IsUnfinished rest = (rest ≡ []) ⊎ IsTruncated rest
 
--- The bytes are read up to a place, where whole records end, or have a lasting fault.
+-- The bytes have whole records up to a position and an unfinished record after it, or a lasting fault.
 abbrev pub IsReadTo : List ℕ → ℕ → Option PoolFault → Type 0
 IsReadTo bytes place None = AreWholeTo bytes place × IsUnfinished (drop place bytes)
 IsReadTo bytes place (Some fault) = IsFault bytes fault × IsLasting fault
 
--- The bytes were read so before the last of them came.
+-- The bytes without their last ones were read up to a position, or to a lasting fault.
 pub record WereReadTo (bytes : List ℕ) (place : ℕ) (fault : Option PoolFault) : Type 0 where
   pub before : List ℕ
   pub more : List ℕ

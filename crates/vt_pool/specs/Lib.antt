@@ -1,4 +1,4 @@
--- What the contracts of this crate cite.
+-- The specifications that the contracts of vt_pool use.
 pub mod Arriving
 pub mod Parts
 pub mod Places

@@ -1,4 +1,4 @@
--- What the fields of a record say of its length and its faults.
+-- The sizes, counts and faults of a record's fields, without their values.
 use Rattle.std.specs.Prelude.{◌≡◌, ℕ, ◌+◌, ◌*◌, ◌≤◌, List, [], ◌∷◌, length, drop, nat_le, nat_lt, ◌&&◌, Bool, true, if◌then◌else◌, Option, Some, None, Result, Ok, Err}
 use Rattle.byteorder.specs.Endian.{little_number}
 use Rattle.vt_kinds.specs.declared.scale.Scale.{Scale}
@@ -19,7 +19,7 @@ use Rattle.vt_records.specs.Heads.{ReadRecord, ◌>>=◌, fields_at, record_at}
 use Rattle.vt_records.specs.Reading.{row_size}
 use Rattle.vt_records.specs.Stops.{fault_at}
 
--- ---- the parts of a record
+-- ---- the fields of a record
 
 abbrev pub counted_as : layout.Counted → Counted
 counted_as Objects = counted.Objects
@@ -35,7 +35,7 @@ part_of (Bytes of) = parts.List (counted_as of) 1
 part_of ScaleBytes = parts.Scale
 part_of DecimalPlaces = parts.Decimals
 
--- a count is a number of one to eight bytes
+-- a count has one to eight bytes
 abbrev pub is_countable : FieldLayout → Bool
 is_countable (parts.Count of size) = nat_le 1 size && nat_le size 8
 is_countable _ = true
@@ -44,7 +44,7 @@ abbrev pub are_countable : List FieldLayout → Bool
 are_countable [] = true
 are_countable (p ∷ ps) = is_countable p && are_countable ps
 
--- ---- counts
+-- ---- counts of lists
 
 abbrev pub count_in : EntryCounts → Counted → ℕ
 count_in counts counted.Objects = counts.objects
@@ -56,9 +56,9 @@ with_count counts counted.Objects n = record counts { objects = n }
 with_count counts counted.Macros n = record counts { macros = n }
 with_count counts counted.Others n = record counts { others = n }
 
--- ---- what a part takes and tells
+-- ---- the size and the fault of a field
 
--- how many bytes a part takes behind these counts
+-- the number of bytes of a field, given the counts before it
 abbrev pub part_size : FieldLayout → EntryCounts → ℕ
 part_size (parts.Number size) counts = size
 part_size (parts.Count of size) counts = size
@@ -66,7 +66,7 @@ part_size (parts.List of size) counts = count_in counts of * size
 part_size parts.Scale counts = 4
 part_size parts.Decimals counts = 1
 
--- the counts behind a part of these bytes
+-- the counts after a field with these bytes
 abbrev pub counts_behind : FieldLayout → List ℕ → EntryCounts → EntryCounts
 counts_behind (parts.Count of size) bytes counts = with_count counts of (little_number size bytes)
 counts_behind _ bytes counts = counts
@@ -75,34 +75,34 @@ abbrev pub fault_without : Option Scale → PoolFault → Option PoolFault
 fault_without None fault = Some fault
 fault_without (Some s) fault = None
 
--- the fault of a part of these bytes at a place of the pool
+-- the fault of a field with these bytes, at an index of the pool
 abbrev pub part_fault : FieldLayout → List ℕ → ℕ → Option PoolFault
 part_fault parts.Scale bytes at = fault_without (scale_at (little_number 4 bytes)) (faults.Scale at)
 part_fault parts.Decimals bytes at = if nat_lt 7 (little_number 1 bytes) then Some (faults.Decimals at) else None
 part_fault _ bytes at = None
 
--- the bytes are as many as the part needs to be read
+-- the bytes are enough to read the field's value
 abbrev pub IsLongEnough : FieldLayout → List ℕ → Type 0
 IsLongEnough (parts.Count of size) bytes = (1 ≤ size) × (size ≤ 8) × (size ≤ length bytes)
 IsLongEnough parts.Scale bytes = 4 ≤ length bytes
 IsLongEnough parts.Decimals bytes = 1 ≤ length bytes
 IsLongEnough _ bytes = Unit {0}
 
--- ---- passing over fields and records
+-- ---- skipping fields and records
 
--- The bytes behind the fields, seen by view, or the fault of the record that begins at a place, are what reading gives.
+-- Skipping the fields of a record at index `at` has the same rest, under `view`, or the same fault as reading them.
 abbrev pub PassesFields : {X : Type 0} → (X → List ℕ) → ℕ → Result X PoolFault → Result (List Value × List ℕ) RecordFault → Type 0
 PassesFields view at (Ok rest) (Ok read) = view rest ≡ read.1
 PassesFields view at (Err fault) (Err stop) = fault ≡ fault_at stop at
 PassesFields view at _ _ = ⊥
 
--- The kind of the record that begins with an ID and a type, or why none begins.
+-- The kind of the record at the front, or the stop of its head.
 abbrev pub HeadGives : Result Kind RecordFault → List ℕ → Type 0
 HeadGives (Ok kind) all =
     (id : ℕ) × (record_at all ≡ (fields_at (fields_of kind) (drop 3 all) >>= λ vs. Ok (record { id = id; kind = kind; values = vs.0; rest = vs.1 })))
 HeadGives (Err stop) all = record_at all ≡ Err stop
 
--- The end of the record that begins at a place of a pool of so many bytes, or its fault, are what reading gives.
+-- Skipping the record at index `at` of a pool of `count` bytes has the same end or fault as reading it.
 abbrev pub PassesRecord : ℕ → ℕ → Result ℕ PoolFault → Result ReadRecord RecordFault → Type 0
 PassesRecord count at (Ok place) (Ok read) = place + length read.rest ≡ count
 PassesRecord count at (Err fault) (Err stop) = fault ≡ fault_at stop at

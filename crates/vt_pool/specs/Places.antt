@@ -1,4 +1,4 @@
--- A list of entries with an object under an ID: in the place of the ID's entry, or at the end.
+-- Sets the object of an ID in a list of entries: replaces the ID's entry, or appends one.
 use Rattle.std.specs.Prelude.{ℕ, List, [], ◌∷◌, ◌==◌, if◌then◌else◌}
 use Rattle.vt_kinds.specs.Records.{Seen}
 use Rattle.vt_pool.specs.Pools.{Entry}

@@ -1,4 +1,4 @@
-//! Pools that are read as their pieces arrive.
+//! Pool uploads, read while their pieces arrive.
 
 ghost use Rattle.std.specs.Prelude.{◌≡◌, ◌≤◌, ◌+◌, ◌-◌, [], ◌++◌, length, drop, List, vec_len, vec_capacity, IfOk, IfErr, OnOk, OnErr, IsOk, IfSome, IfNone};
 ghost use Rattle.vt_pool.specs.Arriving.{IsLasting, HasNoFaultYet, IsReadTo, WereReadTo};
@@ -11,19 +11,19 @@ use std::alloc::Global;
 use std::marker::Model;
 use vt_records::PoolFault;
 
-/// A pool that is read as its pieces arrive: its bytes so far, and how many more it has room for. However
-/// the pool was cut, it is read as a whole one. ISO 11783-6; docs/PROFILE.md, "Object Pool Transfer (11)".
+/// A pool upload: its bytes so far and its spare capacity. Its result does not depend on how the pool was cut into
+/// pieces. ISO 11783-6; docs/PROFILE.md, "Object Pool Transfer (11)".
 pub struct Reading {
     bytes: Vec<u8>,
-    // Where the pool begins in them.
+    // The index of the pool's first byte.
     start: usize,
-    // How many bytes of the pool are known to be whole records, and its fault, if more bytes do not cure it.
+    // The number of bytes in whole records, and the lasting fault, which more bytes do not cure.
     whole: usize,
     fault: Option<PoolFault>,
     alloc: Global,
 }
 
-// Written out, so that its proof is not done again in each crate above.
+// Written out, so that the crates above need not prove it again.
 impl Drop for Reading {
     fn drop(self) {
         let Reading {
@@ -50,7 +50,7 @@ impl Model for Reading {
 }
 
 impl Reading {
-    /// A pool of no bytes. It takes no memory.
+    /// Makes an empty upload, without an allocation.
     pub fn new(alloc: Global) -> Reading
         ensures bytes { result.bytes ≡ [] }
         ensures room { result.room ≡ 0 }
@@ -64,9 +64,9 @@ impl Reading {
         }
     }
 
-    /// Adds the bytes of a piece from a place on, and reads the records that they complete. It takes no memory
-    /// where `reserve` has set it aside. A pool of no bytes takes the piece over as it is. Refused, it answers
-    /// the piece, and nothing has changed. docs/PROFILE.md, "Object Pool Transfer (11)".
+    /// Appends the bytes of a piece from index `from` on, and reads the records that they complete. Does not allocate within
+    /// the reserved capacity; an empty upload adopts the piece without a copy. On error returns the piece, with the upload
+    /// unchanged. docs/PROFILE.md, "Object Pool Transfer (11)".
     pub fn feed(&mut self, piece: Vec<u8>, from: usize) -> Result<(), (Vec<u8>, OutOfMemory)>
         requires { from ≤ length piece.items }
         ensures ok { OnOk result (self.new.bytes ≡ self.old.bytes ++ drop from piece.items) }
@@ -82,7 +82,7 @@ impl Reading {
         Ok(())
     }
 
-    /// Sets memory aside for so many more bytes. Refused, it leaves everything as it was.
+    /// Reserves capacity for `count` more bytes. After an error the upload is unchanged.
     pub fn reserve(&mut self, count: usize) -> Result<(), OutOfMemory>
         ensures bytes { self.new.bytes ≡ self.old.bytes }
         ensures ok { OnOk result (count ≤ self.new.room) }
@@ -93,8 +93,8 @@ impl Reading {
         self.bytes.reserve(count)
     }
 
-    /// The fault of the pool, if the bytes so far have one that more bytes do not cure: not that they end
-    /// inside a record. It takes no memory.
+    /// The lasting fault of the bytes so far, which more bytes do not cure; `None` if they only end inside a record. Does
+    /// not allocate.
     pub fn fault(&self) -> Option<PoolFault>
         ensures some { IfSome result (λ fault. IsFault self.now.bytes fault × IsLasting fault) }
         ensures none { IfNone result (HasNoFaultYet self.now.bytes) }
@@ -102,8 +102,8 @@ impl Reading {
         self.fault
     }
 
-    /// The pool of the bytes so far, as `read_pool` reads them: whatever the pieces were. An error names the
-    /// first faulty record.
+    /// Reads the bytes so far as a pool, like `read_pool`, independent of their pieces. An error names the first faulty
+    /// record.
     pub fn pool(&self) -> Result<Pool<'_>, PoolFault>
         ensures pool { IfOk result (λ pool. (records : List Entry) × AreRecords records × (self.now.bytes ≡ joined records) × IsInForce records pool) }
         ensures only { (records : List Entry) → AreRecords records → self.now.bytes ≡ joined records → IfErr result IsWantOfMemory }
@@ -113,7 +113,7 @@ impl Reading {
     }
 }
 
-// Where nothing stands from the start on, the piece takes the place of the bytes.
+// Appends a piece; if no bytes follow `start` yet, the piece becomes the buffer without a copy.
 fn append(
     bytes: &mut Vec<u8>,
     start: &mut usize,
@@ -138,12 +138,12 @@ fn append(
     if let Err(error) = bytes.reserve(piece.len() - from) {
         return Err((piece, error));
     }
-    // It has that room, so it is not refused.
+    // The capacity is reserved, so this cannot fail.
     let _ = bytes.extend_from_slice(&piece[from..]);
     Ok(())
 }
 
-// Reads the records that the last bytes complete. A fault that was found stays.
+// Reads the records that the last bytes complete. An earlier fault stays.
 fn read_on(pool: &[u8], whole: usize, fault: Option<PoolFault>) -> (usize, Option<PoolFault>)
     requires { WereReadTo pool.now whole fault }
     ensures { IsReadTo pool.now result.0 result.1 }

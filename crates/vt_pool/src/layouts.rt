@@ -1,4 +1,4 @@
-//! The parts of the record of each kind, behind the ID and the type (docs/PROFILE.md, "Records").
+//! The field layout of each kind's record, after the ID and the type (docs/PROFILE.md, "Records").
 
 ghost use Rattle.std.specs.Prelude.{◌≡◌, map, true};
 ghost use Rattle.vt_kinds.specs.Records.{fields_of};
@@ -280,7 +280,7 @@ const OBJECT_POINTER: &[FieldLayout] = &[WORD];
 
 const MACRO_OBJECT: &[FieldLayout] = &[WORD_COUNT, CONTENT];
 
-/// The parts of a record of this kind.
+/// The field layout of a record of this kind.
 pub fn parts(kind: Kind) -> &'static [FieldLayout]
     ensures parts { result.now ≡ map part_of (fields_of kind) }
     ensures countable { are_countable result.now ≡ true }

@@ -1,8 +1,8 @@
-//! Object pools: the records that an implement uploads (ISO 11783-6), read and written.
+//! Object pools: the records that an implement uploads (ISO 11783-6).
 //!
-//! - `read_pool` reads a `Pool`, or answers the first `PoolFault`; `write_object` of vt_writing writes a record.
-//! - `Reading` is a pool that arrives in pieces.
-//! - `laws` has what the definitions come to.
+//! - `read_pool` reads a `Pool`, or returns the first `PoolFault`; `write_object` of vt_writing writes a record.
+//! - `Reading` is a pool upload in pieces.
+//! - `laws` has the theorems.
 //!
 //! docs/PROFILE.md, "Pools and faults", has the rules, and "Records" the layout of each kind.
 #![tactic(auto)]

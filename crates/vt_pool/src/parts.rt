@@ -1,4 +1,4 @@
-//! The parts of a record, as far as its length and its faults go.
+//! The layout of a record's fields: enough to find the record's end and its faults.
 
 ghost use Rattle.std.specs.Prelude.{◌≡◌, ◌<◌, ◌≤◌, ◌^◌, length, take, drop, IfSome, IfNone};
 ghost use Rattle.vt_pool.specs.Parts.{count_in, with_count, part_size, counts_behind, part_fault, IsLongEnough};
@@ -7,7 +7,7 @@ use byteorder::{ByteOrder, LittleEndian};
 use vt_kinds::{Decimals, Scale};
 use vt_records::PoolFault;
 
-/// What a count counts.
+/// The elements that a count field counts.
 #[derive(Clone, Copy)]
 pub enum Counted {
     Objects,
@@ -15,14 +15,14 @@ pub enum Counted {
     Others,
 }
 
-/// A field of a record.
+/// The layout of a record's field.
 #[derive(Clone, Copy)]
 pub enum FieldLayout {
-    /// A number of so many bytes.
+    /// A number of this many bytes.
     Number(usize),
-    /// How many entries a later list has, a number of so many bytes.
+    /// The number of entries of a later list, in this many bytes.
     Count(Counted, usize),
-    /// As many entries as were counted, each of so many bytes.
+    /// A list of as many entries as counted, each of this many bytes.
     List(Counted, usize),
     /// The four bytes of a scale.
     Scale,
@@ -30,7 +30,7 @@ pub enum FieldLayout {
     Decimals,
 }
 
-/// The counts of a record that were met so far.
+/// The counts of a record read so far.
 #[derive(Clone, Copy)]
 pub struct EntryCounts {
     objects: usize,
@@ -80,7 +80,7 @@ impl EntryCounts {
 }
 
 impl FieldLayout {
-    /// The bytes of the part, which stands behind these counts, and those after it, or `None` where they end before.
+    /// Splits the field's bytes off the front, given the counts before it; `None` if the bytes are too few.
     pub fn split<'a>(self, counts: EntryCounts, bytes: &'a [u8]) -> Option<(&'a [u8], &'a [u8])>
         ensures there { IfSome result (λ split. part_size self counts ≤ length bytes.now) }
         ensures front { IfSome result (λ split. split.0.now ≡ take (part_size self counts) bytes.now) }
@@ -94,7 +94,7 @@ impl FieldLayout {
         Some(bytes.split_at(size))
     }
 
-    /// How many bytes the part takes, unless that is no `usize`.
+    /// The number of bytes of the field, or `None` if it does not fit a `usize`.
     fn size(self, counts: EntryCounts) -> Option<usize>
         ensures some { IfSome result (λ size. size ≡ part_size self counts) }
         ensures none { IfNone result (2 ^ 64 ≤ part_size self counts) }
@@ -107,7 +107,7 @@ impl FieldLayout {
         }
     }
 
-    /// The counts behind the part, which has these bytes.
+    /// The counts after the field, which has these bytes.
     pub fn count(self, bytes: &[u8], counts: EntryCounts) -> EntryCounts
         requires { IsLongEnough self bytes.now }
         ensures { result ≡ counts_behind self bytes.now counts }
@@ -120,7 +120,7 @@ impl FieldLayout {
         }
     }
 
-    /// The fault of the part, which has these bytes and stands at a place of the pool.
+    /// The fault of the field, which has these bytes and is at index `at` of the pool.
     pub fn fault(self, bytes: &[u8], at: usize) -> Option<PoolFault>
         requires { IsLongEnough self bytes.now }
         ensures { result ≡ part_fault self bytes.now at }

@@ -1,4 +1,4 @@
-//! Passing over records without reading them: where they end, and which is faulty. It takes no memory.
+//! Skips records without an allocation, to find where they end and which is faulty.
 
 ghost use Rattle.std.specs.Prelude.{◌≡◌, ◌<◌, ◌≤◌, ◌+◌, ◌^◌, length, drop, IfOk};
 ghost use Rattle.vt_kinds.specs.Records.{fields_of};
@@ -11,8 +11,8 @@ use crate::parts::EntryCounts;
 use vt_kinds::Kind;
 use vt_records::{PoolFault, Reader, RecordFault, kind_with};
 
-/// Passes over the whole records from a place on, at which others end. Answers the end of the last, and the
-/// fault of what follows it, if the fault lasts.
+/// Skips the whole records from index `from` on, where earlier records end. Returns the end of the last one, and the
+/// lasting fault of the bytes after it, if they have one.
 pub fn pass_records(pool: &[u8], from: usize) -> (usize, Option<PoolFault>)
     requires { AreWholeTo pool.now from }
     ensures { IsReadTo pool.now result.0 result.1 }
@@ -27,7 +27,7 @@ pub fn pass_records(pool: &[u8], from: usize) -> (usize, Option<PoolFault>)
     (at, None)
 }
 
-/// The fault, if neither more bytes nor more memory cure it.
+/// The fault, if more bytes or more memory do not cure it.
 fn lasting(fault: PoolFault) -> Option<PoolFault>
     ensures { result ≡ lasting_of fault }
 {
@@ -37,7 +37,7 @@ fn lasting(fault: PoolFault) -> Option<PoolFault>
     }
 }
 
-/// The end of the record that begins at a place of a pool, or its fault.
+/// The end of the record at index `at` of a pool, or its fault.
 pub fn record_end(pool: &[u8], at: usize) -> Result<usize, PoolFault>
     requires { at < length pool.now }
     ensures passes { PassesRecord (length pool.now) at result (record_at (drop at pool.now)) }
@@ -53,7 +53,7 @@ pub fn record_end(pool: &[u8], at: usize) -> Result<usize, PoolFault>
     }
 }
 
-/// The kind of the record at the front.
+/// The kind of the record at the front, or its fault.
 fn kind_of_record(bytes: &[u8]) -> Result<Kind, RecordFault>
     ensures head { HeadGives result bytes.now }
     ensures long { IfOk result (λ kind. 3 ≤ length bytes.now) }
@@ -68,7 +68,7 @@ fn kind_of_record(bytes: &[u8]) -> Result<Kind, RecordFault>
     kind_with(number)
 }
 
-/// The bytes behind the fields of a record, which begins at a place of its pool, or its fault.
+/// The bytes after the fields of a record at index `at` of its pool, or its fault.
 fn pass_fields<'a>(kind: Kind, bytes: &'a [u8], at: usize) -> Result<&'a [u8], PoolFault>
     requires head { 3 ≤ length bytes.now }
     requires place { at + length bytes.now < 2 ^ 63 }

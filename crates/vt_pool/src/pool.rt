@@ -1,4 +1,4 @@
-//! Pools.
+//! Pools and their records.
 
 ghost use Rattle.std.specs.Prelude.{◌≡◌, ◌<◌, [], ◌++◌, length, map, slice_set, List, ℕ, IfOk, IfErr, OnOk};
 ghost use Rattle.std.specs.Option.{option_map};
@@ -15,14 +15,14 @@ use std::marker::Model;
 use vt_kinds::{Object, ObjectId};
 use vt_records::{PoolFault, RecordFault, read_record};
 
-/// The objects of a pool, each ID once, in the order in which their IDs first stood. Their texts are
-/// slices of the pool's bytes.
+/// The objects of a pool with unique IDs, in the order of the IDs' first occurrence. Their texts are slices of the
+/// pool's bytes.
 pub struct Pool<'a> {
     objects: Vec<(ObjectId, Object<&'a [u8]>)>,
     places: IndexSet<ObjectId>,
 }
 
-// Written out, so that its proof is not done again in each crate above.
+// Written out, so that the crates above need not prove it again.
 impl<'a> Drop for Pool<'a> {
     fn drop(self) {
         let Pool {
@@ -54,7 +54,7 @@ impl<'a> Pool<'a> {
         }
     }
 
-    /// The objects in the pool's order, each ID once. None has the ID NULL.
+    /// The objects in the pool's order. IDs are unique, and none is NULL.
     pub fn objects(&self) -> &[(ObjectId, Object<&'a [u8]>)]
         ensures all { map shown result.now ≡ self.now }
         ensures each { AreObjects self.now }
@@ -62,7 +62,7 @@ impl<'a> Pool<'a> {
         &self.objects
     }
 
-    /// The object of an ID, if the pool has one.
+    /// Returns the object of an ID, or `None`.
     pub fn get(&self, id: ObjectId) -> Option<&Object<&'a [u8]>>
         ensures { option_map (λ o. seen o.now) result ≡ finite.get (contents self.now) id }
     {
@@ -72,7 +72,7 @@ impl<'a> Pool<'a> {
         }
     }
 
-    /// Puts an object in the place of the one of its ID, or at the end.
+    /// Replaces the object of an ID, or appends it.
     fn put(&mut self, id: ObjectId, object: Object<&'a [u8]>) -> Result<(), RecordFault>
         requires { HasRecord id (seen object) }
         ensures ok { OnOk result (self.new ≡ with_entry self.old id (seen object.entry)) }
@@ -89,7 +89,7 @@ impl<'a> Pool<'a> {
     }
 }
 
-/// Puts an entry in the place of another.
+/// Replaces the entry at an index.
 fn replace<'a>(
     entries: &mut Vec<(ObjectId, Object<&'a [u8]>)>,
     place: usize,
@@ -101,12 +101,12 @@ fn replace<'a>(
     entries[place] = entry;
 }
 
-/// Reads a pool: records up to the end of the bytes. A later record of an ID replaces the earlier one in
-/// its place. An error names the first faulty record.
+/// Reads a pool from records up to the end of the bytes. A later record of an ID replaces the earlier one at its
+/// index. An error names the first faulty record.
 pub fn read_pool<'a>(alloc: Global, bytes: &'a [u8]) -> Result<Pool<'a>, PoolFault>
-    // What is read are whole records, joined, and the pool is what they leave in force.
+    // The bytes are whole records, and the pool has the objects in force after them.
     ensures pool { IfOk result (λ pool. (records : List Entry) × AreRecords records × (bytes.now ≡ joined records) × IsInForce records pool) }
-    // Whole records are read, unless memory runs out.
+    // Whole records fail only with OutOfMemory.
     ensures only { (records : List Entry) → AreRecords records → bytes.now ≡ joined records → IfErr result IsWantOfMemory }
     // A fault names the first faulty record and its first cause.
     ensures fault { IfErr result (IsFault bytes.now) }
@@ -114,7 +114,7 @@ pub fn read_pool<'a>(alloc: Global, bytes: &'a [u8]) -> Result<Pool<'a>, PoolFau
     read_records(alloc, bytes)
 }
 
-// The loop. That it reads all whole records is proved in `read_pool`, from the faults it gives.
+// The loop of `read_pool`, which derives from the faults that whole records are always read.
 fn read_records<'a>(alloc: Global, bytes: &'a [u8]) -> Result<Pool<'a>, PoolFault>
     ensures pool { IfOk result (λ pool. (records : List Entry) × AreRecords records × (bytes.now ≡ joined records) × IsInForce records pool) }
     ensures fault { IfErr result (IsFault bytes.now) }

@@ -1,4 +1,4 @@
-//! Tests of vt_objects, vt_pool and vt_rank, over what they export.
+//! Tests of the public interfaces of vt_objects, vt_pool and vt_rank.
 #![tactic(auto)]
 
 #[cfg(test)]

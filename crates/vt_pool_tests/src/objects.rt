@@ -27,7 +27,7 @@ fn ids(rt: HostRuntime) {
     }
 }
 
-// Each kind, the type of its records, and its name.
+// Each kind with its type number and its name.
 const KINDS: [(Kind, u8, &[u8]); 29] = [
     (Kind::WorkingSet, 0, b"Working Set"),
     (Kind::DataMask, 1, b"Data Mask"),
@@ -93,7 +93,7 @@ const MACROS: [MacroEntry; 2] = [
     },
 ];
 
-/// Whether a list has these macros, and its copy too.
+/// Whether a list of macro entries and its copy have these entries.
 fn are_entries(alloc: Global, macros: &[MacroEntry]) -> Result<bool, OutOfMemory> {
     let list = Vec::from_slice(alloc, macros)?;
     if list.len() > 255 {
@@ -117,7 +117,7 @@ fn entries(rt: HostRuntime) -> Result<(), Fail> {
     Ok(())
 }
 
-// Each scale, its bytes, and how many places it shifts.
+// Each scale with its bytes and its decimal places.
 const SCALES: [(Scale, [u8; 4], u8); 4] = [
     (Scale::One, [0x00, 0x00, 0x80, 0x3F], 0),
     (Scale::Tenth, [0xCD, 0xCC, 0xCC, 0x3D], 1),
@@ -196,7 +196,7 @@ fn number<B: AsSlice<u8>>(value: u32) -> Object<B> {
     Object::NumberVariable(NumberVariable { value })
 }
 
-/// The value of a Number Variable, if it is there.
+/// The value of a Number Variable, or `None` if it is missing.
 fn value_of<S: Store>(store: &S, id: u16) -> Option<u32> {
     match store.get(ObjectId::from_raw(id)) {
         Some(Object::NumberVariable(variable)) => Some(variable.value),
@@ -204,7 +204,7 @@ fn value_of<S: Store>(store: &S, id: u16) -> Option<u32> {
     }
 }
 
-/// Gives a Number Variable a value, if it is there.
+/// Sets the value of a Number Variable; false if it is missing.
 fn set_value<S: Store>(store: &mut S, id: u16, value: u32) -> bool {
     match store.get_mut(ObjectId::from_raw(id)) {
         Some(Object::NumberVariable(variable)) => {
@@ -215,7 +215,7 @@ fn set_value<S: Store>(store: &mut S, id: u16, value: u32) -> bool {
     }
 }
 
-/// Number Variables 7, 0 and 65534 of 70, 1 and 5.
+/// The Number Variables 7, 0 and 65534, with the values 70, 1 and 5.
 fn three_numbers(alloc: Global) -> Result<Vec<(ObjectId, Object<Vec<u8>>)>, OutOfMemory>
     ensures { IfOk result (λ objects. AreNamed (map shown objects.items)) }
 {
@@ -232,7 +232,7 @@ fn id_at<S: Store>(store: &S, place: usize) -> Option<u16> {
     }
 }
 
-/// An ID, its place, and the value of the number then.
+/// Each ID with its index and its value after the changes of `expect_numbers`.
 const NUMBERS: &[(u16, Option<usize>, Option<u32>)] = &[
     (0, Some(0), Some(2)),
     (7, Some(1), Some(70)),
@@ -241,7 +241,7 @@ const NUMBERS: &[(u16, Option<usize>, Option<u32>)] = &[
     (65_535, None, None),
 ];
 
-/// The places of a store, and their IDs.
+/// Each index of a store with its ID.
 const PLACES: &[(usize, Option<u16>)] = &[(0, Some(0)), (1, Some(7)), (2, Some(65_534)), (3, None)];
 
 fn has_numbers<S: Store>(store: &S, numbers: &[(u16, Option<usize>, Option<u32>)]) -> bool {
@@ -262,7 +262,7 @@ fn has_places<S: Store>(store: &S, places: &[(usize, Option<u16>)]) -> bool {
     store.count() == 3
 }
 
-/// Finds and changes those numbers in a store.
+/// Finds and changes the three numbers in a store.
 fn expect_numbers<S: Store>(rt: &impl Abort, store: &mut S) {
     assert!(rt; set_value(store, 0, 2) && set_value(store, 65_534, 6));
     assert!(rt; !set_value(store, 8, 3) && !set_value(store, 65_535, 3));

@@ -8,24 +8,24 @@ use std::test::Fail;
 use vt_objects::{LongText, Object, ObjectId, StringVariable};
 use vt_pool::*;
 
-/// A Working Set 0, a Data Mask 1000 and a Container 100, in three records from 0, 10 and 24.
+/// A Working Set 0, a Data Mask 1000 and a Container 100, in three records at bytes 0, 10 and 24.
 const POOL: [u8; 34] = [
     0, 0, 0, 0, 1, 0xE8, 3, 0, 0, 0, // the Working Set
     0xE8, 3, 1, 0, 0xFF, 0xFF, 1, 0, 100, 0, 10, 0, 5, 0, // the Data Mask
     100, 0, 3, 50, 0, 20, 0, 0, 0, 0, // the Container
 ];
 
-/// A Number Variable 5 of 1, another one 6 of 2, and again 5, of 3.
+/// A Number Variable 5 with the value 1, another one 6 with 2, and again 5 with 3.
 const AGAIN: [u8; 21] = [
     5, 0, 21, 1, 0, 0, 0, 6, 0, 21, 2, 0, 0, 0, 5, 0, 21, 3, 0, 0, 0,
 ];
 
-/// An Output Number 9 with the bytes of 0.5 for a scale, from byte 21.
+/// An Output Number 9 with the invalid scale 0.5, at byte 21.
 const SCALE: [u8; 29] = [
     9, 0, 12, 1, 0, 2, 0, 3, 4, 0, 5, 0xFF, 0xFF, 6, 0, 0, 0, 0, 0, 0, 0, 0, 0, 0, 0x3F, 0, 0, 0, 0,
 ];
 
-/// The same without its last byte, and with 8 decimals.
+/// An Output Number 9 with the invalid scale 0.5, without its last byte.
 const CUT_SCALE: [u8; 28] = [
     9, 0, 12, 1, 0, 2, 0, 3, 4, 0, 5, 0xFF, 0xFF, 6, 0, 0, 0, 0, 0, 0, 0, 0, 0, 0, 0x3F, 0, 0, 0,
 ];
@@ -34,13 +34,13 @@ const SCALE_AND_DECIMALS: [u8; 29] = [
     9, 0, 12, 1, 0, 2, 0, 3, 4, 0, 5, 0xFF, 0xFF, 6, 0, 0, 0, 0, 0, 0, 0, 0, 0, 0, 0x3F, 8, 0, 0, 0,
 ];
 
-/// The same with the scale 1 and 8 decimals, at byte 25.
+/// An Output Number 9 with the scale 1, and 8 decimals at byte 25.
 const DECIMALS: [u8; 29] = [
     9, 0, 12, 1, 0, 2, 0, 3, 4, 0, 5, 0xFF, 0xFF, 6, 0, 0, 0, 0, 0, 0, 0, 0, 0, 0x80, 0x3F, 8, 0,
     0, 0,
 ];
 
-/// A String Variable 9 of the text `AB`.
+/// A String Variable 9 with the text `AB`.
 const TEXT: [u8; 7] = [9, 0, 22, 2, 0, 65, 66];
 
 /// An Output Number 9 with the offset -2, the scale 1 and no decimals.
@@ -83,7 +83,7 @@ fn write_all(
     Ok(())
 }
 
-/// Whether the records of these bytes are read, and written again as they were.
+/// Whether the records of these bytes are written again as the same bytes.
 fn is_written_again(alloc: Global, bytes: &[u8]) -> Result<bool, Fail> {
     let mut out = Vec::new(alloc);
     let pool = read_pool(alloc, bytes)?;
@@ -99,7 +99,7 @@ fn written_again(rt: HostRuntime) -> Result<(), Fail> {
     Ok(())
 }
 
-/// The fault of the pool when it is cut to so many bytes.
+/// The fault of the pool cut to its first `end` bytes.
 fn fault_of_cut(end: usize) -> Option<PoolFault> {
     match end {
         0 | 10 | 24 | 34 => None,
@@ -176,7 +176,7 @@ fn texts_of_faults(rt: HostRuntime) -> Result<(), Fail> {
     expect_texts(&rt, &TEXTS)
 }
 
-/// Whether these are two numbers under the IDs 5 and 6, of 3 and 2.
+/// Whether the objects are two numbers 5 and 6, with the values 3 and 2.
 fn are_last(objects: &[(ObjectId, Object<&[u8]>)]) -> bool {
     match objects {
         [(a, first), (b, second)] => {

@@ -5,7 +5,7 @@ use vt_rank::*;
 
 mod costs;
 
-/// A graph whose nodes trigger these lists of nodes, each by one item.
+/// A graph in which each node triggers a list of nodes, by one item.
 fn graph_of(alloc: Global, targets: &[&[u8]]) -> Result<Graph, AllocError> {
     let mut nodes = Vec::new(alloc);
     let mut groups = Vec::new(alloc);
@@ -22,7 +22,7 @@ fn graph_of(alloc: Global, targets: &[&[u8]]) -> Result<Graph, AllocError> {
     })
 }
 
-/// A line of 256 nodes, each triggering the next; the last triggers nothing, or the one named.
+/// A line of 256 nodes, in which each triggers the next; the last triggers the nodes in `last`.
 fn line_of(alloc: Global, last: &[u8]) -> Result<Graph, AllocError> {
     let mut nodes = Vec::new(alloc);
     let mut groups = Vec::new(alloc);
@@ -47,7 +47,7 @@ fn line_of(alloc: Global, last: &[u8]) -> Result<Graph, AllocError> {
     })
 }
 
-/// The path of the circle that is answered, none where the nodes have ranks.
+/// The path of the circle in a graph; empty if its nodes have ranks.
 fn circle_of(graph: &Graph) -> ArrayVec<u8, 256> {
     match rank(graph) {
         Ok(_) => ArrayVec::new(),
@@ -55,18 +55,18 @@ fn circle_of(graph: &Graph) -> ArrayVec<u8, 256> {
     }
 }
 
-// The nodes that each node triggers, and the circle that is answered.
+// The nodes that each node triggers, and the expected circle.
 const CIRCLES: [(&[&[u8]], &[u8]); 5] = [
     // Two nodes share a target.
     (&[&[], &[3], &[3], &[]], &[]),
     (&[&[], &[], &[2]], &[2]),
-    // 0 leads to 5 and 6, which lie on one circle; 2 and 9 lie on another.
+    // Node 0 leads to 5 and 6, which are on one circle; 2 and 9 are on another.
     (
         &[&[5], &[], &[9], &[], &[], &[6], &[5], &[], &[], &[2]],
         &[2, 9],
     ),
     (&[&[1], &[2], &[3], &[1]], &[1, 2, 3]),
-    // 1 and 2 lead from the circle of 5 and 6 to that of 7 and 8, and lie on none.
+    // Nodes 1 and 2 lead from the circle of 5 and 6 to that of 7 and 8, and are on no circle.
     (
         &[&[1], &[2], &[7], &[], &[], &[6], &[1, 5], &[8], &[7]],
         &[5, 6],

@@ -1,4 +1,4 @@
--- Reading a list in a list of vectors.
+-- Reads of one list in a list of vectors.
 use Rattle.std.proofs.Common.{◌≡◌, ℕ, ◌<◌, ◌≤◌, [], length, get_or, sym, ◌∙◌, ap, arith, Vec}
 use Rattle.std.proofs.lemmas.List.{get_or-map, get_or_past, length-map}
 use Rattle.vt_rank.specs.Graphs.{lists}

@@ -1,4 +1,4 @@
--- How a table of costs is filled, and what it says once it is full.
+-- Filling of a table of costs, and the costs in the full table.
 use Rattle.std.proofs.Common.{◌≡◌, ◌≢◌, ℕ, ◌+◌, ◌^◌, ◌<◌, ◌≤◌, inl, inr, min, List, length, get_or, set, drop, sym, ◌∙◌, ap, subst, arith, slice_index, get_or-set_same, get_or-set_other}
 use Rattle.std.specs.List.{sum_by}
 use Rattle.std.proofs.lemmas.Bool.{cases_eq, cases_lt}
@@ -122,7 +122,7 @@ costs_are g cap table costs f within copies size groups small = record {
   groups = λ k. omega (arith, group_same g cap table f within k, groups k, small);
 }
 
--- a group that is not there costs nothing
+-- a missing group costs nothing
 pub group_past : (f : ℕ → ℕ) (g : Graph) (k : ℕ) → length g.groups.items ≤ k → group_total f g k ≡ 0
 unfolding group_of
 group_past f g k past = ap (sum_by f) (get_or-lists_past g.groups k past)

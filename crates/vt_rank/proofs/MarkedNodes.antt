@@ -1,4 +1,4 @@
--- One node more in a set: what that changes, and how many nodes are left that are not there.
+-- The insertion of a node into a set, and the number of nodes not in the set.
 use Rattle.std.proofs.Common.{◌≡◌, ◌==◌, ◌≢◌, ℕ, zero, suc, ◌+◌, ◌<◌, ◌≤◌, Bool, true, false, ◌⊎◌, inl, inr, [], ◌∷◌, refl, sym, ◌∙◌, subst, arith, eq-eqb, eqb-true}
 use Rattle.std.proofs.lemmas.Bool.{cases_eq}
 use Rattle.std.proofs.lemmas.Nat.Bits.{bit_at-lt}
@@ -22,7 +22,7 @@ marked_is set n there is is_true = eqb-true _ _ (sym is ∙ is_true)
 pub unmarked_is : (set : NodeSet) (n : ℕ) (there : Bool) → there ≡ (bit_of set n == 1) → there ≡ false → IsIn set n → ⊥
 unmarked_is set n there is is_false marked = let now = eq-eqb (bit_of set n) 1 marked in cc
 
--- ---- how many are left
+-- ---- the number of nodes not in a set
 
 absent_all : (set : NodeSet) (k : ℕ) → ((n : ℕ) → IsIn set n → ⊥) → absent_below set k ≡ k
 absent_all set zero none = refl
@@ -66,7 +66,7 @@ absent_one before after i (suc k) a unmarked =
           (λ less. omega (arith, rest.0 (omega (arith, less, other)), kept), λ past. omega (arith, rest.1 (omega (arith, past)), kept))
     ]
 
--- one mark more, one left less
+-- the insertion of a node lowers the number of nodes not in the set by one
 pub absent-insert : (before after : NodeSet) (i : ℕ) → Adds before after (i ∷ []) → i < 256 → (IsIn before i → ⊥) → absent after + 1 ≡ absent before
 unfolding absent
 absent-insert before after i a small unmarked = (absent_one before after i 256 a unmarked).0 small

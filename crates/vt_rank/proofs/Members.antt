@@ -1,4 +1,4 @@
--- Elements of lists: where they stand.
+-- Elements of lists, and their positions.
 use Rattle.std.proofs.Common.{◌≡◌, ℕ, ◌⊎◌, inl, inr, List, [], ◌∷◌, ◌++◌, sym, ap, subst, arith}
 use Rattle.std.specs.List.{Contains}
 use Rattle.vt_rank.specs.Paths.{IsDistinct}
@@ -20,7 +20,7 @@ Contains-cons_cases y x xs h =
       | inr later ↦ inr later
     ]
 
--- the list around an element
+-- a list split around an element
 pub around : (x : ℕ) (xs : List ℕ) → Contains xs x → (before : List ℕ) × (after : List ℕ) × (xs ≡ before ++ x ∷ after)
 around x [] h = absurd (Contains-nil x h)
 around x (y ∷ ys) h =
@@ -29,7 +29,7 @@ around x (y ∷ ys) h =
       | inr later ↦ let r = around x ys later in (y ∷ r.0, r.1, ap (λ (zs : List ℕ). y ∷ zs) r.2)
     ]
 
--- ---- no element twice
+-- ---- lists of distinct elements
 
 pub IsDistinct-push : (xs : List ℕ) (y : ℕ) → IsDistinct xs → (Contains xs y → ⊥) → IsDistinct (xs ++ y ∷ [])
 IsDistinct-push [] y d apart = (Contains-nil y, tt)

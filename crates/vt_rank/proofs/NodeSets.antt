@@ -1,4 +1,4 @@
--- What changes in a set of nodes as nodes are inserted.
+-- Sets of nodes after insertions.
 use Rattle.std.proofs.Common.{◌≡◌, ◌≢◌, ℕ, ◌+◌, ◌-◌, ◌*◌, ◌/◌, ◌%◌, ◌^◌, ◌<◌, ◌≤◌, ◌⊎◌, inl, inr, min, max, List, [], ◌∷◌, ◌++◌, length, get_or, set, drop, refl, sym, ◌∙◌, ap, subst, arith, w64, get_or-set_same, get_or-set_other}
 use Rattle.std.specs.Prelude.{bit_or, bit_and}
 use Rattle.std.specs.Int.{bit_at, trailing_zeros}
@@ -56,7 +56,7 @@ inserted before node place at inside =
           ];
     }
 
--- ---- sets in a row
+-- ---- insertions one after the other
 
 pub Adds-none : (set : NodeSet) → Adds set set []
 Adds-none set = record { kept = λ n is. is; there = λ n none. absurd (Contains-nil n none); only = λ n is. inl is }
@@ -72,7 +72,7 @@ Adds-join a b c xs ys first then_ = record {
       ];
 }
 
--- whatever adds the rest to the set of now makes all of what there was at first
+-- the insertion of the remaining nodes into the current set completes the insertion of all nodes into the first set
 pub record IsAdding {X : Type 0} (f : X → List ℕ) (xs : List X) (i : ℕ) (before now : NodeSet) : Type 0 where
   pub rest : (after : NodeSet) → Adds now after (flat_map f (drop i xs)) → Adds before after (flat_map f xs)
 
@@ -89,7 +89,7 @@ adding_done {X} f xs i before now past a =
 pub set_of : (empty set : NodeSet) (nodes : List ℕ) → ((n : ℕ) → IsIn empty n → ⊥) → Adds empty set nodes → IsSetOf set nodes
 set_of empty set nodes none a = λ n. (λ is. elim (a.only n is) as (λ _. Contains nodes n) [ inl was ↦ absurd (none n was) | inr among ↦ among ], λ among. a.there n among)
 
--- a whole set is inserted
+-- the insertion of a whole set
 pub adds_set : (before after others : NodeSet) (nodes : List ℕ) → IsSetOf others nodes → ((n : ℕ) → IsIn before n → IsIn after n) → ((n : ℕ) → IsIn others n → IsIn after n) → ((n : ℕ) → IsIn after n → IsIn before n ⊎ IsIn others n) → Adds before after nodes
 adds_set before after others nodes is kept there only = record {
   kept = kept;
@@ -139,7 +139,7 @@ pub one_by_one : (xs : List ℕ) → flat_map (λ (n : ℕ). n ∷ []) xs ≡ xs
 one_by_one [] = refl
 one_by_one (x ∷ xs) = ap (λ (ys : List ℕ). x ∷ ys) (one_by_one xs)
 
--- ---- the nodes of a word that another word has not
+-- ---- the nodes of a word that are not in another word
 
 bit_outside : (a b k : ℕ) → b < 2 ^ 64 → k < 64 → bit_at (bit_and a (18446744073709551615 - b)) k ≡ min (bit_at a k) (1 - bit_at b k)
 bit_outside a b k fits within = bit_at_and a (18446744073709551615 - b) k ∙ ap (min (bit_at a k)) (bit_at_not w64 b k fits within)

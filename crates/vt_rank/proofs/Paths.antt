@@ -1,4 +1,4 @@
--- Paths joined and cut, and what follows for circles.
+-- Paths joined and split, and the circles made of them.
 use Rattle.std.proofs.Common.{ℕ, ◌<◌, ◌≤◌, inl, inr, List, [], ◌∷◌, ◌++◌, sym, subst, arith, append_assoc, slice_index, slice_index_or}
 use Rattle.std.specs.List.{Contains}
 use Rattle.std.proofs.lemmas.Bool.{cases_lt}
@@ -26,11 +26,11 @@ IsPath-join g [] m ys h k = k
 IsPath-join g (x ∷ []) m ys h k = (h.0, k)
 IsPath-join g (x ∷ y ∷ xs) m ys h k = (h.0, IsPath-join g (y ∷ xs) m ys h.1 k)
 
--- one node more, which the last one triggers
+-- a path with one more node, which its last node triggers
 pub IsPath-push : (g : Graph) (xs : List ℕ) (m n : ℕ) → IsPath (triggered g) (xs ++ m ∷ []) → Triggers (triggered g) m n → IsPath (triggered g) ((xs ++ m ∷ []) ++ n ∷ [])
 IsPath-push g xs m n h t = rw append_assoc (IsPath-join g xs m (n ∷ []) h (t, tt))
 
--- a path whose last node triggers one that stands on it
+-- a node on a path, triggered by the last node of the path, is on a circle
 pub closed_path : (g : Graph) (xs : List ℕ) (m n : ℕ) → IsPath (triggered g) (xs ++ m ∷ []) → Triggers (triggered g) m n → Contains (xs ++ m ∷ []) n → IsOnCircle g n
 closed_path g xs m n h t on_path =
     let parts = around n (xs ++ m ∷ []) on_path in
@@ -52,7 +52,7 @@ IsOnCircle-from g path n circle on_it =
     let parts = around n path on_it in
     turned g n parts.0 parts.1 (subst (IsCircle (triggered g)) parts.2 circle)
 
--- what passes from each node to those it triggers passes along a path
+-- ranks that fall along every trigger fall along a path
 pub falls_along : (g : Graph) (ranks : List ℕ) → RanksFall g ranks → (x : ℕ) (xs : List ℕ) (y : ℕ) → IsPath (triggered g) ((x ∷ xs) ++ y ∷ []) → slice_index ranks y < slice_index ranks x
 falls_along g ranks falls x [] y h = falls x y h.0
 falls_along g ranks falls x (z ∷ xs) y h = omega (arith, falls x z h.0, falls_along g ranks falls z xs y h.1)
@@ -61,7 +61,7 @@ pub no_circle : (g : Graph) (ranks : List ℕ) → RanksFall g ranks → HasNoCi
 no_circle g ranks falls [] h = h
 no_circle g ranks falls (x ∷ xs) h = let less = falls_along g ranks falls x xs x h in omega (arith, less)
 
--- where no lesser node lies on a circle, no circle has a lesser node
+-- if no lesser node begins a circle, no circle has a lesser node
 pub least_on_circles : (g : Graph) (first : ℕ) → ((n : ℕ) → n < first → (rest : List ℕ) → IsCircle (triggered g) (n ∷ rest) → ⊥) → IsLeastOnCircles (triggered g) first
 least_on_circles g first none path circle k d inside =
     elim (cases_lt (slice_index_or path k d) first) as (λ _. first ≤ slice_index_or path k d) [

@@ -1,4 +1,4 @@
--- How far the search for a circle through a node has come.
+-- The invariant of the search for a circle through a node.
 use Rattle.std.proofs.Common.{◌≡◌, ◌≢◌, ℕ, ◌+◌, ◌*◌, ◌<◌, ◌≤◌, ◌⊎◌, inl, inr, List, [], ◌∷◌, ◌++◌, length, refl, sym, ◌∙◌, subst, ap, arith, slice_index, length-append}
 use Rattle.std.specs.List.{Contains}
 use Rattle.std.proofs.lemmas.List.{get_or_append_left}
@@ -12,8 +12,8 @@ use Rattle.vt_rank.proofs.Members.{Contains-nil, Contains-head, Contains-cons_ca
 use Rattle.vt_rank.proofs.MarkedNodes.{marked_here, marked_before, absent-insert, absent-none, absent-some}
 use Rattle.vt_rank.proofs.Paths.{IsPath-front, IsPath-push}
 
--- Whatever a node triggers that was seen, or the start, is seen, unless the node is on the path. The path has no
--- node twice.
+-- The nodes triggered by the start or by a seen node are seen, unless that node is on the path. The nodes of the
+-- path are distinct.
 pub record IsQuest (g : Graph) (start : ℕ) (seen : NodeSet) (path : List ℕ) : Type 0 where
   pub closed : (m n : ℕ) → (start ≡ m) ⊎ IsIn seen m → Triggers (triggered g) m n → IsIn seen n ⊎ Contains path m
   pub unseen : IsIn seen start → ⊥
@@ -80,7 +80,7 @@ quest_popped g start seen front node q all = record {
   room = omega (arith, q.room, length-append front (node ∷ []));
 }
 
--- there is room for one node more: the start is not seen either
+-- the path has spare capacity for one more node, for the start is not seen
 pub quest_room : (g : Graph) (start : ℕ) (seen : NodeSet) (path : List ℕ) (next : ℕ) (more : NodeSet) → IsQuest g start seen path → (IsIn seen next → ⊥) → next ≢ start → next < 256 → start < 256 → Adds seen more (next ∷ []) → length path < 256
 quest_room g start seen path next more q unseen other small also a =
     let still = λ (marked : IsIn more start). elim (marked_before seen more next start a marked) as (λ _. ⊥) [ inl before ↦ q.unseen before | inr same ↦ other same ] in
@@ -105,7 +105,7 @@ quest_ends g start seen q [] h = elim (q.closed start start (inl refl) h.0) as (
 quest_ends g start seen q (z ∷ zs) h =
     elim (q.closed start z (inl refl) h.0) as (λ _. ⊥) [ inl is ↦ q.unseen (marked_along g start seen q z zs start is h.1) | inr none ↦ Contains-nil start none ]
 
--- ---- the steps of the search, with what its calls say
+-- ---- the steps of the search, by the contracts of its calls
 
 pub next_pushed : (g : Graph) (start : ℕ) (seen : NodeSet) (path front : List ℕ) (node next : ℕ) (more : NodeSet) (after later : List ℕ)
     → IsQuest g start seen path → path ≡ front ++ node ∷ [] → Triggers (triggered g) node next → (IsIn seen next → ⊥) → (next ≡ start → ⊥) → next < 256 → Adds seen more (next ∷ []) → after ≡ front ++ node ∷ [] → later ≡ after ++ next ∷ []
@@ -123,7 +123,7 @@ next_room g start seen path front node next more after quest parts unseen other 
     let q = subst (λ (p : List ℕ). IsQuest g start seen p) (parts ∙ sym is_after) quest in
     quest_room g start seen after next more q unseen other small also a
 
--- twice the nodes not seen, and the nodes on the path
+-- the measure of the search: twice the number of nodes not seen, plus the length of the path
 abbrev pub work : NodeSet → List ℕ → ℕ
 work seen path = 2 * absent seen + length path
 

@@ -1,4 +1,4 @@
--- Paths joined at one node after the other, until each has its pair.
+-- Rows joined at one node after the other, until each row has all nodes that its node leads to.
 use Rattle.std.proofs.Common.{◌≡◌, ℕ, ◌+◌, ◌%◌, ◌<◌, ◌≤◌, ◌↔◌, inl, inr, List, [], ◌∷◌, ◌++◌, length, set, sym, ◌∙◌, subst, ap, append_assoc, arith, get_or-set_same, get_or-set_other}
 use Rattle.std.proofs.lemmas.Bool.{cases_lt, cases_eq}
 use Rattle.std.proofs.lemmas.Nat.Bits.{bit_at-zero}
@@ -11,7 +11,7 @@ use Rattle.vt_rank.specs.NodeSets.{bit_of, IsIn, IsSetOf, IsJoined, row, Reaches
 use Rattle.vt_rank.proofs.Paths.{IsPath-join}
 use Rattle.vt_rank.proofs.Searching.{none_past}
 
--- no node is in a row that is not there
+-- a missing row has no nodes
 pub row_past : (rows : List NodeSet) (m n : ℕ) → length rows ≤ m → IsIn (row rows m) n → ⊥
 row_past rows m n past is =
     let none : row rows m ≡ record { words = [] } = get_or_past rows m (record { words = [] }) past in
@@ -80,7 +80,7 @@ rows_joined before now via node size all j m =
           }
     ]
 
--- ---- at one node after the other
+-- ---- joins at one node after the other
 
 pub record IsClosing (g : Graph) (rows : List NodeSet) (via : ℕ) : Type 0 where
   pub sound : (m n : ℕ) → Reaches rows m n → Leads g m n

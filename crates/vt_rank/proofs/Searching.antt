@@ -1,4 +1,4 @@
--- What each step of the search that ranks nodes keeps.
+-- Each step of the search that ranks the nodes keeps its invariant.
 use Rattle.std.proofs.Common.{◌≡◌, ℕ, ◌+◌, ◌<◌, ◌≤◌, ◌⊎◌, inl, inr, List, [], ◌∷◌, ◌++◌, length, set, sym, ◌∙◌, subst, ap, take, arith, slice_index, length-append, get_or-set_other, get_or-set_same}
 use Rattle.std.specs.List.{Contains, flat_map}
 use Rattle.std.proofs.lemmas.Bool.{cases_lt}
@@ -28,7 +28,7 @@ search_begins g s unranked unseen size count = record {
   room = omega (arith, count, absent-none s.seen unseen);
 }
 
--- a node that was not seen goes on the path
+-- the invariant after an unseen node is appended to the path
 pub search_pushed : (g : Graph) (s : Search) (path : List ℕ) (n : ℕ) (seen : NodeSet) → IsSearch g s path → IsPath (triggered g) (path ++ n ∷ []) → (IsIn s.seen n → ⊥) → (IsIn s.ranked n → ⊥) → n < 256 → Adds s.seen seen (n ∷ []) → IsSearch g (record s { seen = seen }) (path ++ n ∷ [])
 search_pushed g s path n seen h longer unseen unranked small a = record {
   falls = h.falls;
@@ -49,7 +49,7 @@ search_pushed g s path n seen h longer unseen unranked small a = record {
   room = simp length-append (omega (arith, h.room, absent-insert s.seen seen n a small unseen));
 }
 
--- the last node of the path gets the next rank, where all that it triggers has one
+-- the invariant after the last node of the path gets the next rank, if all nodes triggered by it have ranks
 pub search_ranked : (g : Graph) (s : Search) (front : List ℕ) (node : ℕ) (ranked : NodeSet) → IsSearch g s (front ++ node ∷ []) → ((n : ℕ) → Triggers (triggered g) node n → IsIn s.ranked n) → Adds s.ranked ranked (node ∷ []) → node < length s.ranks
     → IsSearch g (record s { ranks = set s.ranks node s.count; ranked = ranked; count = s.count + 1 }) front
 search_ranked g s front node ranked h all a here =
@@ -93,13 +93,13 @@ search_ranked g s front node ranked h all a here =
 pub search_room : (g : Graph) (s : Search) (path : List ℕ) (n : ℕ) (seen : NodeSet) → IsSearch g s path → (IsIn s.seen n → ⊥) → n < 256 → Adds s.seen seen (n ∷ []) → length path < 256
 search_room g s path n seen h unseen small a = omega (arith, h.room, absent-insert s.seen seen n a small unseen)
 
--- How far a visit has come that begins at a node.
+-- The invariant of a visit that begins at a node.
 pub record IsVisit (g : Graph) (start : ℕ) (before now : Search) (path : List ℕ) : Type 0 where
   pub search : IsSearch g now path
   pub started : IsIn now.ranked start ⊎ Contains path start
   pub kept : (n : ℕ) → IsIn before.ranked n → IsIn now.ranked n
 
--- ---- the steps of a visit, with what its calls say
+-- ---- the steps of a visit, by the contracts of its calls
 
 pub target_is : (g : Graph) (rows : List NodeSet) (node i n : ℕ) → AreTargets g rows → i ≡ node → IsIn (row rows i) n → Triggers (triggered g) node n
 target_is g rows node i n are at is = (are node n).0 (subst (λ (k : ℕ). IsIn (row rows k) n) at is)
@@ -166,7 +166,7 @@ visit_circle g start before s path front node next v parts t unranked seen =
       | inr on_path ↦ closed_path g front node next (subst (IsPath (triggered g)) parts v.search.walk) t (subst (λ (p : List ℕ). Contains p next) parts on_path)
     ]
 
--- ---- at the end
+-- ---- the end of the search
 
 pub items_past : (g : Graph) (m : ℕ) → 256 ≤ m → items_of g m ≡ []
 unfolding items_of

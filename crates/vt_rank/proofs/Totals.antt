@@ -1,4 +1,4 @@
--- Totals under two cost functions that agree up to a limit agree up to it.
+-- Totals agree up to a limit if their cost functions agree up to it.
 use Rattle.std.proofs.Common.{◌≡◌, ℕ, zero, suc, ◌+◌, ◌<◌, inl, inr, min, max, List, [], ◌∷◌, refl, sym, ap, subst, arith, slice_index}
 use Rattle.std.specs.List.{Contains, flat_map, sum_by}
 use Rattle.std.proofs.lemmas.List.Sums.{sum_by-cons}
@@ -47,7 +47,7 @@ pub node_total-meets : (g : Graph) (f h : ℕ → ℕ) (l n : ℕ) → ((t : ℕ
 node_total-meets g f h l n meet =
     sum_by-meets (item_cost f g) (item_cost h g) l (items_of g n) (λ item among. item_cost-meets g f h l item (λ t inside. meet t (Contains-flat_map (nodes_of g) (items_of g n) item t among inside)))
 
--- ---- in full
+-- ---- without a limit
 
 both : (a b : ℕ) → min a (a + b) ≡ min b (a + b) → a ≡ b
 both a b meet = omega arith
@@ -62,7 +62,7 @@ node_total-same g f h n same =
     let l = node_total f g n + node_total h g n in
     both (node_total f g n) (node_total h g n) (node_total-meets g f h l n (λ t inside. ap (λ (k : ℕ). min k l) (same t inside)))
 
--- from a node's rank on, its cost stays the same
+-- the cost of a node is the same for all depths above its rank
 settled : (g : Graph) (ranks : List ℕ) → AreRanks g ranks → (d e n : ℕ) → slice_index ranks n < d → slice_index ranks n < e → cost_within d g n ≡ cost_within e g n
 unfolding cost_within
 settled g ranks are zero e n below also = absurd (omega (arith, below))

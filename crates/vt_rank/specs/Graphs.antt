@@ -1,4 +1,4 @@
--- What a node of a graph triggers.
+-- The items of a graph's nodes, and the nodes triggered by them.
 use Rattle.std.specs.Prelude.{ℕ, List, [], map, take, slice_index_or}
 use Rattle.std.specs.List.{flat_map}
 use Rattle.std.specs.declared.vec.Vec.{Vec}
@@ -18,7 +18,7 @@ items_of g n = slice_index_or (take 256 (lists g.nodes)) n []
 unfoldable pub group_of : Graph → ℕ → List ℕ
 group_of g k = slice_index_or (lists g.groups) k []
 
--- the nodes that an item stands for
+-- the nodes of an item
 abbrev pub nodes_of : Graph → Item → List ℕ
 nodes_of g Step = []
 nodes_of g (Group k) = group_of g k

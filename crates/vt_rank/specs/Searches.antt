@@ -1,4 +1,4 @@
--- How far the search in depth has come that ranks the nodes.
+-- The invariant of the depth-first search that ranks the nodes.
 use Rattle.std.specs.Prelude.{◌≡◌, ℕ, ◌+◌, ◌<◌, ◌≤◌, ◌⊎◌, List, length, slice_index, Contains}
 use Rattle.vt_rank.specs.declared.graph.Graph.{Graph}
 use Rattle.vt_rank.specs.declared.search.Search.{Search}
@@ -6,8 +6,8 @@ use Rattle.vt_rank.specs.Graphs.{triggered}
 use Rattle.vt_rank.specs.Paths.{Triggers, IsPath, IsDistinct}
 use Rattle.vt_rank.specs.NodeSets.{IsIn, absent}
 
--- The path leads from the node where the search began to the one it is at. Every node seen is on the path or
--- has a rank.
+-- The path leads from the start of the search to its current node. Every node seen is on the path or has a
+-- rank.
 pub record IsSearch (g : Graph) (s : Search) (path : List ℕ) : Type 0 where
   pub falls : (m n : ℕ) → IsIn s.ranked m → Triggers (triggered g) m n → IsIn s.ranked n × (slice_index s.ranks n < slice_index s.ranks m)
   pub below : (n : ℕ) → IsIn s.ranked n → slice_index s.ranks n < s.count

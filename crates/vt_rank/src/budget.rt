@@ -1,4 +1,4 @@
-//! What nodes and groups cost, and what is over a cap.
+//! The costs of nodes and groups, and the first of them over a cap.
 
 ghost use Rattle.std.specs.Prelude.{◌≡◌, slice_index};
 ghost use Rattle.vt_rank.specs.Costs.{group_cost, AreCosts};
@@ -6,7 +6,7 @@ ghost use Rattle.vt_rank.specs.Costs.{group_cost, AreCosts};
 use crate::graph::Graph;
 use std::marker::Model;
 
-/// What each node of a graph costs.
+/// The cost of each node of a graph.
 #[derive(Debug, Drop)]
 pub struct Costs {
     pub(crate) costs: [u32; 256],
@@ -20,25 +20,25 @@ impl Model for Costs {
     ghost view = { λ c. c.costs };
 }
 
-/// A node or a group that costs more than the cap.
+/// A node or a group with a cost over the cap.
 #[derive(Clone, Copy, Debug, PartialEq, Eq)]
 pub enum OverBudget {
     /// The least node over the cap.
     Node(u8),
-    /// The first group over the cap, where no node is over it.
+    /// The first group over the cap, if no node is over it.
     Group(usize),
 }
 
 impl Costs {
-    /// What a node costs.
+    /// The cost of a node.
     pub fn node(&self, node: u8) -> u32
         ensures { result ≡ slice_index self.now node }
     {
         self.costs[usize::from(node)]
     }
 
-    /// What a group of the graph costs: the sum over its nodes, repeats counted. The graph is the one whose
-    /// costs these are.
+    /// The cost of a group of the graph: the sum over its nodes, repeats counted. `graph` is the graph of
+    /// these costs.
     pub fn group(&self, graph: &Graph, group: usize) -> u32
         requires { AreCosts graph.now self.now }
         ensures { result ≡ group_cost graph.now group }

@@ -10,19 +10,19 @@ use crate::graph::Graph;
 use crate::ranking::Ranks;
 use crate::table::{cost_of_nodes, fill, no_costs};
 
-/// What each node costs, or the name that is over the cap: the least node, or where no node is over it the
-/// first group. A step costs one, a group what its nodes cost together, `Item::Most` what the costliest of its
-/// groups costs, and 0 where there is none. `ranks` are those of this graph.
+/// Returns the cost of each node, or what is over the cap: the least node, or the first group if no node is
+/// over it. A step costs one, a group the sum of its nodes' costs, and `Item::Most` the cost of the costliest
+/// of its groups, or 0 without groups. `ranks` are those of this graph.
 ///
-/// It takes no memory, and on x86-64 about six kilobytes of stack. It reads each item once, with the nodes of
-/// its group, the groups of `Item::Most` once in all, and at the end each group once more.
+/// Does not allocate. Uses about six kilobytes of stack on x86-64. Reads each item once, with the nodes of its
+/// group, the groups of `Item::Most` once in all, and at the end each group once more.
 pub fn costs(graph: &Graph, ranks: &Ranks, cap: u32) -> Result<Costs, OverBudget>
     requires { AreRanks graph.now ranks.now }
     ensures costs { IfOk result (AreCosts graph.now) }
     ensures within { IfOk result (λ _. IsWithin graph.now cap) }
     ensures over { IfErr result (IsFirstOver graph.now cap) }
 
-    // Where there are ranks, each node costs what its items cost.
+    // The cost of a node is the sum of its items' costs.
     ensures totals { CostsAreTotals graph.now }
 {
     let limit = u64::from(cap) + 1;
@@ -41,7 +41,7 @@ pub fn costs(graph: &Graph, ranks: &Ranks, cap: u32) -> Result<Costs, OverBudget
     }
 }
 
-// The costs of all nodes, or the least node over the cap.
+// Returns the costs of all nodes, or the least node over the cap.
 fn nodes_within(table: &[u64; 256], cap: u32) -> Result<[u32; 256], u8>
     ensures costs { IfOk result (λ costs. (n : ℕ) → n < 256 → slice_index costs n ≡ slice_index table.now n) }
     ensures within { IfOk result (λ _. (n : ℕ) → n < 256 → slice_index table.now n ≤ cap) }
@@ -58,7 +58,7 @@ fn nodes_within(table: &[u64; 256], cap: u32) -> Result<[u32; 256], u8>
     Ok(costs)
 }
 
-// The first group whose nodes cost more than the cap together.
+// Returns the first group over the cap.
 fn group_over(graph: &Graph, table: &[u64; 256], cap: u32) -> Option<usize>
     ensures over { IfSome result (λ k. cap < group_total (slice_index table.now) graph.now k) }
     ensures first { IfSome result (λ k. (j : ℕ) → j < k → group_total (slice_index table.now) graph.now j ≤ cap) }

@@ -1,4 +1,4 @@
-//! The circle that is reported: through the least node that lies on any.
+//! The reported circle, through the least node on any circle.
 
 ghost use Rattle.std.specs.Prelude.{◌≡◌, ℕ, ◌∷◌, List, IfSome, IfNone, slice_index};
 ghost use Rattle.vt_rank.specs.Paths.{IsCircle, IsDistinct, IsOnCircle, IsLeastOnCircles};
@@ -10,15 +10,15 @@ use crate::node_set::NodeSet;
 use crate::reach::{least_on_circles, write_targets};
 use arrayvec::ArrayVec;
 
-/// A circle of triggers: each node of the path triggers the next, and the last one the first. No node stands
-/// there twice.
+/// A circle of triggers: each node of the path triggers the next, and the last one the first. The nodes are
+/// distinct.
 #[derive(Debug, Drop)]
 pub struct Circle {
-    /// The nodes, of which the first is the least that lies on any circle of the graph.
+    /// The nodes, beginning with the least node on any circle of the graph.
     pub path: ArrayVec<u8, 256>,
 }
 
-/// A circle through the least node that lies on any, where a node is known that lies on one.
+/// Returns a circle through the least node on any circle. `known` is a node on a circle.
 pub(crate) fn least_circle(graph: &Graph, rows: &mut [NodeSet; 256], known: u8) -> Circle
     requires targets { AreTargets graph.now rows.old }
     requires known { IsOnCircle graph.now known }
@@ -27,14 +27,14 @@ pub(crate) fn least_circle(graph: &Graph, rows: &mut [NodeSet; 256], known: u8) 
     ensures least { IsLeastOnCircles (triggered graph.now) (slice_index result.path.items 0) }
 {
     let least = least_on_circles(rows, graph, known);
-    // The search for the least node has made paths of any length of the targets.
+    // The search for the least node has extended the targets to paths of any length.
     write_targets(rows, graph);
     Circle {
         path: circle_through(graph, rows, least).unwrap(),
     }
 }
 
-// A circle that begins with a node, if there is one: searches from it in depth, until it is triggered again.
+// Returns a circle that begins with a node, if there is one, by a depth-first search from that node.
 fn circle_through(graph: &Graph, targets: &[NodeSet; 256], start: u8) -> Option<ArrayVec<u8, 256>>
     requires { AreTargets graph.now targets.now }
     ensures circle { IfSome result (λ path. IsCircle (triggered graph.now) path.items) }

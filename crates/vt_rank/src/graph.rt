@@ -1,30 +1,30 @@
-//! Graphs.
+//! Graphs of triggers.
 
 ghost use Rattle.std.specs.Prelude.{◌≡◌};
 ghost use Rattle.vt_rank.specs.Graphs.{items_of, group_of};
 
-/// What a node is made of.
+/// An item of a node.
 #[derive(Clone, Copy, Debug, PartialEq, Eq)]
 pub enum Item {
-    /// Costs one and names no node.
+    /// A step, which costs one and triggers no node.
     Step,
-    /// Stands for the nodes of a group, all of them.
+    /// All nodes of a group, given by its index.
     Group(usize),
-    /// Stands for the nodes of the groups in `Graph::most`, and costs what the costliest of these groups does.
+    /// The nodes of all groups in `Graph::most`, at the cost of the costliest of these groups.
     Most,
 }
 
-/// A graph of 256 nodes. A node triggers those that its items stand for.
+/// A graph of 256 nodes. A node triggers the nodes of its items.
 ///
-/// A node without an entry in `nodes` has no items, and entries from 256 on are no nodes. A group that is not
-/// there holds no nodes.
+/// A node without an entry in `nodes` has no items, and entries from 256 on are ignored. A missing group has no
+/// nodes.
 #[derive(Debug, Drop)]
 pub struct Graph {
     /// The items of each node.
     pub nodes: Vec<Vec<Item>>,
-    /// The nodes of each group, in which one may stand several times.
+    /// The nodes of each group, with possible repeats.
     pub groups: Vec<Vec<u8>>,
-    /// The groups of which `Item::Most` stands for the costliest.
+    /// The indices of the groups of `Item::Most`.
     pub most: Vec<usize>,
 }
 

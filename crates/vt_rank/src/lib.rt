@@ -1,11 +1,11 @@
 //! Ranks and costs on a graph of triggers.
 //!
 //! - `Graph` has an `Item` for each step, group and choice of a node.
-//! - `rank` gives `Ranks`, or a `Circle`; `costs` gives `Costs`, or what is `OverBudget`.
-//! - `laws` has what the definitions come to.
+//! - `rank` returns `Ranks` or a `Circle`. `costs` returns `Costs`, or what is `OverBudget`.
+//! - `laws` has theorems about the definitions in specs/.
 //!
-//! docs/PROFILE.md has the rules: "Triggers and circles", "Costs and budgets". A node stands for a macro, an
-//! item for what one of its commands adds to its cost, a group for the macros listed at an event of an object.
+//! docs/PROFILE.md has the rules: "Triggers and circles", "Costs and budgets". A node is a macro, an item the
+//! cost of one of its macro commands, and a group the macros listed at an event of an object.
 #![tactic(auto)]
 
 mod budget;

@@ -3,7 +3,7 @@
 ghost use Rattle.std.specs.Prelude.{◌≡◌, ◌==◌, ℕ, [], ◌∷◌, ◌⊎◌, IfSome, IfNone};
 ghost use Rattle.vt_rank.specs.NodeSets.{bit_of, IsIn, Adds, IsJoined};
 
-/// A set of nodes, a bit for each.
+/// A set of nodes, with one bit for each node.
 #[derive(Clone, Copy)]
 pub(crate) struct NodeSet {
     words: [u64; 4],
@@ -46,7 +46,7 @@ impl NodeSet {
         }
     }
 
-    /// A node of the set that another set has not, if there is one.
+    /// Returns a node of the set that is not in another set, if there is one.
     pub(crate) fn outside(&self, others: &NodeSet) -> Option<u8>
         ensures found { IfSome result (λ n. IsIn self.now n × (IsIn others.now n → ⊥)) }
         ensures none { IfNone result ((n : ℕ) → IsIn self.now n → IsIn others.now n) }
@@ -60,7 +60,7 @@ impl NodeSet {
         None
     }
 
-    /// Inserts all of another set, if it has a node.
+    /// Inserts the nodes of `beyond` if this set contains `via`.
     pub(crate) fn join(&mut self, via: u8, beyond: &NodeSet)
         ensures { IsJoined self.old self.new beyond.now via }
     {

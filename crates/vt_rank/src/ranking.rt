@@ -1,4 +1,4 @@
-//! Ranks.
+//! Ranking of the nodes of a graph.
 
 ghost use Rattle.std.specs.Prelude.{◌≡◌, ℕ, List, IfOk, OnOk, IfErr, slice_index};
 ghost use Rattle.vt_rank.specs.Paths.{AreRanks, RanksFall, HasNoCircle, IsCircle, IsDistinct, IsLeastOnCircles};
@@ -35,18 +35,18 @@ impl Ranks {
     }
 }
 
-/// Ranks the nodes of a graph so that ranks fall along every trigger, or answers a circle of triggers. The
-/// circle begins with the least node that lies on any; which circle through that node is not promised.
+/// Ranks the nodes of a graph so that ranks fall along every trigger, or returns a circle of triggers. The
+/// circle begins with the least node on any circle; which circle through that node is unspecified.
 ///
-/// It takes no memory, and on x86-64 ten kilobytes of stack, of which eight are a set of nodes for each node.
-/// It reads the items of each node once, with the groups they name, and the groups of `Graph::most` once. Where
-/// there is a circle it also joins the 256 sets at each node, reads all items once more, and searches again.
+/// Does not allocate. Uses ten kilobytes of stack on x86-64, eight of them for a set of nodes for each node.
+/// Reads the items of each node once, with their groups, and the groups of `Graph::most` once. If there is a
+/// circle, it also joins the 256 sets at each node, reads all items once more, and searches again.
 pub fn rank(graph: &Graph) -> Result<Ranks, Circle>
-    // Ranks fall along every trigger, and where there are ranks there is no circle.
+    // Ranks fall along every trigger, and a graph with ranks has no circle.
     ensures falls { IfOk result (AreRanks graph.now) }
     ensures none { OnOk result (HasNoCircle (triggered graph.now)) }
 
-    // The path is a circle, has no node twice, and begins with the least node that lies on any.
+    // The path is a circle of distinct nodes, and begins with the least node on any circle.
     ensures circle { IfErr result (λ c. IsCircle (triggered graph.now) c.path.items) }
     ensures once { IfErr result (λ c. IsDistinct c.path.items) }
     ensures least { IfErr result (λ c. IsLeastOnCircles (triggered graph.now) (slice_index c.path.items 0)) }

@@ -1,4 +1,4 @@
-//! Which nodes lead to which, along paths of any length: for each node the set of those that it leads to.
+//! Reachability along paths of any length: for each node the set of nodes that it leads to.
 
 ghost use Rattle.std.specs.Prelude.{ℕ, ◌<◌, ◌↔◌};
 ghost use Rattle.vt_rank.specs.Graphs.{nodes_of, triggered};
@@ -9,8 +9,8 @@ ghost use Rattle.vt_rank.specs.declared.graph.Item.TheVariants.{Most};
 use crate::graph::{Graph, Item};
 use crate::node_set::NodeSet;
 
-/// The least node that lies on a circle, where a node is known that lies on one. Leaves in each row the nodes
-/// that its node leads to.
+/// Returns the least node on any circle. `known` is a node on a circle. Afterwards each row has the nodes that
+/// its node leads to.
 pub(crate) fn least_on_circles(rows: &mut [NodeSet; 256], graph: &Graph, known: u8) -> u8
     requires targets { AreTargets graph.now rows.old }
     requires known { IsOnCircle graph.now known }
@@ -26,7 +26,7 @@ pub(crate) fn least_on_circles(rows: &mut [NodeSet; 256], graph: &Graph, known: 
     known
 }
 
-// Makes paths of any length of single triggers, by joining them at each node.
+// Extends single triggers to paths of any length, by joining them at each node.
 fn close(rows: &mut [NodeSet; 256], graph: &Graph)
     requires { AreTargets graph.now rows.old }
     ensures { (m n : ℕ) → Reaches rows.new m n ↔ Leads graph.now m n }
@@ -36,7 +36,7 @@ fn close(rows: &mut [NodeSet; 256], graph: &Graph)
     }
 }
 
-// What reaches a node reaches all that this node does.
+// Adds to each row with node `via` the nodes that `via` reaches.
 fn join_at(rows: &mut [NodeSet; 256], via: u8)
     ensures { (m : ℕ) → IsJoined (row rows.old m) (row rows.new m) (row rows.old via) via }
 {
@@ -48,7 +48,7 @@ fn join_at(rows: &mut [NodeSet; 256], via: u8)
 
 // ---- single triggers
 
-/// Writes the nodes that each node triggers. Each node's items are read once, and the groups of `Item::Most` once.
+/// Writes the nodes triggered by each node. Each node's items are read once, and the groups of `Item::Most` once.
 pub(crate) fn write_targets(rows: &mut [NodeSet; 256], graph: &Graph)
     ensures { AreTargets graph.now rows.new }
 {

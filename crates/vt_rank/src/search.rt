@@ -1,4 +1,4 @@
-//! The search in depth that ranks the nodes.
+//! The depth-first search that ranks the nodes.
 
 ghost use Rattle.std.specs.Prelude.{ℕ, [], OnOk, IfErr};
 
@@ -6,7 +6,7 @@ use crate::graph::Graph;
 use crate::node_set::NodeSet;
 use arrayvec::ArrayVec;
 
-/// The nodes ranked so far, each above all that it triggers, and those that were seen.
+/// The nodes ranked so far, each above all nodes that it triggers, and the nodes seen.
 #[derive(Drop)]
 pub(crate) struct Search {
     pub(crate) ranks: [u8; 256],
@@ -32,7 +32,7 @@ impl Search {
         }
     }
 
-    /// Ranks a node and all that it reaches, or finds a node that lies on a circle.
+    /// Ranks a node and all nodes that it reaches, or returns a node on a circle.
     pub(crate) fn visit(
         &mut self,
         graph: &Graph,

@@ -9,15 +9,15 @@ ghost use Rattle.vt_rank.specs.Tables.{IsFilled, AreSettled, IsMost};
 use crate::graph::{Graph, Item};
 use crate::ranking::Ranks;
 
-// The costs of no node yet.
+// A table without costs yet.
 pub(crate) fn no_costs() -> [u64; 256]
     ensures { length result ≡ 256 }
 {
     [0; 256]
 }
 
-// Sets the costs of the nodes of a rank, where those of lesser ranks are set. Each cost is cut at the limit.
-// What `Item::Most` costs is found out at the first node that has one.
+// Sets the costs of the nodes of a rank, after those of all lesser ranks. Each cost is cut at the limit. The cost
+// of `Item::Most` is computed at the first node that has one.
 pub(crate) fn fill(
     graph: &Graph,
     ranks: &Ranks,

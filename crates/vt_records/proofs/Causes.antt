@@ -1,4 +1,4 @@
--- Why no record begins at some bytes.
+-- An `Err` of `record_at` means that no record begins at the bytes, for the cause that it gives.
 use Rattle.std.proofs.Common.{◌≡◌, ◌≢◌, ℕ, ◌<◌, Bool, true, false, cond, eqb, leb, ◌&&◌, List, [], ◌∷◌, ◌++◌, length, drop, Option, Some, None, Result, Ok, Err, refl, sym, ap, subst, ◌∙◌, arith, inl, inr}
 use Rattle.std.proofs.lemmas.Bool.{eqb-true, eqb-false, leb-true, leb-false}
 use Rattle.byteorder.specs.Endian.{little_number, little_bytes}
@@ -19,7 +19,7 @@ use Rattle.vt_records.proofs.Misfits.{IsMisfit, misfit_is, fitting_err}
 use Rattle.vt_records.proofs.Heads.{kind_at-kind_number, of_values, of_kind, record_at-short, record_at-long}
 use Rattle.vt_records.proofs.Taken.{record_again}
 
--- a record that begins there would be read
+-- an error of `record_at` means that no record begins there
 none_begins : (all : List ℕ) (stop : RecordFault) → record_at all ≡ Err stop → NoRecordBegins all
 none_begins all stop e id o tail has parts =
     let no = sym e ∙ ap record_at parts ∙ record_again id o tail has in absurd cc
@@ -33,7 +33,7 @@ some_kind k q e = cc
 values_err : (s t : RecordFault) → ◌≡◌ {A = Result (List Value × List ℕ) RecordFault} (Err s) (Err t) → s ≡ t
 values_err s t e = cc
 
--- ---- the first cause
+-- ---- the first cause of an error
 
 module _ (a b c : ℕ) (rest : List ℕ) where
   abbrev all : List ℕ
@@ -104,7 +104,7 @@ record_stops (a ∷ b ∷ c ∷ rest) stop fits e =
     let rest_fits : IsBytes rest = IsBytes-rest c rest (IsBytes-rest b (c ∷ rest) (IsBytes-rest a (b ∷ c ∷ rest) fits)) in
     id_stop a b c rest (eqb (little_number 2 (a ∷ b ∷ [])) 0xFFFF) stop rest_fits refl (none_begins (a ∷ b ∷ c ∷ rest) stop e) (sym (record_at-long a b c rest) ∙ e)
 
--- ---- where there is a cause, no record begins
+-- ---- each cause excludes a record
 
 pub kind_there : (rest : List ℕ) (id : ℕ) (o : Seen) (tail : List ℕ) → rest ≡ record_of id o ++ tail → kind_at (type_at rest) ≡ Some (kind_of o)
 kind_there rest id o tail parts = ap (λ (r : List ℕ). kind_at (type_at r)) parts ∙ kind_at-kind_number (kind_of o)

@@ -1,4 +1,4 @@
--- The entries of the lists of records, and scales, again from their numbers.
+-- List entries and scales are recovered from their numbers.
 use Rattle.std.proofs.Common.{◌≡◌, ℕ, zero, suc, List, [], ◌∷◌, map, Option, Some, None, refl, sym, ap, ◌∙◌}
 use Rattle.std.specs.Prelude.{pos}
 use Rattle.std.specs.Int.{Width}
@@ -10,7 +10,7 @@ use Rattle.vt_kinds.specs.Layout.{Counted, Objects, Macros, Others, Size, Unsign
 use Rattle.vt_kinds.specs.Scales.{scale_number, scale_at, IsScale}
 use Rattle.vt_kinds.specs.Tables.{child_numbers, macro_numbers, language_numbers, id_numbers, point_numbers}
 
--- what the rows of a list with these sizes are the numbers of
+-- the entries of a list with rows of these sizes: to numbers and back
 pub record Entries (sizes : List Size) : Type 1 where
   pub Entry : Type 0
   pub numbers : Entry → List Numeral
@@ -26,7 +26,7 @@ pub list_again : {sizes : List Size} (e : Entries sizes) (rs : List (List Numera
 list_again e [] fit = refl
 list_again e (r ∷ rs) fit = λ i. e.again r fit.0 i ∷ list_again e rs fit.1 i
 
--- ---- each list's entries
+-- ---- the entries of each list
 
 abbrev pub child_from : List Numeral → Child
 child_from (natural id ∷ integer x ∷ integer y ∷ []) = record { id = id; x = x; y = y }
@@ -48,7 +48,7 @@ abbrev pub pair_from : {X : Type 0} → (ℕ → ℕ → X) → List Numeral →
 pair_from pair (natural x ∷ natural y ∷ []) = pair x y
 pair_from pair _ = pair 0 0
 
--- the numbers of a pair are its two
+-- the numbers of a pair are x and y
 abbrev pub ArePairs : {X : Type 0} → (X → List Numeral) → (ℕ → ℕ → X) → Type 0
 ArePairs numbers pair = (x y : ℕ) → numbers (pair x y) ≡ natural x ∷ natural y ∷ []
 
@@ -59,7 +59,7 @@ pair_again numbers pair are_pairs a b ns fit = absurd (assumption)
 abbrev pub pairs : {X : Type 0} (numbers : X → List Numeral) (pair : ℕ → ℕ → X) → ArePairs numbers pair → ((x : X) → pair_from pair (numbers x) ≡ x) → (a b : ℕ) → Entries (Unsigned a ∷ Unsigned b ∷ [])
 pairs {X} numbers pair are_pairs back a b = record { Entry = X; numbers = numbers; entry = pair_from pair; back = back; again = pair_again numbers pair are_pairs a b }
 
--- the entries of a list, by what its count counts and by the sizes of its rows
+-- the entry type of a list, by the count that counts it and its row sizes
 abbrev pub entries_of : Counted → (sizes : List Size) → Entries sizes
 entries_of Objects (Unsigned a ∷ Signed b ∷ Signed c ∷ []) = record { Entry = Child; numbers = child_numbers; entry = child_from; back = λ x. refl; again = child_again a b c }
 entries_of Macros (Unsigned a ∷ Unsigned b ∷ []) = pairs macro_numbers (λ x y. record { event = x; macro_id = y }) (λ x y. refl) (λ x. refl) a b
@@ -68,13 +68,13 @@ entries_of Others (Unsigned a ∷ Unsigned b ∷ []) = pairs point_numbers (λ x
 entries_of of (Unsigned a ∷ []) = record { Entry = ℕ; numbers = id_numbers; entry = id_from; back = λ x. refl; again = id_again a }
 entries_of of sizes = record { Entry = List Numeral; numbers = λ ns. ns; entry = λ ns. ns; back = λ ns. refl; again = λ ns fit. refl }
 
--- ---- scales
+-- ---- scales from numbers
 
 abbrev or_one : Option Scale → Scale
 or_one None = One
 or_one (Some s) = s
 
--- the scale of a number that is some scale's
+-- the scale with a number; One for other numbers
 abbrev pub scale_from : ℕ → Scale
 scale_from n = or_one (scale_at n)
 

@@ -1,4 +1,4 @@
--- Objects again from the values of their records, and some object for all values that fit.
+-- An object is recovered from the values of its record, and each list of fitting values belongs to some object.
 use Rattle.std.proofs.Common.{◌≡◌, ℕ, List, [], ◌∷◌, length, map, Option, Some, None, refl, sym, ap, ◌∙◌, arith}
 use Rattle.std.specs.Prelude.{ℤ}
 use Rattle.std.proofs.lemmas.List.{length-map}
@@ -16,7 +16,7 @@ use Rattle.vt_records.proofs.Entries.{entries_of, list_back, list_again, scale_f
 
 -- ---- from the values of a table's fields
 
--- what a field holds
+-- the content type of a field
 abbrev pub Content : RecordField → Type 0
 Content (Number (Signed width)) = ℤ
 Content (Rows of sizes) = List ((entries_of of sizes).Entry)
@@ -34,7 +34,7 @@ content ScaleBytes (number (natural n)) = Some (scale_from n)
 content DecimalPlaces (number (natural n)) = Some n
 content _ _ = None
 
--- a function of what each field holds
+-- a function of the content of each field
 abbrev pub Maker : List RecordField → Type 0 → Type 0
 Maker [] A = A
 Maker (f ∷ fs) A = Content f → Maker fs A
@@ -44,9 +44,9 @@ made [] m [] = Some m
 made (f ∷ fs) m (v ∷ vs) = content f v >>= λ x. made fs (m x) vs
 made _ _ _ = None
 
--- ---- objects
+-- ---- the objects of each kind
 
--- the object of what its fields hold, whatever the counts among them say
+-- makes an object of a kind from the content of each field; counts are ignored
 abbrev pub maker : (kind : Kind) → Maker (fields_of kind) Seen
 maker kinds.WorkingSet = λ colour selectable active_mask _ _ _ children macros languages. objects.WorkingSet (record { colour = colour; selectable = selectable; active_mask = active_mask; children = children; macros = macros; languages = languages })
 maker kinds.DataMask = λ colour soft_key_mask _ _ children macros. objects.DataMask (record { colour = colour; soft_key_mask = soft_key_mask; children = children; macros = macros })
@@ -82,7 +82,7 @@ maker kinds.Macro = λ _ the_bytes. objects.Macro (record { bytes = the_bytes })
 abbrev pub object_from : Kind → List Value → Option Seen
 object_from kind vs = made (fields_of kind) (maker kind) vs
 
--- ---- from the values of an object
+-- ---- an object from its values
 
 from_values : (o : Seen) → object_from (kind_of o) (values_of o) ≡ Some o
 from_values (objects.Macro o) = refl
@@ -92,9 +92,9 @@ from_values o =
 pub same_object : (o p : Seen) → object_from (kind_of o) (values_of o) ≡ object_from (kind_of p) (values_of p) → o ≡ p
 same_object o p e = some_is o p (sym (from_values o) ∙ e ∙ from_values p)
 
--- ---- from values that fit
+-- ---- an object for each list of fitting values
 
--- what is made, and then changed
+-- applies a function to the result of a maker
 abbrev after : {A B : Type 0} (fs : List RecordField) → (A → B) → Maker fs A → Maker fs B
 after [] g m = g m
 after (f ∷ fs) g m = λ x. after fs g (m x)
@@ -109,12 +109,12 @@ made_after [] g m (v ∷ vs) = refl
 made_after (f ∷ fs) g m [] = refl
 made_after (f ∷ fs) g m (v ∷ vs) = through (content f v) (λ x. made fs (m x) vs) (λ x. made fs (after fs g (m x)) vs) g (λ x. made_after fs g (m x) vs)
 
--- the counts that follow a field
+-- the counts after a field
 abbrev next : Counts → (f : RecordField) → Content f → Counts
 next counts (Count size of) n = counted of n counts
 next counts _ _ = counts
 
--- the counts and values from a field on, by those behind it, each count as long as its list
+-- prepends a field to the counts and values of the later fields, where each count is the length of its list
 abbrev from_field : Counts → (f : RecordField) → Content f → Counts × List Value → Counts × List Value
 from_field counts (Number (Unsigned size)) n (c, vs) = (c, number (natural n) ∷ vs)
 from_field counts (Number (Signed width)) z (c, vs) = (c, number (integer z) ∷ vs)
@@ -124,12 +124,12 @@ from_field counts (Bytes of) bs (c, vs) = (counted of (length bs) c, bytes bs �
 from_field counts ScaleBytes s (c, vs) = (c, number (natural (scale_number s)) ∷ vs)
 from_field counts DecimalPlaces n (c, vs) = (c, number (natural n) ∷ vs)
 
--- the counts and values of what the fields hold
+-- the counts and values of each field's content
 abbrev spelled : Counts → (fs : List RecordField) → Maker fs (Counts × List Value)
 spelled counts [] = (counts, [])
 spelled counts (f ∷ fs) = λ x. after fs (from_field counts f x) (spelled (next counts f x) fs)
 
--- what the first of some values that fit holds
+-- the content of the first of fitting values
 record IsContent (counts : Counts) (f : RecordField) (fs : List RecordField) (v : Value) (vs : List Value) : Type 0 where
   its_content : Content f
   content_is : content f v ≡ Some its_content
@@ -181,7 +181,7 @@ pub record IsObject (kind : Kind) (vs : List Value) : Type 0 where
 abbrev seen_as : Seen → Kind × List Value
 seen_as o = (kind_of o, values_of o)
 
--- the values of what is made are those that it is made from
+-- the values of a made object are those of its fields' content
 maker_spells : (kind : Kind) → after (fields_of kind) seen_as (maker kind) ≡ after (fields_of kind) (λ (p : Counts × List Value). (kind, p.1)) (spelled no_counts (fields_of kind))
 maker_spells kinds.WorkingSet = refl
 maker_spells kind = refl

@@ -1,4 +1,4 @@
--- How a record begins: its ID and its type, and what is read behind them.
+-- The head of a record: its ID and type, and the result of `record_at` for them.
 use Rattle.std.proofs.Common.{◌≡◌, ℕ, ◌<◌, Bool, true, false, cond, eqb, ltb, List, [], ◌∷◌, length, Option, Some, Result, Ok, Err, refl, ap, ◌∙◌, arith}
 use Rattle.std.proofs.lemmas.Bool.{eqb-true, le-ltb}
 use Rattle.byteorder.specs.Endian.{little_number}
@@ -12,7 +12,7 @@ use Rattle.vt_records.specs.declared.stop.RecordFault.TheVariants as stops
 use Rattle.vt_records.specs.Heads.{ReadRecord, ◌>>=◌, or_stop, other_type, fields_at, record_at}
 use Rattle.vt_records.specs.Reading.{bytes_at, number_at}
 
--- ---- kinds
+-- ---- kinds and type numbers
 
 among_cases : (b : Bool) (k0 : Kind) (others : Option Kind) (n : ℕ) (k : Kind) → cond b (Some k0) others ≡ Some k → (b ≡ true → n ≡ kind_number k0) → (others ≡ Some k → n ≡ kind_number k) → n ≡ kind_number k
 among_cases true k0 others n k e here later = here refl ∙ ap kind_number (let same : k0 ≡ k = cc in same)
@@ -22,7 +22,7 @@ kind_among_is : (ks : List Kind) (n : ℕ) (k : Kind) → kind_among ks n ≡ So
 kind_among_is [] n k e = absurd cc
 kind_among_is (k0 ∷ ks) n k e = among_cases (eqb n (kind_number k0)) k0 (kind_among ks n) n k e (eqb-true n (kind_number k0)) (kind_among_is ks n k)
 
--- the number of a kind is no other kind's
+-- a type number belongs to one kind
 pub kind_at_is : (n : ℕ) (k : Kind) → kind_at n ≡ Some k → n ≡ kind_number k
 kind_at_is n k e = kind_among_is every_kind n k e
 
@@ -57,9 +57,9 @@ kind_at-kind_number kinds.InputAttributes = refl
 kind_at-kind_number kinds.ObjectPointer = refl
 kind_at-kind_number kinds.Macro = refl
 
--- ---- what is read behind the ID and the type
+-- ---- the fields after the ID and the type
 
--- a record of a kind with these values, and the bytes after them
+-- a record of a kind with these values, and the remaining bytes
 abbrev pub held : ℕ → Kind → List Value × List ℕ → ReadRecord
 held id kind vs = record { id = id; kind = kind; values = vs.0; rest = vs.1 }
 

@@ -1,4 +1,4 @@
--- The first value that is not proper for its field.
+-- `misfit` finds the first value that its field does not allow.
 use Rattle.std.proofs.Common.{◌≡◌, ℕ, ◌+◌, ◌≤◌, Bool, true, false, cond, eqb, ltb, List, [], ◌∷◌, length, Option, Some, None, Ok, Err, refl, sym, ap, subst, ◌∙◌, arith, inl, inr}
 use Rattle.std.proofs.lemmas.Bool.{eqb-true, ltb-true, ltb-false, le-ltb}
 use Rattle.std.specs.Int.{cast_unsigned}
@@ -34,7 +34,7 @@ scale_again scale.Thousandth = refl
 no_scale : (n : ℕ) → scale_at n ≡ None → IsScale n → ⊥
 no_scale n e is = let both = sym e ∙ ap scale_at is.1 ∙ scale_again is.0 in absurd cc
 
--- ---- no misfit
+-- ---- no misfit means that all values are allowed
 
 none_cases : (found : Option Scale) (at n : ℕ) (next : Option RecordFault) → scale_at n ≡ found → if_none found (stops.Scale at) next ≡ None → IsScale n × (next ≡ None)
 none_cases None at n next is e = absurd cc
@@ -90,7 +90,7 @@ no_misfit at (DecimalPlaces ∷ fs) (bytes bs ∷ vs) is = no_misfit _ fs vs is.
 
 -- ---- the first misfit
 
--- what a stop says of values, from a place on
+-- a stop names the first value that its field does not allow; offsets count from `at`
 abbrev pub IsMisfit : ℕ → List RecordField → List Value → RecordFault → Type 0
 IsMisfit at fs vs (stops.Scale place) = (later : ℕ) × (place ≡ at + later) × IsFirstImproper ScaleBytes later fs vs
 IsMisfit at fs vs (stops.Decimals place) = (later : ℕ) × (place ≡ at + later) × IsFirstImproper DecimalPlaces later fs vs
@@ -143,7 +143,7 @@ misfit_is at (DecimalPlaces ∷ fs) counts (number (natural n) ∷ vs) stop fit 
     many_stop (ltb 7 n) at n fs vs stop refl e (misfit_is (at + 1) fs counts vs stop fit.1)
 misfit_is at fs counts vs stop fit e = absurd fit
 
--- ---- the fields of a table, and what is wrong with them
+-- ---- the values of a table and their first misfit
 
 or_misfit_ok : (x : List Value × List ℕ) (m : Option RecordFault) (y : List Value × List ℕ) → or_misfit x m ≡ Ok y → (m ≡ None) × (x ≡ y)
 or_misfit_ok x None y e = (refl, cc)

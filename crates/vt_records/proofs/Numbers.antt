@@ -1,4 +1,4 @@
--- The numbers that are read from the front of some bytes, and those bytes again.
+-- A number read from the front of bytes encodes to the same bytes.
 use Rattle.std.proofs.Common.{◌≡◌, ℕ, zero, suc, ◌+◌, ◌*◌, ◌/◌, ◌%◌, ◌^◌, ◌<◌, ◌≤◌, Bool, true, false, cond, ltb, List, [], ◌∷◌, ◌++◌, length, get_or, take, drop, Option, Some, None, refl, sym, ap, subst, ◌∙◌, append_assoc, arith, inl, inr}
 use Rattle.std.proofs.Math.Nat.{div-div-eq-div-mul, pow-succ'}
 use Rattle.std.proofs.lemmas.Bool.{cases_lt, ltb-false, le-ltb, lt-ltb}
@@ -29,7 +29,7 @@ IsBytes-take n bytes h i =
 pub IsBytes-rest : (b : ℕ) (bytes : List ℕ) → IsBytes (b ∷ bytes) → IsBytes bytes
 IsBytes-rest b bytes h i = h (suc i)
 
--- the value of a step that gave one
+-- a bind with a value has a value in its first step
 pub bind_some : {A B : Type 0} (r : Option A) (f : A → Option B) (y : B) → (r >>= f) ≡ Some y → (x : A) × (r ≡ Some x) × (f x ≡ Some y)
 bind_some (Some x) f y e = (x, refl, e)
 bind_some None f y e = absurd cc
@@ -37,12 +37,12 @@ bind_some None f y e = absurd cc
 pub some_is : {A : Type 0} (x y : A) → ◌≡◌ {A = Option A} (Some x) (Some y) → x ≡ y
 some_is x y e = cc
 
--- a test that did not fail
+-- a guard with a value has not failed
 guard_some : {A : Type 0} (b : Bool) (x y : A) → cond b None (Some x) ≡ Some y → (b ≡ false) × (x ≡ y)
 guard_some true x y e = absurd cc
 guard_some false x y e = (refl, cc)
 
--- what a reader took from the front
+-- a reader split these bytes off the front
 pub record Takes (all text rest : List ℕ) : Type 0 where
   pub parts : all ≡ text ++ rest
   pub rest_fits : IsBytes rest
@@ -53,7 +53,7 @@ Takes-nothing all fits = record { parts = refl; rest_fits = fits }
 pub Takes-then : (a x b y c : List ℕ) → Takes a x b → Takes b y c → Takes a (x ++ y) c
 Takes-then a x b y c p q = record { parts = p.parts ∙ ap (λ (t : List ℕ). x ++ t) q.parts ∙ sym (append_assoc x y c); rest_fits = q.rest_fits }
 
--- ---- bytes
+-- ---- byte lists
 
 pub bytes_take : (count : ℕ) (all : List ℕ) (x : List ℕ × List ℕ) → IsBytes all → bytes_at count all ≡ Some x → Takes all x.0 x.1 × (length x.0 ≡ count) × IsBytes x.0
 unfolding bytes_at
@@ -69,9 +69,9 @@ bytes_again bs rest count len =
     let long : ltb (length (bs ++ rest)) count ≡ false = le-ltb _ _ (omega (arith, length-append bs rest)) in
     rw (long, take_at bs rest count len, drop_at bs rest count len) refl
 
--- ---- numbers
+-- ---- unsigned numbers
 
--- a byte below moves the places of the others on
+-- a lower byte shifts the other bytes up by one
 byte_above : (i a y : ℕ) → a < 256 → byte_at (suc i) (a + 256 * y) ≡ byte_at i y
 byte_above zero a y lt = omega arith
 byte_above (suc i) a y lt =
@@ -85,7 +85,7 @@ bytes_above : (k i a y : ℕ) → a < 256 → bytes_low_first (suc i) k (a + 256
 bytes_above zero i a y lt = refl
 bytes_above (suc k) i a y lt = rw (byte_above i a y lt, bytes_above k (suc i) a y lt) refl
 
--- the bytes of the number in some bytes
+-- the bytes of the number in some bytes are those bytes
 pub number_spelled : (bs : List ℕ) → IsBytes bs → little_bytes (length bs) (little_number (length bs) bs) ≡ bs
 number_spelled [] fits = refl
 number_spelled (a ∷ bs) fits =
@@ -137,7 +137,7 @@ signed_again w z rest fits =
     let below : cast_unsigned w z < 256 ^ bytes_in w = rw (width_is w) (of_z_fits w z fits).fits in
     rw (number_again (bytes_in w) (cast_unsigned w z) rest below, to_z-of_z w z fits) refl
 
--- ---- bytes that are too few
+-- ---- too few bytes
 
 pub number_short : (size : ℕ) (all : List ℕ) → length all < size → number_at size all ≡ None
 unfolding number_at bytes_at
@@ -147,7 +147,7 @@ number_long : (size : ℕ) (all : List ℕ) → size ≤ length all → (n : ℕ
 unfolding number_at bytes_at
 number_long size all le = (little_number size (take size all), rw (le-ltb (length all) size le) refl)
 
--- what reads a number and then more, where the bytes end before
+-- a number and more cannot be read from too few bytes
 pub number_then_short : {A : Type 0} (size more : ℕ) (all : List ℕ) (f : ℕ × List ℕ → Option A) → length all < size + more → ((n : ℕ) (rest : List ℕ) → length rest < more → f (n, rest) ≡ None) → (number_at size all >>= f) ≡ None
 number_then_short size more all f lt later =
     elim (cases_lt (length all) size) [

@@ -1,4 +1,4 @@
--- What a reader of a record returned, clause by clause.
+-- The clauses of `read_record` follow from the result of `record_at`.
 use Rattle.std.proofs.Common.{◌≡◌, ℕ, ◌<◌, List, ◌++◌, length, Result, Ok, Err}
 use Rattle.std.specs.Prelude.{IfOk, IfErr}
 use Rattle.vt_kinds.specs.declared.object.Object.{Object}
@@ -12,7 +12,7 @@ use Rattle.vt_records.proofs.Taken.{IsTaken, is_taken}
 use Rattle.vt_records.proofs.Causes.{record_stops}
 
 module _ {X B : Type 0} (id : X → ℕ) (object : X → Object B) (rest : X → List ℕ) where
-  -- the parts of what was returned
+  -- the returned record as a `ReadRecord`
   abbrev pub view : X → ReadRecord
   view x = record { id = id x; kind = kind_of (object x); values = values_of (object x); rest = rest x }
 

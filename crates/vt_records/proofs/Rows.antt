@@ -1,4 +1,4 @@
--- Reading rows one after the other, as a loop does.
+-- Reading rows in a loop gives the same result as `rows_at`.
 use Rattle.std.proofs.Common.{◌≡◌, ◌⊎◌, ℕ, suc, ◌-◌, ◌+◌, ◌≤◌, ◌<◌, List, [], ◌∷◌, ◌++◌, length, Option, Some, None, refl, sym, ap, ◌∙◌, append_assoc, inr, arith}
 use Rattle.std.proofs.lemmas.List.{append-nil}
 use Rattle.vt_kinds.specs.Layout.{Size, Unsigned, Signed, Numeral, natural, integer}
@@ -8,7 +8,7 @@ use Rattle.vt_records.proofs.Numbers.{number_then_short, signed_then_short}
 use Rattle.vt_records.specs.Reading.{◌>>=◌, row_at, rows_at}
 use Rattle.vt_records.specs.Reading.{row_size}
 
--- the rows that were read before, and those that are still read
+-- the rows read so far, followed by the rows of a later read
 abbrev pub with_front : List (List Numeral) → Option (List (List Numeral) × List ℕ) → Option (List (List Numeral) × List ℕ)
 with_front front read = read >>= λ x. Some (front ++ x.0, x.1)
 

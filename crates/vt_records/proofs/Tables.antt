@@ -1,4 +1,4 @@
--- The values of a table of fields that are read from the front of some bytes, and those bytes again.
+-- The values of a table read from the front of bytes fit their fields and encode to the same bytes.
 use Rattle.std.proofs.Common.{◌≡◌, ℕ, zero, suc, ◌+◌, ◌<◌, List, [], ◌∷◌, ◌++◌, length, Option, Some, None, Err, refl, ap, subst, ◌∙◌, append_assoc, arith}
 use Rattle.std.specs.List.{AllByRecursion}
 use Rattle.std.proofs.lemmas.List.Elements.{recursion_from_All, All-from_get_or}
@@ -10,7 +10,7 @@ use Rattle.vt_records.specs.Heads.{fitting, fields_at}
 use Rattle.vt_records.specs.Reading.{◌>>=◌, bytes_at, number_at, signed_at, row_at, rows_at, values_at, head_size}
 use Rattle.vt_records.proofs.Numbers.{IsBytes, bind_some, some_is, Takes, Takes-nothing, Takes-then, bytes_take, bytes_again, number_takes, number_again, signed_takes, signed_again, number_then_short, signed_then_short}
 
--- ---- rows
+-- ---- rows of a list
 
 pub row_takes : (sizes : List Size) (all : List ℕ) (x : List Numeral × List ℕ) → IsBytes all → row_at sizes all ≡ Some x → Takes all (row_spelling sizes x.0) x.1 × RowFits sizes x.0
 unfolding row_at
@@ -65,12 +65,12 @@ rows_again sizes (r ∷ rs) rest fits =
     ap (rows_at sizes (suc (length rs))) (append_assoc (row_spelling sizes r) (rows_spelling sizes rs) rest)
     ∙ rw (row_again sizes r (rows_spelling sizes rs ++ rest) fits.0, rows_again sizes rs rest fits.1) refl
 
--- ---- tables
+-- ---- tables of fields
 
 bytes_fit : (bs : List ℕ) → IsBytes bs → AllByRecursion (λ b. b < 256) bs
 bytes_fit bs fits = recursion_from_All (λ b. b < 256) bs (All-from_get_or (λ b. b < 256) bs 0 (λ i lt. fits i))
 
--- what a table takes: the spelling of values that fit it
+-- a table reads values that fit it, from the bytes of their encoding
 abbrev TakesValues : List RecordField → Counts → List ℕ → List Value × List ℕ → Type 0
 TakesValues fs counts all x = Takes all (spelling fs x.0) x.1 × FieldsFit fs counts x.0
 
@@ -156,7 +156,7 @@ values_again (DecimalPlaces ∷ fs) counts (number (natural n) ∷ vs) rest fits
     ∙ rw (number_again 1 n (spelling fs vs ++ rest) fits.0, values_again fs counts vs rest fits.1) refl
 values_again fs counts vs rest fits = absurd fits
 
--- ---- bytes that are too few
+-- ---- too few bytes
 
 abbrev then_values : Value → Option (List Value × List ℕ) → Option (List Value × List ℕ)
 then_values v read = read >>= λ vs. Some (v ∷ vs.0, vs.1)
@@ -167,7 +167,7 @@ number_first : (size : ℕ) (fs : List RecordField) (all : List ℕ) (give : ℕ
 number_first size fs all give value lt short =
     number_then_short size (head_size fs) all (λ n. then_values (value n.0) (values_at fs (give n.0) n.1)) lt (λ n rest less. ap (then_values (value n)) (short (give n) rest less))
 
--- where the bytes end before the first list, the values are not all there
+-- fewer bytes than the head size do not hold all values
 pub values_short : (fs : List RecordField) (counts : Counts) (all : List ℕ) → length all < head_size fs → values_at fs counts all ≡ None
 values_short [] counts all lt = absurd (omega arith)
 values_short (Number (Unsigned size) ∷ fs) counts all lt = number_first size fs all (λ n. counts) (λ n. number (natural n)) lt (values_short fs)

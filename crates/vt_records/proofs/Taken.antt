@@ -1,4 +1,4 @@
--- A record that is read is the record that was written, and what was written is read again.
+-- Reading is the inverse of writing: a record read is the record written, and a record written is read.
 use Rattle.std.proofs.Common.{◌≡◌, ◌≢◌, ℕ, ◌^◌, ◌<◌, Bool, true, false, cond, eqb, List, [], ◌∷◌, ◌++◌, length, get_or, Option, Some, None, Result, Ok, Err, refl, sym, ap, subst, ◌∙◌, arith}
 use Rattle.std.proofs.lemmas.Bool.{eqb-false, ne_eqb}
 use Rattle.std.proofs.lemmas.List.{append-nil, length-append}
@@ -21,7 +21,7 @@ use Rattle.vt_records.proofs.Misfits.{proper, no_misfit, fitting_ok}
 use Rattle.vt_records.proofs.FromValues.{object_from, same_object}
 use Rattle.vt_records.proofs.Heads.{kind_at_is, kind_at-kind_number, held, of_values, of_kind, behind, record_at-short, record_at-long}
 
--- ---- what is read
+-- ---- records read
 
 test_ok : (b : Bool) (r : Result ReadRecord RecordFault) (h : ReadRecord) → cond b (Err stops.NullId) r ≡ Ok h → (b ≡ false) × (r ≡ Ok h)
 test_ok true r h e = absurd cc
@@ -37,11 +37,11 @@ of_values_ok : (id : ℕ) (kind : Kind) (vs : Result (List Value × List ℕ) Re
 of_values_ok id kind (Err stop) h e = absurd cc
 of_values_ok id kind (Ok x) h e = (x, refl, (let same : held id kind x ≡ h = cc in same))
 
--- the bytes of a record
+-- the bytes of a record, from its ID, kind and values
 abbrev pub spelled : ℕ → Kind → List Value → List ℕ
 spelled id kind vs = little_bytes 2 id ++ kind_number kind ∷ spelling (fields_of kind) vs
 
--- what stands at the front, and after it bytes
+-- the bytes begin with a record
 pub record IsRead (all : List ℕ) (h : ReadRecord) : Type 0 where
   pub parts : all ≡ spelled h.id h.kind h.values ++ h.rest
   pub named : h.id < 0xFFFF
@@ -74,9 +74,9 @@ is_read (a ∷ []) h fits e = let no = sym (record_at-short (a ∷ []) (omega ar
 is_read (a ∷ b ∷ []) h fits e = let no = sym (record_at-short (a ∷ b ∷ []) (omega arith)) ∙ e in absurd cc
 is_read (a ∷ b ∷ c ∷ rest) h fits e = long_is_read a b c rest h fits (sym (record_at-long a b c rest) ∙ e)
 
--- ---- what was written
+-- ---- records written
 
--- the record of an object as its parts
+-- the record of an object as a `ReadRecord`
 abbrev pub held_of : ℕ → Seen → List ℕ → ReadRecord
 held_of id o rest = held id (kind_of o) (values_of o, rest)
 
@@ -90,7 +90,7 @@ record_again id o rest has =
     record_at-long (get_or bytes 0 0) (get_or bytes 1 0) (kind_number k) (spelling (fields_of k) (values_of o) ++ rest)
     ∙ rw (back, other, kind_at-kind_number k, values_again (fields_of k) no_counts (values_of o) rest has.fields_fit, no_misfit 3 (fields_of k) (values_of o) has.proper) refl
 
--- what two records say that begin the same bytes
+-- two records at the front of the same bytes are equal
 pub record AreSame (a b : ℕ) (o p : Seen) (rest tail : List ℕ) : Type 0 where
   pub same_id : a ≡ b
   pub same_object : o ≡ p
@@ -110,7 +110,7 @@ are_whole a b o p rest has other parts =
     let same = same_record a b o p rest [] has other (parts ∙ sym (append-nil (record_of b p))) in
     (same.same_rest, same.same_id, same.same_object)
 
--- ---- an object wherever its texts lie
+-- ---- objects with any byte buffer
 
 has_record : {B : Type 0} (id : ℕ) (o : Object B) → id < 0xFFFF → FieldsFit (fields_of (kind_of o)) no_counts (values_of o) → Proper (fields_of (kind_of o)) (values_of o) → HasRecord id (seen o)
 has_record id (objects.WorkingSet o) named fit proper = record { named = named; fields_fit = fit; proper = proper }
@@ -120,7 +120,7 @@ record_of-seen : {B : Type 0} (id : ℕ) (o : Object B) → record_of id o ≡ r
 record_of-seen id (objects.WorkingSet o) = refl
 record_of-seen id o = refl
 
--- what a reader took: a record, and what follows it
+-- the bytes begin with the record of an object
 pub record IsTaken (all : List ℕ) (id : ℕ) (o : Seen) (rest : List ℕ) : Type 0 where
   pub has : HasRecord id o
   pub parts : all ≡ record_of id o ++ rest

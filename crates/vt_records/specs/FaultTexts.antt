@@ -4,7 +4,7 @@ use Rattle.std.specs.Fmt.{decimal}
 use Rattle.vt_records.specs.declared.fault.PoolFault.{PoolFault}
 use Rattle.vt_records.specs.declared.fault.PoolFault.TheVariants as faults
 
--- its number, its name and its place
+-- the fault's number, name and byte index
 abbrev pub fault_text : PoolFault → List ℕ
 fault_text (faults.Truncated at) = codes "fault 1 Truncated at " ++ decimal at
 fault_text (faults.UnknownType at) = codes "fault 2 UnknownType at " ++ decimal at

@@ -1,4 +1,4 @@
--- Why no record begins with some bytes (docs/PROFILE.md, "Pools and faults").
+-- The causes for which bytes begin with no record (docs/PROFILE.md, "Pools and faults").
 use Rattle.std.specs.Prelude.{◌≡◌, ◌≢◌, ◌<◌, ◌≤◌, ℕ, ◌+◌, ◌⊎◌, List, ◌∷◌, ◌++◌, length, drop, None, Some, slice_index}
 use Rattle.byteorder.specs.Endian.{little_number}
 use Rattle.vt_kinds.specs.declared.kind.Kind.{Kind}
@@ -6,7 +6,7 @@ use Rattle.vt_kinds.specs.Layout.{RecordField, Value, field_spelling, spelling, 
 use Rattle.vt_kinds.specs.Records.{Seen, fields_of, record_of, HasRecord}
 use Rattle.vt_kinds.specs.Kinds.{kind_at}
 
--- the ID and the type with which a record begins
+-- the ID and the type at the head of a record
 abbrev pub id_at : List ℕ → ℕ
 id_at rest = little_number 2 rest
 
@@ -17,7 +17,7 @@ type_at rest = slice_index rest 2
 abbrev pub IsLeftOut : ℕ → Type 0
 IsLeftOut n = (29 ≤ n) × (n ≤ 33)
 
--- no record begins there, whatever follows
+-- no record is a prefix of these bytes
 abbrev pub NoRecordBegins : List ℕ → Type 0
 NoRecordBegins rest = (id : ℕ) (o : Seen) (tail : List ℕ) → HasRecord id o → rest ≡ record_of id o ++ tail → ⊥
 
@@ -30,33 +30,33 @@ pub record HasOtherType (rest : List ℕ) : Type 0 where
   pub named : id_at rest ≢ 0xFFFF
   pub no_kind : kind_at (type_at rest) ≡ None
 
--- values that fit the fields of a kind stand behind an ID and the kind's type
+-- after an ID and a kind's type come values that fit the kind's fields
 pub record HasValues (rest : List ℕ) (kind : Kind) (values : List Value) : Type 0 where
   pub known : kind_at (type_at rest) ≡ Some kind
   pub fields_fit : FieldsFit (fields_of kind) no_counts values
   pub tail : List ℕ
   pub parts : drop 3 rest ≡ spelling (fields_of kind) values ++ tail
 
--- the bytes end before the fields of a known type do
+-- the bytes end inside the fields of a known type
 pub record IsCut (rest : List ℕ) : Type 0 where
   pub head : 3 ≤ length rest
   pub named : id_at rest ≢ 0xFFFF
   pub known : kind_at (type_at rest) ≢ None
   pub cut : (kind : Kind) (values : List Value) → HasValues rest kind values → ⊥
 
--- the bytes end before the ID and the type do, or before the rest of the record does
+-- the bytes end inside the ID and the type, or inside the fields
 abbrev pub IsTruncated : List ℕ → Type 0
 IsTruncated rest = (length rest < 3) ⊎ IsCut rest
 
--- the first value that is not proper stands in a field of this sort, so many bytes from the first
+-- the first value not allowed is in a field of this sort, at this offset from the first field
 abbrev pub IsFirstImproper : RecordField → ℕ → List RecordField → List Value → Type 0
 IsFirstImproper sort at (f ∷ fs) (v ∷ vs) =
     ((f ≡ sort) × (at ≡ 0) × (IsProper f v → ⊥))
     ⊎ (IsProper f v × ((later : ℕ) × (at ≡ length (field_spelling f v) + later) × IsFirstImproper sort later fs vs))
 IsFirstImproper sort at _ _ = ⊥
 
--- The fields are all there, and the first that is not proper is of this sort, so many bytes from the record's
--- first. No record begins there.
+-- All fields are present, and the first value not allowed is in a field of this sort, at this offset from the
+-- record's first byte. No record begins there.
 pub record IsImproper (sort : RecordField) (rest : List ℕ) (at : ℕ) : Type 0 where
   pub head : 3 ≤ length rest
   pub named : id_at rest ≢ 0xFFFF

@@ -1,4 +1,4 @@
--- How the record at the front of some bytes is read, with the first of its faults.
+-- Reading the record at the front of bytes: its parts, or its first fault.
 use Rattle.std.specs.Prelude.{◌≡◌, ℕ, ◌+◌, List, ◌∷◌, length, nat_le, nat_lt, ◌==◌, ◌&&◌, if◌then◌else◌, Option, Some, None, Result, Ok, Err}
 use Rattle.vt_kinds.specs.declared.kind.Kind.{Kind}
 use Rattle.vt_kinds.specs.declared.scale.Scale.{Scale}
@@ -10,14 +10,14 @@ use Rattle.vt_records.specs.declared.stop.RecordFault.{RecordFault}
 use Rattle.vt_records.specs.declared.stop.RecordFault.TheVariants as stops
 use Rattle.vt_records.specs.Reading.{number_at, values_at}
 
--- a record as its parts, and the bytes after it
+-- a record's ID, kind and values, and the remaining bytes
 pub record ReadRecord : Type 0 where
   pub id : ℕ
   pub kind : Kind
   pub values : List Value
   pub rest : List ℕ
 
--- What a function returned, seen by view, is what reading gives, unless memory ran out.
+-- A function's result, under `view`, equals the read result, unless memory ran out.
 abbrev pub Reads : {X Y : Type 0} → (X → Y) → Result X RecordFault → Result Y RecordFault → Type 0
 Reads view (Ok x) read = read ≡ Ok (view x)
 Reads view (Err stops.OutOfMemory) read = Unit {0}
@@ -32,11 +32,11 @@ abbrev pub ◌>>=◌ : {A B : Type 0} → Result A RecordFault → (A → Result
 (Ok x) >>= f = f x
 (Err e) >>= f = Err e
 
--- why a type that is no kind's is refused: 29 to 33 are those of auxiliary functions and inputs
+-- the stop of a type without a kind: 29 to 33 are auxiliary functions and inputs
 abbrev pub other_type : ℕ → RecordFault
 other_type n = if nat_le 29 n && nat_le n 33 then stops.LeftOutType else stops.UnknownType
 
--- how many bytes a value takes in its field
+-- the number of bytes of a value in its field
 abbrev pub size_in : RecordField → Value → ℕ
 size_in (Number (Unsigned size)) v = size
 size_in (Number (Signed width)) v = bytes_in width
@@ -49,7 +49,7 @@ abbrev pub if_none : Option Scale → RecordFault → Option RecordFault → Opt
 if_none None stop next = Some stop
 if_none (Some s) stop next = next
 
--- the first field from a place on whose value is no scale's or too many decimals
+-- the first field, at offset `at` or later, with an unknown scale or too many decimals
 abbrev pub misfit : ℕ → List RecordField → List Value → Option RecordFault
 misfit at (ScaleBytes ∷ fs) (number (natural n) ∷ vs) = if_none (scale_at n) (stops.Scale at) (misfit (at + 4) fs vs)
 misfit at (DecimalPlaces ∷ fs) (number (natural n) ∷ vs) = if nat_lt 7 n then Some (stops.Decimals at) else misfit (at + 1) fs vs
@@ -60,12 +60,12 @@ abbrev pub or_misfit : List Value × List ℕ → Option RecordFault → Result 
 or_misfit read None = Ok read
 or_misfit read (Some stop) = Err stop
 
--- where the values are all there, the first misfit among them
+-- the values and remaining bytes, or their first misfit
 abbrev pub fitting : List RecordField → Option (List Value × List ℕ) → Result (List Value × List ℕ) RecordFault
 fitting fs None = Err stops.Truncated
 fitting fs (Some read) = or_misfit read (misfit 3 fs read.0)
 
--- the values of the fields behind the ID and the type, which are three bytes
+-- reads the fields after the three bytes of ID and type
 abbrev pub fields_at : List RecordField → List ℕ → Result (List Value × List ℕ) RecordFault
 fields_at fs all = fitting fs (values_at fs no_counts all)
 

@@ -1,4 +1,4 @@
--- What the contracts of this crate cite.
+-- The specifications that the contracts of vt_records use.
 pub mod Faults
 pub mod FaultTexts
 pub mod Heads

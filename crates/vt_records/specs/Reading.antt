@@ -1,5 +1,5 @@
--- How a table of fields is read from the front of some bytes: what it gives and the bytes after it, or
--- `None` where the bytes end first.
+-- Reading a table of fields from the front of bytes: returns its values and the remaining bytes, or `None` if the
+-- bytes are too few.
 use Rattle.std.specs.Prelude.{◌≡◌, ◌⊎◌, ℕ, ℤ, zero, suc, List, [], ◌∷◌, ◌+◌, length, take, drop, nat_lt, if◌then◌else◌, Option, Some, None, Result, Ok, Err}
 use Rattle.std.specs.Int.{Width, cast_signed}
 use Rattle.byteorder.specs.Endian.{little_number}
@@ -12,13 +12,13 @@ abbrev pub ◌>>=◌ : {A B : Type 0} → Option A → (A → Option B) → Opti
 (Some x) >>= f = f x
 None >>= f = None
 
--- What a function returned, seen by view, is what reading gives: it stops only where memory runs out, or the bytes
--- end first.
+-- A function's result, under `view`, equals the read result; it stops only if memory runs out or the bytes are too
+-- few.
 abbrev pub Gives : {X Y : Type 0} → (X → Y) → Result X RecordFault → Option Y → Type 0
 Gives view (Ok x) read = read ≡ Some (view x)
 Gives view (Err stop) read = (stop ≡ stops.OutOfMemory) ⊎ ((stop ≡ stops.Truncated) × (read ≡ None))
 
--- What a function returned, seen by view, is what reading finds: it stops only where the bytes end first.
+-- A function's result, under `view`, equals the read result; it stops only if the bytes are too few.
 abbrev pub Finds : {X Y : Type 0} → (X → Y) → Result X RecordFault → Option Y → Type 0
 Finds view (Ok x) read = read ≡ Some (view x)
 Finds view (Err stop) read = (stop ≡ stops.Truncated) × (read ≡ None)
@@ -85,13 +85,13 @@ values_at (DecimalPlaces ∷ fs) counts all = do
   vs ← values_at fs counts n.1
   Some (number (natural n.0) ∷ vs.0, vs.1)
 
--- how many bytes the numbers of a row take
+-- the number of bytes of a row
 abbrev pub row_size : List Size → ℕ
 row_size [] = 0
 row_size (Unsigned size ∷ sizes) = size + row_size sizes
 row_size (Signed width ∷ sizes) = bytes_in width + row_size sizes
 
--- how many bytes the numbers take that come before any list
+-- the number of bytes of the fields before the first list
 abbrev pub head_size : List RecordField → ℕ
 head_size [] = 0
 head_size (Number (Unsigned size) ∷ fs) = size + head_size fs

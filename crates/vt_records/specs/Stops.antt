@@ -1,4 +1,4 @@
--- Why a record cannot be read, and the fault of its pool.
+-- The meaning of a record's stop, and the pool fault that it becomes.
 use Rattle.std.specs.Prelude.{ℕ, ◌+◌, List}
 use Rattle.vt_kinds.specs.Layout.{ScaleBytes, DecimalPlaces}
 use Rattle.vt_records.specs.declared.stop.RecordFault.{RecordFault}
@@ -7,7 +7,7 @@ use Rattle.vt_records.specs.declared.fault.PoolFault.{PoolFault}
 use Rattle.vt_records.specs.declared.fault.PoolFault.TheVariants as faults
 use Rattle.vt_records.specs.Faults.{IsTruncated, HasNullId, HasOtherType, IsLeftOut, IsImproper, type_at}
 
--- what a stop says of the bytes with which a record begins
+-- a stop is the cause for which bytes begin with no record
 abbrev pub IsStop : List ℕ → RecordFault → Type 0
 IsStop rest stops.Truncated = IsTruncated rest
 IsStop rest stops.NullId = HasNullId rest
@@ -17,7 +17,7 @@ IsStop rest (stops.Scale at) = IsImproper ScaleBytes rest at
 IsStop rest (stops.Decimals at) = IsImproper DecimalPlaces rest at
 IsStop rest stops.OutOfMemory = Unit {0}
 
--- the fault of the pool whose record at a place stops so; a scale and decimals are named at their field
+-- the pool fault of a record's stop; for a scale and decimals at the field, else at the record
 abbrev pub fault_at : RecordFault → ℕ → PoolFault
 fault_at stops.Truncated at = faults.Truncated at
 fault_at stops.UnknownType at = faults.UnknownType at

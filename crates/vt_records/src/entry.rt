@@ -1,4 +1,4 @@
-//! The entries of the lists of a record.
+//! Reading the entries of a record's lists.
 
 ghost use Rattle.std.specs.Prelude.{◌≡◌, List, length, map, IfOk};
 ghost use Rattle.vt_kinds.specs.Layout.{Size, Numeral};
@@ -10,7 +10,7 @@ use crate::stop::RecordFault;
 use std::alloc::Global;
 use vt_kinds::{Child, Entries, Language, MacroEntry, ObjectId, Point};
 
-/// An entry of a list: a row of numbers of fixed sizes.
+/// A list entry: a row of numbers of fixed sizes.
 pub trait Entry: Drop {
     ghost sizes: { List Size };
 
@@ -91,7 +91,7 @@ impl Entry for Point {
     }
 }
 
-/// Reads as many entries as were counted.
+/// Reads a list of `count` entries.
 pub fn entries<T: Entry>(
     alloc: Global,
     reader: &mut Reader<'_>,

@@ -1,4 +1,4 @@
-//! Why a pool cannot be read.
+//! The faults of a pool.
 
 ghost use Rattle.std.specs.Prelude.{Some};
 ghost use Rattle.vt_records.specs.FaultTexts.{fault_text};
@@ -6,23 +6,23 @@ ghost use Rattle.vt_records.specs.FaultTexts.{fault_text};
 use std::fmt;
 use thiserror::Error;
 
-/// The first fault of a pool. `at` is the first byte of the record that has it, or
-/// of the field where a field is at fault. It prints the line of its report.
+/// The first fault of a pool. `at` is the index of the faulty record's first byte, or of the faulty field's first
+/// byte. `Display` prints the line of its report.
 #[derive(Clone, Copy, Debug, PartialEq, Eq, Error)]
 pub enum PoolFault {
     /// The bytes end inside a record.
     Truncated { at: usize },
-    /// A record has a type that no kind has, other than 29 to 33.
+    /// A record has an unknown type, outside 29 to 33.
     UnknownType { at: usize },
     /// A record is of an auxiliary function or input, types 29 to 33.
     LeftOutType { at: usize },
-    /// A scale is none of the four; `at` is its first byte.
+    /// A scale is none of the four; `at` is the index of its first byte.
     Scale { at: usize },
-    /// Decimals are more than 7; `at` is their byte.
+    /// Decimals are more than 7; `at` is the index of their byte.
     Decimals { at: usize },
-    /// The memory for a record was refused.
+    /// An allocation for a record failed.
     OutOfMemory { at: usize },
-    /// A record has the ID that is no object's.
+    /// A record has the ID NULL, which belongs to no object.
     NullId { at: usize },
 }
 

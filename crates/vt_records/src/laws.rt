@@ -1,8 +1,8 @@
-//! What the definitions come to: each function is a law, and calling it changes nothing.
+//! The theorem about records: the contract of a function with an empty body.
 
 ghost use Rattle.vt_records.specs.Whole.{RecordsAreWhole};
 
-/// No record is the front of another one.
+/// No record is a proper prefix of another.
 pub fn records_are_whole()
     ensures { RecordsAreWhole }
 {}

@@ -1,8 +1,8 @@
-//! Records: the bytes of an object under its ID (ISO 11783-6), as they are read.
+//! Reading records: the bytes of an object under its ID (ISO 11783-6).
 //!
-//! - `read_record` reads the `Record` at the front of some bytes, or answers why there is none (`RecordFault`), which becomes the
-//!   `PoolFault` of the pool; `Reader` takes numbers off the front, and `kind_with` the kind of a type.
-//! - `laws` has what the definitions come to.
+//! - `read_record` reads the `Record` at the front of bytes, or returns its fault as a `RecordFault`, which becomes the
+//!   `PoolFault` of the pool; `Reader` reads numbers from the front, and `kind_with` maps a type to its kind.
+//! - `laws` has the theorem about records.
 //!
 //! docs/PROFILE.md, "Records", has the layout of each kind, and "Pools and faults" the faults.
 #![tactic(auto)]
@@ -20,5 +20,5 @@ pub use reader::Reader;
 pub use record::{Record, kind_with, read_record};
 pub use stop::RecordFault;
 
-/// A growth that was refused.
+/// The error of a failed allocation.
 pub use std::alloc::AllocError as OutOfMemory;

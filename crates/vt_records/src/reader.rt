@@ -1,4 +1,4 @@
-//! Reading numbers and bytes from the front of a slice.
+//! Reads numbers and bytes from the front of a slice.
 
 ghost use Rattle.std.specs.Prelude.{◌≡◌, ◌<◌, ◌≤◌, ◌+◌, length, Some, IfOk, IfErr};
 ghost use Rattle.std.specs.Int.{w16, w32};
@@ -11,8 +11,8 @@ use byteorder::{ByteOrder, LittleEndian};
 use std::marker::Model;
 use vt_kinds::{LongText, MacroBytes, ObjectId, PictureBytes, ShortText};
 
-/// The bytes that are still to be read. What takes a number wants its bytes to be there: `need` tests for those
-/// of all numbers at the head of a record at once.
+/// The remaining bytes of a record. Methods for numbers require enough bytes: one call of `need` tests this for all
+/// numbers at the head of a record.
 #[derive(Drop)]
 pub struct Reader<'a> {
     rest: &'a [u8],
@@ -33,14 +33,14 @@ impl<'a> Reader<'a> {
         Reader { rest: bytes }
     }
 
-    /// What is left.
+    /// Returns the remaining bytes.
     pub fn rest(self) -> &'a [u8]
         ensures { result.now ≡ self.entry }
     {
         self.rest
     }
 
-    /// Whether so many bytes are left.
+    /// Fails with `Truncated` if fewer than `count` bytes remain.
     pub fn need(&self, count: usize) -> Result<(), RecordFault>
         ensures ok { IfOk result (λ _. count ≤ length self.now) }
         ensures err { IfErr result (λ stop. (stop ≡ stops.Truncated) × (length self.now < count)) }
@@ -60,7 +60,7 @@ impl<'a> Reader<'a> {
         self.front(1)[0]
     }
 
-    /// One more byte, if there is one.
+    /// Reads one byte, or fails if none remains.
     #[tactic(auto, unfolding(crate::specs::Reading::number_at))]
     pub fn try_u8(&mut self) -> Result<u8, RecordFault>
         ensures { Finds (λ x. (x, self.new)) result (number_at 1 self.old) }
@@ -113,7 +113,7 @@ impl<'a> Reader<'a> {
         self.u32().cast_signed()
     }
 
-    /// Four bytes, as the number that they are.
+    /// Reads four bytes.
     #[tactic(auto, unfolding(crate::specs::Reading::number_at))]
     pub fn four_bytes(&mut self) -> [u8; 4]
         requires { 4 ≤ length self.old }
@@ -124,7 +124,7 @@ impl<'a> Reader<'a> {
         [front[0], front[1], front[2], front[3]]
     }
 
-    /// So many bytes, which are left.
+    /// Splits `count` bytes off the front; so many must remain.
     #[tactic(auto, unfolding(crate::specs::Reading::bytes_at))]
     fn front(&mut self, count: usize) -> &'a [u8]
         requires { count ≤ length self.old }
@@ -146,7 +146,7 @@ impl<'a> Reader<'a> {
         Ok(self.front(count))
     }
 
-    /// A text of so many bytes.
+    /// Reads a short text of `count` bytes.
     pub fn short_text(&mut self, count: u8) -> Result<ShortText<&'a [u8]>, RecordFault>
         ensures read { Finds (λ x. (x, self.new)) result (bytes_at count self.old) }
         ensures len { IfOk result (λ x. length x ≡ count) }
@@ -154,7 +154,7 @@ impl<'a> Reader<'a> {
         Ok(ShortText::new(self.bytes(usize::from(count))?))
     }
 
-    /// A text of so many bytes.
+    /// Reads a long text of `count` bytes.
     pub fn long_text(&mut self, count: u16) -> Result<LongText<&'a [u8]>, RecordFault>
         ensures read { Finds (λ x. (x, self.new)) result (bytes_at count self.old) }
         ensures len { IfOk result (λ x. length x ≡ count) }
@@ -162,7 +162,7 @@ impl<'a> Reader<'a> {
         Ok(LongText::new(self.bytes(usize::from(count))?))
     }
 
-    /// So many bytes of a macro.
+    /// Reads `count` bytes of a macro.
     pub fn macro_bytes(&mut self, count: u16) -> Result<MacroBytes<&'a [u8]>, RecordFault>
         ensures read { Finds (λ x. (x, self.new)) result (bytes_at count self.old) }
         ensures len { IfOk result (λ x. length x ≡ count) }
@@ -170,7 +170,7 @@ impl<'a> Reader<'a> {
         Ok(MacroBytes::new(self.bytes(usize::from(count))?))
     }
 
-    /// So many bytes of a picture.
+    /// Reads `count` bytes of a picture.
     pub fn picture_bytes(&mut self, count: u32) -> Result<PictureBytes<&'a [u8]>, RecordFault>
         ensures read { Finds (λ x. (x, self.new)) result (bytes_at count self.old) }
         ensures len { IfOk result (λ x. length x ≡ count) }

@@ -1,4 +1,4 @@
-//! The record at the front of some bytes.
+//! Reads the record at the front of bytes.
 
 ghost use Rattle.std.specs.Prelude.{◌≡◌, ◌<◌, ◌++◌, length, IfOk, IfErr};
 ghost use Rattle.vt_kinds.specs.Kinds.{kind_at};
@@ -12,7 +12,7 @@ use crate::stop::RecordFault;
 use std::alloc::Global;
 use vt_kinds::{Kind, Object, ObjectId};
 
-/// A record and what follows it.
+/// A record and the bytes after it.
 #[derive(Drop)]
 pub struct Record<'a> {
     pub id: ObjectId,
@@ -20,7 +20,7 @@ pub struct Record<'a> {
     pub rest: &'a [u8],
 }
 
-/// Reads the record at the front.
+/// Reads the record at the front of `bytes`.
 pub fn read_record<'a>(alloc: Global, bytes: &'a [u8]) -> Result<Record<'a>, RecordFault>
     ensures record { IfOk result (λ r. HasRecord r.id (seen r.object)) }
     ensures parts { IfOk result (λ r. bytes.now ≡ record_of r.id (seen r.object) ++ r.rest.now) }
@@ -30,7 +30,7 @@ pub fn read_record<'a>(alloc: Global, bytes: &'a [u8]) -> Result<Record<'a>, Rec
     parse_record(alloc, bytes)
 }
 
-// What `read_record` promises is proved from the one equation that this one keeps.
+// The clauses of `read_record` are proved from this function's one equation.
 #[tactic(auto, unfolding(crate::specs::Heads::record_at))]
 fn parse_record<'a>(alloc: Global, bytes: &'a [u8]) -> Result<Record<'a>, RecordFault>
     ensures { Reads (λ r. record { id = r.id; kind = kind_of r.object; values = values_of r.object; rest = r.rest.now }) result (record_at bytes.now) }
@@ -51,7 +51,7 @@ fn parse_record<'a>(alloc: Global, bytes: &'a [u8]) -> Result<Record<'a>, Record
     })
 }
 
-/// The kind of a type, or why it has none.
+/// The kind of a type number, or the stop of a type without a kind.
 pub fn kind_with(number: u8) -> Result<Kind, RecordFault>
     ensures { result ≡ or_stop (other_type number) (kind_at number) }
 {

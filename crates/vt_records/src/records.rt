@@ -1,4 +1,4 @@
-//! The records of all kinds: what stands behind the ID and the type.
+//! Reading the fields of each kind's record, after its ID and type.
 
 ghost use Rattle.std.specs.Prelude.{◌≡◌, IfOk};
 ghost use Rattle.vt_kinds.specs.Records.{fields_of, values_of, kind_of};
@@ -76,7 +76,7 @@ pub fn read_fields<'a>(
     }
 }
 
-/// How many bytes of a record of this kind come before its lists and texts, behind the ID and the type.
+/// The number of bytes of a record of this kind between its type and its first list or text.
 fn head_size(kind: Kind) -> usize
     ensures { result ≡ head_size (fields_of kind) }
 {

@@ -1,4 +1,4 @@
-//! Why a record cannot be read.
+//! The faults of one record, without its position in the pool.
 
 ghost use Rattle.std.specs.Prelude.{◌≡◌, ◌<◌, ◌^◌};
 ghost use Rattle.vt_records.specs.declared.stop.RecordFault.TheVariants.{OutOfMemory};
@@ -7,22 +7,22 @@ ghost use Rattle.vt_records.specs.Stops.{fault_at};
 use crate::fault::PoolFault;
 use std::alloc::{AllocError, AllocFailed};
 
-/// A fault of the record that is being read.
+/// The fault of a record, without its position in the pool.
 #[derive(Clone, Copy, Debug, PartialEq, Eq)]
 pub enum RecordFault {
     Truncated,
     UnknownType,
     LeftOutType,
-    /// A scale so many bytes from the record's first is none of the four.
+    /// A scale is none of the four; `at` is its offset from the record's first byte.
     Scale { at: u8 },
-    /// Decimals so many bytes from the record's first are more than 7.
+    /// Decimals are more than 7; `at` is their offset from the record's first byte.
     Decimals { at: u8 },
     OutOfMemory,
     NullId,
 }
 
 impl RecordFault {
-    /// The fault of the pool whose record at this place it is.
+    /// The pool fault of this record, which begins at byte `at` of the pool.
     pub fn at(self, at: usize) -> PoolFault
         requires { at < 2 ^ 63 }
         ensures { result ≡ fault_at self at }

@@ -1,5 +1,4 @@
-//! Replays a CAN log to a virtual terminal and prints what the terminal answers, or prints the report of an
-//! object pool.
+//! Replays a CAN log to a virtual terminal and prints the terminal's answers, or prints the report of an object pool.
 //!
 //! docs/PROFILE.md, "The program", has the words, the statuses and the output.
 #![tactic(auto)]

@@ -1,4 +1,4 @@
-//! Tests of vt_logs and vt_program, the logs, words and files of the program, over what they export.
+//! Tests of vt_logs and vt_program over their exports: the logs, words and files of the program.
 #![tactic(auto)]
 
 #[cfg(test)]

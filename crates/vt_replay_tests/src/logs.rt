@@ -40,7 +40,7 @@ impl<'a> Open for Shelf<'a> {
     }
 }
 
-/// A run: the words, the log and the pool; and its status, its text, and whether it names a fault.
+/// A run: its words, its log and its pool; then its status, its text, and whether it reports a fault.
 type Run<'a> = (&'a [&'a str], (&'a [u8], &'a [u8]), (Status, &'a str, bool));
 
 fn expect_run(rt: &(impl Abort + AllocGlobal), wanted: &Run<'_>) -> Result<(), Fail> {
@@ -66,7 +66,7 @@ const LOG: [&str; 2] = ["vt_replay", "log"];
 
 const WITH_POOL: [&str; 6] = ["vt_replay", "log", "--pool", "pool", "--owner", "80"];
 
-/// Logs of one frame, and what is printed of each, with the pool there from the start.
+/// Logs of one frame and their text, with the pool present from the start.
 const COMMANDS: [(&[u8], &str); 12] = [
     (
         HIDE,
@@ -130,7 +130,7 @@ fn commands_are_answered(rt: HostRuntime) -> Result<(), Fail> {
     expect_replies(&rt, &COMMANDS)
 }
 
-/// A request for the terminal's claim, a claim of its address by a lower NAME, and a command.
+/// A claim request, a claim of the terminal's address by a lower NAME, and a command.
 const CLAIMED: &[u8] = b"(1.000000) can0 18EA2680#00EE00\n\
     (1.000000) can0 18EEFF26#0000000000000000\n\
     (1.000000) can0 14E72680#A0640000FFFFFFFF\n";
@@ -196,7 +196,7 @@ fn addresses_and_names(rt: HostRuntime) -> Result<(), Fail> {
     expect_runs(&rt, &ADDRESSES_AND_NAMES)
 }
 
-/// A set is registered after the claim of its NAME, and without it is not.
+/// A set is registered after the claim of its NAME, but not without the claim.
 const REGISTRATIONS: [Run<'static>; 2] = [
     (
         &LOG,
@@ -235,7 +235,7 @@ fn a_set_registers(rt: HostRuntime) -> Result<(), Fail> {
     expect_runs(&rt, &REGISTRATIONS)
 }
 
-/// Logs, and what is printed of each.
+/// Logs and their text.
 const LINES: [(&[u8], &str); 4] = [
     (
         b"",
@@ -281,7 +281,7 @@ fn lines_are_counted(rt: HostRuntime) -> Result<(), Fail> {
     expect_lines(&rt, &LINES)
 }
 
-/// A comment of so many bytes, between these.
+/// A comment of this many bytes, between these bytes.
 fn commented(alloc: Global, front: &[u8], count: u16, back: &[u8]) -> Result<Vec<u8>, AllocError> {
     let mut log = Vec::new(alloc);
     log.extend_from_slice(front)?;

@@ -1,5 +1,5 @@
-//! A whole caller of the terminal: a working set with a pool, a frame of its implement, a key of the operator, the frames that the
-//! terminal sends, and its screen. docs/LIBRARY.md explains it.
+//! A whole caller of the terminal: a working set with a pool, a frame of its implement, a key pressed by the operator, the frames
+//! sent, and the screen. docs/LIBRARY.md explains the code.
 #![tactic(auto)]
 
 use arrayvec::ArrayVec;
@@ -12,15 +12,15 @@ use vt_pool::read_pool;
 use vt_server::{Input, Output, Terminal};
 use vt_verify::{Accepted, verify};
 
-/// The address of the terminal, and that of the implement.
+/// The address of the terminal.
 const TERMINAL: u8 = 0x26;
 
 const IMPLEMENT: u8 = 0x80;
 
-/// The parameter group of a message from an implement to the terminal.
+/// The parameter group of messages from an implement to the terminal.
 const ECU_TO_VT: u32 = 0xE700;
 
-/// Hides the object 370, the boom's sections.
+/// Hide/Show of object 370, the boom's sections, with the state hidden.
 const HIDE_SECTIONS: [u8; 8] = [0xA0, 0x72, 0x01, 0, 0xFF, 0xFF, 0xFF, 0xFF];
 
 fn main(rt: HostRuntime) -> io::Result<()> {
@@ -57,7 +57,7 @@ fn main(rt: HostRuntime) -> io::Result<()> {
     out.flush()
 }
 
-/// The pool of these bytes, where it has no fault and no rule refuses it.
+/// The pool in these bytes. It is an error if the bytes have a fault or the pool is refused.
 fn accepted(alloc: Global, bytes: &[u8]) -> io::Result<Accepted> {
     let Ok(pool) = read_pool(alloc, bytes) else {
         return Err(Error::from(ErrorKind::InvalidData));
@@ -76,7 +76,7 @@ fn command(bytes: &[u8; 8]) -> Frame {
     }
 }
 
-/// A frame goes to the bus, and a refusal to the operator.
+/// Prints an output: a frame for the bus, or a refusal for the operator.
 fn print_output<W: Write>(output: &Output, out: &mut W) -> io::Result<()> {
     match output {
         Output::Frame(frame) => {

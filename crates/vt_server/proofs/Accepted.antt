@@ -1,4 +1,4 @@
--- No notice refuses an action of the operator.
+-- The outcome of a frame other than a claim refuses no action of the operator.
 use Rattle.std.proofs.Common.{◌≡◌, ℕ, List, Option, Some, None, refl}
 use Rattle.vt_can.specs.declared.frames.frame.Frame.{Frame}
 use Rattle.vt_names.specs.Registry.{Set}

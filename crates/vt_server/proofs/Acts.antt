@@ -1,4 +1,4 @@
--- Lists of acts: those of one address, and what holds of each.
+-- Lists of acts: the acts at one address, and predicates on each act.
 use Rattle.std.proofs.Common.{◌≡◌, ℕ, zero, suc, Bool, true, false, cond, eqb, List, [], ◌∷◌, ◌++◌, map, refl, ap}
 use Rattle.std.specs.List.{filter}
 use Rattle.vt_can.specs.transport.Sessions.{each_below}
@@ -19,7 +19,7 @@ of-append a (x ∷ xs) ys = cases (eqb x.0 a) (of-append a xs ys)
     cases true rest = ap (λ l. x.1 ∷ l) rest
     cases false rest = rest
 
--- ---- what holds of each act
+-- ---- predicates on each act
 
 abbrev pub AllActs : (Act → Type 0) → List (ℕ × Act) → Type 0
 AllActs P [] = Unit {0}

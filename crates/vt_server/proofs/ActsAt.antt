@@ -1,4 +1,4 @@
--- The acts of a step with their addresses.
+-- Acts of a step with their addresses: predicates on each act and its address.
 use Rattle.std.proofs.Common.{◌<◌, ℕ, zero, suc, Bool, true, false, cond, nat_eq, eqb, List, [], ◌∷◌, ◌++◌, Option, Some, None, arith}
 use Rattle.std.specs.Option.{option_eq}
 use Rattle.vt_can.specs.declared.frames.frame.Frame.{Frame}

@@ -1,4 +1,4 @@
--- What a message from the master of a set leaves, and its reply.
+-- The effect of a message from the master of a set, and its reply.
 use Rattle.std.proofs.Common.{◌≡◌, ℕ, true, false, cond, eqb, List, [], ◌∷◌, drop, Option, Some, None, is_some, true≢false, refl, sym, ap, ◌∙◌, eq-eqb, ne_eqb}
 use Rattle.std.specs.Option.{option_map, option_to_list}
 use Rattle.vt_can.specs.declared.frames.frame.Frame.{Frame}
@@ -19,7 +19,7 @@ use Rattle.vt_server.specs.Transfers.{Verdict, IsVerdict}
 use Rattle.vt_server.proofs.Writes.{put-place, put-kept}
 use Rattle.vt_node.proofs.ByAddress.{places-same}
 
--- ---- a message that asks what the terminal is, or a command
+-- ---- a technical request or a command
 
 pub same-content : (a : ℕ) (s : State) → with_content_at a (s.places a).content s ≡ s
 same-content a s = ap (λ (p : ℕ → AddressState). record s { places = p }) (places-same a s.places (s.places a) refl)
@@ -52,7 +52,7 @@ module _ (s : State) (a : ℕ) (bytes : List ℕ) where
   abbrev pub answer_by : Verdict → Option Set → AddressOutcome
   answer_by verdict set = after_message a (part a s) verdict set (Some bytes)
 
-  -- where there is no set
+  -- Without a set a message changes nothing.
   unheard : (verdict : Verdict) (o : Option Set) → false ≡ is_some o → answer_by verdict o ≡ unchanged (part a s)
   unheard verdict None none = refl
   unheard verdict (Some set) none = absurd (true≢false (sym none))
@@ -69,7 +69,7 @@ module _ (s : State) (a : ℕ) (bytes : List ℕ) where
     reply_is = sym (ap (λ (o : AddressOutcome). o.frames) (unheard verdict (set_at a s.sets) none));
   }
 
-  -- where there is one
+  -- With a set a message is handled.
   module _ (some : true ≡ is_some (set_at a s.sets)) where
     heard : (verdict : Verdict) (o : Option Set) → true ≡ is_some o → answer_by verdict o ≡ answered a (part a s) (handled (s.places a).content verdict bytes)
     heard verdict None e = absurd (true≢false e)
@@ -89,7 +89,7 @@ module _ (s : State) (a : ℕ) (bytes : List ℕ) where
         reply_is = said ∙ sym (ap (λ (o : AddressOutcome). o.frames) outcome-is);
       }
 
--- ---- which message it is
+-- ---- the functions of messages
 
 pub other-handled : (content : SetPool) (verdict : Verdict) (bytes : List ℕ) → is_other bytes → handled content verdict bytes ≡ asked content bytes (technical_reply bytes)
 other-handled content verdict [] other = refl
@@ -109,7 +109,7 @@ end-handled content verdict [] begins = absurd begins
 end-handled content verdict (byte ∷ bytes) begins =
     ap (λ (n : ℕ). handled content verdict (n ∷ bytes)) begins
 
--- which messages end no pool
+-- A piece of a pool does not end an upload.
 pub piece-ends_none : (o : Option Set) (bytes : List ℕ) → begins_with TRANSFER bytes → ends_transfer o (Some bytes) ≡ true → (P : Type 0) → P
 piece-ends_none None bytes begins ends P = absurd (true≢false (sym ends))
 piece-ends_none (Some set) [] begins ends P = absurd begins

@@ -14,7 +14,7 @@ use Rattle.vt_server.proofs.Acts.{of, of-append}
 use Rattle.vt_names.proofs.Hearing.{option_same}
 use Rattle.vt_names.proofs.Holding.{by_eq, none-some}
 
--- ---- the same holder or another
+-- ---- the same or another holder
 
 pub option-true : (x y : Option ℕ) → option_eq eqb x y ≡ true → x ≡ y
 option-true None None e = refl
@@ -48,7 +48,7 @@ module _ (law : OtherHoldersStay) (s : State) (rising : IsRising s.claims.addres
   abbrev pub t : State
   t = before s source (Claim name)
 
-  -- elsewhere the holder stays
+  -- The holder of any other address is unchanged.
   unchanged : a ≢ source → address_of s.claims.addresses name ≢ Some a → [] ≡ change (holder s a) (holder t a)
   unchanged ne not =
       sym (ap (λ c. cond c [] (Rebinds ∷ []))
@@ -85,7 +85,7 @@ module _ (law : OtherHoldersStay) (s : State) (rising : IsRising s.claims.addres
   of-claim-changes : of a (changes s source (Claim name)) ≡ change (holder s a) (holder t a)
   of-claim-changes = of-left (address_of s.claims.addresses name) refl
 
--- by any notice
+-- The changes of holders at one address by any frame: one act if its holder changes, else none.
 pub of-changes : OtherHoldersStay → (s : State) → IsRising s.claims.addresses → (a source : ℕ) (n : FrameMeaning)
     → of a (changes s source n) ≡ change (holder s a) (holder (before s source n) a)
 of-changes law s rising a source (Claim name) = of-claim-changes law s rising a source name
@@ -107,7 +107,7 @@ own-before s source Tp = refl
 own-before s source Etp = refl
 own-before s source Nothing = refl
 
--- what acts leave of what was heard of addresses, of the loss and of the shown set
+-- Acts leave the address claims, the loss and the shown set unchanged.
 pub claims-acts : (s : State) (hs : List (ℕ × Act)) → (after_acts s hs).claims ≡ s.claims
 claims-acts s hs = beside (λ (t : State). t.claims) (λ a o t. refl) s hs
 

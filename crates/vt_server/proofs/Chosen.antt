@@ -1,4 +1,4 @@
--- What is shown, and what its change raises.
+-- The shown set after a step, and the events of its change.
 use Rattle.std.proofs.Common.{◌≡◌, ℕ, Bool, true, false, cond, not, List, [], ◌∷◌, ◌++◌, Option, Some, None, is_some, refl, sym, ap, ◌∙◌, append-nil, nat_eq}
 use Rattle.std.proofs.lemmas.Option.{same_Some}
 use Rattle.std.specs.Option.{option_map, option_eq}
@@ -49,7 +49,7 @@ module _ (pools : ℕ → Option SetState) where
           let same : ◌≡◌ {A = ℕ × SetState} (b, other) (a, state) = same_Some (b, other) (a, state) (sym h) in
           ap (λ (d : ℕ × SetState). display_of d.0 (Some d.1)) same
 
--- ---- where no set has a pool
+-- ---- no set has a pool
 
 module _ (s : State) (none : (a : ℕ) → pool_of s a ≡ None) where
   first-none : (sets : List Set) → first_with_pool (pool_of s) sets ≡ None
@@ -70,7 +70,7 @@ module _ (s : State) (none : (a : ℕ) → pool_of s a ≡ None) where
   pub chosen-none : record s { selected = None; shown = None } ≡ choosing s
   chosen-none = λ i. record s { selected = sym selected-none i; shown = or_selected (sym (loudest-none s.sets) i) (sym selected-none i) }
 
--- an event of the set of an address
+-- Raising an event changes the pool of its address alone.
 pub raised-place : (s : State) (a event : ℕ) (places : ℕ → AddressState)
     → places ≡ with_at a (with_pool (s.places a) (option_map (λ state. raised_on state event) (s.places a).content.pool)) s.places
     → record s { places = places } ≡ after_acts s (raised_at (Some a) event)
@@ -88,7 +88,7 @@ raised-both s t u was now other first second =
     second ∙ ap (λ (x : State). after_acts x (raised_at now 1)) first ∙ sym (acts-append s (raised_at was 2) (raised_at now 1))
     ∙ sym (ap (λ b. after_acts s (cond b [] (raised_at was 2 ++ raised_at now 1))) other)
 
--- no frame goes out by an event
+-- Raising an event sends no frame.
 raise-silent : (s : State) (a event : ℕ) → sent_by_act s a (Raises event) ≡ []
 raise-silent s a event = sent_by_one-is s a (Raises event)
 

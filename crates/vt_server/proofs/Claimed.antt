@@ -1,4 +1,4 @@
--- What a claim leaves, and what goes out.
+-- The effect of a claim, and the frames sent for it.
 use Rattle.std.proofs.Common.{◌≡◌, ◌≢◌, ℕ, Bool, true, false, cond, eqb, List, [], ◌∷◌, ◌++◌, map, Option, Some, None, is_some, true≢false, refl, sym, ap, ◌∙◌, nat_eq, eq-eqb, ne_eqb, append-nil}
 use Rattle.std.specs.Option.{option_eq}
 use Rattle.vt_can.specs.declared.frames.frame.Frame.{Frame}
@@ -37,7 +37,7 @@ module _ (s : State) (a : ℕ) where
   pub bind-none : None ≡ set_at a s.sets → s ≡ named
   bind-none none = sym (ap (λ o. put a (after_claim_heard (part a s) o) s) (sym none) ∙ put-kept a s (unchanged (part a s)) refl refl)
 
-  -- where the NAME stays
+  -- If the set keeps its NAME, nothing changes.
   bind-same : (set : Set) → Some set ≡ set_at a s.sets → with_holder_name set set.name (holder s a) ≡ set → s ≡ named
   bind-same set there same =
       sym (ap (λ o. put a (after_claim_heard (part a s) o) s) (sym there)
@@ -59,7 +59,7 @@ module _ (s : State) (a : ℕ) where
       ∙ ap (λ (x : Set). put a (with_other_set (part a s) (Some x)) s)
       (ap (λ o. with_holder_name set o (holder s a)) is ∙ ap (λ o. with_holder_name set None o) (sym held)))
 
--- ---- another holder
+-- ---- a change of the holder
 
 module _ (s : State) (a : ℕ) (was : Option ℕ) where
   pub rebind-same : option_eq nat_eq was (holder s a) ≡ true → s ≡ after_acts s (changed was s a)
@@ -86,7 +86,7 @@ module _ (s : State) (a : ℕ) (was : Option ℕ) where
         ∙ sym (acts-changed ∙ ap (λ o. put a (after_change (part a s) o) s) (sym there)
         ∙ ap (λ b. put a (cond b (unchanged (part a s)) (without_set (part a s))) s) closes)
 
--- ---- the changes of holders, and then the claim at its source
+-- ---- the changes of holders, then the claim at its source
 
 pub changed-same : (was : Option ℕ) (s t : State) (a : ℕ) → s.claims ≡ t.claims → changed was s a ≡ changed was t a
 changed-same was s t a e = ap (λ (c : Claimed). cond (option_eq nat_eq was (holder_of c.addresses a)) [] ((a, Rebinds) ∷ [])) e
@@ -103,7 +103,7 @@ after-changes s t u v source name left l h t-is left-is l-is h-is u-is v-is =
     ∙ (λ i. after_acts (t-is i) (changed_left (l-is i) (t-is i) left ++ changed (h-is i) (t-is i) source))
     ∙ ap (λ o. after_acts (before s source (Claim name)) (changes_by s (before s source (Claim name)) o source)) left-is
 
--- the source is heard, and its set takes the holder's NAME
+-- A claim counts as a frame of its source, and the source's set takes the holder's NAME.
 heard-claim : (v : State) (a name : ℕ) (frame : Frame) (verdict : Verdict)
     → named (with_place_at a (heard_at v.now (v.places a)) v) a ≡ after_act v a (Hears (Claim name) frame verdict)
 heard-claim v a name frame verdict =
@@ -123,12 +123,12 @@ module _ (s v : State) (source name : ℕ) (frame : Frame) (verdict : Verdict)
       let last = heard_at_source s.claims.own source (Claim name) frame verdict in
       ap (λ (x : State). after_acts x last) v-is ∙ sym (acts-append (before s source (Claim name)) (changes s source (Claim name)) last)
 
-  -- from the terminal's own address
+  -- A claim from the terminal's own address adds no act.
   pub acted-own : source ≡ v.claims.own → v ≡ acted s source (Claim name) frame verdict
   acted-own own =
       sym (ap (λ b. after_acts v (cond b [] ((source, Hears (Claim name) frame verdict) ∷ []))) (eq-eqb source s.claims.own (own ∙ own-stays))) ∙ acted-then
 
-  -- and from another one
+  -- A claim from another address adds the act at its source.
   pub acted-other : (u w : State) → source ≢ v.claims.own → u ≡ with_place_at source (heard_at v.now (v.places source)) v → w ≡ named u source
       → w ≡ acted s source (Claim name) frame verdict
   acted-other u w ne u-is w-is =
@@ -136,7 +136,7 @@ module _ (s v : State) (source name : ℕ) (frame : Frame) (verdict : Verdict)
       ∙ sym (ap (λ b. after_acts v (cond b [] ((source, Hears (Claim name) frame verdict) ∷ []))) (ne_eqb source s.claims.own (λ e. ne (e ∙ sym own-stays))))
       ∙ acted-then
 
--- ---- nothing goes out at an address
+-- ---- acts that send nothing
 
 record IsSilent (o : AddressOutcome) : Type 0 where
   pub frames : o.frames ≡ []
@@ -192,7 +192,7 @@ sent-acts s source name frame verdict =
     (both-none t first second (sent-left (left_holder s left) t t left) (sent-changed (holder s source) (after_acts t first) t source))
     (sent-heard s.claims.own source name frame verdict (after_acts t (first ++ second)))
 
--- what goes out for a claim: that of the terminal, where it defends its address
+-- The only frame sent for a claim is the terminal's own claim, if it defends its address.
 sent-is : (s : State) (source name : ℕ) (frame : Frame) (verdict : Verdict) (b : Bool) → b ≡ is_defended (Claim name) (answer_to s source (Claim name))
     → cond b (ToAll (claim_from s.claims.own s.claims.name) ∷ []) [] ≡ sent_by_frame s source (Claim name) frame verdict
 sent-is s source name frame verdict b is =

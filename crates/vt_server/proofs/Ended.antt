@@ -1,4 +1,4 @@
--- What the end of an upload comes to.
+-- A refused upload ends with its pool unchanged.
 use Rattle.std.proofs.Common.{◌≡◌, ℕ, List, []}
 use Rattle.vt_server.specs.Ends.{CarriesOut, IsJudgement, IsEnded}
 use Rattle.vt_server.specs.Places.{SetPool}
@@ -6,7 +6,7 @@ use Rattle.vt_node.specs.ByAddress.{with_at}
 use Rattle.vt_server.specs.Transfers.{Verdict, Accepts, Faulty, Refuses, IsVerdict}
 use Rattle.vt_server.specs.declared.ending.Judgement.TheVariants as judgements
 
--- A pool that is refused leaves the one that is there.
+-- The end of a refused upload removes the upload and leaves the pool unchanged.
 pub ends-refused : (old new : ℕ → SetPool) (a : ℕ) (reply : List ℕ) → IsJudgement (old a) (judgements.Refused reply)
     → new ≡ with_at a (record (old a) { transfer = [] }) old → IsEnded old a (judgements.Refused reply) reply new
 ends-refused old new a reply is left = cases is.verdict is.right is.carried_out

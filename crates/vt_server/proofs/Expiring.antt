@@ -1,4 +1,4 @@
--- The end of sessions that are overdue, one after the other.
+-- Overdue sessions end one after the other.
 use Rattle.std.proofs.Common.{◌≡◌, ◌≢◌, ℕ, ◌+◌, ◌≤◌, Bool, cond, List, [], ◌∷◌, ◌++◌, map, None, refl, sym, ap, ◌∙◌, append_assoc, append-nil, arith}
 use Rattle.std.specs.FinMap as finite
 use Rattle.vt_can.specs.declared.frames.frame.Frame.{Frame}
@@ -30,7 +30,7 @@ module _ {S : Type 0} {old new : ByAddress S} {now address : ℕ} {session : S} 
   others-stay : (q : ℕ) → q ≢ address → finite.get new q ≡ finite.get old q
   others-stay q ne = ap (λ (m : ByAddress S). finite.get m q) expired.removed ∙ (session_removed old address).others q ne
 
-  -- what is alive stays so
+  -- The sessions that are not overdue are unchanged.
   alive-same : (q : ℕ) → alive now (finite.get new q) ≡ alive now (finite.get old q)
   alive-same q =
       by_eq q address
@@ -48,7 +48,7 @@ module _ {S : Type 0} {old new : ByAddress S} {now address : ℕ} {session : S} 
 due-is : {S : Type 0} (lane : Lane S) (t : Terminal) → due lane (state_of t) ≡ each_overdue t.time (lane.sessions t.node) lane.act
 due-is lane t = ap (λ (f : ℕ → Bool). each_below f lane.act 256) (λ i address. is_overdue t.time (lane.found t address i))
 
--- from what is now to the node's next value
+-- One step of the loop: from the current node to the next.
 module _ {S : Type 0} (lane : Lane S) (now : Terminal) (node : NodeState) (rest : node ≡ lane.with_sessions (lane.sessions node) now.node) (frame : Frame)
     (expired : HasExpired (lane.abort now.node.claims.own) (lane.sessions now.node) (lane.sessions node) now.time frame) where
   abbrev current : State
@@ -106,7 +106,8 @@ module _ {S : Type 0} (lane : Lane S) (now : Terminal) (node : NodeState) (rest 
 
 -- ---- the sessions of a lane expire, one after the other
 
--- what is still due comes to what was due, with room for the aborts and for what is to come after them
+-- The acts still due lead to the same state and outputs as all acts due at first. There is capacity for their aborts and for
+-- later outputs.
 pub record IsExpiring {S : Type 0} (lane : Lane S) (spare : ℕ) (old now : Terminal) (old_out now_out : List Output) (free : ℕ) : Type 0 where
   pub rest : now ≡ record old { node = lane.with_sessions (lane.sessions now.node) old.node }
   pub state : after_acts (state_of now) (due lane (state_of now)) ≡ after_acts (state_of old) (due lane (state_of old))

@@ -1,4 +1,4 @@
--- What a frame from an address leaves, and what goes out.
+-- The effect of a frame on the view of its source address, and the frames sent.
 use Rattle.std.proofs.Common.{◌≡◌, ◌≢◌, ℕ, cond, List, [], ◌∷◌, ◌++◌, map, None, refl, sym, ap, subst, ◌∙◌, eq-eqb, ne_eqb, append_assoc, append-nil}
 use Rattle.std.proofs.lemmas.List.{map-append}
 use Rattle.vt_can.specs.declared.frames.frame.Frame.{Frame}
@@ -23,14 +23,14 @@ use Rattle.vt_server.proofs.Puts.{act-is, sent_by_one-is}
 use Rattle.vt_node.proofs.ByAddress.{at-own}
 use Rattle.vt_node.proofs.ByAddress.{places-twice}
 
--- where none is asked for
+-- a verdict for inputs that need none
 pub any_verdict : Verdict
 any_verdict = Faulty (faults.Truncated 0)
 
 pub frames-append : (xs ys : List Frame) → frames_of (xs ++ ys) ≡ frames_of xs ++ frames_of ys
 frames-append xs ys = map-append _ xs ys
 
--- ---- what is written over a place that was written
+-- ---- two writes to the state of one address
 
 abbrev pub with_place_at : ℕ → AddressState → State → State
 with_place_at a place s = record s { places = with_at a place s.places }
@@ -90,9 +90,9 @@ accepted-frames a o none =
     ∙ ap (λ r. outputs_of (map (ToOne a) o.frames) ++ outputs_of (refusal r)) none
     ∙ append-nil (outputs_of (map (ToOne a) o.frames)) ∙ frames-to_one a o.frames
 
--- ---- a frame that is no claim, from the terminal's own address or another one
+-- ---- a frame other than a claim, from the terminal's own address or another one
 
--- whether it was heard before says nothing of its message
+-- The message of a frame does not depend on the time of the last frame.
 came-heard : (now own a : ℕ) (place : AddressState) (notice : FrameMeaning) (frame : Frame)
     → (came now own a (heard_at now place) notice frame).message ≡ (came now own a place notice frame).message
 came-heard now own a place (notices.Claim name) frame = refl
@@ -108,7 +108,7 @@ module _ (s : State) (frame : Frame) (notice : FrameMeaning) (no : IsNoClaim not
   abbrev from : ℕ
   from = source_of frame
 
-  -- nothing happens beside the frame
+  -- A frame other than a claim has no act but the one at its source.
   acts-are : (v : Verdict) → (acted s from notice frame v ≡ after_acts s (heard_at_source s.claims.own from notice frame v))
       × (sent_by_frame s from notice frame v ≡ defence s from notice ++ sent_by_acts s (heard_at_source s.claims.own from notice frame v))
   acts-are v = cases notice no
@@ -124,7 +124,7 @@ module _ (s : State) (frame : Frame) (notice : FrameMeaning) (no : IsNoClaim not
       cases notices.Etp none = (refl, refl)
       cases notices.Nothing none = (refl, refl)
 
-  -- from the terminal's own address
+  -- A frame from the terminal's own address has no act.
   pub takes-echo : (v : Verdict) (before after : List Output) → from ≡ s.claims.own → IsJudged s.now from (part from s) notice frame v
       → after ≡ before ++ outputs_of (defence s from notice) → TakesFrame s notice frame s before after
   takes-echo v before after own judged sent =
@@ -137,7 +137,7 @@ module _ (s : State) (frame : Frame) (notice : FrameMeaning) (no : IsNoClaim not
             (sym ((acts-are v).1 ∙ ap (λ l. defence s from notice ++ sent_by_acts s l) none ∙ append-nil (defence s from notice)));
       }
 
-  -- from another one
+  -- A frame from another address has its act there.
   abbrev heard : State
   heard = with_place_at from (heard_at s.now (s.places from)) s
 

@@ -1,4 +1,4 @@
--- What a frame makes of the terminal, from what is made ready to the step.
+-- The handling of a frame, from the work done in advance to the end of its step.
 use Rattle.std.proofs.Common.{◌≡◌, ◌<◌, ℕ, Bool, true, false, cond, List, [], ◌++◌, Option, Some, None, is_some, inl, inr, true≢false, refl, sym, ap, subst, ◌∙◌, append_assoc, append-nil}
 use Rattle.vt_can.specs.declared.frames.frame.Frame.{Frame}
 use Rattle.vt_can.specs.frames.Frame.{source_of}
@@ -41,7 +41,7 @@ use Rattle.vt_server.proofs.Answered.{piece-ends_none, other-ends_none}
 use Rattle.vt_server.proofs.Framed.{any_verdict, outputs-append, with_place_at}
 use Rattle.vt_server.proofs.Writes.{put-kept, put-set, heard-placed}
 
--- ---- where no message comes
+-- ---- no message
 
 pub none-left : (a : ℕ) (p : AddressView) (v : Verdict) (o : Option Set) → after_message a p v o None ≡ unchanged p
 none-left a p v None = refl
@@ -51,7 +51,7 @@ pub none-ends : (o : Option Set) → ends_transfer o None ≡ true → (P : Type
 none-ends None ends P = absurd (true≢false (sym ends))
 none-ends (Some set) ends P = absurd (true≢false (sym ends))
 
--- a notice that only asks, or says nothing
+-- a frame that is a claim request or has no meaning
 abbrev pub IsIdle : FrameMeaning → Type 0
 IsIdle notices.ClaimRequest = Unit {0}
 IsIdle notices.Nothing = Unit {0}
@@ -91,7 +91,7 @@ takes-nothing s n frame outputs idle = record {
     judged notices.Tp is = absurd is
     judged notices.Etp is = absurd is
 
--- a notice that is none of those that ask for more
+-- A frame that is not a claim, a registration or a message is idle.
 pub idle-by : (n : FrameMeaning) → IsNoClaim n → ((count : ℕ) → n ≡ notices.Master count → ⊥) → ((name : ℕ) → n ≡ notices.Member name → ⊥)
     → (n ≡ notices.Message → ⊥) → (n ≡ notices.Tp → ⊥) → (n ≡ notices.Etp → ⊥) → IsIdle n
 idle-by (notices.Claim name) claim master member message tp etp = absurd (claim name refl)
@@ -106,7 +106,7 @@ idle-by notices.Nothing claim master member message tp etp = tt
 pub request-unclaimed : IsNoClaim notices.ClaimRequest
 request-unclaimed name e = subst IsIdle e tt
 
--- the terminal defends its address where it is asked for, and against claims
+-- A frame that is neither a claim nor a claim request is not answered with the terminal's claim.
 pub defence-none : (s : State) (a : ℕ) (n : FrameMeaning) → IsNoClaim n → (n ≡ notices.ClaimRequest → ⊥) → defence s a n ≡ []
 defence-none s a (notices.Claim name) unclaimed other = absurd (unclaimed name refl)
 defence-none s a notices.ClaimRequest unclaimed other = absurd (other refl)
@@ -117,7 +117,7 @@ defence-none s a notices.Tp unclaimed other = refl
 defence-none s a notices.Etp unclaimed other = refl
 defence-none s a notices.Nothing unclaimed other = refl
 
--- the address of a frame is heard
+-- A frame changes the time of the last frame of its source.
 pub heard-state : (t : Terminal) (registry : Watched) (a b : ℕ) → a ≡ b → registry.sets ≡ t.registry.sets
     → heard_of registry.watch ≡ with_at a (Some t.time) (heard_of t.registry.watch)
     → state_of (record t { registry = registry }) ≡ with_place_at b (heard_at t.time ((state_of t).places b)) (state_of t)
@@ -182,7 +182,7 @@ takes-member s name frame outputs sets is = record {
     silent None = refl
     silent (Some set) = refl
 
--- ---- what was made ready judges the upload that a message ends
+-- ---- the work done in advance judges the upload that a message ends
 
 now-with : (content : SetPool) (room : ℕ) (bytes : List ℕ) (upload : PreparedMessage) → FitsOneFrame content room bytes upload → FitsMessage content room bytes upload
 now-with content room bytes uploads.Nothing is = is
@@ -220,7 +220,7 @@ upload-judges t n frame upload has =
     ready-judges (set_at a t.registry.sets) (message_by t t.time ((state_of t).places a) n frame) (content_of t.contents a) (room_of t.contents a) upload
     (λ some. by-message n (content_of t.contents a) (room_of t.contents a) t.time t.node.claims.own a ((state_of t).places a) frame upload (has some))
 
--- ---- the message of a frame, by the sessions alone
+-- ---- the message of a frame depends on the sessions of its source alone
 
 pub came-reads : (now own a : ℕ) (p q : AddressState) (n : FrameMeaning) (frame : Frame) → p.tp ≡ q.tp → p.etp ≡ q.etp
     → (came now own a p n frame).message ≡ (came now own a q n frame).message
@@ -233,7 +233,7 @@ came-reads now own a p q notices.Tp frame d e = ap (λ x. message_to_terminal (t
 came-reads now own a p q notices.Etp frame d e = ap (λ x. message_to_terminal (taken etp.protocol now own a x frame).message) e
 came-reads now own a p q notices.Nothing frame d e = refl
 
--- What is the same of two terminals keeps what was made ready.
+-- The work done in advance stays right for a terminal with the same sessions, content and capacity.
 module _ (t u : Terminal) (n : FrameMeaning) (frame : Frame) where
   abbrev a : ℕ
   a = source_of frame
@@ -257,7 +257,7 @@ module _ (t u : Terminal) (n : FrameMeaning) (frame : Frame) where
       ∙ sym (came-reads u.time u.node.claims.own a ((state_of u).places a) place n frame d e) in
       subst (λ (x : SetPool × (ℕ × Option (List ℕ))). FitsMeaning n x.0 x.1.0 x.1.1 upload) (λ i. (sym content i, (sym room i, message i))) is
 
--- after what the time of the frame ended
+-- The upload stays right after the timeouts and closings of the frame's time.
 pub lapsed-upload : (t u : Terminal) (n : FrameMeaning) (frame : Frame) (now : ℕ) (upload : PreparedMessage) → HasLapsed t u now → u.time ≡ now
     → FitsMeaning n (content_of t.contents (source_of frame)) (room_of t.contents (source_of frame))
     (message_by t now (timely now ((state_of t).places (source_of frame))) n frame) upload
@@ -320,7 +320,7 @@ module _ (old s : State) (n : FrameMeaning) (frame : Frame) where
             ∙ ap (λ (x : Step). before ++ outputs_of x.sent) (sym is);
       }
 
-  -- what is recorded of a claim has its effect
+  -- A recorded claim has its effect.
   pub claim-takes : (u t : State) (q name : ℕ) (former : FormerHolders) (outputs after : List Output) → TakesClaim former q u t outputs after → q ≡ from
       → n ≡ notices.Claim name → AreFormer s from name former → former.is_defended ≡ is_defended n (answer_to s from n) → u ≡ steps.before s from n
       → (t ≡ acted s from (notices.Claim name) frame any_verdict) × (after ≡ outputs ++ outputs_of (sent_by_frame s from (notices.Claim name) frame any_verdict))
@@ -328,7 +328,7 @@ module _ (old s : State) (n : FrameMeaning) (frame : Frame) where
       subst (λ a. TakesClaim former a u t outputs after) at takes s name frame any_verdict refl are
       (defended ∙ ap (λ m. is_defended m (answer_to s from m)) is) (recorded ∙ ap (steps.before s from) is)
 
-  -- the frame is a claim
+  -- The step of a frame that is a claim.
   pub hears-claim : (name : ℕ) (u t : State) (before middle after : List Output) → n ≡ notices.Claim name → is_lost_by (answer_to s from n) ≡ false
       → (u ≡ acted s from (notices.Claim name) frame any_verdict) × (middle ≡ before ++ outputs_of (sent_by_frame s from (notices.Claim name) frame any_verdict))
       → t ≡ settled u → after ≡ middle ++ outputs_of (sent_by_settling old u) → Hears old s n frame t before after
@@ -337,7 +337,7 @@ module _ (old s : State) (n : FrameMeaning) (frame : Frame) where
       (subst (λ m. IsJudged s.now from (part from s) m frame any_verdict) (sym is) (λ ends. none-ends (part from s).set ends (IsVerdict (s.places from).content any_verdict)))
       (takes.0 ∙ ap (λ m. acted s from m frame any_verdict) (sym is)) (takes.1 ∙ ap (λ m. before ++ outputs_of (sent_by_frame s from m frame any_verdict)) (sym is)) left rest
 
-  -- it is none
+  -- The step of a frame that is not a claim.
   pub hears-other : (r u t : State) (before middle after : List Output) → IsNoClaim n → r ≡ s → TakesFrame r n frame u before middle
       → t ≡ settled u → after ≡ middle ++ outputs_of (sent_by_settling old u) → Hears old s n frame t before after
   hears-other r u t before middle after unclaimed same takes left rest =

@@ -1,4 +1,4 @@
--- What every step keeps, and that sets stand apart.
+-- Invariants of every step; no two sets have one address.
 use Rattle.std.proofs.Common.{◌≡◌, ◌≢◌, ℕ, Bool, true, false, cond, not, List, [], ◌∷◌, Option, Some, None, is_some, refl, sym, ap, subst, ◌∙◌}
 use Rattle.std.specs.List.{filter}
 use Rattle.vt_can.specs.declared.frames.frame.Frame.{Frame}
@@ -23,7 +23,7 @@ use Rattle.vt_node.proofs.Sets.{at-with_other}
 use Rattle.vt_names.proofs.Filing.{set_at-first, set_at-later, with_set-first, with_set-later}
 use Rattle.vt_names.proofs.Holding.{by_eq, none-some}
 
--- what the parts of a step keep
+-- a predicate that every stage of a step keeps
 pub record IsKept (P : State → Type 0) : Type 0 where
   pub act : (s : State) (a : ℕ) (h : Act) → P s → P (after_act s a h)
   pub heard : (s : State) (source : ℕ) (n : FrameMeaning) → P s → P (before s source n)
@@ -121,7 +121,7 @@ apart-put : (a : ℕ) (o : Option Set) (sets : List Set) → AreApart sets → A
 apart-put a None sets apart = apart-filter (λ set. not (is_of a set)) sets apart
 apart-put a (Some x) sets apart = apart-with x sets apart
 
--- ---- a state stays orderly, and its own address the same
+-- ---- a state stays orderly with the same own address
 
 act-orderly : (s : State) (a : ℕ) (h : Act) → IsOrderly s → IsOrderly (after_act s a h)
 act-orderly s a h orderly = subst IsOrderly (sym (act-is s a h)) (record {
@@ -147,7 +147,7 @@ orderly-kept law = record {
   chosen = λ s selected shown lost orderly. record { rising = orderly.rising; apart = orderly.apart };
 }
 
--- what is said of what was heard, where a claim leaves the own address and NAME
+-- Predicates on the own address and NAME hold after each step.
 pub own-kept : (Q : ℕ → ℕ → Type 0) → IsKept (λ s. Q s.claims.own s.claims.name)
 own-kept Q = record {
   act = λ s a h is. subst (λ (c : Claimed). Q c.own c.name) (sym (ap (λ (t : State). t.claims) (act-is s a h))) is;

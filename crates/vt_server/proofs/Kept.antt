@@ -1,4 +1,4 @@
--- What is kept of the addresses after a write: none has a pool where none may have one.
+-- The table of pools and uploads keeps its invariant after a write.
 use Rattle.std.proofs.Common.{◌≡◌, ◌<◌, ℕ, Bool, true, true≢false, List, get_or, Option, Some, None, sym, ap, subst, ◌∙◌}
 use Rattle.std.proofs.lemmas.List.{length-set, get_or-set_same, get_or-set_other}
 use Rattle.std.specs.Prelude.{slice_set}

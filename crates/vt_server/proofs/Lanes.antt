@@ -1,4 +1,4 @@
--- The sessions of a terminal that expire, each kind of them a lane: where they stand, the act that ends one, and its abort.
+-- The three kinds of sessions as lanes: how to find a session, the act that ends it, and its abort.
 use Rattle.std.proofs.Common.{◌≡◌, ℕ, List, Option, None, refl}
 use Rattle.std.specs.FinMap as finite
 use Rattle.std.specs.Option.{option_map, option_to_list}
@@ -29,7 +29,7 @@ pub record Lane (S : Type 0) : Type 0 where
   pub with_session : Option (Timed S) → AddressState → AddressState
   pub act : Act
   pub abort : ℕ → ℕ → S → Frame
-  -- how these fit together
+  -- laws of the members above
   pub found : (t : Terminal) (address : ℕ) → session ((state_of t).places address) ≡ finite.get (sessions t.node) address
   pub placed : (t : Terminal) (m : ByAddress S)
       → state_of (record t { node = with_sessions m t.node }) ≡ record (state_of t) { places = λ address. with_session (finite.get m address) ((state_of t).places address) }
@@ -83,6 +83,6 @@ sending_lane = record {
   twice = λ m n node. refl;
 }
 
--- the sessions of a lane that are overdue
+-- the acts that end the overdue sessions of a lane
 abbrev pub due : {S : Type 0} → Lane S → State → List (ℕ × Act)
 due lane s = each_below (λ address. is_overdue s.now (lane.session (s.places address))) lane.act 256

@@ -1,4 +1,4 @@
--- What a call on the set leaves, and the message that it sends.
+-- The effect of an operator's action on its set, and the message sent.
 use Rattle.std.proofs.Common.{suc, ◌&&◌, ◌≡◌, ◌≤◌, ℕ, Bool, true, false, cond, is_some, List, [], ◌∷◌, length, Option, Some, None, Result, Ok, Err, true≢false, refl, sym, ap, subst, arith}
 use Rattle.std.proofs.lemmas.Option.{same_Some}
 use Rattle.std.proofs.lemmas.Bool.Decides.{nat_tests}
@@ -32,7 +32,7 @@ use Rattle.vt_server.specs.Places.{with_pool}
 use Rattle.vt_server.specs.declared.output.OperatorFault.TheVariants as faults
 use Rattle.vt_names.proofs.Holding.{none-some}
 
--- ---- what a call on the set leaves
+-- ---- the effect of a call on the set
 
 acted-is : (start new : SetState) (raised : List Raised) (steps : ℕ) → HasActed start raised steps new → new ≡ ran start raised
 acted-is start new raised steps h = λ i. record { objects = sym (ap store_of h.has_run.ended) i; key = h.key i; input = h.input i }
@@ -58,7 +58,7 @@ acting-is p q (Some (Acts message start raised)) acted h = record {
   left = acted-is start q raised acted.steps h.1;
 }
 
--- where it is known what an action comes to
+-- The effect of a call whose action is known.
 pub comes-acts : (p q : SetState) (message : List ℕ) (start : SetState) (raised : List Raised) (result : Option (Result Acted OperatorRefusal))
     → Comes p (Some (Acts message start raised)) result q → q ≡ ran start raised
 comes-acts p q message start raised None h = absurd h

@@ -1,5 +1,5 @@
--- What an action of the operator comes to on the set that is shown: the calls on the set and on the contents, the outcome at its
--- address, and the step.
+-- The operator's action on the shown set: the calls on the set and on the table of pools, the outcome at its address, and the
+-- step.
 use Rattle.std.proofs.Common.{suc, append_assoc, get_or, ◌≡◌, ◌≤◌, ◌<◌, ℕ, Bool, true, false, cond, not, is_some, List, [], ◌∷◌, ◌++◌, length, IfSome, Option, Some, None, Result, Ok, Err, true≢false, refl, sym, ap, subst, ◌∙◌, append-nil, arith}
 use Rattle.std.proofs.lemmas.Option.{same_Some}
 use Rattle.std.proofs.lemmas.Bool.Decides.{same_from_decides, nat_tests}
@@ -49,7 +49,7 @@ use Rattle.vt_server.proofs.Writes.{content-placed, put-place, put-kept}
 use Rattle.vt_node.proofs.ByAddress.{place-written, places-same, places-written}
 use Rattle.vt_names.proofs.Holding.{none-some}
 
--- ---- what is performed where there is a pool
+-- ---- the action on a pool
 
 pub record IsPerformed (p : SetState) (action : ActionValue) (result : Option (Result Acted OperatorRefusal)) (pool : Option SetState) : Type 0 where
   pub after : SetState
@@ -63,7 +63,7 @@ performed (Some o) p action result None e h = absurd h
 performed (Some o) p action result (Some q) e h =
     record { after = q; performs = subst (λ (x : SetState). Performs x action result q) (same_Some o p e) h; is = refl }
 
--- ---- the set that is shown
+-- ---- the shown set
 
 pub record IsShownAt (pools : ℕ → Option SetState) (shown : Option ℕ) (a : ℕ) : Type 0 where
   pub state : SetState
@@ -78,7 +78,7 @@ shown-at pools (Some b) a e = by (pools b) refl e
     by None is e = none-some (sym e)
     by (Some p) is e = let same = same_Some a b e in record { state = p; at = ap Some (sym same); pool = ap pools same ∙ is }
 
--- no pool is shown
+-- No pool is shown.
 none-shown : (s : State) (o : Option ℕ) → None ≡ option_map (λ (found : ℕ × SetState). found.0) (pool_shown_by (pool_of s) o) → pool_at s o ≡ None
 none-shown s None e = refl
 none-shown s (Some b) e = by (pool_of s b) e
@@ -87,7 +87,7 @@ none-shown s (Some b) e = by (pool_of s b) e
     by None e = refl
     by (Some p) e = none-some e
 
--- ---- acts at the set that is shown
+-- ---- acts at the shown set
 
 idle-shown : (u : State) (o : Option ℕ) (act : Act) → ((a : ℕ) → o ≡ Some a → outcome u.now a (part a u) act ≡ unchanged (part a u))
     → (after_acts u (at_shown o act) ≡ u) × (sent_by_acts u (at_shown o act) ≡ [])
@@ -140,7 +140,7 @@ module _ (s : State) (address : ℕ) (before : List Output) where
     sent = e ∙ sym (λ i. before ++ outputs_of (no_set (not (is i)) ++ (idle-here selected).1 i));
   }
 
--- ---- another action, on the set that is shown
+-- ---- other actions, on the shown set
 
 pub short-selects : (s : State) (action : ActionValue) → IsShort action → (selecting s action ≡ s) × (has_no_set s action ≡ not (is_some (pool_at s s.shown)))
 short-selects s (actions.Press id) short = (refl, refl)
@@ -165,7 +165,7 @@ module _ (s : State) (action : ActionValue) (kept : (selecting s action ≡ s) �
         sent = e ∙ sym (λ i. before ++ outputs_of (no_set ((kept.1 ∙ ap (λ (q : Option SetState). not (is_some q)) empty) i) ++ idle.1 i));
       }
 
-  -- what the action comes to there
+  -- The outcome of an action on the shown set.
   module _ (a : ℕ) (there : IsShownAt (pool_of s) s.shown a) (shown : Bool) (seen : IsSeenIn there.state (object_of action) shown) where
     abbrev pub came : parts.AddressOutcome
     came = after_action s.now a (part a s) (action_on there.state shown action)
@@ -192,13 +192,13 @@ module _ (s : State) (action : ActionValue) (kept : (selecting s action ≡ s) �
           ++ sent_by_acts (sym kept.0 i) (at_shown (sym there.at i) (Operates action shown))));
     }
 
-    -- it is refused
+    -- The step of a refused action.
     pub takes-refused : (fault : OperatorFault) → came ≡ refused_by (part a s) fault → (t : State) → t ≡ s → (before out : List Output) → out ≡ before ++ declared.Refused fault ∷ []
         → TakesAction s action t before out
     takes-refused fault is t same before out sent =
         takes (refused_by (part a s) fault) is t (same ∙ sym (put-kept a s (refused_by (part a s) fault) refl refl)) before out sent
 
-    -- it is done, and its message goes into one frame
+    -- The step of an action that is done, with a message of one frame.
     pub takes-acts : (message : List ℕ) (start : SetState) (raised : List Raised) → action_on there.state shown action ≡ Some (Acts message start raised) → length message ≤ 8
         → (q : SetState) → q ≡ ran start raised → (t : State) → t ≡ record s { places = with_at a (with_pool (s.places a) (Some q)) s.places }
         → (frames : List Frame) → frames ≡ message_frames s.claims.own a message
@@ -210,7 +210,7 @@ module _ (s : State) (action : ActionValue) (kept : (selecting s action ≡ s) �
         ∙ (λ i. with_place (part a s) (with_pool (s.places a) (Some (sym left i))) (sym frames-are i)))
         t (state ∙ sym (put-place a s after refl)) before out sent
 
--- ---- a text whose message goes out in packets
+-- ---- a text whose message is sent in packets
 
 would-refuse : (x : Action) (r : OperatorRefusal) → Some r ≡ refusal_of x → x ≡ Refused r
 would-refuse (Refused q) r e = ap Refused (sym (same_Some r q e))
@@ -282,7 +282,7 @@ module _ (s : State) (a : ℕ) (there : IsShownAt (pool_of s) s.shown a) (id : �
         ∙ (λ i. with_place (part a s) (record (with_pool (s.places a) (sym (h.is ∙ ap Some left) i)) { sending = Some session }) (sym frame-is i ∷ [])))
         t (state ∙ sym (put-place a s after refl)) before out sent
 
--- ---- what is written
+-- ---- the writes of an action
 
 pub performed-at : (old : Option SetState) (p q : SetState) (action : ActionValue) (result : Option (Result Acted OperatorRefusal)) → old ≡ Some p → Performs p action result q
     → PerformsAt old action result (Some q)
@@ -322,9 +322,9 @@ module _ (s : State) (contents new : ℕ → SetPool) (node : NodeState) (heard 
       })
       ∙ ap (λ (p : ℕ → AddressState). p b) (sym is))
 
--- ---- a call on the contents
+-- ---- calls on the table of pools
 
--- where an action was done at the set that is shown
+-- The step of an action done on the shown set.
 module _ (s : State) (contents new : ℕ → SetPool) (node : NodeState) (heard : ℕ → Option ℕ) (is : s.places ≡ places_by contents node heard)
     (action : ActionValue) (short : IsShort action) (a : ℕ) (there : IsShownAt (pool_of s) s.shown a)
     (result : Option (Result Acted OperatorRefusal)) (acted : IsActedOn contents a action result new) where

@@ -1,5 +1,4 @@
--- The set that is shown after an input has a pool: it is chosen of those that have one, and the events of its change take none
--- away.
+-- The shown set after an input has a pool: it is chosen from the sets with a pool, and the events of its change remove none.
 use Rattle.std.proofs.Common.{◌≡◌, ℕ, Bool, true, false, cond, List, [], ◌∷◌, Option, Some, None, is_some, refl, sym, ap, subst, ◌∙◌, nat_le}
 use Rattle.vt_can.specs.declared.frames.frame.Frame.{Frame}
 use Rattle.vt_machine.specs.Lives.{SetState}
@@ -20,7 +19,7 @@ use Rattle.vt_server.proofs.Puts.{act-is}
 use Rattle.vt_node.proofs.ByAddress.{at-own, at-other}
 use Rattle.vt_names.proofs.Holding.{by_eq}
 
--- the address has a pool, if there is one
+-- An address, if there is one, has a pool.
 abbrev pub HasPoolAt : (ℕ → Option SetState) → Option ℕ → Type 0
 HasPoolAt pools None = Unit {0}
 HasPoolAt pools (Some a) = is_some (pools a) ≡ true
@@ -68,7 +67,7 @@ module _ (pools : ℕ → Option SetState) where
   or-pooled (Some alarm) selected loud is = loud
 
 module _ (s : State) where
-  -- an address where there is a pool, or else another one
+  -- If `other` has a pool, so has the choice of `o` if it has a pool, and else of `other`.
   kept-pooled : (o other : Option ℕ) → HasPoolAt (pool_of s) other → HasPoolAt (pool_of s) (cond (is_some (pool_at s o)) o other)
   kept-pooled None other is = is
   kept-pooled (Some a) other is = cases (is_some (pool_of s a)) refl
@@ -117,7 +116,7 @@ settled-pooled s =
     let hs = events_of_change s.shown (shown_now s) in
     acts-pooled (choosing s) hs (at-change (λ a h. KeepsPool h) (λ a event. raises-keeps event) s.shown (shown_now s)) (chosen-pooled s)
 
--- after a frame
+-- The shown set after a frame has a pool.
 pub hearing-pooled : (old s : State) (source : ℕ) (n : FrameMeaning) (f : Frame) (verdict : Verdict) → ShownHasPool (hearing old s source n f verdict).after
 hearing-pooled old s source n f verdict = cases (is_lost_by (answer_to s source n))
   where

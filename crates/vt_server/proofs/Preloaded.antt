@@ -1,4 +1,4 @@
--- A pool that is preloaded.
+-- The state after a pool is preloaded.
 use Rattle.std.proofs.Common.{◌≡◌, ℕ, List, [], Option, Some, None, sym, ap, ◌∙◌}
 use Rattle.std.specs.FinMap as finite
 use Rattle.vt_machine.specs.Lives.{SetState}

@@ -1,4 +1,4 @@
--- What is made ready for a frame is so after what its time ended.
+-- The work done in advance for a frame is right after the timeouts and closings of its time.
 use Rattle.std.proofs.Common.{◌≡◌, ◌<◌, ℕ, Bool, true, false, cond, eqb, max, Option, Some, None, refl, sym, ap, subst, ◌∙◌, arith}
 use Rattle.std.specs.FinMap as finite
 use Rattle.vt_can.specs.Assigned.{ECU_TO_VT}
@@ -38,7 +38,7 @@ use Rattle.vt_server.proofs.Keeping.{lapsed-keeps, claims-lapsed}
 use Rattle.vt_server.proofs.Puts.{act-is}
 use Rattle.vt_server.proofs.Unclaimed.{with_claims, lapsed-unclaimed, lapses-unclaimed}
 
--- ---- what is read of the claims alone
+-- ---- facts that depend on the claims alone
 
 module _ (s u : State) (same : u.claims ≡ s.claims) where
   answer-same : (a : ℕ) (n : FrameMeaning) → answer_to s a n ≡ answer_to u a n
@@ -75,7 +75,7 @@ module _ (s u : State) (same : u.claims ≡ s.claims) where
 now-lapsed : (s : State) → (lapsed s).now ≡ s.now
 now-lapsed s = lapsed-keeps (λ t. t.now ≡ s.now) (λ t a h is. ap (λ (u : State). u.now) (act-is t a h) ∙ is) s refl
 
--- ---- what a message in packets wants
+-- ---- the work done in advance for a message in packets
 
 abbrev IsTp : FrameMeaning → Type 0
 IsTp notices.Tp = Unit {0}
@@ -95,7 +95,7 @@ told-ready (Some message) content room upload ready = cases (eqb message.pgn ECU
     cases true = ready message refl
     cases false = tt
 
--- the terminal, as its node is once room was made, and as it is once the upload was made ready
+-- The terminal before, its node with reserved capacity, and the terminal after the work in advance for the upload.
 module _ (t : Terminal) (node : NodeState) (u : Terminal) (now q : ℕ) (n : FrameMeaning) (frame : Frame) (told : Option (ℕ × ℕ)) (upload : PreparedMessage)
     (same : state_of u ≡ state_of (record t { node = node })) (rooms : RoomsStay (record t { node = node }) u) (at : q ≡ source_of frame)
     (ready : (message : Message) → told ≡ size_and_first_byte (Some message) → FitsMessage (content_of u.contents q) (room_of u.contents q) message.bytes upload) where
@@ -141,7 +141,7 @@ module _ (t : Terminal) (node : NodeState) (u : Terminal) (now q : ℕ) (n : Fra
             (message-ready (stepped etp.protocol now (alive now (finite.get t.node.etp b)) (etp_frame t.node.claims.own frame)).message told-is),
       )
 
--- ---- from before the lapses to after them
+-- ---- the timeouts and closings keep the work right
 
 module _ (s : State) (t : Terminal) (time now : ℕ) (n : FrameMeaning) (frame : Frame) (is : now ≡ max s.now time) where
   abbrev a : ℕ

@@ -1,4 +1,4 @@
--- What is written at one address.
+-- Acts write to one address; lists of acts compose.
 use Rattle.std.proofs.Common.{◌≡◌, ℕ, List, [], ◌∷◌, ◌++◌, Option, Some, None, refl, sym, ap, ◌∙◌, append_assoc}
 use Rattle.vt_names.specs.Registry.{Set, set_at}
 use Rattle.vt_node.proofs.Sets.{none-same}
@@ -6,12 +6,12 @@ use Rattle.vt_server.specs.Parts.{AddressOutcome, Act, outcome}
 use Rattle.vt_server.specs.Terminals.{State, part, put, after_act, after_acts, sent_by_act, sent_by_acts, to_address, with_set_at}
 use Rattle.vt_names.proofs.Filing.{with_set-same}
 
--- to write what stands there changes nothing
+-- A write of the present set changes nothing.
 pub sets-same : (a : ℕ) (sets : List Set) (o : Option Set) → set_at a sets ≡ o → with_set_at a o sets ≡ sets
 sets-same a sets None e = none-same a sets e
 sets-same a sets (Some s) e = with_set-same a s sets e
 
--- ---- acts, one and several
+-- ---- one act, and several
 
 pub act-is : (s : State) (a : ℕ) (h : Act) → after_act s a h ≡ put a (outcome s.now a (part a s) h) s
 unfolding after_act
@@ -32,7 +32,7 @@ sent-append s (h ∷ hs) ks =
     ap (λ l. sent_by_act s h.0 h.1 ++ l) (sent-append t hs ks)
     ∙ sym (append_assoc (sent_by_act s h.0 h.1) (sent_by_acts t hs) (sent_by_acts (after_acts t hs) ks))
 
--- what no act writes
+-- A field that no act writes is unchanged.
 pub beside-act : {X : Type 0} (read : State → X) → ((a : ℕ) (o : AddressOutcome) (s : State) → read (put a o s) ≡ read s) → (s : State) (a : ℕ) (h : Act) → read (after_act s a h) ≡ read s
 beside-act read stays s a h = ap read (act-is s a h) ∙ stays a (outcome s.now a (part a s) h) s
 

@@ -1,4 +1,4 @@
--- The sets in their order, one after the other.
+-- Loops over the sets in order of registration: the first with a pool, and the alarm to show.
 use Rattle.std.proofs.Common.{◌≡◌, ℕ, suc, true, false, cond, List, drop, Option, Some, is_some, sym, ap, ◌∙◌}
 use Rattle.std.specs.List.{slice_get}
 use Rattle.vt_machine.specs.Lives.{SetState}

@@ -1,4 +1,4 @@
--- A run of inputs, one more at a time.
+-- A run of inputs grows by one input at a time.
 use Rattle.std.proofs.Common.{◌≡◌, Bool, true, false, ◌||◌, cond, ◌<◌, ℕ, suc, ◌+◌, List, [], ◌∷◌, ◌++◌, length, take, get_or, refl, sym, ap, subst, ◌∙◌, append-nil, append_assoc, arith}
 use Rattle.std.proofs.Math.Seq.{take-suc}
 use Rattle.vt_server.specs.Findings.{IsEventOf, AreEventsOf, IsFound, AreFound}
@@ -30,11 +30,11 @@ events-more [] (d ∷ es) x e are is = absurd are
 events-more (y ∷ xs) [] x e are is = absurd are
 events-more (y ∷ xs) (d ∷ es) x e are is = (are.0, events-more xs es x e are.1 is)
 
--- none yet
+-- The run without inputs changes nothing.
 pub run-none : (s : State) (outputs : List Output) → TakesInputs s [] s outputs outputs
 run-none s outputs = record { events = []; are_inputs = tt; found = tt; state = refl; sent = sym (append-nil outputs) }
 
--- a terminal without its address stays as it is
+-- A terminal that lost its address stays unchanged.
 pub lost-stays : (s t : State) (x : Input) (old new : List Output) → s.lost ≡ true → TakesInput s x t old new → t.lost ≡ true
 lost-stays s t x old new lost takes = ap (λ (r : State). r.lost) (takes.state ∙ still takes.event) ∙ lost
   where
@@ -42,7 +42,7 @@ lost-stays s t x old new lost takes = ap (λ (r : State). r.lost) (takes.state �
     still (FrameAt time frame verdict) = ap (λ b. (cond b (no_step s) (step_frame s time frame verdict)).after) lost
     still (ActionAt action shown) = ap (λ b. (cond b (no_step s) (step_action s action shown)).after) lost
 
--- a flag that is joined with one that tells no
+-- A flag joined with false is unchanged.
 pub first-alone : (a b : Bool) → b ≡ false → (a || b) ≡ a
 first-alone true b none = refl
 first-alone false b none = none

@@ -1,4 +1,4 @@
--- The end of sets that are silent, one after the other.
+-- Silent sets are closed one after the other.
 use Rattle.std.proofs.Common.{◌≡◌, ◌≢◌, ◌<◌, ◌≤◌, ℕ, Bool, true, false, cond, not, List, [], ◌∷◌, length, map, Some, None, refl, sym, ap, subst, ◌∙◌, inl, inr, arith}
 use Rattle.std.proofs.lemmas.Option.{same_Some}
 use Rattle.std.specs.List.{filter}
@@ -54,7 +54,7 @@ without-fewer a (t ∷ sets) = let rest = without-fewer a sets in cases rest (no
     cases rest true = omega arith
     cases rest false = omega arith
 
--- two tests, in either order
+-- Two filters commute.
 both : {X : Type 0} (f g : X → Bool) (xs : List X) → filter f (filter g xs) ≡ filter g (filter f xs)
 both f g [] = refl
 both f g (x ∷ xs) = cases (both f g xs) (f x) (g x) refl refl
@@ -68,7 +68,7 @@ both f g (x ∷ xs) = cases (both f g xs) (f x) (g x) refl refl
     cases rest false true e h = ap (λ d. cond d (x ∷ filter f (filter g xs)) (filter f (filter g xs))) e ∙ rest
     cases rest false false e h = rest
 
--- ---- a set that is closed
+-- ---- a closed set
 
 abbrev pub closed : ℕ → State → State
 closed a s = record s { sets = without a s.sets; places = with_at a (with_content (s.places a) no_content) s.places }
@@ -76,7 +76,7 @@ closed a s = record s { sets = without a s.sets; places = with_at a (with_conten
 pub closed-is : (a : ℕ) (s : State) → after_act s a FallsSilent ≡ closed a s
 closed-is a s = act-is s a FallsSilent
 
--- There is nothing to close at an address.
+-- An address has no set and no content.
 pub record IsOut (a : ℕ) (s : State) : Type 0 where
   pub set : set_at a s.sets ≡ None
   pub content : (s.places a).content ≡ no_content
@@ -110,12 +110,12 @@ heard-kept a s b =
     ∙ ap (λ (p : AddressState). p.heard) (at-own a s.places (with_content (s.places a) no_content)) ∙ ap (λ c. (s.places c).heard) (sym is))
     (λ ne. ap (λ (p : AddressState). p.heard) (at-other a b s.places (with_content (s.places a) no_content) ne))
 
--- ---- several
+-- ---- several closed sets
 
 abbrev falls : List Set → List (ℕ × Act)
 falls sets = map (λ set. (set.address, FallsSilent)) sets
 
--- What is out already need not be closed.
+-- A set that is closed already need not be closed again.
 skip : (a : ℕ) (t : State) → IsOut a t → (sets : List Set) → after_acts t (falls sets) ≡ after_acts t (falls (without a sets))
 skip a t out [] = refl
 skip a t out (x ∷ sets) =
@@ -127,7 +127,7 @@ skip a t out (x ∷ sets) =
     (λ ne. later ∙ ap (λ l. after_acts t (falls l)) (sym (without-later a x sets ne)))
 
 module _ (s : State) where
-  -- the first is closed first
+  -- The first silent set is closed first.
   step : (t : State) (sets : List Set) (a : ℕ) → first_silent s sets ≡ Some a
       → after_acts t (falls (filter (silent s) sets)) ≡ after_acts (closed a t) (falls (filter (silent s) (without a sets)))
   step t [] a first = none-some first
@@ -177,7 +177,7 @@ module _ (s : State) where
   pub none-silent : first_silent s s.sets ≡ None → after_acts s (silences s) ≡ s
   none-silent none = ap (λ l. after_acts s (falls l)) (nothing s.sets none)
 
-  -- What is still to close then is the rest.
+  -- After one closing the remaining silent sets are still to close.
   pub next-silent : (a : ℕ) → first_silent s s.sets ≡ Some a → after_acts (closed a s) (silences (closed a s)) ≡ after_acts s (silences s)
   next-silent a first =
       (λ i. after_acts (closed a s) (falls (filter (λ (set : Set). is_silent s.now (heard-kept a s set.address i)) (without a s.sets))))
@@ -196,7 +196,7 @@ module _ (t : Terminal) (a : ℕ) (registry : Watched) (contents : PoolTable) wh
     places = ((λ j. places_by (content j) t.node (heard_of (watch j))) ∙ content-placed (content_of t.contents) t.node (heard_of t.registry.watch) a no_content) i;
   }
 
-  -- beside what was closed before
+  -- A set is closed after others.
   pub closes : (old : Terminal) → ClosesSets old t → registry.sets ≡ without a t.registry.sets → t.registry.room ≤ registry.room
       → content_of contents ≡ with_at a no_content (content_of t.contents) → ((b : ℕ) → b ≢ a → room_of contents b ≡ room_of t.contents b)
       → ClosesSets old closing

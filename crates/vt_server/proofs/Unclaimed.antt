@@ -1,4 +1,4 @@
--- What is due at a time does not see the claims that were heard.
+-- Timeouts and closings do not depend on the address claims.
 use Rattle.std.proofs.Common.{◌≡◌, ℕ, List, [], ◌∷◌, ◌++◌, refl, sym, ap, ◌∙◌}
 use Rattle.vt_names.specs.Claims.{Claimed}
 use Rattle.vt_server.specs.Lapses.{lapsed, sent_by_lapses, tp_due, etp_due, sending_due, silences, silent, after_tp_timeouts, after_etp_timeouts, after_timeouts}
@@ -10,7 +10,7 @@ use Rattle.vt_server.proofs.Puts.{act-is, sent_by_one-is}
 abbrev pub with_claims : Claimed → State → State
 with_claims c s = record s { claims = c }
 
--- what comes of it at an address is the same, whatever the holder
+-- an act whose outcome at an address does not depend on the claims
 abbrev pub IsUnclaimed : Act → Type 0
 IsUnclaimed h = (c : Claimed) (s : State) (a : ℕ) → c.own ≡ s.claims.own → outcome s.now a (part a (with_claims c s)) h ≡ outcome s.now a (part a s) h
 

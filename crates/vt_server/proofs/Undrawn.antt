@@ -1,5 +1,5 @@
--- Where the same set is shown with the same pool, the screen is the same; and which inputs leave it so. A command that is
--- refused does, and so does an upload or an action; time and claims take pools away, and change none.
+-- The screen is the same if the same set is shown with the same pool. Refused commands, uploads and actions keep both. Time and
+-- claims remove pools, but change none.
 use Rattle.std.proofs.Common.{◌≡◌, ◌≢◌, ℕ, Bool, true, false, cond, List, [], ◌∷◌, map, Option, Some, None, is_some, true≢false, refl, sym, ap, subst, ◌∙◌, nat_eq}
 use Rattle.std.specs.List.{filter}
 use Rattle.std.specs.Option.{option_eq, option_map}
@@ -60,7 +60,7 @@ same-text s t same text is =
 pub shows-then : (s t u : State) → ShowsSame s t → ShowsSame t u → ShowsSame s u
 shows-then s t u first second = record { shown = second.shown ∙ first.shown; pool = second.pool ∙ first.pool }
 
--- the pool stays that is shown
+-- The shown pool is unchanged.
 same-at : (s t : State) → t.shown ≡ s.shown → ((b : ℕ) → s.shown ≡ Some b → pool_of t b ≡ pool_of s b) → ShowsSame s t
 same-at s t shown each = record { shown = shown; pool = ap (pool_at t) shown ∙ at s.shown refl }
   where
@@ -68,7 +68,7 @@ same-at s t shown each = record { shown = shown; pool = ap (pool_at t) shown ∙
     at None is = refl
     at (Some a) is = each a is
 
--- all do
+-- All pools are unchanged.
 same-by : (s t : State) → t.shown ≡ s.shown → ((b : ℕ) → pool_of t b ≡ pool_of s b) → ShowsSame s t
 same-by s t shown each = same-at s t shown (λ b is. each b)
 
@@ -87,12 +87,12 @@ other-shown shown a b other is here =
     true≢false (sym (option_same (Some a)) ∙ ap (λ o. option_eq nat_eq o (Some a)) (sym (is ∙ ap Some here)) ∙ other)
 
 module _ (t : Terminal) (contents : declared.PoolTable) (a : ℕ) (x : SetPool) (is : content_of contents ≡ with_at a x (content_of t.contents)) where
-  -- the content of an address is another, with the pool that it had
+  -- One content changes, but not its pool.
   pub same-pool : x.pool ≡ (content_of t.contents a).pool → ShowsSame (state_of t) (state_of (record t { contents = contents }))
   same-pool same =
       same-by (state_of t) (state_of (record t { contents = contents })) refl (pools-kept (content_of t.contents) (content_of contents) a x is same)
 
-  -- the address is not the one that is shown
+  -- The content of an address other than the shown one changes.
   pub same-elsewhere : option_eq nat_eq t.shown (Some a) ≡ false → ShowsSame (state_of t) (state_of (record t { contents = contents }))
   same-elsewhere other =
       same-at (state_of t) (state_of (record t { contents = contents })) refl
@@ -123,14 +123,14 @@ end-same content (Accepts objects) other = absurd (other refl)
 end-same content (Faulty fault) other = refl
 end-same content (Refuses refusal) other = refl
 
--- an action that is refused
+-- A refused action changes no pool.
 pub refused-pool : (old : Option SetState) (action : ActionValue) (refusal : OperatorRefusal) (pool : Option SetState) → PerformsAt old action (Some (Err refusal)) pool → pool ≡ old
 refused-pool None action refusal None is = refl
 refused-pool None action refusal (Some q) is = absurd is
 refused-pool (Some p) action refusal None is = absurd is
 refused-pool (Some p) action refusal (Some q) is = ap Some (refused-is p q (action_on p is.shown action) refusal is.comes).1
 
--- ---- pools that are left
+-- ---- pools unchanged or removed
 
 abbrev pub Stays : Option SetState → Option SetState → Type 0
 Stays old new = is_some new ≡ true → new ≡ old
@@ -162,7 +162,7 @@ left-then s t u first second = record {
   pool = stays-then (pool_at s s.shown) (pool_at t t.shown) (pool_at u u.shown) first.pool second.pool;
 }
 
--- What is shown has a pool, so that is the one of before.
+-- The shown set has a pool, so it is the pool of before.
 left-all : (s t : State) → ShowsWhatIsLeft s t → ShownHasPool t → ShowsSame s t
 left-all s t left has = record { shown = left.shown; pool = cases t.shown refl has }
   where
@@ -170,7 +170,7 @@ left-all s t left has = record { shown = left.shown; pool = cases t.shown refl h
     cases None is there = ap (pool_at t) is ∙ ap (pool_at s) (sym is ∙ left.shown)
     cases (Some a) is there = left.pool (ap (λ o. is_some (pool_at t o)) is ∙ there)
 
--- ---- acts that leave pools or take them away
+-- ---- acts that leave pools unchanged or remove them
 
 abbrev pub ActStays : Act → Type 0
 ActStays act = (now a : ℕ) (p : AddressView) → Stays p.place.content.pool (outcome now a p act).place.content.pool
@@ -208,7 +208,7 @@ acts-stay s b (h ∷ hs) all =
     let t = after_act s h.0 h.1 in
     stays-then (pool_of s b) (pool_of t b) (pool_of (after_acts t hs) b) (act-stays s h.0 b h.1 all.0) (acts-stay t b hs all.1)
 
--- what the time of a frame ends
+-- The timeouts and closings of a frame's time leave each pool unchanged or remove it.
 silent-all : (sets : List Set) → AllAt (λ a h. ActStays h) (map (λ (set : Set). (set.address, FallsSilent)) sets)
 silent-all [] = tt
 silent-all (set ∷ sets) = (λ now a p. gone p.place.content.pool, silent-all sets)
@@ -234,7 +234,7 @@ shown-lapsed s = lapsed-keeps (λ t. t.shown ≡ s.shown) (λ t a h is. ap (λ (
 lapsed-left : (s : State) (now : ℕ) → ShowsWhatIsLeft s (lapsed (at_time s now))
 lapsed-left s now = left-by s (lapsed (at_time s now)) (shown-lapsed (at_time s now)) (lapsed-stays (at_time s now))
 
--- a claim
+-- A claim leaves each pool unchanged or removes it.
 claim-left : (s : State) (source name : ℕ) (f : Frame) (verdict : Verdict) → ShowsWhatIsLeft s (acted s source (Claim name) f verdict)
 claim-left s source name f verdict =
     let n = Claim name in
@@ -246,7 +246,7 @@ claim-left s source name f verdict =
     (at-changes (λ a h. ActStays h) (λ a. rebinds-stays) s source n)
     (at-heard (λ a h. ActStays h) s.claims.own source n f verdict (claim-heard-stays name f verdict))))
 
--- a claim that is recorded, its effect, and the choice of the shown set
+-- The whole step of a claim: its record, its effect and the choice of the shown set.
 pub claimed-left : (s t u v : State) (f : Frame) (n : FrameMeaning) (name : ℕ) → t ≡ before s (source_of f) n → u ≡ acted s (source_of f) (Claim name) f any_verdict
     → ShowsSame u v → ShowsWhatIsLeft t v
 claimed-left s t u v f n name recorded took settles =
@@ -256,20 +256,20 @@ claimed-left s t u v f n name recorded took settles =
 
 -- ---- an input
 
--- what was made ready for a frame is no change of a pool
+-- The work done in advance for a frame changes no pool.
 pub prepared-shows : (s : State) (t : Terminal) (now : ℕ) (n : FrameMeaning) (f : Frame) (ready : PreparedFrame) → FitsBeforeTimeouts s t now n f ready → ShowsSame s (state_of t)
 prepared-shows s t now n f readies.Loses it = subst (ShowsSame s) (sym it.0) (record { shown = refl; pool = refl })
 prepared-shows s t now n f (readies.Claimed former) it = subst (ShowsSame s) (sym it.5) (record { shown = refl; pool = refl })
 prepared-shows s t now n f (readies.Prepared upload) it = subst (ShowsSame s) (sym it.0) (record { shown = refl; pool = refl })
 
--- a frame: it is made ready for, its time ends what it ends, and it is heard
+-- The whole step of a frame: work in advance, timeouts and closings, and its effect.
 pub line-kept : (s t u v : State) (now : ℕ) → ShowsSame s t → u ≡ lapsed (at_time t now) → ShowsWhatIsLeft u v
     → ShownHasPool v → KeepsScreen s v
 line-kept s t u v now prepared lapses left has =
     let lapsing : ShowsWhatIsLeft t u = subst (ShowsWhatIsLeft t) (sym lapses) (lapsed-left t now) in
     same-text s v (shows-then s t v prepared (left-all t v (left-then t u v lapsing left) has))
 
--- an action: it is done, and then the shown set is chosen
+-- The whole step of an action: its effect and the choice of the shown set.
 pub told-through : (t m x : Terminal) → m ≡ x → TellsChanges t x → m.redraws ≡ false → ShowsSame (state_of t) (state_of m)
 told-through t m x is tells none =
     subst (λ (y : Terminal). ShowsSame (state_of t) (state_of y)) (sym is) (tells (ap (λ (y : Terminal). y.redraws) (sym is) ∙ none)).1

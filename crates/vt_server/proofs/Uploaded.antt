@@ -1,4 +1,4 @@
--- What the calls that take a message of a set's master leave.
+-- The calls that handle a message from the master of a set meet their contracts.
 use Rattle.std.proofs.Common.{◌≡◌, ℕ, true, false, List, [], ◌∷◌, ◌++◌, drop, Option, Some, None, is_some, true≢false, refl, sym, ap, subst, ◌∙◌, append_assoc, append-nil}
 use Rattle.std.specs.FinMap as finite
 use Rattle.std.specs.Option.{option_map, option_to_list}
@@ -41,7 +41,7 @@ use Rattle.vt_names.proofs.Holding.{none-some}
 
 -- ---- the content of one address
 
--- where the pools and the uploads alone are others
+-- the terminal with another table of pools and uploads
 abbrev pub with_contents : Terminal → PoolTable → Terminal
 with_contents t contents = record t { contents = contents }
 
@@ -51,7 +51,7 @@ contents-state t contents a x is =
     ap (λ (f : ℕ → SetPool). record (state_of t) { places = places_by f t.node (heard_of t.registry.watch) }) is
     ∙ ap (λ (p : ℕ → AddressState). record (state_of t) { places = p }) (content-placed (content_of t.contents) t.node (heard_of t.registry.watch) a x)
 
--- ---- the three kinds of messages
+-- ---- the three kinds of messages: a piece, the end of an upload, any other
 
 module _ (s : State) (a : ℕ) (bytes : List ℕ) (some : true ≡ is_some (set_at a s.sets)) where
   pub piece-answered : (t : State) → begins_with TRANSFER bytes → t ≡ with_content_at a (with_piece (s.places a).content (drop 1 bytes)) s → HandlesMessage s a bytes None t
@@ -77,7 +77,7 @@ module _ (s : State) (a : ℕ) (bytes : List ℕ) (some : true ≡ is_some (set_
 -- ---- the frames of a session without a message for the terminal
 
 module _ (s : State) (a : ℕ) (frames : List Frame) where
-  -- where there is none
+  -- Without a message nothing changes.
   quiet : (set : Option Set) (message : Option (List ℕ)) → message ≡ None
       → (after_message a (part a s) any_verdict set message ≡ unchanged (part a s)) × (ends_transfer set message ≡ false)
   quiet None None none = (refl, refl)
@@ -93,7 +93,7 @@ module _ (s : State) (a : ℕ) (frames : List Frame) where
         sent = sent ∙ sym (append-nil (before ++ frames_of frames)) ∙ ap (λ o. (before ++ frames_of frames) ++ frames_of o.frames) (sym same.0);
       }
 
--- a reply and then the frames that the sender sends
+-- The outputs are a reply, then the frames of the sender.
 pub sent-both : (before middle after : List Output) (reply : Frame) (sent : List Frame) → middle ≡ before ++ declared.Frame reply ∷ []
     → after ≡ middle ++ frames_of sent → after ≡ before ++ frames_of (reply ∷ sent)
 sent-both before middle after reply sent first second =
@@ -101,7 +101,7 @@ sent-both before middle after reply sent first second =
 
 -- ---- frames of sessions
 
--- of the transport protocol, as the receiver and then the sender hear it
+-- A frame of the transport protocol goes to the receiver, then to the sender.
 module _ (t : Terminal) (frame : Frame) (heard : Heard) (first second : NodeState) (frames : List Frame)
     (rest : first ≡ record t.node { tp = first.tp; tp_room = first.tp_room })
     (taken : HasTaken (tp_taken t.node t.time frame) (source_of frame) t.node.tp first.tp heard)
@@ -145,7 +145,7 @@ module _ (t : Terminal) (frame : Frame) (heard : Heard) (first second : NodeStat
       (subst (λ m. TakesMessage (state_of (record t { node = second })) (source_of frame) (frames_in heard ++ frames) m u before after) (ap message_to_terminal taken.message)
       (subst (λ a. TakesMessage (state_of (record t { node = second })) a (frames_in heard ++ frames) (message_to_terminal (message_in heard)) u before after) is takes))))
 
--- a sender without a session to an address answers nothing to it
+-- A sender without a session sends nothing to the address.
 none-is : {X : Type 0} (o : Option X) → is_some o ≡ false → o ≡ None
 none-is None none = refl
 none-is (Some x) some = absurd (true≢false some)
@@ -170,7 +170,7 @@ tp-takes-alone t frame heard node rest taken none u q before after is takes =
     tp-takes t frame heard node node [] rest taken refl (none-answered node t.time frame none) u q before after is
     (subst (λ l. TakesMessage (state_of (record t { node = node })) q l (message_to_terminal (message_in heard)) u before after) (sym (append-nil (frames_in heard))) takes)
 
--- of the extended one
+-- A frame of the extended transport protocol goes to its receiver.
 module _ (t : Terminal) (frame : Frame) (heard : Heard) (node : NodeState)
     (rest : node ≡ record t.node { etp = node.etp; etp_room = node.etp_room })
     (taken : HasTaken (etp_taken t.node t.time frame) (source_of frame) t.node.etp node.etp heard) where

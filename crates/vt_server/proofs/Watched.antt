@@ -1,4 +1,4 @@
--- The terminal, where its sets alone are others, and which of its sets is silent.
+-- The state after a change of the sets alone, and the first silent set.
 use Rattle.std.proofs.Common.{◌≡◌, ℕ, cond, List, [], ◌∷◌, Option, Some, refl, ap}
 use Rattle.vt_names.specs.Registry.{Set}
 use Rattle.vt_node.specs.Registries.{Watched}

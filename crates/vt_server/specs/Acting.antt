@@ -1,4 +1,4 @@
--- What an action of the operator comes to in the code (docs/PROFILE.md, "The operator").
+-- The code's operator actions: their refusals, messages and changes (docs/PROFILE.md, "The operator").
 use Rattle.std.specs.Prelude.{◌≡◌, ◌≤◌, ◌++◌, ℕ, List, length, Bool, Option, Some, None, IfSome, Result, Decides}
 use Rattle.vt_can.specs.lines.Actions as actions
 use Rattle.vt_can.specs.lines.Actions.{ActionValue}
@@ -33,7 +33,7 @@ pub record Performs (old : SetState) (action : ActionValue) (result : Option (Re
   pub seen : IsSeenIn old (object_of action) shown
   pub comes : Comes old (action_on old shown action) result new
 
--- An action on the set of an address, if it has a pool; the pools of the others stay, and all uploads.
+-- An action on the set at an address, if it has a pool. The pools of other addresses and all uploads are unchanged.
 abbrev pub PerformsAt : Option SetState → ActionValue → Option (Result Acted OperatorRefusal) → Option SetState → Type 0
 PerformsAt (Some old) action result (Some new) = Performs old action result new
 PerformsAt None action result None = result ≡ None
@@ -44,7 +44,7 @@ pub record IsActedOn (old : ℕ → SetPool) (address : ℕ) (action : ActionVal
   pub performs : PerformsAt (old address).pool action result pool
   pub content : new ≡ with_at address (record (old address) { pool = pool }) old
 
--- whether a text would be refused there
+-- the refusal of a text by the pool of a set, if it would be refused
 abbrev pub WouldBeRefused : Option SetState → ℕ → List ℕ → Option OperatorRefusal → Type 0
 WouldBeRefused None id text result = result ≡ None
 WouldBeRefused (Some state) id text result = WouldRefuse state id (λ shown mask. enter_text shown state id text) result
@@ -57,7 +57,7 @@ IsShort action = Unit {0}
 
 -- ---- the action in the step, before the shown set is chosen
 
--- what happens where an action is done at the set that is shown
+-- the act of an action: it happens at the address of the shown set
 abbrev pub happens : State → ActionValue → Bool → List (ℕ × Act)
 happens s action shown = at_shown s.shown (Operates action shown)
 

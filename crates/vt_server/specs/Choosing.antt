@@ -1,4 +1,4 @@
--- The set that is shown, and the status message (docs/PROFILE.md, "The shown set and the selected set", "The status message").
+-- The shown set and the status message (docs/PROFILE.md, "The shown set and the selected set", "The status message").
 use Rattle.std.specs.Prelude.{ℕ, ◌==◌, ◌&&◌, Bool, nat_le, nat_eq, if◌then◌else◌, List, [], ◌∷◌, ◌++◌, Option, Some, None, is_some}
 use Rattle.std.specs.Option.{option_eq}
 use Rattle.std.specs.FinMap as finite
@@ -18,7 +18,7 @@ use Rattle.vt_server.specs.Terminals.{State, Sent, ToAll, pool_of, pool_at}
 
 -- ---- alarms
 
--- the priority of a mask that is an Alarm Mask
+-- the priority of an Alarm Mask; None for other kinds
 abbrev pub priority_of : Option Seen → Option ℕ
 priority_of (Some (objects.AlarmMask o)) = Some o.priority
 priority_of _ = None
@@ -27,14 +27,14 @@ abbrev pub alarm_in : Option SetState → Option ℕ
 alarm_in None = None
 alarm_in (Some state) = priority_of (finite.get state.objects (active_in state.objects))
 
--- of two alarms that of the lower number, and of equal ones the first
+-- the alarm of the lower priority number; of equal ones the first
 abbrev pub louder : ℕ → Option ℕ → Option Alarm → Option Alarm
 louder address None other = other
 louder address (Some priority) None = Some (record { address = address; priority = priority })
 louder address (Some priority) (Some other) =
     if nat_le priority other.priority then Some (record { address = address; priority = priority }) else Some other
 
--- of the sets in their order
+-- the alarm of the lowest priority number, by the sets in order of registration
 abbrev pub loudest : (ℕ → Option SetState) → List Set → Option Alarm
 loudest pools [] = None
 loudest pools (set ∷ sets) = louder set.address (alarm_in (pools set.address)) (loudest pools sets)
@@ -45,7 +45,7 @@ abbrev pub first_with_pool : (ℕ → Option SetState) → List Set → Option �
 first_with_pool pools [] = None
 first_with_pool pools (set ∷ sets) = if is_some (pools set.address) then Some set.address else first_with_pool pools sets
 
--- the set that is shown, with its pool
+-- an address with its pool, if it has one
 abbrev pub with_pool_at : ℕ → Option SetState → Option (ℕ × SetState)
 with_pool_at address None = None
 with_pool_at address (Some state) = Some (address, state)
@@ -57,7 +57,7 @@ pool_shown_by pools (Some address) = with_pool_at address (pools address)
 abbrev pub pool_shown : State → Option (ℕ × SetState)
 pool_shown s = pool_shown_by (pool_of s) s.shown
 
--- the one that was selected, or where that has no pool the first that has one
+-- the former selected set if it has a pool, else the first set with a pool
 abbrev pub selected_now : State → Option ℕ
 selected_now s = if is_some (pool_at s s.selected) then s.selected else first_with_pool (pool_of s) s.sets
 
@@ -73,7 +73,7 @@ choosing s = record s { selected = selected_now s; shown = shown_now s }
 
 -- ---- the events of a change
 
--- Deactivate and Activate
+-- the numbers of the events Deactivate and Activate
 abbrev pub DEACTIVATE : ℕ
 DEACTIVATE = 2
 
@@ -84,13 +84,13 @@ abbrev pub raised_at : Option ℕ → ℕ → List (ℕ × Act)
 raised_at None event = []
 raised_at (Some address) event = (address, Raises event) ∷ []
 
--- first on the set that was shown, and then on the one that is
+-- Deactivate on the former shown set, then Activate on the new one
 abbrev pub events_of_change : Option ℕ → Option ℕ → List (ℕ × Act)
 events_of_change was now = if option_eq nat_eq was now then [] else raised_at was DEACTIVATE ++ raised_at now ACTIVATE
 
 -- ---- the status
 
--- the set that is shown with its pool, its active mask and that mask's soft key mask
+-- the shown set with its active mask and the soft key mask of that mask
 pub record ShownMasks : Type 0 where
   pub address : ℕ
   pub mask : ℕ
@@ -118,6 +118,6 @@ abbrev pub status_frame : ℕ → ShownMasks → Frame
 status_frame own shown =
     message_to own GLOBAL_ADDRESS ((0xFE ∷ shown.address ∷ little_bytes 2 shown.mask) ++ little_bytes 2 shown.soft_keys ++ 0 ∷ FILL ∷ [])
 
--- where another set or another mask is shown than before
+-- the status message, where the display has changed
 abbrev pub status : ℕ → ShownMasks → ShownMasks → List Sent
 status own was now = if same_display was now then [] else ToAll (status_frame own now) ∷ []

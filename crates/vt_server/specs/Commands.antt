@@ -1,4 +1,5 @@
--- What a command makes of the pool of its working set (docs/PROFILE.md, "Commands: form, tests, error byte and events", "Runs").
+-- The effect of a command on the pool of its working set (docs/PROFILE.md, "Commands: form, tests, error byte and events",
+-- "Runs").
 use Rattle.std.specs.Prelude.{ℕ, Bool, true, false, if◌then◌else◌, List, Option, Some, None, Result, Ok, Err}
 use Rattle.std.specs.Option.{option_map}
 use Rattle.vt_commands.specs.declared.command.Command.{Command}
@@ -12,16 +13,16 @@ use Rattle.vt_machine.specs.Lives.{SetState, with_objects}
 use Rattle.vt_server.specs.Places.{SetPool, no_content}
 use Rattle.vt_macros.specs.Machines.{End, Ended, Sticks, run_of, events_of}
 
--- a pool in whose set no key is held and no input is selected
+-- a pool without a held key and without a selected input
 abbrev pub fresh : ObjectMap → SetState
 fresh objects = record { objects = objects; key = None; input = None }
 
--- the objects that a run leaves; runs on the objects of an accepted pool never stick
+-- the objects after a run; runs on the objects of an accepted pool never stick
 abbrev pub store_of : End → ObjectMap
 store_of (Ended store left) = store
 store_of (Sticks why store) = store
 
--- A command that is done leaves what the macros leave of the events that it raises, and a refused one changes nothing.
+-- The objects after a command: if it is done, after the macros of its events; if it is refused, unchanged.
 abbrev pub after_done : ObjectMap → List Raised → Result ObjectMap ℕ → ObjectMap
 after_done old raised (Ok middle) = store_of (run_of middle raised)
 after_done old raised (Err bits) = old
@@ -29,7 +30,7 @@ after_done old raised (Err bits) = old
 abbrev pub objects_after : Command → ObjectMap → ObjectMap
 objects_after command old = after_done old (events_of old command) (effect old command)
 
--- the error byte
+-- the error byte of a result: 0 if it is Ok
 abbrev pub error_in : Result ObjectMap ℕ → ℕ
 error_in (Ok middle) = 0
 error_in (Err bits) = bits
@@ -40,17 +41,17 @@ error_of command state = error_in (effect state.objects command)
 abbrev pub state_after : Command → SetState → SetState
 state_after command state = with_objects state (objects_after command state.objects)
 
--- the error byte of what a command came to
+-- the error byte of a command's outcome
 abbrev pub bits_of : Outcome → ℕ
 bits_of (Done steps) = 0
 bits_of (Refused bits) = bits
 
--- Delete Object Pool, which is done without a pool too
+-- whether a command is Delete Object Pool, which is done without a pool too
 abbrev pub deletes : Command → Bool
 deletes DeletePool = true
 deletes _ = false
 
--- the pool of a set after a command, and the error byte of its reply, if it has one; with the pool its transfer goes too
+-- the content of a set after a command; Delete Object Pool removes the upload too
 abbrev pub content_after : Command → SetPool → SetPool
 content_after command content = if deletes command then no_content else record content { pool = option_map (state_after command) content.pool }
 

@@ -1,4 +1,4 @@
--- What is shown, as the code has it.
+-- The code's display and shown pool as values of the specification.
 use Rattle.std.specs.Prelude.{ℕ}
 use Rattle.std.specs.Borrow.{Bor}
 use Rattle.vt_machine.specs.Lives.{SetState}

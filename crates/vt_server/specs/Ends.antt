@@ -1,4 +1,4 @@
--- What the end of an upload comes to in the code (docs/PROFILE.md, "End of Object Pool (12)").
+-- The code's judgement of an upload carries out a right verdict (docs/PROFILE.md, "End of Object Pool (12)").
 use Rattle.std.specs.Prelude.{◌≡◌, ℕ, List}
 use Rattle.vt_server.specs.Places.{SetPool}
 use Rattle.vt_server.specs.Transfers.{Verdict, Accepts, Faulty, Refuses, IsVerdict, ended, with_objects_of, end_reply}
@@ -6,7 +6,7 @@ use Rattle.vt_node.specs.ByAddress.{with_at}
 use Rattle.vt_server.specs.declared.ending.Judgement.{Judgement}
 use Rattle.vt_server.specs.declared.ending.Judgement.TheVariants as judgements
 
--- a verdict as it is carried out: with the pool that the set has from then on, or with the reply that refuses it
+-- A judgement carries out a verdict: it has the new pool of the set, or the reply that refuses the upload.
 abbrev pub CarriesOut : SetPool → Verdict → Judgement → Type 0
 CarriesOut content (Accepts objects) (judgements.Accepted pool) = pool.value ≡ with_objects_of content.pool objects
 CarriesOut content (Faulty fault) (judgements.Refused reply) = reply ≡ end_reply (Faulty fault)
@@ -18,7 +18,7 @@ pub record IsJudgement (content : SetPool) (judgement : Judgement) : Type 0 wher
   pub right : IsVerdict content verdict
   pub carried_out : CarriesOut content verdict judgement
 
--- The verdict is carried out at an address, and this is the reply.
+-- The upload of an address ends by a right verdict, with this reply.
 pub record IsEnded (old : ℕ → SetPool) (address : ℕ) (judgement : Judgement) (reply : List ℕ) (new : ℕ → SetPool) : Type 0 where
   pub verdict : Verdict
   pub right : IsVerdict (old address) verdict

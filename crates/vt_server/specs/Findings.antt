@@ -1,5 +1,5 @@
--- What is found of pools in the course of an input: the verdict on a transfer, and whether an object is shown. The step is a
--- function of these beside the input (docs/PROFILE.md, "End of Object Pool (12)", "Shown and enabled").
+-- Right findings on pools during an input: the verdict on an upload, and whether an object is shown. A step is a function of the
+-- input and these findings (docs/PROFILE.md, "End of Object Pool (12)", "Shown and enabled").
 use Rattle.std.specs.Prelude.{◌≡◌, ℕ, Bool, true, false, List, [], ◌∷◌, Option, Some, IfSome, Decides}
 use Rattle.std.specs.List.{AllZip}
 use Rattle.vt_can.specs.declared.frames.frame.Frame.{Frame}
@@ -21,22 +21,22 @@ use Rattle.vt_node.specs.declared.bus.FrameMeaning.{FrameMeaning}
 use Rattle.vt_server.specs.declared.input.Input.{Input}
 use Rattle.vt_server.specs.declared.input.Input.TheVariants as inputs
 
--- the message ends the transfer of a set
+-- whether a message ends the upload of a set
 abbrev pub ends_transfer : Option Set → Option (List ℕ) → Bool
 ends_transfer (Some set) (Some bytes) = ends_pool bytes
 ends_transfer _ _ = false
 
--- Where a frame ends a transfer, the verdict on that is right.
+-- If a frame ends an upload, the verdict on it is right.
 abbrev pub IsJudged : ℕ → ℕ → AddressView → FrameMeaning → Frame → Verdict → Type 0
 IsJudged now address p notice frame verdict =
     ends_transfer p.set (came now p.terminal address p.place notice frame).message ≡ true → IsVerdict p.place.content verdict
 
--- whether the object of an action is shown in the set that is shown
+-- whether the object of an action is shown in the shown set
 abbrev pub IsSeen : State → Option ℕ → Bool → Type 0
 IsSeen s object shown =
     IfSome object (λ id. IfSome (pool_at s s.shown) (λ state. Decides shown (IsShown state.objects (active_in state.objects) id)))
 
--- of the state after what the time of the frame ended
+-- The findings of an input are right: those of a frame in the state after the timeouts and closings of its time.
 abbrev pub IsFound : State → JudgedInput → Type 0
 IsFound s (FrameAt time frame verdict) =
     s.lost ≡ false
@@ -48,7 +48,7 @@ abbrev pub AreFound : State → List JudgedInput → Type 0
 AreFound s [] = Unit {0}
 AreFound s (e ∷ events) = IsFound s e × AreFound (step s e).after events
 
--- ---- inputs as events
+-- ---- inputs with their findings
 
 abbrev pub IsEventOf : Input → JudgedInput → Type 0
 IsEventOf (inputs.Frame time frame) (FrameAt at heard verdict) = (at ≡ time) × (heard ≡ frame)

@@ -1,4 +1,4 @@
--- The messages from the master of a set: what each changes, and its reply (docs/PROFILE.md, "Other messages", "Commands: all rows").
+-- The effect of each message from the master of a set, and its reply (docs/PROFILE.md, "Other messages", "Commands: all rows").
 use Rattle.std.specs.Prelude.{ℕ, ◌==◌, Bool, false, if◌then◌else◌, List, [], ◌∷◌, Option, Some, None}
 use Rattle.std.specs.Option.{option_map}
 use Rattle.vt_commands.specs.declared.command.Command.{Command}
@@ -16,18 +16,18 @@ pub record Handled : Type 0 where
 abbrev pub ignored : SetPool → Handled
 ignored content = record { content = content; reply = None }
 
--- A command without a pool is ignored, but Delete Object Pool.
+-- Without a pool a command is ignored, except Delete Object Pool.
 abbrev pub commanded : SetPool → Option Command → Handled
 commanded content None = ignored content
 commanded content (Some command) =
     record { content = content_after command content; reply = option_map (reply_to command) (error_after command content.pool) }
 
--- a message that asks what the terminal is, or else a command
+-- a technical request, or else a command
 abbrev pub asked : SetPool → List ℕ → Option (List ℕ) → Handled
 asked content bytes (Some reply) = record { content = content; reply = Some reply }
 asked content bytes None = commanded content (command_at bytes)
 
--- Object Pool Transfer and End of Object Pool
+-- the functions of Object Pool Transfer and End of Object Pool
 abbrev pub TRANSFER : ℕ
 TRANSFER = 0x11
 
@@ -40,7 +40,7 @@ transferred content bytes = ignored (with_piece content bytes)
 abbrev pub end_handled : SetPool → Verdict → Handled
 end_handled content verdict = record { content = ended content verdict; reply = Some (end_reply verdict) }
 
--- by the verdict on the transfer, of which the end of a pool alone speaks
+-- the effect of a message and its reply; the verdict counts for End of Object Pool alone
 abbrev pub handled : SetPool → Verdict → List ℕ → Handled
 handled content verdict [] = ignored content
 handled content verdict (function ∷ bytes) =

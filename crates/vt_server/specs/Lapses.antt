@@ -1,4 +1,4 @@
--- What the time of a frame line ends: sessions that are silent for too long, and then sets (docs/PROFILE.md, "The order of a
+-- The acts at the time of a frame line: timeouts of sessions, then closings of silent sets (docs/PROFILE.md, "The order of a
 -- step", "Timeouts", "Silence").
 use Rattle.std.specs.Prelude.{ℕ, max, Bool, if◌then◌else◌, List, [], ◌∷◌, ◌++◌, map, filter, Option, Some, None}
 use Rattle.vt_can.specs.transport.Sessions.{each_below, is_overdue}
@@ -8,7 +8,7 @@ use Rattle.vt_server.specs.Parts.{Act, TpExpires, EtpExpires, SendingExpires, Fa
 use Rattle.vt_server.specs.Places.{watched}
 use Rattle.vt_server.specs.Terminals.{State, Sent, after_acts, sent_by_acts}
 
--- Time never goes back, and a frame line begins the silence of addresses that were preloaded.
+-- The time of a frame line never goes back; the silence of preloaded addresses counts from it.
 abbrev pub at_time : State → ℕ → State
 at_time s time = record s { now = max s.now time; places = λ address. watched (max s.now time) (s.places address) }
 
@@ -24,11 +24,11 @@ etp_due s = each_below (λ a. is_overdue s.now (s.places a).etp) EtpExpires 256
 abbrev pub sending_due : State → List (ℕ × Act)
 sending_due s = each_below (λ a. is_overdue s.now (s.places a).sending) SendingExpires 256
 
--- in order of registration
+-- the closings of silent sets in order of registration
 abbrev pub silences : State → List (ℕ × Act)
 silences s = map (λ set. (set.address, FallsSilent)) (filter (silent s) s.sets)
 
--- each by the state that the one before it leaves
+-- the states after each group of timeouts in turn
 abbrev pub after_tp_timeouts : State → State
 after_tp_timeouts s = after_acts s (tp_due s)
 
@@ -41,13 +41,13 @@ after_timeouts s = let t = after_etp_timeouts s in after_acts t (sending_due t)
 unfoldable pub lapsed : State → State
 lapsed s = let t = after_timeouts s in after_acts t (silences t)
 
--- the aborts; nothing is sent to a set that falls silent
+-- the aborts of overdue sessions; nothing is sent for a silent set
 unfoldable pub sent_by_lapses : State → List Sent
 sent_by_lapses s =
     let t = after_tp_timeouts s in let u = after_etp_timeouts s in
     sent_by_acts s (tp_due s) ++ (sent_by_acts t (etp_due t) ++ sent_by_acts u (sending_due u))
 
--- the first set of these that is silent
+-- the address of the first silent set in a list
 abbrev pub first_silent : State → List Set → Option ℕ
 first_silent s [] = None
 first_silent s (set ∷ sets) = if silent s set then Some set.address else first_silent s sets

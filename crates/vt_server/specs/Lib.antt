@@ -1,4 +1,4 @@
--- What the contracts of this crate cite.
+-- Definitions cited by the contracts of vt_server.
 pub mod Acting
 pub mod Choosing
 pub mod Commands

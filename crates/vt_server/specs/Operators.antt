@@ -1,4 +1,4 @@
--- The operator's actions on the working set that is shown (docs/PROFILE.md, "The operator").
+-- Definitions of the operator's actions: effect, message and refusal (docs/PROFILE.md, "The operator").
 use Rattle.std.specs.Prelude.{ℕ, ◌&&◌, ◌-◌, Bool, nat_lt, if◌then◌else◌, List, [], ◌∷◌, ◌++◌, length, replicate, Option, Some, None, is_some}
 use Rattle.vt_can.specs.Assigned.{FILL, VT_TO_ECU}
 use Rattle.vt_can.specs.declared.frames.frame.Frame.{Frame}
@@ -29,9 +29,9 @@ fault_of refusals.WrongKind = faults.WrongKind
 fault_of refusals.NotPressed = faults.NotPressed
 fault_of refusals.Held = faults.Held
 
--- ---- what an action comes to on the set that is shown, by whether its object is shown
+-- ---- actions on the shown set, by whether their object is shown
 
--- the selection of a set is for the terminal
+-- the effect of an action on a set; None for the selection of a set, the terminal's own action
 abbrev pub action_on : SetState → Bool → ActionValue → Option operating.Action
 action_on state shown (Press id) = Some (press shown state (active_in state.objects) id)
 action_on state shown (Release id) = Some (release state id)
@@ -40,7 +40,7 @@ action_on state shown (Number id n) = Some (enter_number shown state id n)
 action_on state shown (Text id text) = Some (enter_text shown state id text)
 action_on state shown (Set address) = None
 
--- the object that has to be shown
+-- the object that has to be shown for an action
 abbrev pub object_of : ActionValue → Option ℕ
 object_of (Press id) = Some id
 object_of (Release id) = None
@@ -49,17 +49,17 @@ object_of (Number id n) = Some id
 object_of (Text id text) = Some id
 object_of (Set address) = None
 
--- ---- its message
+-- ---- the message of an action
 
--- eight bytes
+-- a message filled to eight bytes
 abbrev pub filled : List ℕ → List ℕ
 filled bytes = bytes ++ replicate (8 - length bytes) FILL
 
--- a message that does not go into one frame
+-- whether a message is too long for one frame
 abbrev pub is_long : List ℕ → Bool
 is_long bytes = nat_lt 8 (length bytes)
 
--- one is being sent already
+-- whether a message is long while another is being sent already
 abbrev pub is_busy : List ℕ → Option (Timed transport.Message) → Bool
 is_busy bytes sending = is_long bytes && is_some sending
 
@@ -69,12 +69,12 @@ message_frames own address (byte ∷ bytes) =
     if is_long (byte ∷ bytes) then rts_frame own address (length (byte ∷ bytes)) VT_TO_ECU ∷ []
     else message_to own address (filled (byte ∷ bytes)) ∷ []
 
--- a long one is sent in packets
+-- the sending session after a message: a new one if it is long
 abbrev pub sending_after : ℕ → List ℕ → Option (Timed transport.Message) → Option (Timed transport.Message)
 sending_after now bytes sending =
     if is_long bytes then Some (record { last = now; session = record { pgn = VT_TO_ECU; bytes = bytes } }) else sending
 
--- ---- its change: first its own, and then what the macros of its events leave
+-- ---- the change by an action: its own change, then the macros of its events
 
 abbrev pub ran : SetState → List Raised → SetState
 ran start raised = with_objects start (store_of (run_of start.objects raised))

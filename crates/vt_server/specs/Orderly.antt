@@ -1,10 +1,10 @@
--- What the claims and the sets of every terminal keep.
+-- The invariants of every terminal on its address claims and its sets.
 use Rattle.std.specs.Prelude.{◌≢◌, ◌<◌, ℕ}
 use Rattle.vt_names.specs.Claims.{IsRising}
 use Rattle.vt_names.specs.Registry.{AreApart}
 use Rattle.vt_server.specs.Terminals.{State}
 
--- what every state of a terminal keeps
+-- every state of a terminal: claims by rising NAME, sets at distinct addresses
 pub record IsOrderly (s : State) : Type 0 where
   pub rising : IsRising s.claims.addresses
   pub apart : AreApart s.sets

@@ -1,4 +1,4 @@
--- What a terminal sends, as its outputs (docs/PROFILE.md, "The outputs of one input").
+-- Sent items as outputs of the terminal (docs/PROFILE.md, "The outputs of one input").
 use Rattle.std.specs.Prelude.{List, map}
 use Rattle.vt_can.specs.declared.frames.frame.Frame.{Frame}
 use Rattle.vt_server.specs.Terminals.{Sent, ToOne, ToAll, Refused}

@@ -1,4 +1,4 @@
--- What happens at one address: its set, its pool, its sessions, and the frames to it (docs/PROFILE.md, "One address").
+-- The view of one address and its happenings: its set, pool, sessions and frames (docs/PROFILE.md, "One address").
 use Rattle.std.specs.Prelude.{ℕ, ◌||◌, Bool, if◌then◌else◌, List, [], ◌++◌, Option, Some, None, nat_eq}
 use Rattle.std.specs.Option.{option_eq, option_map, option_to_list}
 use Rattle.vt_can.specs.declared.frames.frame.Frame.{Frame}
@@ -26,8 +26,8 @@ use Rattle.vt_node.specs.declared.bus.FrameMeaning.TheVariants.{Claim, Master, M
 use Rattle.vt_server.specs.declared.output.OperatorFault.{OperatorFault}
 use Rattle.vt_server.specs.declared.output.OperatorFault.TheVariants.{Busy}
 
--- The part of an address: the terminal's own address and whether that was lost, the holder of this address,
--- its set, and what is kept of it beside that.
+-- The view of an address: the terminal's own address and whether it was lost, the holder of the address, its set, and the other
+-- state of the address.
 pub record AddressView : Type 0 where
   pub terminal : ℕ
   pub lost : Bool
@@ -35,16 +35,15 @@ pub record AddressView : Type 0 where
   pub set : Option Set
   pub place : AddressState
 
--- what comes of it, the frames to the address, and why an action of the operator was refused there
+-- the view after a happening, the frames sent to the address, and the refusal of an operator's action there
 pub record AddressOutcome : Type 0 where
   pub set : Option Set
   pub place : AddressState
   pub frames : List Frame
   pub refused : Option OperatorFault
 
--- What happens there: a frame from the address says something; the address has another holder; a pool is preloaded; a
--- session is silent for too long, or the set; the operator acts on the set, whose object is shown or not; an event of the
--- set is raised.
+-- The happenings at an address: a frame from it is received; its holder changes; a pool is preloaded; a session times out; its
+-- set falls silent; the operator acts on its set, whose object is shown or not; an event of its Working Set is raised.
 pub data Act : Type 0 where
   Hears : FrameMeaning → Frame → Verdict → Act
   Rebinds : Act
@@ -65,17 +64,17 @@ with_other_set p set = record { set = set; place = p.place; frames = []; refused
 abbrev pub with_place : AddressView → AddressState → List Frame → AddressOutcome
 with_place p place frames = record { set = p.set; place = place; frames = frames; refused = None }
 
--- the sessions stay
+-- an address after its set is closed; its sessions are unchanged
 abbrev pub without_set : AddressView → AddressOutcome
 without_set p = record { set = None; place = with_content p.place no_content; frames = []; refused = None }
 
 -- ---- claims and registration
 
--- without a NAME, or with that of the holder
+-- whether a set of this NAME stays open under a holder: without a NAME, or with the holder's
 abbrev pub stays_under : Option ℕ → Option ℕ → Bool
 stays_under name holder = (option_eq nat_eq name None) || option_eq nat_eq name holder
 
--- A set with a NAME that isn't the holder's is closed.
+-- A set with a NAME other than the holder's is closed.
 abbrev pub after_change : AddressView → Option Set → AddressOutcome
 after_change p None = unchanged p
 after_change p (Some set) = if stays_under set.name p.holder then unchanged p else without_set p
@@ -103,12 +102,12 @@ abbrev pub answered : ℕ → AddressView → Handled → AddressOutcome
 answered address p done =
     with_place p (with_content p.place done.content) (option_to_list (option_map (message_to p.terminal address) done.reply))
 
--- Only the master of a set is heard.
+-- A message counts only from the master of a set.
 abbrev pub after_message : ℕ → AddressView → Verdict → Option Set → Option (List ℕ) → AddressOutcome
 after_message address p verdict (Some set) (Some bytes) = answered address p (handled p.place.content verdict bytes)
 after_message address p verdict _ _ = unchanged p
 
--- The end of a session goes out before the reply to its message.
+-- The end of a session is sent before the reply to its message.
 abbrev pub behind : List Frame → AddressOutcome → AddressOutcome
 behind frames after = record after { frames = frames ++ after.frames }
 
@@ -140,13 +139,13 @@ after_operator now address p action shown (Some state) = after_action now addres
 
 -- ---- events of the Working Set
 
--- what the macros leave that run at the event
+-- the pool after the macros of an event
 abbrev pub raised_on : SetState → ℕ → SetState
 raised_on state event =
     let shape = shape_in state.objects in let event_of = listing (working_set_in state.objects) event in
     with_objects state (store_of (run (budget shape (working_set_in state.objects) event) state.objects (commands_at shape event_of)))
 
--- ---- what an address makes of what happens there
+-- ---- the outcome of a happening
 
 abbrev pub outcome : ℕ → ℕ → AddressView → Act → AddressOutcome
 outcome now address p (Hears notice frame verdict) = after_notice now address (record p { place = heard_at now p.place }) notice frame verdict
@@ -164,7 +163,7 @@ outcome now address p FallsSilent = without_set p
 outcome now address p (Operates action shown) = after_operator now address p action shown p.place.content.pool
 outcome now address p (Raises event) = with_place p (with_pool p.place (option_map (λ state. raised_on state event) p.place.content.pool)) []
 
--- ---- without times
+-- ---- views without times
 
 abbrev pub untimed_part : AddressView → AddressView
 untimed_part p = record p { place = untimed_place p.place }

@@ -1,5 +1,5 @@
--- What is kept of an address beside its set: its pool and the pool that it uploads, its sessions, and when it was heard
--- (docs/PROFILE.md, "What a set has", "Transport", "Silence").
+-- The state of an address beside its set: its pool and upload, its sessions, and the time of its last frame (docs/PROFILE.md,
+-- "What a set has", "Transport", "Silence").
 use Rattle.std.specs.Prelude.{ℕ, List, [], ◌++◌, Option, Some, None, unwrap_or}
 use Rattle.vt_can.specs.declared.transport.sessions.Timed.{Timed}
 use Rattle.vt_can.specs.transport.Messages.{Message}
@@ -8,7 +8,7 @@ use Rattle.vt_transport.specs.SessionState as tp
 use Rattle.vt_extended.specs.SessionState as etp
 use Rattle.vt_machine.specs.Lives.{SetState}
 
--- what the messages of a set's master change: its pool, and the bytes of the pool that is being uploaded
+-- the content of an address, changed by messages from a set's master: its pool, and the bytes of its upload
 pub record SetPool : Type 0 where
   pub pool : Option SetState
   pub transfer : List ℕ
@@ -19,8 +19,8 @@ no_content = record { pool = None; transfer = [] }
 abbrev pub with_piece : SetPool → List ℕ → SetPool
 with_piece content bytes = record content { transfer = content.transfer ++ bytes }
 
--- Beside that the sessions in which the address sends a message, the one in which it is sent one, each with the time of
--- its last frame, and the time at which it was last heard: none from a preload to the next frame.
+-- The state of an address: its content; the sessions in which it sends and the one in which it is sent a message, each with the
+-- time of its last frame; and the time of its own last frame, None from a preload to the next frame line.
 pub record AddressState : Type 0 where
   pub content : SetPool
   pub tp : Option (Timed tp.SessionState)
@@ -28,7 +28,7 @@ pub record AddressState : Type 0 where
   pub sending : Option (Timed Message)
   pub heard : Option ℕ
 
--- nothing
+-- the state of an address without content and sessions
 abbrev pub empty : AddressState
 empty = record { content = no_content; tp = None; etp = None; sending = None; heard = Some 0 }
 
@@ -38,15 +38,15 @@ with_content place content = record place { content = content }
 abbrev pub with_pool : AddressState → Option SetState → AddressState
 with_pool place pool = record place { content = record place.content { pool = pool } }
 
--- a frame from the address at a time
+-- an address after a frame from it
 abbrev pub heard_at : ℕ → AddressState → AddressState
 heard_at now place = record place { heard = Some now }
 
--- A frame line begins the silence of an address that was preloaded before it.
+-- At a frame line the silence of an address preloaded before it begins.
 abbrev pub watched : ℕ → AddressState → AddressState
 watched now place = record place { heard = Some (unwrap_or place.heard now) }
 
--- without times
+-- the state of an address without times
 abbrev pub untimed_place : AddressState → AddressState
 untimed_place place = record place {
   tp = untimed_session place.tp;

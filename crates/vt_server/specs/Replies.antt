@@ -4,19 +4,19 @@ use Rattle.byteorder.specs.Endian.{little_bytes}
 use Rattle.vt_commands.specs.declared.command.Command.{Command}
 use Rattle.vt_commands.specs.declared.command.Command.TheVariants.{HideShow, EnableDisable, ControlAudio, SetVolume, ChangeChildLocation, ChangeSize, ChangeBackgroundColour, ChangeNumericValue, ChangeEndPoint, ChangeFontAttributes, ChangeLineAttributes, ChangeFillAttributes, ChangeActiveMask, ChangeSoftKeyMask, ChangeAttribute, ChangePriority, ChangeListItem, DeletePool, ChangeStringValue, ChangeChildPosition, ExecuteMacro}
 
--- the function and the error byte
+-- a reply of the function and the error byte
 abbrev pub plain : ℕ → ℕ → List ℕ
 plain function error = function ∷ error ∷ 0xFF ∷ 0xFF ∷ 0xFF ∷ 0xFF ∷ 0xFF ∷ 0xFF ∷ []
 
--- an object between them
+-- a reply of the function, an object and the error byte
 abbrev pub about : ℕ → ℕ → ℕ → List ℕ
 about function id error = (function ∷ little_bytes 2 id) ++ error ∷ 0xFF ∷ 0xFF ∷ 0xFF ∷ 0xFF ∷ []
 
--- an object and a byte of the command
+-- a reply of the function, an object, a byte of the command and the error byte
 abbrev pub about_with : ℕ → ℕ → ℕ → ℕ → List ℕ
 about_with function id said error = (function ∷ little_bytes 2 id) ++ said ∷ error ∷ 0xFF ∷ 0xFF ∷ 0xFF ∷ []
 
--- two objects
+-- a reply of the function, two objects and the error byte
 abbrev pub about_two : ℕ → ℕ → ℕ → ℕ → List ℕ
 about_two function first second error = (function ∷ little_bytes 2 first) ++ little_bytes 2 second ++ error ∷ 0xFF ∷ 0xFF ∷ []
 

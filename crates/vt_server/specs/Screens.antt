@@ -17,36 +17,36 @@ abbrev pub IsScreenOfShown : (ℕ → Option SetState) → Option ℕ → List �
 IsScreenOfShown pools None text = text ≡ no_screen
 IsScreenOfShown pools (Some address) text = IsScreenAt address (pools address) text
 
--- the text of the screen of the set that is shown
+-- the text of the screen of the shown set
 abbrev pub IsScreenOf : State → List ℕ → Type 0
 IsScreenOf s text = IsScreenOfShown (pool_of s) s.shown text
 
--- a vector has gained it
+-- A vector has gained the text of the screen.
 pub record GainsScreenOf (s : State) (old new : List ℕ) : Type 0 where
   pub text : List ℕ
   pub is_screen : IsScreenOf s text
   pub gained : new ≡ old ++ text
 
--- ---- whether it has to be drawn again
+-- ---- the need to draw the screen again
 
--- what the terminal tells: whether the screen may be another than before the last call of `step` or `run`
+-- whether the screen may differ from the one before the last call of `step` or `run`
 abbrev pub redraws : Terminal → Bool
 redraws t = t.redraws
 
--- The screen of a state is that of another too.
+-- Each screen of the old state is a screen of the new one.
 abbrev pub KeepsScreen : State → State → Type 0
 KeepsScreen old new = (text : List ℕ) → IsScreenOf old text → IsScreenOf new text
 
--- The same set is shown, with the same pool.
+-- The same set is shown with the same pool.
 pub record ShowsSame (old new : State) : Type 0 where
   pub shown : new.shown ≡ old.shown
   pub pool : pool_at new new.shown ≡ pool_at old old.shown
 
--- The same set is shown, with the same pool if it has one still.
+-- The same set is shown with the same pool, unless its pool was removed.
 pub record ShowsWhatIsLeft (old new : State) : Type 0 where
   pub shown : new.shown ≡ old.shown
   pub pool : is_some (pool_at new new.shown) ≡ true → pool_at new new.shown ≡ pool_at old old.shown
 
--- Where a terminal tells after a call that nothing has to be drawn, it told so before the call, and shows the same.
+-- If a call leaves `redraws` false, it was false before the call, and the same is shown.
 abbrev pub TellsChanges : Terminal → Terminal → Type 0
 TellsChanges old new = redraws new ≡ false → (redraws old ≡ false) × ShowsSame (state_of old) (state_of new)

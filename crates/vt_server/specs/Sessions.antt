@@ -1,4 +1,4 @@
--- What the sessions of an address make of a frame from there, and of their silence (docs/PROFILE.md, "Transport").
+-- The effect of a frame, and of silence, on the sessions of its source address (docs/PROFILE.md, "Transport").
 use Rattle.std.specs.Prelude.{ℕ, ◌==◌, if◌then◌else◌, List, [], ◌++◌, Option, Some, None}
 use Rattle.std.specs.Option.{option_map, option_to_list}
 use Rattle.vt_can.specs.Assigned.{ECU_TO_VT}
@@ -16,18 +16,18 @@ use Rattle.vt_node.specs.Receiving.{taken}
 use Rattle.vt_node.specs.declared.bus.FrameMeaning.{FrameMeaning}
 use Rattle.vt_node.specs.declared.bus.FrameMeaning.TheVariants.{Message, Tp, Etp}
 
--- what the frame leaves of the place, the frames to the address, and the bytes of a message to the terminal that is whole
+-- the state of an address after a frame, the frames sent to it, and the bytes of a completed message to the terminal
 pub record Came : Type 0 where
   pub place : AddressState
   pub frames : List Frame
   pub message : Option (List ℕ)
 
--- A message of another group is dropped.
+-- A message of another parameter group is dropped.
 abbrev pub message_to_terminal : Option transport.Message → Option (List ℕ)
 message_to_terminal None = None
 message_to_terminal (Some message) = if message.pgn == ECU_TO_VT then Some message.bytes else None
 
--- A frame of the transport protocol is the receiver's and the sender's.
+-- A frame of the transport protocol goes to the receiver and to the sender.
 abbrev pub came_tp : ℕ → ℕ → ℕ → AddressState → Frame → Came
 came_tp now own address place frame =
     let received = taken tp.protocol now own address place.tp frame in
@@ -47,7 +47,7 @@ came_etp now own address place frame =
       message = message_to_terminal received.message;
     }
 
--- from the terminal's own address, that of the source, and its place
+-- the effect of a frame, by the terminal's own address, the source address and its state
 abbrev pub came : ℕ → ℕ → ℕ → AddressState → FrameMeaning → Frame → Came
 came now own address place Message frame = record { place = place; frames = []; message = Some frame.bytes.items }
 came now own address place Tp frame = came_tp now own address place frame
@@ -56,11 +56,11 @@ came now own address place _ frame = record { place = place; frames = []; messag
 
 -- ---- timeouts
 
--- the abort of a receiver's session
+-- the abort of a receiving session
 abbrev pub timeout_of : {S F R : Type 0} → Protocol S F R → ℕ → ℕ → Option (Timed S) → List Frame
 timeout_of protocol own address session =
     option_to_list (option_map (λ timed. protocol.reply_frame own address (protocol.timeout timed.session)) session)
 
--- the abort of the sender's session
+-- the abort of a sending session
 abbrev pub sending_timeout : ℕ → ℕ → Option (Timed transport.Message) → List Frame
 sending_timeout own address sending = option_to_list (option_map (λ timed. timeout_frame own address timed.session) sending)

@@ -1,4 +1,4 @@
--- What a terminal is seen as, and what its calls do.
+-- The state of a terminal, and the contracts of its calls.
 use Rattle.std.specs.Prelude.{◌≡◌, ℕ, Option, List, ◌++◌}
 use Rattle.std.specs.FinMap as finite
 use Rattle.vt_server.specs.Findings.{IsEventOf, AreEventsOf, IsFound, AreFound}
@@ -13,7 +13,7 @@ use Rattle.vt_server.specs.declared.input.Input.{Input}
 use Rattle.vt_server.specs.declared.output.Output.{Output}
 use Rattle.vt_server.specs.declared.terminal.Terminal.{Terminal}
 
--- what is kept of each address
+-- the state of each address
 abbrev pub places_by : (ℕ → SetPool) → NodeState → (ℕ → Option ℕ) → ℕ → AddressState
 places_by contents node heard address = record {
   content = contents address;
@@ -36,8 +36,8 @@ state_of t = record {
 
 -- ---- inputs
 
--- A terminal takes an input: what it finds of pools in its course is right, and by that it makes the step of the input, and
--- adds what the step sends to the outputs.
+-- A terminal handles an input: its findings on pools are right, it makes the step of the input, and it appends the outputs of the
+-- step.
 pub record TakesInput (old : State) (input : Input) (new : State) (before after : List Output) : Type 0 where
   pub event : JudgedInput
   pub is_input : IsEventOf input event
@@ -45,7 +45,7 @@ pub record TakesInput (old : State) (input : Input) (new : State) (before after 
   pub state : new ≡ (step old event).after
   pub sent : after ≡ before ++ outputs_of (step old event).sent
 
--- So too for inputs one after the other.
+-- A terminal handles inputs in order: each with right findings, its step and its outputs.
 pub record TakesInputs (old : State) (inputs : List Input) (new : State) (before after : List Output) : Type 0 where
   pub events : List JudgedInput
   pub are_inputs : AreEventsOf inputs events

@@ -20,8 +20,8 @@ use Rattle.vt_node.specs.declared.bus.FrameMeaning.{FrameMeaning}
 use Rattle.vt_node.specs.declared.bus.FrameMeaning.TheVariants.{Claim, ClaimRequest}
 use Rattle.vt_server.specs.declared.output.OperatorFault.TheVariants.{NoSet}
 
--- What comes to the terminal, with what is found of the pools: the verdict on the transfer that a frame ends, and whether
--- the object that an action names is shown. Which finding is right Findings says.
+-- An input with its findings on pools: the verdict on the upload that a frame ends, and whether the object of an action is shown.
+-- Findings defines which findings are right.
 pub data JudgedInput : Type 0 where
   FrameAt : (time : ℕ) (frame : Frame) (verdict : Verdict) → JudgedInput
   ActionAt : (action : ActionValue) (shown : Bool) → JudgedInput
@@ -33,21 +33,21 @@ pub record Step : Type 0 where
 abbrev pub no_step : State → Step
 no_step s = record { after = s; sent = [] }
 
--- ---- what a frame makes happen
+-- ---- the acts of a frame
 
 abbrev pub hear_claim : State → ℕ → FrameMeaning → Claimed
 hear_claim s source (Claim name) = heard s.claims source name
 hear_claim s source _ = s.claims
 
--- with the claim recorded, before anything happens at an address
+-- the state with the claim recorded, before any act at an address
 abbrev pub before : State → ℕ → FrameMeaning → State
 before s source notice = record s { claims = hear_claim s source notice }
 
--- the address has another holder than before
+-- the act of an address whose holder has changed
 abbrev pub changed : Option ℕ → State → ℕ → List (ℕ × Act)
 changed was s address = if option_eq nat_eq was (holder s address) then [] else (address, Rebinds) ∷ []
 
--- the address that a NAME leaves by claiming another
+-- the former address of a NAME that claims another
 abbrev pub left_by : ℕ → Option ℕ → Option ℕ
 left_by source None = None
 left_by source (Some left) = if left == source then None else Some left
@@ -60,7 +60,7 @@ abbrev pub changed_left : Option ℕ → State → Option ℕ → List (ℕ × A
 changed_left was s None = []
 changed_left was s (Some left) = changed was s left
 
--- A claim changes the holders of two addresses at most: of the one that its NAME leaves, and of its source.
+-- A claim changes the holders of at most two addresses: the former address of its NAME, and its source.
 abbrev pub changes_by : State → State → Option ℕ → ℕ → List (ℕ × Act)
 changes_by s t left source = changed_left (left_holder s left) t left ++ changed (holder s source) t source
 
@@ -69,11 +69,11 @@ changes s source (Claim name) =
     changes_by s (before s source (Claim name)) (left_by source (address_of s.claims.addresses name)) source
 changes s source _ = []
 
--- The terminal hears no frame from its own address.
+-- The terminal ignores frames from its own address.
 abbrev pub heard_at_source : ℕ → ℕ → FrameMeaning → Frame → Verdict → List (ℕ × Act)
 heard_at_source own source notice frame verdict = if source == own then [] else (source, Hears notice frame verdict) ∷ []
 
--- in order: each change of a holder, and the frame at its source
+-- the acts of a frame in order: the changes of holders, then the frame at its source
 abbrev pub acts : State → ℕ → FrameMeaning → Frame → Verdict → List (ℕ × Act)
 acts s source notice frame verdict = changes s source notice ++ heard_at_source s.claims.own source notice frame verdict
 
@@ -81,12 +81,12 @@ abbrev pub answer_to : State → ℕ → FrameMeaning → ClaimMeaning
 answer_to s source (Claim name) = answer s.claims source name
 answer_to s source _ = claims.Nothing
 
--- a lower NAME claims the own address
+-- whether a lower NAME claims the own address
 abbrev pub is_lost_by : ClaimMeaning → Bool
 is_lost_by claims.Lost = true
 is_lost_by _ = false
 
--- the terminal's claim, where another claims its address or asks for it
+-- whether the terminal sends its claim: another NAME claims its address, or its claim is requested
 abbrev pub is_defended : FrameMeaning → ClaimMeaning → Bool
 is_defended ClaimRequest _ = true
 is_defended _ claims.Defend = true
@@ -98,8 +98,8 @@ defence s source notice =
 
 -- ---- the end of a step
 
--- The shown set is chosen, the events of its change run, and the status goes out where the display is another than the
--- one before the input.
+-- The shown set is chosen, the events of its change are raised, and the status is sent if the display differs from the one before
+-- the input.
 unfoldable pub settled : State → State
 settled s = after_acts (choosing s) (events_of_change s.shown (shown_now s))
 
@@ -109,7 +109,7 @@ sent_by_settling old s =
 
 -- ---- a frame
 
--- Cannot Claim goes out, and nothing else happens, now or later. A set that is closed is shown no more.
+-- Cannot Claim is sent, and nothing happens any more. A closed set is not shown any more.
 abbrev pub losing : State → Step
 losing s = record {
   after = record s { lost = true; shown = if is_some (pool_at s s.shown) then s.shown else None };
@@ -123,7 +123,7 @@ abbrev pub sent_by_frame : State → ℕ → FrameMeaning → Frame → Verdict 
 sent_by_frame s source notice frame verdict =
     defence s source notice ++ sent_by_acts (before s source notice) (acts s source notice frame verdict)
 
--- from the state before the input, and that after what its time ended
+-- the step of a frame, from the state before the input and the state after timeouts and closings
 abbrev pub acting : State → State → ℕ → FrameMeaning → Frame → Verdict → Step
 acting old s source notice frame verdict = let t = acted s source notice frame verdict in record {
   after = settled t;
@@ -144,7 +144,7 @@ step_frame s time frame verdict =
 
 -- ---- an action of the operator
 
--- no set with a pool is shown, or there is none at the address that is to be selected
+-- whether no set with a pool is shown, or none is at the address to select
 abbrev pub has_no_set : State → ActionValue → Bool
 has_no_set s (Set address) = not (is_some (pool_of s address))
 has_no_set s action = not (is_some (pool_at s s.shown))
@@ -169,7 +169,7 @@ step_action s action shown =
 
 -- ---- the step
 
--- After the loss nothing has effect.
+-- After the loss of the address no input has an effect.
 abbrev pub step : State → JudgedInput → Step
 step s (FrameAt time frame verdict) = if s.lost then no_step s else step_frame s time frame verdict
 step s (ActionAt action shown) = if s.lost then no_step s else step_action s action shown
@@ -182,7 +182,7 @@ abbrev pub sent_by_all : State → List JudgedInput → List Sent
 sent_by_all s [] = []
 sent_by_all s (e ∷ events) = (step s e).sent ++ sent_by_all (step s e).after events
 
--- ---- a pool that is there from the start
+-- ---- preloaded pools
 
 -- A set with a pool is added, and the shown set chosen. No event is raised, and nothing is sent.
 abbrev pub preloading : State → ℕ → ObjectMap → State

@@ -1,4 +1,4 @@
--- The terminal, and what happens at its addresses in turn (docs/PROFILE.md, "The step").
+-- The state of a terminal, and acts at its addresses in order (docs/PROFILE.md, "The step").
 use Rattle.std.specs.Prelude.{ℕ, Bool, List, [], ◌∷◌, ◌++◌, map, Option, Some, None}
 use Rattle.vt_can.specs.declared.frames.frame.Frame.{Frame}
 use Rattle.vt_names.specs.Claims.{Claimed, holder_of}
@@ -9,9 +9,8 @@ use Rattle.vt_server.specs.Places.{AddressState}
 use Rattle.vt_server.specs.Parts.{AddressView, AddressOutcome, Act, outcome}
 use Rattle.vt_server.specs.declared.output.OperatorFault.{OperatorFault}
 
--- what was heard of the addresses, the sets in order of registration, what is kept of each address, the set that is
--- selected and the one that is shown by their addresses, whether the own address was lost, and the latest time so far in
--- microseconds
+-- the address claims received, the sets in order of registration, the state of each address, the addresses of the selected set
+-- and of the shown set, whether the own address was lost, and the latest time so far in microseconds
 pub record State : Type 0 where
   pub claims : Claimed
   pub sets : List Set
@@ -21,13 +20,13 @@ pub record State : Type 0 where
   pub lost : Bool
   pub now : ℕ
 
--- what goes out: a frame to one address, a frame to all, or a refusal to the operator
+-- an item sent: a frame to one address, a frame to all, or a refusal to the operator
 pub data Sent : Type 0 where
   ToOne : ℕ → Frame → Sent
   ToAll : Frame → Sent
   Refused : OperatorFault → Sent
 
--- ---- one address of it
+-- ---- the view of one address
 
 abbrev pub holder : State → ℕ → Option ℕ
 holder s address = holder_of s.claims.addresses address
@@ -44,7 +43,7 @@ part address s = record {
 abbrev pub pool_of : State → ℕ → Option SetState
 pool_of s address = (s.places address).content.pool
 
--- the pool of an address, if there is one
+-- the pool of an address, if it has one
 abbrev pub pool_at : State → Option ℕ → Option SetState
 pool_at s None = None
 pool_at s (Some address) = pool_of s address
@@ -63,7 +62,7 @@ refusal (Some fault) = Refused fault ∷ []
 abbrev pub to_address : ℕ → AddressOutcome → List Sent
 to_address address after = map (ToOne address) after.frames ++ refusal after.refused
 
--- ---- what happens at addresses, in turn
+-- ---- acts at addresses in order
 
 unfoldable pub after_act : State → ℕ → Act → State
 after_act s address act = put address (outcome s.now address (part address s) act) s

@@ -1,4 +1,5 @@
--- The end of an upload: what the bytes of a transfer come to (docs/PROFILE.md, "End of Object Pool (12)", "Updates of a pool").
+-- The end of an upload: its right verdicts, its effect and its reply (docs/PROFILE.md, "End of Object Pool (12)", "Updates of a
+-- pool").
 use Rattle.std.specs.Prelude.{◌≡◌, ℕ, List, [], ◌∷◌, ◌++◌, slice_index, Option, Some, None}
 use Rattle.byteorder.specs.Endian.{little_bytes}
 use Rattle.vt_stores.specs.Stores.{ObjectMap, Objects, by_rising_id, map_of}
@@ -16,22 +17,22 @@ use Rattle.vt_machine.specs.Lives.{SetState, renewed}
 use Rattle.vt_server.specs.Commands.{fresh}
 use Rattle.vt_server.specs.Places.{SetPool}
 
--- the objects that the set has from then on, or why its pool stays as it is
+-- the verdict on an upload: the new objects of the set, or the fault or refusal that leaves its pool unchanged
 pub data Verdict : Type 0 where
   Accepts : (objects : ObjectMap) → Verdict
   Faulty : (fault : PoolFault) → Verdict
   Refuses : (refusal : Refusal) → Verdict
 
--- ---- which verdict is right
+-- ---- right verdicts
 
--- the bytes are whole records, and these are their objects in force
+-- The bytes are whole records, and these are the records in force.
 pub record IsPool (bytes : List ℕ) (pool : List Entry) : Type 0 where
   pub records : List Entry
   pub whole : AreRecords records
   pub spelled : bytes ≡ joined records
   pub in_force : IsInForce records pool
 
--- the objects that are verified: those of the pool, and for a set that has one those of its store under other IDs
+-- the objects to verify: those of the upload, and for an update also those of the store under other IDs
 abbrev pub merged : Option SetState → List Entry → Objects
 merged None pool = by_rising_id pool
 merged (Some state) pool = updated state.objects pool
@@ -58,14 +59,14 @@ IsVerdict content (Accepts objects) = IsAccepted content objects
 IsVerdict content (Faulty fault) = IsFaulty content fault
 IsVerdict content (Refuses refusal) = IsRefusedBy content refusal
 
--- ---- what it leaves
+-- ---- the effect of a verdict
 
--- The first pool of a set is new; an update keeps the key held and the input selected where their objects stay of their kind.
+-- The first pool of a set is new. An update keeps the held key and the selected input if their objects keep their kind.
 abbrev pub with_objects_of : Option SetState → ObjectMap → SetState
 with_objects_of None objects = fresh objects
 with_objects_of (Some state) objects = renewed state objects
 
--- Either way the transfer is empty then.
+-- The upload of a set is empty after its verdict.
 abbrev pub ended : SetPool → Verdict → SetPool
 ended content (Accepts objects) = record { pool = Some (with_objects_of content.pool objects); transfer = [] }
 ended content (Faulty fault) = record content { transfer = [] }
@@ -73,14 +74,14 @@ ended content (Refuses refusal) = record content { transfer = [] }
 
 -- ---- the reply
 
--- the error, a parent and an object with it, and the code of the cause
+-- the reply to End of Object Pool: the error, the IDs of a parent and its object, and the code of the cause
 abbrev pub end_of_pool : ℕ → ℕ → ℕ → ℕ → List ℕ
 end_of_pool error parent object code = (0x12 ∷ error ∷ little_bytes 2 parent) ++ little_bytes 2 object ++ code ∷ 0xFF ∷ []
 
 abbrev pub refused_pool : ℕ → ℕ → ℕ → List ℕ
 refused_pool parent object code = end_of_pool 1 parent object code
 
--- a type that this terminal does not have, or anything else
+-- the code of a fault: 1 for a type that the terminal lacks, 4 for any other fault
 abbrev pub fault_code : PoolFault → ℕ
 fault_code (faults.UnknownType at) = 1
 fault_code (faults.LeftOutType at) = 1

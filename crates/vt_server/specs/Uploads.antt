@@ -1,11 +1,11 @@
--- The pools and the uploads of addresses as the code has them (docs/PROFILE.md, "What a set has").
+-- The code's table of pools and uploads by address (docs/PROFILE.md, "What a set has").
 use Rattle.std.specs.Prelude.{◌≡◌, ℕ, Bool, false, List, [], Option, Some, None, length, get_or, refl}
 use Rattle.std.specs.Coded.{Coded, code_by, coded×, coded_list, coded_option}
 use Rattle.vt_machine.specs.Lives.{SetState, state_code}
 use Rattle.vt_pool.specs.Arriving.{Arrived, arrived_code}
 use Rattle.vt_server.specs.Places.{SetPool}
 
--- the pool and the upload of each address, where it has one
+-- the pool and the upload of each address, if it has one
 pub record Kept : Type 0 where
   pub pools : List (Option SetState)
   pub transfers : List (Option Arrived)
@@ -15,7 +15,7 @@ kept_code =
     code_by (List (Option SetState) × List (Option Arrived)) (coded× (coded_list (coded_option state_code)) (coded_list (coded_option arrived_code)))
     (λ k. (k.pools, k.transfers)) (λ p. record { pools = p.0; transfers = p.1 }) (λ _. refl)
 
--- a place for each of the 256 addresses; and where no address may have a pool, none has
+-- The invariant of the table: an entry for each of the 256 addresses, and no pool while may_have_pools is false.
 pub record AreKept (pools : List (Option SetState)) (transfers : List (Option Arrived)) (may_have_pools : Bool) : Type 0 where
   pub pools_each : length pools ≡ 256
   pub transfers_each : length transfers ≡ 256
@@ -36,6 +36,6 @@ content_by pools transfers address = record { pool = get_or pools address None; 
 abbrev pub content_of : Kept → ℕ → SetPool
 content_of contents = content_by contents.pools contents.transfers
 
--- the bytes for which the upload of an address has room
+-- the reserved capacity, in bytes, of the upload of an address
 abbrev pub room_of : Kept → ℕ → ℕ
 room_of contents address = room_in (get_or contents.transfers address None)

@@ -32,7 +32,7 @@ pub(crate) struct Alarm {
     pub(crate) priority: u8,
 }
 
-/// What is shown: a working set, its active mask, and that mask's soft key mask.
+/// The display: the shown working set, its active mask, and the soft key mask of that mask.
 #[derive(Clone, Copy, PartialEq, Eq)]
 pub(crate) struct ShownMasks {
     pub(crate) address: u8,
@@ -41,8 +41,8 @@ pub(crate) struct ShownMasks {
 }
 
 impl Terminal {
-    /// Chooses the set that is shown, runs the events of its change, and sends the status where another display is shown than
-    /// before the input.
+    /// Chooses the shown set, raises the events of its change, and sends the status if the display differs from the one before
+    /// the input.
     pub(crate) fn settle(&mut self, before: &ShownMasks, outputs: &mut Vec<Output>)
         requires room { vec_len outputs.old + 1 ≤ vec_capacity outputs.old }
         ensures state { state_of self.new ≡ settled (state_of self.old) }
@@ -76,7 +76,7 @@ impl Terminal {
         };
     }
 
-    /// Raises the events of another set's being shown than before.
+    /// If the shown set changed, raises Deactivate on the old set and Activate on the new one.
     fn raise_change(&mut self, was: Option<u8>)
         ensures state { state_of self.new ≡ spec.after_acts (state_of self.old) (choosing.events_of_change was (state_of self.old).shown) }
         ensures tells { redraws self.new ≡ false → (was ≡ (state_of self.old).shown) × (self.new ≡ self.old) }
@@ -90,7 +90,7 @@ impl Terminal {
         self.redraws = true;
     }
 
-    /// Raises an event of the Working Set of an address.
+    /// Raises an event of the Working Set at an address.
     fn raise_at(&mut self, address: Option<u8>, event: u8)
         ensures { state_of self.new ≡ spec.after_acts (state_of self.old) (choosing.raised_at address event) }
     {
@@ -99,7 +99,7 @@ impl Terminal {
         }
     }
 
-    /// The set that is shown, with its pool.
+    /// The shown set with its pool.
     pub(crate) fn shown_pool(&self) -> Option<(u8, &Live<SortedStore>)>
         ensures { option_map found_pool result ≡ choosing.pool_shown (state_of self.now) }
     {
@@ -108,7 +108,7 @@ impl Terminal {
         Some((address, live))
     }
 
-    /// What is shown.
+    /// The current display.
     pub(crate) fn display(&self) -> ShownMasks
         ensures { display_value result ≡ choosing.display (state_of self.now) }
     {
@@ -135,7 +135,7 @@ impl Terminal {
         self.first_with_pool()
     }
 
-    /// Whether there is a pool at an address.
+    /// Whether an address has a pool.
     fn has_pool(&self, address: Option<u8>) -> bool
         ensures { result ≡ is_some (spec.pool_at (state_of self.now) address) }
     {
@@ -145,7 +145,7 @@ impl Terminal {
         }
     }
 
-    /// The first set with a pool, in the order of registration.
+    /// The first set with a pool in the order of registration.
     fn first_with_pool(&self) -> Option<u8>
         ensures { result ≡ choosing.first_with_pool (spec.pool_of (state_of self.now)) (state_of self.now).sets }
     {
@@ -160,7 +160,7 @@ impl Terminal {
         None
     }
 
-    /// Of the sets that show an alarm the one of the lowest priority number, and of equal ones the first.
+    /// The alarm of the lowest priority number among the sets that show one; of equal ones the first registered.
     fn loudest(&self) -> Option<Alarm>
         ensures { result ≡ choosing.loudest (spec.pool_of (state_of self.now)) (state_of self.now).sets }
     {
@@ -176,7 +176,7 @@ impl Terminal {
         loudest
     }
 
-    /// The priority of the alarm that the set of an address shows.
+    /// The priority of the alarm that the set at an address shows.
     fn alarm(&self, address: u8) -> Option<u8>
         ensures { result ≡ choosing.alarm_in (spec.pool_of (state_of self.now) address) }
     {
@@ -188,7 +188,7 @@ impl Terminal {
     }
 }
 
-/// Of two alarms that of the lower number, and of equal ones the first.
+/// The alarm of the lower priority number; of equal ones the first.
 fn louder(address: u8, priority: Option<u8>, other: Option<Alarm>) -> Option<Alarm>
     ensures { result ≡ choosing.louder address priority other }
 {

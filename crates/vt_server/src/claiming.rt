@@ -1,4 +1,4 @@
-//! What the terminal does with an address claim.
+//! The handling of a received address claim.
 
 ghost use Rattle.std.specs.Prelude.{◌≡◌, ◌+◌, ◌≤◌, IfOk, OnOk, OnErr, vec_len, vec_capacity};
 ghost use Rattle.vt_names.specs.Claims.{address_of};
@@ -19,22 +19,22 @@ use vt_can::Frame;
 use vt_names::Name;
 use vt_node::claim_from;
 
-/// The holders, before a claim, of the addresses that it may give another one.
+/// The holders, before a claim, of the addresses whose holder the claim may change.
 #[derive(Drop)]
 pub(crate) struct FormerHolders {
     /// Whether the terminal defends its own address against the claim.
     pub(crate) is_defended: bool,
-    /// The address that the NAME leaves.
+    /// The former address of the NAME, if the claim is of another.
     left: Option<u8>,
-    /// The holder of that address.
+    /// The holder of the former address.
     left_holder: Option<Name>,
-    /// The holder of the source.
+    /// The holder of the claim's source address.
     holder: Option<Name>,
 }
 
 impl Terminal {
-    /// Acts on a claim that is recorded: the terminal defends its address, sets are closed whose address has another holder, and a
-    /// set of the source without a NAME takes the holder's. docs/PROFILE.md, "The terminal's claims", "Closing a set".
+    /// Acts on a recorded claim: defends the own address, closes sets whose address has a new holder, and gives a set of the
+    /// source without a NAME the holder's. docs/PROFILE.md, "The terminal's claims", "Closing a set".
     pub(crate) fn take_claim(
         &mut self,
         source: u8,
@@ -63,7 +63,7 @@ impl Terminal {
         claim_from(self.node.own(), self.node.name())
     }
 
-    /// Records a claim, which is all that may want memory. The sets stay.
+    /// Records a claim, the only part that may need memory. The sets are unchanged.
     pub(crate) fn record(
         &mut self,
         source: u8,
@@ -87,7 +87,7 @@ impl Terminal {
         Ok(former)
     }
 
-    // The address that a NAME leaves by claiming another.
+    // The former address of a NAME that claims another.
     fn left_by(&self, source: u8, name: Name) -> Option<u8>
         ensures { result ≡ steps.left_by source (address_of (state_of self.now).claims.addresses name) }
     {
@@ -111,7 +111,7 @@ impl Terminal {
         }
     }
 
-    // Closes the set of an address whose holder was another, where that is not its NAME.
+    // Closes the set of an address whose holder changed, unless the set has the new holder's NAME or none.
     fn rebind(&mut self, address: u8, was: Option<Name>)
         ensures { state_of self.new ≡ spec.after_acts (state_of self.old) (steps.changed was (state_of self.old) address) }
     {
@@ -129,7 +129,7 @@ impl Terminal {
         self.contents.remove(address);
     }
 
-    /// A set without a NAME takes the holder's.
+    /// Gives a set without a NAME the NAME of its address's holder.
     fn bind(&mut self, address: u8)
         ensures { state_of self.new ≡ spec.put address (after_claim_heard (spec.part address (state_of self.old)) (spec.part address (state_of self.old)).set) (state_of self.old) }
     {
@@ -145,7 +145,7 @@ impl Terminal {
     }
 }
 
-// Whether a set of this NAME, or of none, is not closed under the holder of its address.
+// Whether a set with this NAME, or without one, stays open under this holder of its address.
 fn stays_under(name: Option<Name>, holder: Option<Name>) -> bool
     ensures { result ≡ stays_under name holder }
 {

@@ -18,7 +18,7 @@ pub(crate) fn deletes(command: &Command<'_>) -> bool
     }
 }
 
-/// The error byte of what a command came to, 0 where it was done.
+/// The error byte of a command's outcome: 0 if it was done.
 pub(crate) fn error_byte(outcome: Outcome) -> u8
     ensures { result ≡ bits_of outcome }
 {

@@ -1,4 +1,4 @@
-//! The pool of each address, and the one that it uploads.
+//! The pool and the upload of each address.
 
 ghost use Rattle.std.specs.Prelude.{◌≡◌, ◌≤◌, ◌+◌, ◌++◌, ◌∷◌, ◌≢◌, ℕ, [], None, Some, false, length, drop, IfOk, IfNone, IsSome, OnOk, OnErr};
 ghost use Rattle.std.specs.Option.{option_map};
@@ -23,7 +23,7 @@ use vt_machine::{Acted, Live, OperatorRefusal};
 use vt_objects::{Command, SortedStore};
 use vt_pool::Reading;
 
-/// At most one pool, and one upload, for each of the 256 addresses.
+/// At most one pool and one upload for each of the 256 addresses.
 #[derive(Drop)]
 pub(crate) struct PoolTable {
     pools: [Option<Live<SortedStore>>; 256],
@@ -55,7 +55,7 @@ impl PoolTable {
         }
     }
 
-    /// Whether some address may have a pool. Where it answers that none does, none has.
+    /// Whether some address may have a pool. False only if none has.
     pub(crate) fn may_have_pools(&self) -> bool
         ensures { result ≡ false → (address : ℕ) → (content_of self.now address).pool ≡ None }
     {
@@ -68,7 +68,7 @@ impl PoolTable {
         self.pools[usize::from(address)].as_ref()
     }
 
-    /// Gives an address a pool. Its upload is over.
+    /// Gives an address a pool and ends its upload.
     pub(crate) fn put(&mut self, address: u8, pool: Live<SortedStore>)
         ensures { content_of self.new ≡ with_at address (record { pool = Some pool; transfer = [] }) (content_of self.old) }
     {
@@ -77,7 +77,7 @@ impl PoolTable {
         self.transfers[usize::from(address)] = None;
     }
 
-    /// Takes the pool and the upload of an address away.
+    /// Removes the pool and the upload of an address.
     pub(crate) fn remove(&mut self, address: u8)
         ensures content { content_of self.new ≡ with_at address no_content (content_of self.old) }
         ensures rooms { (other : ℕ) → other ≢ address → room_of self.new other ≡ room_of self.old other }
@@ -86,8 +86,8 @@ impl PoolTable {
         self.transfers[usize::from(address)] = None;
     }
 
-    /// Does a command on the pool of an address, and tells the error byte of its reply, if it has one: none where there
-    /// is no pool. To delete the pool is done there too.
+    /// Runs a command on the pool of an address and returns the error byte of its reply. Returns `None` if there is no pool,
+    /// except for Delete Object Pool, which is done without one too.
     pub(crate) fn apply(&mut self, address: u8, command: &Command<'_>) -> Option<u8>
         ensures content { content_of self.new
             ≡ with_at address (content_after command.now (content_of self.old address)) (content_of self.old) }
@@ -101,7 +101,7 @@ impl PoolTable {
         Some(error_byte(pool.apply(command)))
     }
 
-    /// Makes room for so many bytes in the upload of an address.
+    /// Reserves capacity for `count` more bytes in the upload of an address.
     pub(crate) fn reserve(
         &mut self,
         alloc: Global,
@@ -123,7 +123,7 @@ impl PoolTable {
         }
     }
 
-    /// Adds the bytes of a piece from a place on to the upload of an address, for which there is room.
+    /// Appends the bytes of a piece from index `from` on to the upload of an address, which has capacity for them.
     pub(crate) fn feed(&mut self, address: u8, piece: Vec<u8>, from: usize)
         requires from { from ≤ length piece.items }
         requires room { length piece.items ≤ from + room_of self.old address }
@@ -138,7 +138,7 @@ impl PoolTable {
         }
     }
 
-    /// Judges the upload of an address. Nothing is changed.
+    /// Judges the upload of an address. Changes nothing.
     pub(crate) fn judge(&self, alloc: Global, address: u8) -> Result<Judgement, OutOfMemory>
         ensures { IfOk result (IsJudgement (content_of self.now address)) }
     {
@@ -149,7 +149,7 @@ impl PoolTable {
         }
     }
 
-    /// Ends the upload of an address by what it comes to, and answers the reply.
+    /// Ends the upload of an address by its judgement and returns the reply.
     pub(crate) fn end(&mut self, address: u8, judgement: Judgement) -> [u8; 8]
         requires { IsJudgement (content_of self.old address) judgement }
         ensures { IsEnded (content_of self.old) address judgement result (content_of self.new) }
@@ -167,7 +167,7 @@ impl PoolTable {
         }
     }
 
-    /// Raises an event of the Working Set of an address, if there is a pool.
+    /// Raises an event of the Working Set at an address, if it has a pool.
     pub(crate) fn raise(&mut self, address: u8, event: u8)
         ensures { content_of self.new ≡ with_at address (record (content_of self.old address) { pool = option_map (λ state. raised_on state event) (content_of self.old address).pool }) (content_of self.old) }
     {
@@ -180,7 +180,7 @@ impl PoolTable {
         }
     }
 
-    /// Does an action of the operator on the set of an address.
+    /// Does an action of the operator on the set at an address.
     pub(crate) fn act(
         &mut self,
         address: u8,
@@ -194,8 +194,8 @@ impl PoolTable {
         act(live, action)
     }
 
-    /// Why the text would be refused on the set of an address, if it would. Nothing is changed. One that would not be has at
-    /// most 255 bytes.
+    /// The refusal of a text on the set at an address, if it would be refused. Changes nothing. An accepted text has at most 255
+    /// bytes.
     pub(crate) fn text_fault(
         &mut self,
         address: u8,

@@ -1,4 +1,4 @@
-//! The end of an upload: what its bytes come to.
+//! The end of an upload: its judgement and the reply.
 
 ghost use Rattle.std.specs.Prelude.{◌≡◌, [], ◌∷◌, ◌++◌, None, Some, IfOk, List, ℕ, slice_index};
 ghost use Rattle.std.specs.Option.{option_map};
@@ -16,19 +16,19 @@ use vt_objects::{ObjectId, SortedStore};
 use vt_pool::{Pool, PoolFault, Reading};
 use vt_verify::{Refusal, verify, verify_update};
 
-/// What the end of an upload comes to.
+/// The judgement of a finished upload.
 #[derive(Drop)]
 pub(crate) enum Judgement {
-    /// The pool that the set has from then on.
+    /// The new pool of the set.
     Accepted(Box<Live<SortedStore>>),
-    /// The reply that refuses it.
+    /// The reply that refuses the upload.
     Refused([u8; 8]),
 }
 
-/// The reply to an upload that is accepted.
+/// The reply to an accepted upload.
 pub(crate) const ACCEPTED: [u8; 8] = [0x12, 0, 0xFF, 0xFF, 0xFF, 0xFF, 0, 0xFF];
 
-/// Judges the bytes of an upload, as an update of the pool if there is one. Nothing is changed.
+/// Judges the bytes of an upload, as an update if the set has a pool. Changes nothing.
 pub(crate) fn judge(
     alloc: Global,
     pool: Option<&Live<SortedStore>>,
@@ -87,7 +87,7 @@ fn judge_update(
     }
 }
 
-/// The reply to bytes that are no pool.
+/// The reply to bytes that are not a pool.
 fn fault_reply(fault: PoolFault) -> Result<[u8; 8], OutOfMemory>
     ensures named { IfOk result (λ _. IsWantOfMemory fault → ⊥) }
     ensures reply { IfOk result (λ reply. reply ≡ transfers.end_reply (transfers.Faulty fault)) }
@@ -100,7 +100,7 @@ fn fault_reply(fault: PoolFault) -> Result<[u8; 8], OutOfMemory>
     Ok(refused(null(), null(), code))
 }
 
-/// The reply to a pool that is refused: what it names, and the code of the cause.
+/// The reply to a refused pool: the IDs in the refusal, and the code of the cause.
 fn refusal_reply(refusal: &Refusal) -> Result<[u8; 8], OutOfMemory>
     ensures named { IfOk result (λ _. rules.IsWantOfMemory refusal.now → ⊥) }
     ensures reply { IfOk result (λ reply. reply ≡ transfers.end_reply (transfers.Refuses refusal.now)) }
@@ -134,7 +134,7 @@ fn first_of(path: &[u8]) -> ObjectId
     }
 }
 
-/// The ID of no object.
+/// The NULL ID.
 fn null() -> ObjectId
     ensures { result ≡ 0xFFFF }
 {

@@ -1,4 +1,4 @@
-//! What the terminal does with a frame.
+//! The handling of a received frame.
 
 ghost use Rattle.std.specs.Prelude.{◌≡◌, ◌++◌, ◌+◌, ◌<◌, ◌≤◌, ℕ, List, false, true, IsOk, IfOk, OnOk, OnErr, vec_len, vec_capacity};
 ghost use Rattle.vt_can.specs.frames.Frame.{source_of};
@@ -26,23 +26,22 @@ use vt_can::assigned::NULL_ADDRESS;
 use vt_names::ClaimMeaning;
 use vt_node::{FrameMeaning, claim_from, notice_of};
 
-/// Room for the outputs of one input, of which there are at most 1,024: a frame is never answered by a receiver and by the sender
-/// at once, but there is room for both.
+/// Capacity for the outputs of one input: 768 aborts, a reply, 255 packets, a reply and a status. At most 1,024 are ever sent.
 pub(crate) const MOST_OUTPUTS: usize = 1026;
 
-/// What was made ready for a frame before anything is changed, so that memory for it is not refused any more.
+/// Memory and results reserved for a frame before any state changes.
 #[derive(Drop)]
 pub(crate) enum PreparedFrame {
-    /// The terminal loses its address by the frame.
+    /// The terminal loses its address by this frame.
     Loses,
-    /// A claim is recorded, and these were the holders before.
+    /// The claim is recorded; these were the holders before it.
     Claimed(FormerHolders),
-    /// There is room for the set, the session or the upload that the frame may bring.
+    /// Capacity is reserved for the set, session or upload that the frame may bring.
     Prepared(PreparedMessage),
 }
 
 impl Terminal {
-    /// Hears a frame at a time. All growths are made before the first change.
+    /// Handles a frame received at a time. All growths are made before the first change.
     pub(crate) fn hear(
         &mut self,
         time: u64,
@@ -71,7 +70,7 @@ impl Terminal {
         Ok(())
     }
 
-    /// Makes the room that a frame may want, and records a claim, so that nothing is refused after it.
+    /// Reserves the capacity that a frame may need, and records a claim. No later call for this frame allocates.
     fn prepare(
         &mut self,
         now: u64,
@@ -114,7 +113,7 @@ impl Terminal {
         }
     }
 
-    /// Does what a frame asks for, after what its time ended.
+    /// Handles a frame after the timeouts and closings of its time.
     fn finish(
         &mut self,
         notice: &FrameMeaning,
@@ -136,7 +135,7 @@ impl Terminal {
             }
             PreparedFrame::Claimed(former) => {
                 self.take_claim(frame.id.source(), &former, outputs);
-                // A claim may close a set, but no pool is another by it.
+                // A claim may close a set, but changes no pool.
                 self.redraws = false;
                 self.settle(before, outputs);
             }
@@ -148,7 +147,7 @@ impl Terminal {
         }
     }
 
-    /// Loses the own address: Cannot Claim goes out, and nothing else from then on. A set that was closed is shown no more.
+    /// Loses the own address: sends Cannot Claim, and nothing after it. If the shown set was closed, none is shown.
     fn lose(&mut self, outputs: &mut Vec<Output>)
         requires room { vec_len outputs.old + 1 ≤ vec_capacity outputs.old }
         ensures state { state_of self.new ≡ (steps.losing (state_of self.old)).after }
@@ -161,7 +160,7 @@ impl Terminal {
         self.lost = true;
     }
 
-    /// Takes a frame that is no claim.
+    /// Handles a frame other than a claim.
     fn take(
         &mut self,
         notice: &FrameMeaning,
@@ -189,7 +188,7 @@ impl Terminal {
         self.take_notice(notice, frame, upload, outputs);
     }
 
-    /// Answers a request for the terminal's claim.
+    /// Answers a request for the terminal's address claim.
     fn answer_request(&mut self, frame: &Frame, outputs: &mut Vec<Output>)
         requires room { vec_len outputs.old + 1 ≤ vec_capacity outputs.old }
         ensures takes { TakesFrame (state_of self.old) notices.ClaimRequest frame.now (state_of self.new) outputs.old.items outputs.new.items }
@@ -204,7 +203,7 @@ impl Terminal {
         self.registry.hear(source, self.time);
     }
 
-    /// Does what a frame of another node says.
+    /// Handles a frame of another node by its meaning.
     fn take_notice(
         &mut self,
         notice: &FrameMeaning,
@@ -233,7 +232,7 @@ impl Terminal {
         }
     }
 
-    // There is room, so only an address without a holder is refused, and then nothing is registered.
+    // Registers a set at its master's address. Only an address without a holder is refused, and nothing is registered then.
     fn register(&mut self, source: u8, count: u8)
         requires room { 0 < self.old.registry.room }
         ensures state { state_of self.new ≡ spec.put source (parts.after_master source (spec.part source (state_of self.old)) (spec.part source (state_of self.old)).holder count) (state_of self.old) }

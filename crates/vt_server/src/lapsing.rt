@@ -1,4 +1,4 @@
-//! What the time of a frame line ends: sessions that are silent for too long, and then sets (docs/PROFILE.md, "Timeouts", "Silence").
+//! Timeouts at a frame line: first silent sessions end, then silent sets are closed (docs/PROFILE.md, "Timeouts", "Silence").
 
 ghost use Rattle.std.specs.Prelude.{◌≡◌, ◌≤◌, ◌+◌, ◌++◌, ℕ, Option, None, Some, vec_len, vec_capacity};
 ghost use Rattle.vt_server.specs.Lapses as lapses;
@@ -13,8 +13,8 @@ use crate::output::{Output, send};
 use crate::terminal::Terminal;
 
 impl Terminal {
-    /// Ends what is silent for too long at a time that is not before the latest: sessions, by address, with their aborts, and then
-    /// sets, in the order of their registration.
+    /// Moves the time on to `now`, not before the latest. Aborts overdue sessions by address, then closes silent sets in the
+    /// order of their registration.
     pub(crate) fn lapse(&mut self, now: u64, outputs: &mut Vec<Output>)
         requires room { vec_len outputs.old + 1026 ≤ vec_capacity outputs.old }
         requires later { (state_of self.old).now ≤ now }

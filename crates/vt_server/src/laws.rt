@@ -1,5 +1,5 @@
-//! What the definitions come to: each function is a law, and calling it changes nothing. Those over all that a terminal does are
-//! in vt_laws.
+//! Laws on the states of a terminal. Each is the contract of a function that changes nothing. The laws on its steps are in
+//! vt_laws.
 
 ghost use Rattle.vt_server.specs.Orderly.{IsOrderly};
 ghost use Rattle.vt_server.specs.States.{state_of};
@@ -7,8 +7,8 @@ ghost use Rattle.vt_server.specs.States.{state_of};
 use crate::terminal::Terminal;
 use vt_names::Name;
 
-/// The law that what any terminal has heard of addresses stands by rising NAME, and that no two of its sets have the same
-/// address, as the laws on its steps want.
+/// Every terminal keeps its address claims by rising NAME and has at most one set at an address. The laws on its steps require
+/// this.
 pub fn terminals_are_orderly(terminal: &Terminal)
     ensures { IsOrderly (state_of terminal.now) }
 {

@@ -1,8 +1,8 @@
 //! The terminal: working sets by address, one step for each input (ISO 11783-5, ISO 11783-6).
 //!
 //! - `Terminal` takes each `Input`, a frame or an action of the operator, and appends each `Output`, a frame or an
-//!   `OperatorFault`; a run of inputs that memory is refused for ends with a `RunFault`.
-//! - `laws` has what every terminal keeps; the laws over all that a terminal does are in vt_laws.
+//!   `OperatorFault`. A run of inputs ends with a `RunFault` at the first refusal of memory.
+//! - `laws` has the invariants of every terminal; the laws on its steps are in vt_laws.
 //!
 //! docs/PROFILE.md, "The step", has the rules.
 #![tactic(auto)]
@@ -28,5 +28,5 @@ pub use input::Input;
 pub use output::{OperatorFault, Output};
 pub use terminal::{RunFault, Terminal};
 
-/// A growth that was refused.
+/// The error of a refused allocation.
 pub use std::alloc::AllocError as OutOfMemory;

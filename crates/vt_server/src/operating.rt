@@ -1,4 +1,4 @@
-//! The operator's actions on the working set that is shown (docs/PROFILE.md, "The operator").
+//! The operator's actions on the shown working set (docs/PROFILE.md, "The operator").
 
 ghost use Rattle.std.specs.Prelude.{◌≡◌, ◌≤◌, Some, length, IfNone};
 ghost use Rattle.vt_can.specs.lines.Actions.{action_value};
@@ -12,7 +12,7 @@ use vt_can::Action;
 use vt_machine::{Acted, Live, OperatorRefusal};
 use vt_objects::{Object, ObjectId, SortedStore};
 
-/// Does an action on a working set. The selection of a set is none of its own, and does nothing here.
+/// Does an action on a working set. Does nothing for `Action::Set`, which is the terminal's own action.
 pub(crate) fn act(
     live: &mut Live<SortedStore>,
     action: &Action<'_>,
@@ -29,7 +29,7 @@ pub(crate) fn act(
     }
 }
 
-/// Why a text would be refused on a working set, if it would. Nothing is changed. One that would not be has at most 255 bytes.
+/// The refusal of a text on a working set, if it would be refused. Changes nothing. An accepted text has at most 255 bytes.
 pub(crate) fn text_fault(
     live: &mut Live<SortedStore>,
     id: u16,
@@ -44,14 +44,14 @@ pub(crate) fn text_fault(
     if fault.is_some() {
         return fault;
     }
-    // The input that takes it has a text at least as long.
+    // An input that accepts the text has a text at least as long.
     match live.get(id) {
         Some(Object::InputString(input)) if text.len() <= input.text.as_slice().len() => None,
         _ => unreachable!(),
     }
 }
 
-/// The message of a text that is entered.
+/// The message of an entered text.
 pub(crate) fn text_message(id: u16, text: &[u8]) -> ArrayVec<u8, 259>
     requires { length text.now ≤ 255 }
     ensures { result.items ≡ text_message id text.now }
@@ -77,7 +77,7 @@ fn message(bytes: &[u8]) -> ArrayVec<u8, 259>
     }
 }
 
-/// A message of at most eight bytes, filled.
+/// A message of at most eight bytes, filled to eight with `FF`.
 pub(crate) fn filled(bytes: &[u8]) -> [u8; 8]
     requires { length bytes.now ≤ 8 }
     ensures { result ≡ operators.filled bytes.now }

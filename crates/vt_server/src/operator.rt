@@ -1,4 +1,4 @@
-//! What the terminal does with an action of the operator (docs/PROFILE.md, "The operator").
+//! The handling of the operator's actions (docs/PROFILE.md, "The operator").
 
 ghost use Rattle.std.specs.Prelude.{◌≡◌, ◌+◌, ◌<◌, ◌≤◌, true, false, length, OnOk, OnErr, IsOk, vec_len, vec_capacity};
 ghost use Rattle.std.specs.Option.{option_map};
@@ -19,7 +19,7 @@ use vt_can::Action;
 use vt_node::message_to;
 use vt_transport::SendFault;
 
-/// The most bytes of a text whose message is one frame.
+/// The most bytes of a text that fits into a message of one frame.
 const SHORT_TEXT: usize = 4;
 
 impl Terminal {
@@ -59,7 +59,7 @@ impl Terminal {
         Ok(())
     }
 
-    /// Selects the set of an address.
+    /// Selects the set at an address.
     fn select_set(&mut self, address: u8, outputs: &mut Vec<Output>)
         requires room { vec_len outputs.old + 1 ≤ vec_capacity outputs.old }
         ensures takes { TakesAction (state_of self.old) (actions.Set address) (state_of self.new) outputs.old.items outputs.new.items }
@@ -73,7 +73,7 @@ impl Terminal {
         self.selected = Some(address);
     }
 
-    /// Acts on the set that is shown, with a message of one frame or none.
+    /// Acts on the shown set. The action has a message of one frame, or none.
     fn act(&mut self, action: &Action<'_>, outputs: &mut Vec<Output>)
         requires room { vec_len outputs.old + 1 ≤ vec_capacity outputs.old }
         requires short { IsShort (action_value action.now) }
@@ -98,7 +98,7 @@ impl Terminal {
         }
     }
 
-    /// Enters a text whose message goes out in packets, so that it wants a session and memory for it.
+    /// Enters a text whose message is sent in packets, which needs a session and its memory.
     fn enter_long_text(
         &mut self,
         id: u16,
@@ -138,7 +138,7 @@ impl Terminal {
         }
     }
 
-    /// The address of the set that is shown, if it has a pool.
+    /// The address of the shown set, if it has a pool.
     fn shown_address(&self) -> Option<u8>
         ensures { result ≡ option_map (λ found. found.0) (choosing.pool_shown (state_of self.now)) }
     {

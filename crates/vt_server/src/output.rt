@@ -1,4 +1,4 @@
-//! What the terminal sends.
+//! The outputs of the terminal.
 
 ghost use Rattle.std.specs.Prelude.{◌≡◌, ◌++◌, ◌+◌, ◌<◌, ◌≤◌, [], ◌∷◌, length, vec_len, vec_capacity};
 ghost use Rattle.vt_server.specs.Outputs.{frames_of};
@@ -9,7 +9,7 @@ use thiserror::Error;
 use vt_can::Frame;
 use vt_machine::OperatorRefusal;
 
-/// Why an action of the operator is refused. A fault's number is its place here, from 1.
+/// A refusal of an operator's action. Its number is its position here, from 1.
 #[derive(Clone, Copy, Debug, PartialEq, Eq, Error)]
 pub enum OperatorFault {
     /// The object is not shown.
@@ -21,7 +21,7 @@ pub enum OperatorFault {
     /// The number is not accepted.
     #[error("the number is not accepted")]
     Range,
-    /// The text is longer than that of the object, or of its variable.
+    /// The text is longer than that of the object or its variable.
     #[error("the text is longer than that of the object, or of its variable")]
     TooLong,
     /// The object is of another kind.
@@ -50,7 +50,7 @@ pub enum Output {
     Refused(OperatorFault),
 }
 
-/// Appends a frame for which there is room.
+/// Appends a frame. The vector has spare capacity.
 pub(crate) fn send(outputs: &mut Vec<Output>, frame: Frame)
     requires room { vec_len outputs.old < vec_capacity outputs.old }
     ensures items { outputs.new.items ≡ outputs.old.items ++ declared.Frame frame ∷ [] }
@@ -60,7 +60,7 @@ pub(crate) fn send(outputs: &mut Vec<Output>, frame: Frame)
     let _done = outputs.push(Output::Frame(frame));
 }
 
-/// Appends a refusal for which there is room.
+/// Appends a refusal. The vector has spare capacity.
 pub(crate) fn refuse(outputs: &mut Vec<Output>, fault: OperatorFault)
     requires room { vec_len outputs.old < vec_capacity outputs.old }
     ensures items { outputs.new.items ≡ outputs.old.items ++ declared.Refused fault ∷ [] }
@@ -70,7 +70,7 @@ pub(crate) fn refuse(outputs: &mut Vec<Output>, fault: OperatorFault)
     let _done = outputs.push(Output::Refused(fault));
 }
 
-/// Appends frames for which there is room.
+/// Appends frames. The vector has spare capacity.
 pub(crate) fn send_all(outputs: &mut Vec<Output>, frames: ArrayVec<Frame, 255>)
     requires room { vec_len outputs.old + length frames.items ≤ vec_capacity outputs.old }
     ensures items { outputs.new.items ≡ outputs.old.items ++ frames_of frames.items }

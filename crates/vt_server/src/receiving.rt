@@ -1,4 +1,4 @@
-//! What the terminal does with the frames of transport sessions.
+//! The handling of frames of transport sessions.
 
 ghost use Rattle.std.specs.Prelude.{◌≡◌, ◌++◌, ◌+◌, ◌≤◌, ℕ, List, [], Option, Some, None, true, is_some, length, vec_len, vec_capacity};
 ghost use Rattle.vt_can.specs.frames.Frame.{source_of};
@@ -26,7 +26,7 @@ use vt_can::assigned::ECU_TO_VT;
 use vt_can::{Bytes, Frame, Heard};
 
 impl Terminal {
-    /// Takes a message of one frame.
+    /// Handles a message of one frame.
     pub(crate) fn take_message(
         &mut self,
         frame: &Frame,
@@ -45,7 +45,7 @@ impl Terminal {
         }
     }
 
-    /// Takes a frame of the transport protocol, as the one that receives and as the one that sends.
+    /// Handles a frame of the transport protocol, both as receiver and as sender.
     pub(crate) fn take_tp(
         &mut self,
         frame: &Frame,
@@ -70,8 +70,8 @@ impl Terminal {
         self.receive_alone(source, heard, upload, outputs);
     }
 
-    // Takes a frame of an address to which a message is being sent: what answers it has places for 255 frames, and only here
-    // are they paid for.
+    // Handles a frame from an address to which a message is being sent. The answer is an array with capacity for 255 frames, and
+    // only this path pays for it.
     fn take_tp_as_sender(
         &mut self,
         frame: &Frame,
@@ -93,7 +93,7 @@ impl Terminal {
         self.receive(source, heard, sent, upload, outputs);
     }
 
-    /// Takes a frame of the extended transport protocol.
+    /// Handles a frame of the extended transport protocol.
     pub(crate) fn take_etp(
         &mut self,
         frame: &Frame,
@@ -113,7 +113,7 @@ impl Terminal {
         self.receive_alone(frame.id.source(), heard, upload, outputs);
     }
 
-    /// Sends what a receiver answers where the sender answers nothing, and handles the message that is whole.
+    /// Sends the receiver's answer, where the sender has none, and handles a completed message.
     fn receive_alone(
         &mut self,
         source: u8,
@@ -145,8 +145,8 @@ impl Terminal {
         }
     }
 
-    /// Sends what a receiver and the sender answer, and handles the message that is whole. The end of its session goes out before
-    /// the reply to it.
+    /// Sends the answers of the receiver and the sender, and handles a completed message. The end of its session is sent before
+    /// the reply to the message.
     fn receive(
         &mut self,
         source: u8,
@@ -183,7 +183,7 @@ impl Terminal {
         }
     }
 
-    /// Handles a message that came in packets. A piece of a pool is taken over as it is.
+    /// Handles a message received in packets. The upload takes over a piece without a copy.
     fn take_whole(
         &mut self,
         source: u8,
@@ -209,7 +209,7 @@ impl Terminal {
         }
     }
 
-    /// Adds a piece to the pool that a set uploads.
+    /// Appends a piece to the upload of a set.
     fn take_piece(&mut self, source: u8, piece: Vec<u8>)
         requires { is_some (set_at source (state_of self.old).sets) ≡ true
             → begins_with TRANSFER piece.items × (length piece.items ≤ 1 + room_of self.old.contents source) }

@@ -10,7 +10,7 @@ use vt_can::Frame;
 use vt_can::assigned::GLOBAL_ADDRESS;
 use vt_node::message_to;
 
-/// The status message: the set that is shown, its active mask and that mask's soft key mask.
+/// The status message: the shown set, its active mask and the soft key mask of that mask.
 pub(crate) fn status_frame(own: u8, shown: &ShownMasks) -> Frame
     ensures { result ≡ status_frame own (display_value shown.now) }
 {

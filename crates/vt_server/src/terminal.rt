@@ -1,4 +1,4 @@
-//! The terminal.
+//! The terminal: its state and its public calls.
 
 ghost use Rattle.std.specs.Prelude.{◌≡◌, ◌≢◌, ◌≤◌, ◌++◌, ◌<◌, ℕ, [], ◌∷◌, None, Some, true, false, is_some, IsOk, IfOk, IfErr, OnOk, OnErr, length, take};
 ghost use Rattle.std.specs.Option.{option_map};
@@ -22,26 +22,24 @@ use vt_node::{Node, WatchedRegistry};
 use vt_objects::SortedStore;
 use vt_verify::Accepted;
 
-/// A terminal at an address of its own: its working sets, their pools, what it has heard of the addresses of others, and the
-/// working set that it shows.
+/// A terminal at its own address: its working sets, their pools, the address claims received, and the shown working set.
 pub struct Terminal {
     pub(crate) alloc: Global,
     pub(crate) node: Node,
     pub(crate) registry: WatchedRegistry,
     pub(crate) contents: PoolTable,
-    // The working set that the operator has chosen, and the one that is shown, by their addresses.
+    // The addresses of the selected set and of the shown set.
     pub(crate) selected: Option<u8>,
     pub(crate) shown: Option<u8>,
     // Whether a lower NAME has claimed the own address.
     pub(crate) lost: bool,
-    // Whether the screen may be another than before the last call of `step` or `run`.
+    // Whether the screen may differ from the one before the last call of `step` or `run`.
     pub(crate) redraws: bool,
     // The latest time so far, in microseconds.
     pub(crate) time: u64,
 }
 
-// Written out and not derived, so that how all that a terminal has is let go is proved here, once, and not in each crate that lets
-// a terminal go.
+// Written out and not derived, so that the drop of all fields is proved once, here, and not in each crate that drops a terminal.
 impl Drop for Terminal {
     fn drop(self) {
         let Terminal {
@@ -58,16 +56,16 @@ impl Drop for Terminal {
     }
 }
 
-/// The memory for an input of a run was refused. The inputs before it were taken, and no other.
+/// The memory for an input of a run was refused. All inputs before it are done, and none from it on.
 #[derive(Clone, Copy, Debug, PartialEq, Eq, Error)]
 #[error("the memory for input {at} was refused")]
 pub struct RunFault {
-    /// The place of that input, counted from 0.
+    /// The index of that input.
     pub at: usize,
 }
 
 impl Terminal {
-    /// A terminal without working sets, with its address, at most 253, and its NAME. It takes no memory.
+    /// A terminal without working sets, at address `own` (at most 253), with its NAME. It allocates nothing.
     pub fn new(alloc: Global, own: u8, name: Name) -> Terminal
         requires { own ≤ 253 }
         ensures claims { (state_of result).claims ≡ record { own = own; name = name; addresses = [] } }
@@ -92,37 +90,37 @@ impl Terminal {
         }
     }
 
-    /// Whether there is a working set of an address, with a pool or without.
+    /// Whether an address has a working set, with a pool or without.
     pub fn registered(&self, address: u8) -> bool
         ensures { result ≡ is_some (set_at address (state_of self.now).sets) }
     {
         self.registry.get(address).is_some()
     }
 
-    /// The object pool of the working set of an address, if it has one.
+    /// The object pool of the working set at an address, if it has one.
     pub fn set(&self, address: u8) -> Option<&Live<SortedStore>>
         ensures { option_map (λ live. live.now) result ≡ ((state_of self.now).places address).content.pool }
     {
         self.contents.pool(address)
     }
 
-    /// The address of the working set that is shown, if one is. docs/PROFILE.md, "The shown set and the selected set".
+    /// The address of the shown working set, if one is shown. docs/PROFILE.md, "The shown set and the selected set".
     pub fn shown(&self) -> Option<u8>
         ensures { result ≡ (state_of self.now).shown }
     {
         self.shown
     }
 
-    /// Whether the screen may be another than before the last call of `step` or `run`, so that it has to be drawn again. It may
-    /// be after `new` and `preload`.
+    /// Whether the screen may differ from the one before the last call of `step` or `run`, so that it has to be drawn again.
+    /// `new` and a successful `preload` set it.
     pub fn redraws(&self) -> bool
         ensures { result ≡ redraws self.now }
     {
         self.redraws
     }
 
-    /// Appends the screen of the working set that is shown as text, or that none is. After `OutOfMemory` the vector is as it was.
-    /// docs/PROFILE.md, "The drawing and the screen text".
+    /// Appends the screen of the shown working set as text, or `screen none` if no set is shown. After `OutOfMemory` the vector
+    /// is unchanged. docs/PROFILE.md, "The drawing and the screen text".
     pub fn screen(&self, out: &mut Vec<u8>) -> Result<(), OutOfMemory>
         ensures ok { OnOk result (GainsScreenOf (state_of self.now) out.old.items out.new.items) }
         ensures err { OnErr result (out.new.items ≡ out.old.items) }
@@ -133,9 +131,9 @@ impl Terminal {
         }
     }
 
-    /// Adds a working set without a NAME, with the objects of an accepted pool, and chooses the set that is shown. There is none
-    /// of that address yet, and the address is at most 253 and not the terminal's own. No event is raised, and nothing is sent.
-    /// After `OutOfMemory` the terminal is as it was. docs/PROFILE.md, "Preloaded sets".
+    /// Adds a working set without a NAME, with the objects of an accepted pool, and chooses the shown set. The address is at most
+    /// 253, is not the terminal's own, and has no set yet. No event is raised, and nothing is sent. After `OutOfMemory` the
+    /// terminal is unchanged. docs/PROFILE.md, "Preloaded sets".
     pub fn preload(&mut self, address: u8, pool: &Accepted) -> Result<(), OutOfMemory>
         requires none { set_at address (state_of self.old).sets ≡ None }
         requires claimed { address ≤ 253 }
@@ -153,16 +151,16 @@ impl Terminal {
         Ok(())
     }
 
-    /// Takes one input and appends what the terminal sends, at most 1,024 outputs. After `OutOfMemory` the terminal and the
-    /// outputs are as they were. docs/PROFILE.md, "The order of a step".
+    /// Handles one input and appends its outputs, at most 1,024. After `OutOfMemory` the terminal and the outputs are unchanged.
+    /// docs/PROFILE.md, "The order of a step".
     pub fn step(&mut self, input: &Input<'_>, outputs: &mut Vec<Output>) -> Result<(), OutOfMemory>
         ensures ok { OnOk result (TakesInput (state_of self.old) input.now (state_of self.new) outputs.old.items outputs.new.items) }
         ensures err { OnErr result (state_of self.new ≡ state_of self.old) }
         ensures err_sent { OnErr result (outputs.new.items ≡ outputs.old.items) }
         ensures err_redraws { OnErr result (redraws self.new ≡ redraws self.old) }
-        // A terminal without its address asks for no memory.
+        // A terminal that lost its address needs no memory.
         ensures lost { (state_of self.old).lost ≡ true → IsOk result }
-        // Where it tells of no other screen, the text is the same.
+        // If `redraws` is false afterwards, the text of the screen is the same.
         ensures same { OnOk result (redraws self.new ≡ false → KeepsScreen (state_of self.old) (state_of self.new)) }
     {
         match input {
@@ -171,17 +169,17 @@ impl Terminal {
         }
     }
 
-    /// Takes inputs in their order and appends what the terminal sends. After a fault the terminal and the
-    /// outputs are those of the inputs before the one it names. `redraws` tells of all that were taken.
+    /// Handles inputs in order and appends their outputs. After a `RunFault` the terminal and the outputs are those after the
+    /// inputs before the faulty one. `redraws` covers all inputs done.
     pub fn run(&mut self, inputs: &[Input<'_>], outputs: &mut Vec<Output>) -> Result<(), RunFault>
         ensures ok { OnOk result (TakesInputs (state_of self.old) inputs.now (state_of self.new) outputs.old.items outputs.new.items) }
         ensures within { IfErr result (λ fault. fault.at < length inputs.now) }
         ensures fault { IfErr result (λ fault. TakesInputs (state_of self.old) (take fault.at inputs.now) (state_of self.new) outputs.old.items outputs.new.items) }
-        // A terminal without its address asks for no memory.
+        // A terminal that lost its address needs no memory.
         ensures lost { (state_of self.old).lost ≡ true → IsOk result }
-        // Where it tells of no other screen, the text is the same as before all of them.
+        // If `redraws` is false afterwards, the text of the screen is the same as before all of them.
         ensures same { redraws self.new ≡ false → KeepsScreen (state_of self.old) (state_of self.new) }
-        // Where no input was taken, it tells what it told before.
+        // If no input was done, `redraws` is unchanged.
         ensures err_redraws { IfErr result (λ fault. fault.at ≡ 0 → redraws self.new ≡ redraws self.old) }
     {
         let mut redraws = false;

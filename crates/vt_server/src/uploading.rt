@@ -1,4 +1,4 @@
-//! Messages of a set's master, and the uploads that they bring (docs/PROFILE.md, "Whole messages", "Object Pool Transfer (11)").
+//! Messages from the master of a set, and its uploads (docs/PROFILE.md, "Whole messages", "Object Pool Transfer (11)").
 
 ghost use Rattle.std.specs.Prelude.{◌≡◌, ℕ, List, true, is_some, IfOk, OnOk, length, slice_index, Some};
 ghost use Rattle.vt_can.specs.transport.Messages.{size_and_first_byte, Message};
@@ -17,27 +17,27 @@ use vt_can::Frame;
 use vt_node::{message_to, technical_reply};
 use vt_objects::Command;
 
-/// The function of a piece of a pool.
+/// The function of Object Pool Transfer, a piece of a pool.
 const TRANSFER: u8 = 0x11;
 
-/// The function of the end of a pool.
+/// The function of End of Object Pool.
 const END_OF_POOL: u8 = 0x12;
 
-/// What was made ready for the message that a frame completes.
+/// Work done in advance for the message that a frame completes.
 #[derive(Drop)]
 pub(crate) enum PreparedMessage {
     /// Nothing.
     Nothing,
-    /// Room for a piece of a pool.
+    /// Capacity for a piece of a pool.
     Room,
-    /// Room for the piece of a pool that a frame is, and the piece.
+    /// Capacity for a piece of a pool, and the piece, copied from the frame.
     Piece(Vec<u8>),
-    /// What the end of a pool comes to.
+    /// The judgement of the upload that the message ends.
     End(Judgement),
 }
 
 impl Terminal {
-    /// Makes ready what a message of one frame wants. Nothing is changed but room.
+    /// Does the work in advance for a message of one frame. Changes nothing but capacity.
     pub(crate) fn prepare_frame(
         &mut self,
         source: u8,
@@ -59,7 +59,7 @@ impl Terminal {
         }
     }
 
-    /// Makes ready what a message in packets wants, of which the size and the first byte are told.
+    /// Does the work in advance for a message in packets, from its announced size and first byte.
     pub(crate) fn prepare_told(
         &mut self,
         source: u8,
@@ -89,7 +89,7 @@ impl Terminal {
         Ok(PreparedMessage::End(judgement))
     }
 
-    /// The reply to a message from the master of a set, if it has one.
+    /// Handles a message from the master of a set and returns its reply, if it has one.
     pub(crate) fn answer(
         &mut self,
         source: u8,
@@ -122,7 +122,7 @@ impl Terminal {
         }
     }
 
-    /// The reply to a message that asks what the terminal is, or to a command, if it is one.
+    /// The reply to a technical request or to a command; `None` for any other message.
     fn reply(&mut self, source: u8, bytes: &[u8]) -> Option<[u8; 8]>
         ensures replies { IsReplyTo (state_of self.old) source bytes.now result (state_of self.new) }
         ensures tells { TellsChanges self.old self.new }

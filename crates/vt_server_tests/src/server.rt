@@ -34,11 +34,11 @@ const OWN: u8 = 0x26;
 
 const NAME: u64 = 0x2000_1D00_0000_0001;
 
-// What is heard, and what is sent.
+// Frames received, and the frames sent for them.
 type Said = (&'static [&'static str], &'static [&'static str]);
 
-// What a terminal hears, what it sends, and which addresses have a set then. Where `preloaded` is, the pool
-// is there from the start, at 80.
+// Frames received, the frames sent for them, and the addresses with a set afterwards. If `preloaded` is true, the set at 80 has
+// the pool from the start.
 #[derive(Clone, Copy)]
 struct Case {
     preloaded: bool,
@@ -47,7 +47,7 @@ struct Case {
     sets: &'static [u8],
 }
 
-// A terminal of no set, or with a set at 80 that has the pool of these bytes.
+// A terminal without a set, or with a set at 80 with the pool of these bytes.
 fn started(rt: &(impl Abort + AllocGlobal), pool: Option<&[u8]>) -> Result<Terminal, Fail> {
     match pool {
         Some(bytes) => preloaded_with(rt, bytes),
@@ -62,7 +62,7 @@ fn preloaded_with(rt: &(impl Abort + AllocGlobal), bytes: &[u8]) -> Result<Termi
     Ok(terminal)
 }
 
-// The frame of a text, at one second.
+// The frame in a text, received at one second.
 fn input_of<'a>(alloc: Global, text: &str) -> Result<Input<'a>, Fail> {
     let mut line = Vec::new(alloc);
     line.extend_from_slice(b"(1.000000) can0 ")?;
@@ -82,7 +82,7 @@ fn inputs_of<'a>(rt: &impl AllocGlobal, frames: &[&str]) -> Result<Vec<Input<'a>
     Ok(inputs)
 }
 
-// Runs a terminal. After a fault it takes the inputs from that of the fault on: the memory is there then.
+// Runs a terminal. After a fault the run continues with the faulty input, for which memory is then available.
 fn run_all(
     rt: &(impl Abort + AllocGlobal),
     terminal: &mut Terminal,
@@ -98,7 +98,7 @@ fn run_all(
     }
 }
 
-// What is sent for a text.
+// Expects these outputs for a text.
 fn expect_sent(rt: &(impl Abort + AllocGlobal), outputs: &[Output], sent: &[&str], text: &str) {
     assert_eq!(rt; outputs.len(), sent.len(), "{text}");
     for (output, wanted) in outputs.iter().zip(sent) {
@@ -159,7 +159,7 @@ fn expect_cases(rt: &(impl Abort + AllocGlobal), cases: &[Case]) -> Result<(), F
     Ok(())
 }
 
-// Cases that begin and end with the same set at 80, or with none.
+// Runs cases that start and end with the same set at 80, or without a set.
 fn expect_said(
     rt: &(impl Abort + AllocGlobal),
     preloaded: bool,
@@ -194,7 +194,7 @@ fn what_is_heard_and_what_is_sent(rt: HostRuntime) -> Result<(), Fail> {
     Ok(())
 }
 
-// Each input has room for 1,024 outputs, also where many were sent already.
+// Each input gets capacity for 1,024 outputs, even after many outputs.
 #[test]
 fn many_inputs(rt: HostRuntime) -> Result<(), Fail> {
     let mut terminal = started(&rt, None)?;

@@ -1,4 +1,4 @@
--- What Change Attribute writes, attribute by attribute: the field of the attribute's name, and nothing else.
+-- Change Attribute writes the field of each attribute, and no other field.
 use Rattle.std.proofs.Common.{◌≡◌, ◌<◌, ◌%◌, ◌^◌, ◌==◌, ℕ, zero, suc, Bool, true, false, cond, List, [], ◌∷◌, set, slice_get, is_some, Option, Some, Result, Ok, Err, refl, sym, ap, subst, ◌∙◌, mod-eq_of_lt}
 use Rattle.std.proofs.lemmas.Bool.{cond-true, eqb-true}
 use Rattle.std.proofs.lemmas.Option.{same_Some}
@@ -27,7 +27,7 @@ use Rattle.vt_set_laws.specs.AttributeWrites.{AttributesAreWritten}
 
 -- ---- values
 
--- a value of four bytes is its lowest four
+-- a value of four bytes equals its lowest four bytes
 whole : (n : ℕ) → n < 256 ^ 4 → n ≡ n % 256 ^ 4
 whole n lt = sym (mod-eq_of_lt lt)
 
@@ -37,7 +37,7 @@ long_whole n lt = ap (λ (m : ℕ). number (natural m)) (whole n lt)
 signed_whole : (n : ℕ) → n < 256 ^ 4 → number (integer (cast_signed w32 n)) ≡ number (integer (cast_signed w32 (n % 256 ^ 4)))
 signed_whole n lt = ap (λ (m : ℕ). number (integer (cast_signed w32 m))) (whole n lt)
 
--- the scale of a number has that number
+-- the scale found for a number has that number
 scale_found : (old : Scale) (among : List Scale) (n : ℕ) → is_some (scale_among among n) ≡ true
     → scale_number (or_scale old (scale_among among n)) ≡ n
 scale_found old [] n passed = absurd cc
@@ -59,13 +59,13 @@ decimals_lowest old n passed = ap (λ (m : ℕ). number (natural m)) (cond-true 
 
 -- ---- each attribute
 
--- the new values of an object are the old ones, but for the field of an attribute
+-- the new values of an object are the old ones, except in the field of an attribute
 record HasWritten (attribute : Attribute) (n : ℕ) (o new : Seen) : Type 0 where
   place : ℕ
   is_field : IsField (kind_of o) attribute place
   values : values_of new ≡ set (values_of o) place (written attribute.value_type n)
 
--- where the field takes the value
+-- the field is written, if it accepts the value
 record IsPut (named : Option Kind) (n : ℕ) (o : Seen) (attribute : Attribute) : Type 0 where
   of : takes (kind_of o) attribute.value_type n named ≡ true → HasWritten attribute n o (with_field attribute.field n o)
 
@@ -91,7 +91,7 @@ plain : {named : Option Kind} {n : ℕ} {o : Seen} {attribute : Attribute} {Othe
 plain {n = n} {attribute = attribute} place name typed values others =
     put place (written attribute.value_type n) name typed values (λ passed. refl) others
 
--- by the places of the attributes in the record of the object's kind
+-- all attributes of each kind, by their indices in the record
 each : (named : Option Kind) (n : ℕ) → n < 256 ^ 4 → (o : Seen) → AllByRecursion (IsPut named n o) (attributes_of (kind_of o))
 each named n lt (objects.WorkingSet o) = plain 0 refl refl refl (plain 1 refl refl refl tt)
 each named n lt (objects.DataMask o) = plain 0 refl refl refl (plain 1 refl refl refl tt)
@@ -155,7 +155,7 @@ each named n lt (objects.InputAttributes o) = plain 0 refl refl refl tt
 each named n lt (objects.ObjectPointer o) = plain 0 refl refl refl tt
 each named n lt (objects.Macro o) = tt
 
--- ---- the attribute of a number
+-- ---- the attribute with a number
 
 numbered_put : (Q : Attribute → Type 0) (attributes : List Attribute) (index : ℕ) (attribute : Attribute) → AllByRecursion Q attributes
     → numbered attributes index ≡ Some attribute → Q attribute
@@ -179,7 +179,7 @@ put_at named n lt (objects.InputList o) index attribute is = by (index == 5) is
         numbered_put (IsPut named n (objects.InputList o)) (attributes_of kinds.InputList) index attribute (each named n lt (objects.InputList o)) e
 put_at named n lt o index attribute is = numbered_put (IsPut named n o) (attributes_of (kind_of o)) index attribute (each named n lt o) is
 
--- ---- what the command writes
+-- ---- the written field
 
 ok_same : (a b : Seen) → ◌≡◌ {A = Result Seen ℕ} (Ok a) (Ok b) → a ≡ b
 ok_same a b is = cc

@@ -1,4 +1,4 @@
--- A text, filled with spaces, is what is kept exactly where the test of the machine says so.
+-- The stored text equals a text filled up with spaces exactly if the machine's test passes.
 use Rattle.std.proofs.Common.{◌≡◌, ◌≤◌, ◌-◌, ◌==◌, ◌&&◌, ℕ, suc, Bool, List, [], ◌∷◌, ◌++◌, length, replicate, refl, sym, ap₂, subst, arith}
 use Rattle.std.proofs.lemmas.Bool.{and_parts, and_from, eqb-true, eq-eqb}
 use Rattle.std.specs.Prelude.{Decides}
@@ -6,7 +6,7 @@ use Rattle.std.specs.List.{list_all}
 use Rattle.vt_kinds.specs.Texts.{filled_up}
 use Rattle.vt_machine.specs.Entering.{is_filled}
 
--- two lists are one exactly where their first elements and their rests are
+-- two lists are equal exactly if their first elements and their rests are
 both : (x y : ℕ) (xs ys : List ℕ) (b : Bool) → Decides b (xs ≡ ys) → Decides (y == x && b) (x ∷ xs ≡ y ∷ ys)
 both x y xs ys b rest = (
   (λ e. let parts = and_parts (y == x) b e in ap₂ (λ (z : ℕ) (zs : List ℕ). z ∷ zs) (sym (eqb-true y x parts.0)) (rest.0 parts.1)),

@@ -1,4 +1,4 @@
--- A command is refused for the kind of its object exactly where that is none of the kinds that the command may name.
+-- A command is refused for the kind of its object exactly if that kind is not allowed for the command.
 use Rattle.std.proofs.Common.{◌≡◌, ℕ, ℤ, Bool, true, false, cond, not, ◌==◌, eqb, List, [], ◌∷◌, Option, Some, None, Result, Ok, Err, refl, sym, ap, subst, ◌∙◌, true≢false, arith}
 use Rattle.std.proofs.lemmas.Bool.{eq-eqb}
 use Rattle.vt_kinds.specs.declared.kind.Kind.{Kind}
@@ -17,7 +17,7 @@ use Rattle.vt_commands.specs.Targets.{object_of, targets}
 use Rattle.vt_effects.specs.Changes.{bit, if_passed, stands_in, shifted, move_child, for_child, change_location, change_position, put_children, in_parent, hide_show, enable_disable, change_size, change_colour, change_value, change_end_point, change_font, change_line_attributes, change_fill_attributes, change_active_mask, change_soft_key_mask, put_attribute, change_attribute, change_priority, change_item, change_text, execute_macro, changed}
 use Rattle.vt_set_laws.specs.CommandKinds.{kind_error, children_in, lacks, mask_type, has_other_cause, first_id, KindsAreThoseOfChanges}
 
--- What is made of an object of another kind is the error, and of one of these kinds only for another cause.
+-- A change of an object of another kind is the error, and of an object of these kinds only for another cause.
 record IsDecided (kinds : Kinds) (error : ℕ) (cause : Bool) (o : Seen) (made : Result Seen ℕ) : Type 0 where
   others : is_member kinds (kind_of o) ≡ false → made ≡ Err error
   these : is_member kinds (kind_of o) ≡ true → made ≡ Err error → cause ≡ true
@@ -26,7 +26,7 @@ record IsDecided (kinds : Kinds) (error : ℕ) (cause : Bool) (o : Seen) (made :
 other : (kinds : Kinds) (error : ℕ) (cause : Bool) (o : Seen) → is_member kinds (kind_of o) ≡ false → IsDecided kinds error cause o (Err error)
 other kinds error cause o never = record { others = λ _. refl; these = λ among _. absurd cc }
 
--- an object of one of these
+-- an object of one of these kinds
 one_of : (kinds : Kinds) (error : ℕ) (cause : Bool) (o : Seen) (made : Result Seen ℕ) → is_member kinds (kind_of o) ≡ true → (made ≡ Err error → cause ≡ true)
     → IsDecided kinds error cause o made
 one_of kinds error cause o made among of = record { others = λ never. absurd cc; these = λ _. of }
@@ -34,7 +34,7 @@ one_of kinds error cause o made among of = record { others = λ never. absurd cc
 done : (kinds : Kinds) (error : ℕ) (cause : Bool) (o new : Seen) → is_member kinds (kind_of o) ≡ true → IsDecided kinds error cause o (Ok new)
 done kinds error cause o new among = one_of kinds error cause o (Ok new) among (λ is. absurd cc)
 
--- another error
+-- the error of a result
 abbrev error_of : {A : Type 0} → Result A ℕ → ℕ
 error_of (Err error) = error
 error_of (Ok new) = 0
@@ -52,14 +52,14 @@ tested : (kinds : Kinds) (error : ℕ) (cause : Bool) (o : Seen) (test : Bool) (
     → IsDecided kinds error cause o (if_passed test fails new)
 tested kinds error cause o test fails new among differ = one_of kinds error cause o (if_passed test fails new) among (λ is. absurd (if_differs test fails error new differ is))
 
--- one test and then another
+-- a change under two tests
 tested_both : (kinds : Kinds) (error : ℕ) (cause : Bool) (o : Seen) (first : Bool) (other_error : ℕ) (test : Bool) (fails : ℕ) (new : Seen)
     → is_member kinds (kind_of o) ≡ true → eqb fails error ≡ false → (first ≡ false → other_error ≡ error → cause ≡ true)
     → IsDecided kinds error cause o (cond {A = Result Seen ℕ} first (if_passed test fails new) (Err other_error))
 tested_both kinds error cause o true other_error test fails new among differ of = tested kinds error cause o test fails new among differ
 tested_both kinds error cause o false other_error test fails new among differ of = one_of kinds error cause o (Err other_error) among (λ is. of refl (ap error_of is))
 
--- ---- what each command makes of its object
+-- ---- the changes of each command
 
 hides : (state : ℕ) (o : Seen) → IsDecided sets.Containers (bit 1) false o (hide_show state o)
 hides state (objects.Container c) = tested _ _ _ (objects.Container c) _ _ _ refl refl
@@ -79,7 +79,7 @@ put_error parent error (Err fails) is =
     let same : fails ≡ error = ap error_of is in
     ap (λ (n : ℕ). Err n) same
 
--- refused for the kind, or for a child that does not stand in its parent
+-- a move is refused for the kind, or for a child that is not in its parent
 moves : (change : List Child → Result (List Child) ℕ) (child : ℕ) (o : Seen)
     → ((children : List Child) → ◌≡◌ {A = Result (List Child) ℕ} (change children) (Err (bit 0)) → not (stands_in child children) ≡ true)
     → IsDecided sets.Parents (bit 0) (lacks (children_in o) child) o (in_parent change o)
@@ -228,7 +228,7 @@ abbrev kinds_of_first : Kinds → List Target → Kinds
 kinds_of_first kinds [] = kinds
 kinds_of_first kinds (t ∷ ts) = t.kinds
 
--- by the kinds of the first ID that a command names
+-- a property of the first target's kinds holds for the first target of an equal list
 by_first : (P : Kinds → Type 0) (first t : Target) (rest ts : List Target) → first ∷ rest ≡ t ∷ ts → P first.kinds → P t.kinds
 by_first P first t rest ts is holds = subst P (ap (kinds_of_first first.kinds) is) holds
 

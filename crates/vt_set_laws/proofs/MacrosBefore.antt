@@ -1,4 +1,4 @@
--- What a macro of an acceptable pool triggers can be named, so that it stands in the order of the macros, before it.
+-- The macros triggered by a macro of an acceptable pool are in the order of the macros, before it.
 use Rattle.std.proofs.Common.{◌≡◌, ◌≢◌, ℕ, Bool, true, false, cond, ◌||◌, eqb, leb, List, [], ◌∷◌, ◌++◌, map, Option, Some, None, is_some, refl, sym, ap, subst, ◌∙◌, arith, inl, inr, eqb-true, le-leb}
 use Rattle.std.proofs.lemmas.Bool.{and_from, eqb-false}
 use Rattle.std.proofs.lemmas.List.Elements.{All-contains, All-from_recursion, Contains-append_left, Contains-append_right, Contains-append_cases}
@@ -31,9 +31,9 @@ use Rattle.vt_records.proofs.Heads.{kind_at-kind_number}
 use Rattle.vt_stores.proofs.Rising.{both_true}
 use Rattle.vt_verify.proofs.ListedEvents.{tied_same}
 
--- ---- what stands under an ID
+-- ---- the object of an ID
 
--- what holds of each entry holds of the one that is found
+-- a property of all entries holds for the entry found
 module _ (Q : ℕ × Fixed → Type 0) (id : ℕ) (f : Fixed) where
   entry-case : (e : ℕ × Fixed) (rest : Option Fixed) (b : Bool) → (b ≡ true → id ≡ e.0) → (rest ≡ Some f → Q (id, f)) → Q e
       → cond b (Some e.1) rest ≡ Some f → Q (id, f)
@@ -46,7 +46,7 @@ module _ (Q : ℕ × Fixed → Type 0) (id : ℕ) (f : Fixed) where
   found-entry (e ∷ shape) all found =
       entry-case e (fixed_at shape id) (eq_by_cmp nat_cmp id e.0) (tied_same id e.0) (found-entry shape all.1) all.0 found
 
--- each macro that can be named is among those
+-- each macro with an ID of at most 255 is in the list
 abbrev IsAmongNamed : List ℕ → ℕ × Fixed → Type 0
 IsAmongNamed names e = may_be_named e.0 e.1 ≡ true → Contains names e.0
 
@@ -68,7 +68,7 @@ or-false : (b : Bool) → (b || false) ≡ true → b ≡ true
 or-false true is = refl
 or-false false is = is
 
--- of all kinds the macros alone may stand where a macro is named
+-- macros are the only kind allowed in references to macros
 macro-only : (kind : Kind) → is_member sets.Macros kind ≡ true → kind ≡ kinds.Macro
 macro-only kind is =
     let number : kind_number kinds.Macro ≡ kind_number kind =
@@ -84,7 +84,7 @@ passing : {A : Type 0} (b : Bool) (x : A) (rest : Option A) → cond b rest (Som
 passing true x rest none = (refl, none)
 passing false x rest none = absurd cc
 
--- the macros of the entries at an event, where each reference passes both tests
+-- the macros of the entries at an event, if each reference passes both tests
 module _ {R : Type 0} (refer : MacroEntry → R) (there fit : R → Bool) (IsNamed : ℕ → Type 0)
     (named : (e : MacroEntry) → there (refer e) ≡ true → fit (refer e) ≡ true → IsNamed e.macro_id)
     (event : ℕ) (listable : is_listable event ≡ true) where
@@ -116,11 +116,11 @@ module _ (shape : Shape) where
   abbrev IsIn : ℕ → Type 0
   IsIn n = Contains (named_macros shape) n
 
-  -- a macro that is there and can be named
+  -- an existing macro with an ID of at most 255 is in the order
   named-in : (n : ℕ) (f : Fixed) → fixed_at shape n ≡ Some f → may_be_named n f ≡ true → IsIn n
   named-in n f found = found-entry (IsAmongNamed (named_macros shape)) n f shape (among-named shape) found
 
-  -- a reference that passes both tests names such a macro
+  -- a reference that passes both tests refers to such a macro
   named-by : (n : ℕ) (null : Bool) (found : Option Fixed) → fixed_at shape n ≡ found
       → cond null false (is_some (option_map (λ (f : Fixed). f.kind) found)) ≡ true
       → cond null true (allows sets.Macros n (option_map (λ (f : Fixed). f.kind) found)) ≡ true → IsIn n
@@ -131,7 +131,7 @@ module _ (shape : Shape) where
   reference-in : (id n : ℕ) → is_there shape (macro_reference id n) ≡ true → fits shape (macro_reference id n) ≡ true → IsIn n
   reference-in id n there fit = named-by n (eqb n 0xFFFF) (fixed_at shape n) refl there fit
 
-  -- ---- what is listed at an event
+  -- ---- macros listed at an event
 
   module _ (there : first_failing (is_there shape) (macro_references shape) ≡ None) (fit : first_failing (fits shape) (macro_references shape) ≡ None) where
     listable : (event : ℕ) → is_event event ≡ true → eqb event 0 ≡ false → is_listable event ≡ true
@@ -179,7 +179,7 @@ module _ (shape : Shape) where
         (all_of (λ (c : Command). AllByRecursion IsIn (triggered_by shape c)) (commands shape m) (λ c.
         all_flat IsIn (listed shape) (may_raise shape c) (all_of (λ (r : Listing). AllByRecursion IsIn (listed shape r)) (may_raise shape c) all-listed)))
 
--- ---- the law
+-- ---- the law of the order
 
 pub stand-before : TriggeredStandBefore
 stand-before pool order front back m n acceptable by_rank split triggers =

@@ -1,4 +1,4 @@
--- What a place that is in order allows, where a pointer that it names gets another value and where a list gets another item.
+-- References in order allow a pointer's new value, and a list in order allows its new item.
 use Rattle.std.proofs.Common.{◌≡◌, ◌<◌, ℕ, zero, suc, Bool, true, false, cond, ◌==◌, ◌&&◌, ◌||◌, not, eqb, List, [], ◌∷◌, length, set, Option, Some, None, refl, sym, ap, subst, ◌∙◌, arith}
 use Rattle.std.proofs.lemmas.Bool.{eqb-true, eq-eqb}
 use Rattle.std.proofs.lemmas.Option.{same_Some}
@@ -24,7 +24,7 @@ use Rattle.vt_effects.specs.Effects.{kind_in, pointer_value, allows, places_allo
 use Rattle.vt_effects.specs.Soundness.{IsSound, value_fits, is_in_order}
 use Rattle.vt_effects.proofs.InOrder.{first_of, second_of, get_there, get_other, allows_stays}
 
--- the kind and the value of the object that a place names
+-- the kind of a referenced object and the value of a referenced pointer
 in_order_at : (m : ObjectMap) (s : Slot) (o : Seen) → finite.get m s.id ≡ Some o → (s.id ≡ 0xFFFF → ⊥) → IsTrue (is_in_order m s)
     → IsTrue (is_one_of s.kinds (Some (kind_of o)) && value_fits m s (pointer_value (Some o)))
 in_order_at m s o at named is = by (eqb s.id 0xFFFF) refl is
@@ -42,13 +42,13 @@ value_at : (m : ObjectMap) (s : Slot) (o : Seen) → finite.get m s.id ≡ Some 
     → IsTrue (value_fits m s (pointer_value (Some o)))
 value_at m s o at named is = second_of (is_one_of s.kinds (Some (kind_of o))) (value_fits m s (pointer_value (Some o))) (in_order_at m s o at named is)
 
--- an ID that is there is not NULL
+-- an existing object's ID is not NULL
 not_null : (m : ObjectMap) (id : ℕ) (o : Seen) → finite.get m 0xFFFF ≡ None → finite.get m id ≡ Some o → id ≡ 0xFFFF → ⊥
 not_null m id o null at is =
     let never : None ≡ Some o = sym null ∙ ap (finite.get m) (sym is) ∙ at in
     absurd cc
 
--- ---- the places that name a pointer
+-- ---- references to a pointer
 
 abbrev with_value : ObjectPointer → ℕ → Seen
 with_value p value = objects.ObjectPointer (record p { value = value })
@@ -56,7 +56,7 @@ with_value p value = objects.ObjectPointer (record p { value = value })
 abbrev allows_if_named : ObjectMap → ℕ → ℕ → Slot → Bool
 allows_if_named m id value s = not (s.id == id) || allows m s value
 
--- a place that is in order with the new value
+-- a reference that is in order with the new value allows it
 place_allows : (m : ObjectMap) (id value : ℕ) (p : ObjectPointer) → finite.get m 0xFFFF ≡ None → finite.get m id ≡ Some (objects.ObjectPointer p) → (s : Slot)
     → IsTrue (is_in_order (finite.insert m id (with_value p value)) s) → allows_if_named m id value s ≡ true
 place_allows m id value p null at s is = by (eqb s.id id) refl
@@ -68,7 +68,7 @@ place_allows m id value p null at s is = by (eqb s.id id) refl
         ∙ value_at (finite.insert m id (with_value p value)) s (with_value p value) (get_there m id (with_value p value) s.id same)
         (λ e. not_null m id (objects.ObjectPointer p) null at (sym (eqb-true s.id id same) ∙ e)) is
 
--- a pointer does not stand for itself
+-- a pointer does not refer to itself
 own_place_allows : (m : ObjectMap) (id value : ℕ) (p : ObjectPointer) → finite.get m 0xFFFF ≡ None → finite.get m id ≡ Some (objects.ObjectPointer p)
     → IsTrue (is_in_order m (slot kinds.ObjectPointer places.Value p.value)) → allows_if_named m id value (slot kinds.ObjectPointer places.Value p.value) ≡ true
 own_place_allows m id value p null at is = by (eqb p.value id) refl
@@ -99,7 +99,7 @@ object_allows m id value p null at sound after q o there = by (eqb q id) refl
         all_allow (allows_if_named m id value) (λ s. IsTrue (is_in_order (finite.insert m id (with_value p value)) s)) (slots_of o) (place_allows m id value p null at)
         (IsSound.slots after q o (get_other m id (with_value p value) q other ∙ there))
 
--- all places are those of the objects
+-- a test holds for all slots, if it holds for the slots of each object
 all_of_objects : (test : Slot → Bool) (es : Objects) → ((place : ℕ) (e : ℕ × Seen) → slice_get es place ≡ Some e → list_all test (slots_of e.1) ≡ true)
     → list_all test (flat_map (λ e. slots_of e.1) es) ≡ true
 all_of_objects test [] each = refl
@@ -116,7 +116,7 @@ places_allow_value m id value p null at sound after =
 
 -- ---- the items of a list
 
--- the place of an item
+-- the slot of an item
 item_in : (P : Slot → Type 0) (kind : Kind) (start index : ℕ) (items : List ℕ) (item : ℕ) → index < length items
     → AllByRecursion P (listed kind places.Item start (set items index item)) → (at : ℕ) × P (slot kind (places.Item at) item)
 item_in P kind start index [] item lt all = absurd (omega (arith, lt))

@@ -1,4 +1,4 @@
--- The events of a new value are raised exactly where an entry of the operator leaves other objects.
+-- An entry of the operator raises the events of a new value exactly if it changes the objects.
 use Rattle.std.proofs.Common.{◌≡◌, ◌≢◌, ◌≤◌, ◌<◌, ◌%◌, ◌==◌, ◌&&◌, ℕ, Bool, true, false, not, cond, eqb, List, length, Option, Some, None, Result, Ok, Err, refl, sym, ap, subst, ◌∙◌, arith, mod-eq_of_lt}
 use Rattle.std.proofs.lemmas.Bool.{and_parts, both_ways, false_from_ne_true, not-true, not_from_false, eqb-true, eq-eqb, leb-true, ltb-true}
 use Rattle.std.proofs.lemmas.Bool.Decides.{Decides-like}
@@ -37,9 +37,9 @@ use Rattle.vt_machine.specs.Operating.{Acts}
 use Rattle.vt_set_laws.specs.NewValues.{IsCounted, RaisesOfNew, NewValuesAreNew}
 use Rattle.vt_set_laws.proofs.FilledTexts.{filled_decides}
 
--- ---- objects that are put where others stand
+-- ---- replaced objects
 
--- to put an object where it stands changes nothing
+-- replacing an object by itself changes nothing
 insert_same : (m : ObjectMap) (id : ℕ) (o : Seen) → finite.get m id ≡ Some o → finite.insert m id o ≡ m
 insert_same m id o at = finite.same_map nat_cmp_total finite.nat_cmp-IsAntisymmetric _ _ (λ q. by q (eqb q id) refl)
   where
@@ -47,12 +47,12 @@ insert_same m id o at = finite.same_map nat_cmp_total finite.nat_cmp-IsAntisymme
     by q true same = get_there m id o q same ∙ sym at ∙ ap (finite.get m) (sym (eqb-true q id same))
     by q false other = get_other m id o q other
 
--- another object leaves another store
+-- only an equal object leaves the store unchanged
 inserted_is : (m : ObjectMap) (id : ℕ) (o new : Seen) → finite.get m id ≡ Some o → finite.insert m id new ≡ m → new ≡ o
 inserted_is m id o new at is =
     same_Some new o (sym (get_there m id new id (eq-eqb id id refl)) ∙ ap (λ (n : ObjectMap). finite.get n id) is ∙ at)
 
--- a test whether a change leaves the object as it is decides whether it leaves another store
+-- a test whether a change leaves the object unchanged decides whether it leaves the store unchanged
 decides_put : (m : ObjectMap) (id : ℕ) (change : Seen → Seen) (o : Seen) (b : Bool) → finite.get m id ≡ Some o → Decides b (change o ≡ o)
     → Decides (not b) (put_at m id change (finite.get m id) ≢ m)
 decides_put m id change o b at decides =
@@ -69,7 +69,7 @@ acts_raised : (first message : List ℕ) (state start : SetState) (raised others
     → Acts first state raised ≡ Acts message start others → raised ≡ others
 acts_raised first message state start raised others is = cc
 
--- the object at a place, and what decides whether a change leaves it as it is
+-- the object of an ID, and a test whether a change leaves it unchanged
 record IsKept (m : ObjectMap) (at : ℕ) (change : Seen → Seen) (test : Option Seen → Bool) : Type 0 where
   object : Seen
   there : finite.get m at ≡ Some object
@@ -103,7 +103,7 @@ placed false passes refusal place at is = absurd cc
 
 -- ---- numbers
 
--- the new number is that of the object exactly where the object stays as it is
+-- the new number is the object's own exactly if the object is unchanged
 by_value : (n value : ℕ) (o new : Seen) → number_of o ≡ Some value → number_of new ≡ Some n → (n ≡ value → new ≡ o)
     → Decides (value == n) (new ≡ o)
 by_value n value o new has gets same =
@@ -142,7 +142,7 @@ number_variable None is = absurd cc
 number_variable (Some (objects.NumberVariable o)) is = (o, refl)
 number_variable (Some o) is = absurd cc
 
--- a number is kept in the input, or in the Number Variable that it names
+-- a number is stored in the input, or in the Number Variable of the input
 number_kept : (m : ObjectMap) (id n : ℕ) (input : Seen) (kind : Kind) (variable at : ℕ) → finite.get m id ≡ Some input
     → Decides (is_number n (Some input)) (with_number n input ≡ input) → allowed kind places.Variable ≡ sets.NumberVariables
     → IsTrue (is_in_order m (slot kind places.Variable variable)) → kept_at id variable ≡ at → IsKept m at (with_number n) (is_number n)

@@ -1,4 +1,4 @@
--- The bytes of a pool have one fault, but for want of memory.
+-- The bytes of a pool have at most one fault, except for want of memory.
 use Rattle.std.proofs.Common.{◌≡◌, ℕ, ◌+◌, List, [], ◌∷◌, ◌++◌, length, drop, Some, refl, sym, ap, ap₂, subst, ◌∙◌, append_assoc, arith, inl, inr}
 use Rattle.std.proofs.lemmas.List.{length-append}
 use Rattle.std.proofs.lemmas.Option.{same_Some}
@@ -18,7 +18,7 @@ use Rattle.vt_records.proofs.Causes.{truncated_none, null_none, other_none}
 use Rattle.vt_records.proofs.Tables.{values_again}
 use Rattle.vt_records.proofs.Taken.{same_record}
 
--- ---- where the whole records end is one place
+-- ---- the end of the whole records is unique
 
 rest-one : (xs ys : List Entry) (rest other : List ℕ) → AreRecords xs → AreRecords ys → NoRecordBegins rest → NoRecordBegins other
     → joined xs ++ rest ≡ joined ys ++ other → rest ≡ other
@@ -32,7 +32,7 @@ rest-one (r ∷ xs) (s ∷ ys) rest other are too never none e =
     (sym (append_assoc (record_of r.0 r.1) (joined xs) rest) ∙ e ∙ append_assoc (record_of s.0 s.1) (joined ys) other) in
     rest-one xs ys rest other are.1 too.1 never none same.same_rest
 
--- ---- the first value that is not proper is one
+-- ---- the first improper value is unique
 
 record SameValues (kind other : Kind) (vs ws : List Value) : Type 0 where
   pub kinds : kind ≡ other
@@ -99,7 +99,7 @@ module _ {P : Type 0} (rest : List ℕ) where
   improper-other : (sort : RecordField) (at : ℕ) → HasOtherType rest → IsImproper sort rest at → P
   improper-other sort at other is = let no = sym is.read.known ∙ other.no_kind in absurd cc
 
--- a stop that says something of the bytes
+-- a stop other than want of memory
 abbrev SaysWhy : RecordFault → Type 0
 SaysWhy stops.OutOfMemory = ⊥
 SaysWhy stop = Unit {0}
@@ -122,7 +122,7 @@ null-one rest (stops.Scale at) why is too = improper-null rest ScaleBytes at is 
 null-one rest (stops.Decimals at) why is too = improper-null rest DecimalPlaces at is too
 null-one rest stops.OutOfMemory why is too = absurd why
 
--- of a type that no kind has, what is said by whether it is one of those that are left out
+-- an unknown type is decided by whether it is one of the types left out
 other-one : (rest : List ℕ) (s t : RecordFault) → SaysWhy t → HasOtherType rest → (IsStop rest stops.LeftOutType → s ≡ stops.LeftOutType)
     → (IsStop rest stops.UnknownType → s ≡ stops.UnknownType) → IsStop rest t → s ≡ t
 other-one rest s stops.Truncated why is left unknown too = other-cut rest too is
@@ -133,7 +133,7 @@ other-one rest s (stops.Scale at) why is left unknown too = improper-other rest 
 other-one rest s (stops.Decimals at) why is left unknown too = improper-other rest DecimalPlaces at is too
 other-one rest s stops.OutOfMemory why is left unknown too = absurd why
 
--- of a value that is not proper, what is said by its field
+-- an improper value is decided by its field
 field-one : (rest : List ℕ) (sort : RecordField) (at : ℕ) (s t : RecordFault) → SaysWhy t → IsImproper sort rest at
     → ((other : ℕ) → SameField sort ScaleBytes at other → s ≡ stops.Scale other)
     → ((other : ℕ) → SameField sort DecimalPlaces at other → s ≡ stops.Decimals other) → IsStop rest t → s ≡ t
@@ -145,7 +145,7 @@ field-one rest sort at s (stops.Scale other) why is scale decimals too = scale o
 field-one rest sort at s (stops.Decimals other) why is scale decimals too = decimals other (improper-one sort DecimalPlaces rest at other is too)
 field-one rest sort at s stops.OutOfMemory why is scale decimals too = absurd why
 
--- what is said of the bytes of a record is one
+-- the stop of a record's bytes is unique
 stops-one : (rest : List ℕ) (s t : RecordFault) → SaysWhy s → SaysWhy t → IsStop rest s → IsStop rest t → s ≡ t
 stops-one rest stops.Truncated t why so is too = truncated-one rest t so is too
 stops-one rest stops.NullId t why so is too = null-one rest t so is too
@@ -171,7 +171,7 @@ never-begins rest (stops.Scale at) why is = is.no_record
 never-begins rest (stops.Decimals at) why is = is.no_record
 never-begins rest stops.OutOfMemory why is = absurd why
 
--- ---- a fault is what is said of the first record that is faulty
+-- ---- a fault is the stop of the first faulty record
 
 record Stands (bytes : List ℕ) (fault : PoolFault) : Type 0 where
   pub records : List Entry
@@ -183,7 +183,7 @@ record Stands (bytes : List ℕ) (fault : PoolFault) : Type 0 where
   pub says : IsStop rest stop
   pub fault_is : fault ≡ fault_at stop (length (joined records))
 
--- one that is named at the first byte of its record
+-- a fault at the first byte of its record
 at-first : (bytes : List ℕ) (at : ℕ) (IsFaulty : List ℕ → Type 0) (is : IsFaultAt bytes at (AtFirst IsFaulty)) → at ≡ length (joined is.records)
 at-first bytes at IsFaulty is = let none = is.faulty.0 in let place = is.place in omega arith
 

@@ -1,4 +1,4 @@
--- A command is done exactly where the objects are in order with what it makes of its object.
+-- A command is done exactly if the store is in order after its change.
 use Rattle.std.proofs.Common.{◌≡◌, ◌<◌, ◌↔◌, ℕ, zero, suc, Bool, true, false, cond, nat_lt, length, set, Option, Some, None, Result, Ok, Err, refl, sym, ap, subst, ◌∙◌}
 use Rattle.std.proofs.lemmas.Bool.{ltb-true}
 use Rattle.std.specs.Prelude.{IsTrue}
@@ -21,7 +21,7 @@ use Rattle.vt_set_laws.specs.CommandOrder.{OrderDecides}
 use Rattle.vt_set_laws.proofs.NamedPointers.{places_allow_value, item_drawn}
 use Rattle.vt_set_laws.proofs.ShortByShallow.{short_by_shallow}
 
--- ---- objects in order where the test is passed
+-- ---- stores that pass the test are in order
 
 done_for : (m n : ObjectMap) (command : Command) (object : Option ℕ)
     → ◌≡◌ {A = Result ObjectMap ℕ} (changed_for m command (other_kind m (other_id command)) object) (Ok n)
@@ -36,7 +36,7 @@ done : (m n : ObjectMap) (command : Command) → ◌≡◌ {A = Result ObjectMap
 unfolding effect
 done m n command made kept = done_for m n command (object_of command) made kept
 
--- ---- what a command has made of its object
+-- ---- the changed object
 
 record IsPut (m n : ObjectMap) (id : ℕ) (made : Result Seen ℕ) : Type 0 where
   new : Seen
@@ -75,7 +75,7 @@ item_of_list named index item o new made =
     let parts = tested_is (nat_lt index (length o.items)) _ _ _ (objects.InputList (record o { items = set o.items index item })) new made in
     (ltb-true index (length o.items) parts.0, parts.1)
 
--- ---- the test is passed where the objects are in order
+-- ---- stores in order pass the test
 
 pointer_kept : (m n : ObjectMap) (id value : ℕ) (command : Command) (named : Option Kind) → finite.get m 0xFFFF ≡ None → IsSound m → IsSound n
     → ((p : ObjectPointer) (new : Seen) → ◌≡◌ {A = Result Seen ℕ} (changed command named (objects.ObjectPointer p)) (Ok new) → objects.ObjectPointer (record p { value = value }) ≡ new)
@@ -114,7 +114,7 @@ order_decided : CommandsKeepOrder → (m n : ObjectMap) (command : Command) → 
     → ◌≡◌ {A = Result ObjectMap ℕ} (changed_by m command (other_kind m (other_id command))) (Ok n) → IsTrue (keeps_order m command n) ↔ IsSound n
 order_decided keep m n command sound null made = (λ is. subst IsSound (done m n command made is) (keep m command sound), kept m n command sound null made)
 
--- what is made is the effect where the tests are passed
+-- the changed store is the effect, if the tests are passed
 effect_by : (m n : ObjectMap) (command : Command) (o : Option ℕ)
     → ◌≡◌ {A = Result ObjectMap ℕ} (changed_for m command (other_kind m (other_id command)) o) (Ok n) → keeps_order m command n ≡ true
     → ◌≡◌ {A = Result ObjectMap ℕ} (effect_on m command o) (Ok n)
@@ -122,7 +122,7 @@ effect_by m n command None made is = made
 effect_by m n command (Some id) made is =
     ap (in_order m command) made ∙ ap (λ (b : Bool). if_passed b (value_error command) n) is
 
--- a command that is done leaves what it has made
+-- a command that is done leaves the changed store
 left_of : (m n : ObjectMap) (command : Command) → ◌≡◌ {A = Result ObjectMap ℕ} (effect m command) (Ok n) → after m command ≡ n
 left_of m n command is = ap (left m) is
 

@@ -1,4 +1,4 @@
--- What the contracts of this crate cite.
+-- The definitions used in the contracts of vt_set_laws.
 pub mod AttributeWrites
 pub mod CommandKinds
 pub mod CommandOrder

@@ -1,4 +1,5 @@
--- The events of a new value are raised exactly where an entry of the operator leaves other objects (docs/PROFILE.md, "The operator").
+-- The events of a new value are raised exactly if an operator's entry changes the objects (docs/PROFILE.md, "The
+-- operator").
 use Rattle.std.specs.Prelude.{◌≡◌, ◌≢◌, ◌≤◌, ℕ, Bool, true, if◌then◌else◌, List, [], ◌∷◌, length, Decides, Option, Some}
 use Rattle.std.specs.FinMap as finite
 use Rattle.vt_kinds.specs.declared.object.Object.TheVariants as objects
@@ -11,12 +12,12 @@ use Rattle.vt_machine.specs.Entering.{enter_number, enter_text}
 use Rattle.vt_machine.specs.Lives.{SetState}
 use Rattle.vt_machine.specs.Operating.{Acts}
 
--- a list has as many items as its record can count
+-- a list has at most as many items as its record can count
 abbrev pub IsCounted : Option Seen → Type 0
 IsCounted (Some (objects.InputList o)) = length o.items ≤ 255
 IsCounted _ = Unit {0}
 
--- The events are those of an entry, with those of a new value exactly where the objects are others after it.
+-- The events are those of an entry, with those of a new value exactly if the objects have changed.
 pub record RaisesOfNew (id : ℕ) (old new : SetState) (raised : List Raised) : Type 0 where
   pub changed : Bool
   pub decides : Decides changed (new.objects ≢ old.objects)

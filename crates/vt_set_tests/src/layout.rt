@@ -1,4 +1,4 @@
-//! Screens of whole pools.
+//! Tests of the screens of whole pools.
 
 mod cuts;
 mod screens;
@@ -22,7 +22,7 @@ fn drawn(alloc: Global, address: u8, live: &Live<SortedStore>) -> Result<Vec<u8>
     Ok(screen)
 }
 
-/// The working set of a pool that is accepted where no memory is refused.
+/// The working set of an accepted pool.
 fn live_of(alloc: Global, bytes: &[u8]) -> Result<Live<SortedStore>, AllocError> {
     let accepted = accepted_pool(alloc, bytes)?;
     Live::new(alloc, &accepted)

@@ -1,4 +1,4 @@
-//! Tests of vt_verify, vt_machine and vt_layout, over what they export.
+//! Tests of the public functions of vt_verify, vt_machine and vt_layout.
 #![tactic(auto)]
 
 #[cfg(test)]

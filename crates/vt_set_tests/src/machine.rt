@@ -1,4 +1,4 @@
-//! What commands leave of objects, byte by byte.
+//! Tests of the effect of commands on objects, byte by byte.
 
 mod attributes;
 mod children;
@@ -21,11 +21,11 @@ use vt_effects::change;
 use vt_objects::{Command, Kind, Object, ObjectId};
 use vt_pool::{read_pool, write_object};
 
-/// A command: the record of an object, the command's bytes, the kind of the object of its other ID, the error byte, which is 0
-/// where it is done, and which bytes of the record are others after it.
+/// A command: the record of an object, the command's bytes, the kind of its other object, the error byte (0 if the
+/// command is done), and the bytes of the record that the command changes.
 type Row<'a> = (&'a [u8], &'a [u8], Option<Kind>, u8, &'a [(usize, u8)]);
 
-/// Whether each command answers and leaves what its row says.
+/// Whether each command returns the error byte of its row, and leaves the record of its row.
 fn hold(alloc: Global, rows: &[Row<'_>]) -> Result<bool, Fail> {
     for (record, command, named, error, others) in rows {
         let mut wanted = Vec::from_slice(alloc, record)?;
@@ -41,7 +41,7 @@ fn hold(alloc: Global, rows: &[Row<'_>]) -> Result<bool, Fail> {
     Ok(true)
 }
 
-/// Whether a command answers an error byte, and leaves an object with this record.
+/// Whether a command returns an error byte, and leaves an object with this record.
 fn holds(
     alloc: Global,
     record: &[u8],
@@ -61,7 +61,7 @@ fn holds(
     Ok(answer == error && has_record(alloc, id, &object, wanted)?)
 }
 
-/// The object of a record.
+/// Reads the object of a record.
 fn object_of(alloc: Global, record: &[u8]) -> Result<(ObjectId, Object<Vec<u8>>), Fail> {
     let pool = read_pool(alloc, record)?;
     let Some((id, object)) = pool.objects().first() else {

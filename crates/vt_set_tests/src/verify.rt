@@ -1,4 +1,4 @@
-//! Pools that are accepted, and pools that are not.
+//! Tests of accepted and refused pools.
 
 mod budgets;
 mod inclusions;
@@ -14,12 +14,12 @@ use vt_pool::read_pool;
 use vt_testing::{CONTAINER, MASK, WORKING_SET};
 use vt_verify::*;
 
-/// The Font 5 that lists macro 1 at event 11, and macro 1, which changes it.
+/// The Font 5, which lists macro 1 at event 11; macro 1 changes it.
 const OWN_FONT: &[u8] = &[5, 0, 23, 0, 0, 0, 0, 1, 11, 1];
 
 const OWN_MACRO: &[u8] = &[1, 0, 28, 8, 0, 0xAA, 5, 0, 0, 0, 0, 0, 0xFF];
 
-/// Appends these parts.
+/// Appends parts to bytes.
 fn put(bytes: &mut Vec<u8>, parts: &[&[u8]]) -> Result<(), AllocError> {
     for part in parts {
         bytes.extend_from_slice(part)?;
@@ -27,7 +27,7 @@ fn put(bytes: &mut Vec<u8>, parts: &[&[u8]]) -> Result<(), AllocError> {
     Ok(())
 }
 
-/// Whether the records, joined, have this report.
+/// Whether joined records have this report.
 fn reports(alloc: Global, records: &[&[u8]], wanted: &str) -> Result<bool, Fail> {
     let mut bytes = Vec::new(alloc);
     put(&mut bytes, records)?;
@@ -40,7 +40,7 @@ fn prints(alloc: Global, bytes: &[u8], wanted: &str) -> Result<bool, Fail> {
     is_text_of(alloc, &verify(alloc, &pool), wanted)
 }
 
-/// Whether a verdict is printed so.
+/// Whether a verdict has this text.
 fn is_text_of(
     alloc: Global,
     verdict: &Result<Accepted, Refusal>,
@@ -72,7 +72,7 @@ fn expect_reports(rt: &(impl Abort + AllocGlobal), cases: &[Case<'_>]) -> Result
     Ok(())
 }
 
-/// One object of each kind, 0 to 28, under the IDs 0 to 28, with no reference but NULL.
+/// One object of each kind, 0 to 28, with the IDs 0 to 28, whose references are all NULL.
 const EACH_KIND: &[u8] = &[
     0, 0, 0, 0, 1, 0xFF, 0xFF, 0, 0, 0, // Working Set
     1, 0, 1, 0, 0xFF, 0xFF, 0, 0, // Data Mask
@@ -107,8 +107,8 @@ const EACH_KIND: &[u8] = &[
     28, 0, 28, 0, 0, // Macro
 ];
 
-/// The Container 100 with macro 1 at event 3 and macro 2 at event 4, the Font 261 with macro 3 at event 11, the
-/// macros 1 and 2, which change that font, and macro 3, which sets the volume.
+/// The Container 100 with macro 1 at event 3 and macro 2 at event 4, the Font 261 with macro 3 at event 11, the macros 1
+/// and 2, which change that Font, and macro 3, which sets the volume.
 const LISTING: &[u8] = &[100, 0, 3, 50, 0, 20, 0, 0, 0, 2, 3, 1, 4, 2];
 
 const FONT: &[u8] = &[5, 1, 23, 0, 0, 0, 0, 1, 11, 3];

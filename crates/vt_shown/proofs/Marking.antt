@@ -1,4 +1,4 @@
--- Marks of what a mask shows, found level by level.
+-- The marks of the elements that a mask shows, found level by level.
 use Rattle.std.proofs.Common.{◌≡◌, ◌<◌, ◌≤◌, ◌+◌, ◌⊎◌, inl, inr, ℕ, zero, suc, Bool, true, false, cond, eqb, not, ◌&&◌, List, [], ◌∷◌, ◌++◌, map, filter, length, set, take, replicate, get_or, Option, Some, None, refl, sym, ap, subst, ◌∙◌, arith}
 use Rattle.std.proofs.lemmas.List.{get_or-set_same, get_or-set_other, length-set, take_more}
 use Rattle.std.proofs.lemmas.List.Elements.{Contains-append_left, Contains-append_right, Contains-append_cases}
@@ -29,7 +29,7 @@ use Rattle.vt_shown.specs.Showing.{behind, stands_for, is_element, ids_in, item_
 use Rattle.vt_shown.specs.Showing.IsShown.{InMask, AmongKeys, Within}
 use Rattle.vt_chains.proofs.Slots.{in_first}
 
--- ---- names
+-- ---- IDs in lists
 
 named_case : (P : Type 0) (m : ObjectMap) (xs ys : List ℕ) (id : ℕ) → IsNamed m (xs ++ ys) id → (IsNamed m xs id → P) → (IsNamed m ys id → P) → P
 named_case P m xs ys id is left right =
@@ -44,7 +44,7 @@ named_left m xs ys id is = record { name = is.name; among = Contains-append_left
 named_right : (m : ObjectMap) (xs ys : List ℕ) (id : ℕ) → IsNamed m ys id → IsNamed m (xs ++ ys) id
 named_right m xs ys id is = record { name = is.name; among = Contains-append_right xs ys is.name is.among; stands = is.stands; element = is.element }
 
--- the only name among one
+-- the only ID in a list of one
 only_name : (x y : ℕ) → Contains (x ∷ []) y → x ≡ y
 only_name x y h = cons_case (x ≡ y) x y [] h (λ is. is) (λ none. absurd (Contains-nil y none))
 
@@ -75,14 +75,14 @@ marks_more m xs ys a b c one other = record {
   ];
 }
 
--- the next of some names
+-- marking one more listed ID
 pub marks_next : (m : ObjectMap) (names : List ℕ) (i name : ℕ) (a b c : List Bool) → i < length names → name ≡ get_or names i 0 → Marks m (take i names) a b
     → Marks m (name ∷ []) b c → Marks m (take (i + 1) names) a c
 marks_next m names i name a b c lt is before next =
     subst (λ (xs : List ℕ). Marks m xs a c) (sym (take_more names i 0 lt))
     (marks_more m (take i names) (get_or names i 0 ∷ []) a b c before (subst (λ (n : ℕ). Marks m (n ∷ []) b c) is next))
 
--- a name that stands for no element
+-- an ID that resolves to no element needs no mark
 pub marks_passed : (m : ObjectMap) (name : ℕ) (marks : List Bool) → ((id : ℕ) → stands_for m name ≡ Some id → IsTrue (is_element (finite.get m id)) → ⊥)
     → Marks m (name ∷ []) marks marks
 marks_passed m name marks none = record {
@@ -92,7 +92,7 @@ marks_passed m name marks none = record {
   only = λ id is. inl is;
 }
 
--- a name that stands for an element
+-- marking the element that an ID resolves to
 pub marks_one : (m : ObjectMap) (name id place : ℕ) (marks : List Bool) → length marks ≡ length (ids_of m) → stands_for m name ≡ Some id
     → IsTrue (is_element (finite.get m id)) → IsPlace (finite.entries m) id place → Marks m (name ∷ []) marks (set marks place true)
 marks_one m name id place marks long is element at =
@@ -119,7 +119,7 @@ marks_one m name id place marks long is element at =
       | inr differs ↦ get_or-set_other marks place at true false differs ∙ was
     ]
 
--- ---- what is drawn is included
+-- ---- drawn elements are included
 
 -- the IDs that slots include
 abbrev included_in : List Slot → List ℕ
@@ -174,9 +174,9 @@ drawn_included m (Some (objects.InputList o)) name there h =
     listed_included kinds.InputList places.Item 0 o.items name (λ i. refl) there (item_among o.items _ name h)
 drawn_included m _ name there h = absurd (Contains-nil name h)
 
--- ---- what is drawn stands lower
+-- ---- drawn elements have lesser levels
 
--- the value of a pointer is included by it
+-- a pointer includes its value
 value_of : (m : ObjectMap) (value other : ℕ) → finite.get m 65535 ≡ None → option_map (λ o. value) (finite.get m value) ≡ Some other → (eqb other 65535 ≡ false) × (value ≡ other)
 value_of m value other null is = from (finite.get m value) refl is
   where
@@ -195,7 +195,7 @@ behind_case P m name other (Some (objects.ObjectPointer o)) null is here later =
     (subst (Contains (o.value ∷ [])) value.1 (Contains-head o.value [])))
 behind_case P m name other (Some _) null is here later = here (same_Some name other is)
 
--- an element that is named itself
+-- an element resolves to itself
 itself : (m : ObjectMap) (name : ℕ) (o : Seen) → is_element (Some o) ≡ true → behind m name (Some o) ≡ Some name
 itself m name (objects.ObjectPointer o) is = absurd cc
 itself m name _ is = refl
@@ -229,7 +229,7 @@ named_falls m levels place id other certificate null stands named =
     let two = last.less in
     record { place = last.place; there = last.there; less = omega (arith, one, two) })
 
--- NULL is no object's ID
+-- NULL is not the ID of an object
 pub null_nowhere : (m : ObjectMap) → All (λ id. id < 65535) (ids_of m) → finite.get m 65535 ≡ None
 null_nowhere m named = from (finite.get m 65535) refl
   where
@@ -243,7 +243,7 @@ null_nowhere m named = from (finite.get m 65535) refl
 
 -- ---- level by level
 
--- the marked objects of a level before a place are done as well
+-- the drawings of the marked objects of a level with lesser indices are marked as well
 pub record ArePassed (m : ObjectMap) (levels : List ℕ) (mask level place : ℕ) (marks : List Bool) : Type 0 where
   pub marked : AreMarked m levels mask (level + 1) marks
   pub passed : (at id : ℕ) → IsAt (ids_of m) at id → at < place → slice_index_or marks at false ≡ true → slice_index levels at ≡ level
@@ -276,7 +276,7 @@ pass_ends m levels mask level place marks end are = record {
   ];
 }
 
--- what an object draws marks nothing of its level or above
+-- marking an object's drawing leaves the marks of its level and of greater levels unchanged
 still_set : (m : ObjectMap) (levels : List ℕ) (place id : ℕ) (marks new : List Bool) → IsCertificate (ids_of m) (inclusions_of m) levels → finite.get m 65535 ≡ None
     → IsAt (ids_of m) place id → Marks m (drawn_in m (finite.get m id)) marks new → (at other : ℕ) → IsAt (ids_of m) at other
     → slice_index_or new at false ≡ true → slice_index levels place ≤ slice_index levels at → slice_index_or marks at false ≡ true
@@ -316,9 +316,9 @@ pass_more m levels mask level place id marks new certificate null stands set is 
     was : (at other : ℕ) → IsAt (ids_of m) at other → slice_index_or new at false ≡ true → slice_index levels place ≤ slice_index levels at → slice_index_or marks at false ≡ true
     was = still_set m levels place id marks new certificate null stands draws
 
--- ---- first and last
+-- ---- the first and the last marks
 
--- nothing is marked yet, and then what the mask draws and its soft keys
+-- all marks are clear first, and then the mask's drawing and its soft keys are marked
 pub marking_begins : (m : ObjectMap) (levels : List ℕ) (mask : ℕ) (none drawn new : List Bool) → IsCertificate (ids_of m) (inclusions_of m) levels
     → length none ≡ length (ids_of m) → ((at : ℕ) → slice_index_or none at false ≡ false) → Marks m (drawn_in m (finite.get m mask)) none drawn
     → Marks m (soft_keys m mask) drawn new → AreMarked m levels mask 33 new
@@ -348,7 +348,7 @@ shown_element m mask id (InMask _ named) = named.element
 shown_element m mask id (AmongKeys _ named) = named.element
 shown_element m mask other (Within id _ shown named) = named.element
 
--- the mark of an object says whether it is shown
+-- the mark of an object is set exactly if the object is shown
 pub shown_by_mark : (m : ObjectMap) (levels : List ℕ) (mask id place : ℕ) (marks : List Bool) → AreMarked m levels mask 0 marks → IsPlace (finite.entries m) id place
     → slice_index_or marks place false ≡ true → IsShown m mask id
 shown_by_mark m levels mask id place marks are at set = are.shown id (record { place = place; there = stands_of (finite.entries m) place id at.object at.there; set = set })
@@ -361,7 +361,7 @@ hidden_by_mark m levels mask id place marks are at clear shown =
     let never = sym is.set ∙ ap (λ (p : ℕ). slice_index_or marks p false) same ∙ clear in
     absurd cc
 
--- ---- places
+-- ---- the indices of objects
 
 pub placed_is : (m : ObjectMap) (place id other : ℕ) (o : Seen) → slice_get (finite.entries m) place ≡ Some (other, o) → IsAt (ids_of m) place id → finite.get m id ≡ Some o
 placed_is m place id other o at there =
@@ -378,7 +378,7 @@ cleared n marks is at = ap (λ (xs : List Bool). slice_index_or xs at false) is 
     all_clear (suc n) zero = refl
     all_clear (suc n) (suc at) = all_clear n at
 
--- no object is of a level from the count of the levels on
+-- no object has a level of at least the number of levels
 pub none_above : (m : ObjectMap) (levels : List ℕ) (mask count : ℕ) (marks : List Bool) → length levels ≡ length (ids_of m)
     → ((at : ℕ) → at < length levels → slice_index levels at < count) → AreMarked m levels mask 33 marks → AreMarked m levels mask count marks
 none_above m levels mask count marks long below are = record {

@@ -1,4 +1,4 @@
--- Names of which all that they stand for is marked.
+-- Listed IDs that are done: the elements that they resolve to are marked.
 use Rattle.std.proofs.Common.{◌≡◌, ◌<◌, ℕ, zero, suc, Bool, true, false, List, [], ◌∷◌, length, set, replicate, inl, inr, refl, sym, subst, ◌∙◌}
 use Rattle.std.proofs.lemmas.List.{get_or-set_other}
 use Rattle.std.proofs.lemmas.Bool.{cases_eq}
@@ -7,7 +7,7 @@ use Rattle.vt_stores.specs.Stores.{ObjectMap}
 use Rattle.vt_shown.specs.Marks.{IsMarked, Marks, AreDone}
 use Rattle.vt_shown.specs.Showing.{IsNamed}
 
--- none is at first
+-- no ID is done at first
 pub none_seen : (n name : ℕ) → slice_index_or (replicate n false) name false ≡ false
 none_seen zero name = refl
 none_seen (suc n) zero = refl

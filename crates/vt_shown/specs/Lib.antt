@@ -1,3 +1,3 @@
--- What the contracts of this crate cite.
+-- The definitions used in the contracts of vt_shown.
 pub mod Marks
 pub mod Showing

@@ -1,4 +1,4 @@
--- Marks of the objects of a store, at their places by rising ID.
+-- Marks of the objects of a store, at the index of each object by rising ID.
 use Rattle.std.specs.Prelude.{◌≡◌, ◌≤◌, ◌⊎◌, ℕ, Bool, true, false, List, [], ◌∷◌, length, slice_index, slice_index_or}
 use Rattle.std.specs.FinMap as finite
 use Rattle.vt_stores.specs.Stores.{ObjectMap}
@@ -11,18 +11,18 @@ pub record IsMarked (store : ObjectMap) (marks : List Bool) (id : ℕ) : Type 0 
   pub there : IsAt (ids_of store) place id
   pub set : slice_index_or marks place false ≡ true
 
--- the elements that names stand for are marked, and else what was
+-- the new marks are the old ones and those of the elements that the listed IDs resolve to
 pub record Marks (store : ObjectMap) (names : List ℕ) (old new : List Bool) : Type 0 where
   pub each : length new ≡ length old
   pub kept : (id : ℕ) → IsMarked store old id → IsMarked store new id
   pub added : (id : ℕ) → IsNamed store names id → IsMarked store new id
   pub only : (id : ℕ) → IsMarked store new id → IsMarked store old id ⊎ IsNamed store names id
 
--- The elements that some names stand for are marked: the names are done.
+-- All IDs in `named` are done: the elements that they resolve to are marked.
 abbrev pub AreDone : ObjectMap → List Bool → List Bool → Type 0
 AreDone store named marks = (name : ℕ) → slice_index_or named name false ≡ true → (id : ℕ) → IsNamed store (name ∷ []) id → IsMarked store marks id
 
--- What a mask draws and its soft keys are marked, and of what is shown whatever an object of at least a level draws.
+-- The elements of a mask and of its soft keys are marked, and those drawn by each marked object of at least a level.
 pub record AreMarked (store : ObjectMap) (levels : List ℕ) (mask level : ℕ) (marks : List Bool) : Type 0 where
   pub each : length marks ≡ length (ids_of store)
   pub shown : (id : ℕ) → IsMarked store marks id → IsShown store mask id

@@ -1,4 +1,4 @@
--- What a mask shows: the elements of its drawing, however long, and its soft keys (docs/PROFILE.md, "The drawing").
+-- The elements that a mask shows: its drawing, however long, and its soft keys (docs/PROFILE.md, "The drawing").
 use Rattle.std.specs.Prelude.{◌≡◌, ℕ, Bool, true, false, ◌==◌, if◌then◌else◌, List, [], map, slice_get, Option, Some, None, Contains, IsTrue}
 use Rattle.std.specs.Option.{option_map, option_to_list}
 use Rattle.std.specs.FinMap as finite
@@ -7,25 +7,25 @@ use Rattle.vt_kinds.specs.declared.object.Object.TheVariants as objects
 use Rattle.vt_kinds.specs.Records.{Seen}
 use Rattle.vt_stores.specs.Stores.{ObjectMap}
 
--- ---- what an ID in a list stands for: a pointer for its value
+-- ---- the object that a listed ID resolves to: for a pointer, its value
 
 abbrev pub behind : ObjectMap → ℕ → Option Seen → Option ℕ
 behind store id None = None
 behind store id (Some (objects.ObjectPointer o)) = option_map (λ value. o.value) (finite.get store o.value)
 behind store id (Some o) = Some id
 
--- none where nothing is there, as under NULL
+-- the ID that a listed ID resolves to; None if the object is missing, as for NULL
 abbrev pub stands_for : ObjectMap → ℕ → Option ℕ
 stands_for store id = behind store id (finite.get store id)
 
--- neither a pointer nor a hidden container
+-- whether an object is neither a pointer nor a hidden container
 abbrev pub is_element : Option Seen → Bool
 is_element (Some (objects.Container o)) = o.hidden == 0
 is_element (Some (objects.ObjectPointer o)) = false
 is_element (Some o) = true
 is_element None = false
 
--- ---- what an object draws within it
+-- ---- the IDs that an object draws within itself
 
 abbrev pub ids_in : List Child → List ℕ
 ids_in children = map (λ child. child.id) children
@@ -35,16 +35,16 @@ abbrev pub number_in : Option Seen → Option ℕ
 number_in (Some (objects.NumberVariable o)) = Some o.value
 number_in _ = None
 
--- the value that an object shows: that of its variable, if it has one
+-- the number that an object shows: its variable's value, if it has a variable
 abbrev pub number_shown : ObjectMap → ℕ → ℕ → Option ℕ
 number_shown store variable own = if variable == 0xFFFF then Some own else number_in (finite.get store variable)
 
--- the item of an index
+-- the item at an index, or none
 abbrev pub item_of : List ℕ → Option ℕ → List ℕ
 item_of items None = []
 item_of items (Some index) = option_to_list (slice_get items index)
 
--- the children, and of an input list the item of its index; a hidden container is not entered
+-- the children of an object, or the current item of an input list; none for a hidden container
 abbrev pub drawn_in : ObjectMap → Option Seen → List ℕ
 drawn_in store (Some (objects.WorkingSet o)) = ids_in o.children
 drawn_in store (Some (objects.DataMask o)) = ids_in o.children
@@ -57,7 +57,7 @@ drawn_in store _ = []
 
 -- ---- soft keys
 
--- the soft key mask of a mask, NULL of what is none
+-- the soft key mask of a mask; NULL for other objects
 abbrev pub soft_key_mask_of : Option Seen → ℕ
 soft_key_mask_of (Some (objects.DataMask o)) = o.soft_key_mask
 soft_key_mask_of (Some (objects.AlarmMask o)) = o.soft_key_mask
@@ -71,16 +71,16 @@ keys_of _ = []
 abbrev pub soft_keys : ObjectMap → ℕ → List ℕ
 soft_keys store mask = keys_of (finite.get store (soft_key_mask_of (finite.get store mask)))
 
--- ---- what is shown
+-- ---- shown elements
 
--- an ID among these stands for an element
+-- a listed ID resolves to the element `id`
 pub record IsNamed (store : ObjectMap) (names : List ℕ) (id : ℕ) : Type 0 where
   pub name : ℕ
   pub among : Contains names name
   pub stands : stands_for store name ≡ Some id
   pub element : IsTrue (is_element (finite.get store id))
 
--- in the mask, among its soft keys, or within what is shown
+-- an element is shown in the mask, among its soft keys, or within a shown element
 pub data IsShown (store : ObjectMap) (mask : ℕ) : ℕ → Type 0 where
   InMask : (id : ℕ) → IsNamed store (drawn_in store (finite.get store mask)) id → IsShown store mask id
   AmongKeys : (id : ℕ) → IsNamed store (soft_keys store mask) id → IsShown store mask id

@@ -1,6 +1,6 @@
-//! What a mask shows (ISO 11783-6): the elements of its drawing, however long, and its soft keys.
+//! The objects that a mask shows (ISO 11783-6): the elements of its drawing, however long, and its soft keys.
 //!
-//! `is_shown` tells whether a mask shows an object, and `soft_key_mask` has the soft keys of a mask.
+//! `is_shown` returns whether a mask shows an object, and `soft_key_mask` returns the soft key mask of a mask.
 //!
 //! docs/PROFILE.md, "The drawing".
 #![tactic(auto)]

@@ -1,4 +1,4 @@
-//! Which objects a mask shows.
+//! Tests whether a mask shows an object.
 
 ghost use Rattle.std.specs.Prelude.{◌≡◌, ◌≤◌, ◌<◌, ◌+◌, ◌∷◌, ℕ, [], false, true, length, slice_get, slice_index, slice_index_or, EachIndex, IfSome, IsTrue, Some};
 ghost use Rattle.std.specs.Option.{option_map};
@@ -15,9 +15,9 @@ use crate::soft_keys::soft_key_mask;
 use vt_kinds::{Child, Entries, InputList, Object, ObjectId};
 use vt_stores::Store;
 
-/// Whether a mask shows an object: in its drawing, however long, or on its soft keys. Neither a pointer nor a hidden
-/// container is shown, nor what is not there. The marks are room to work in, one for each object, of any value.
-/// docs/PROFILE.md, "The drawing".
+/// Whether a mask shows an object, in its drawing, however long, or on its soft keys. Pointers, hidden containers and
+/// missing objects are not shown. `marks` is scratch memory with one mark for each object, of any value. docs/PROFILE.md,
+/// "The drawing".
 pub fn is_shown<S: Store>(
     store: &S,
     levels: &[u8],
@@ -42,7 +42,7 @@ pub fn is_shown<S: Store>(
     marks[place]
 }
 
-/// Marks what a mask draws and its soft keys, and nothing else.
+/// Marks the elements that a mask draws and those of its soft keys, and clears all other marks.
 fn mark_mask<S: Store>(
     store: &S,
     levels: &[u8],
@@ -63,7 +63,7 @@ fn mark_mask<S: Store>(
     mark_soft_keys(store, marks, mask);
 }
 
-/// Marks all that stands within what is marked.
+/// Marks all elements within the marked objects.
 fn mark_within<S: Store>(
     store: &S,
     levels: &[u8],
@@ -82,7 +82,7 @@ fn mark_within<S: Store>(
     }
 }
 
-/// How many levels there are, from 0 to the greatest.
+/// The number of levels, from 0 to the greatest.
 fn level_count(levels: &[u8]) -> u8
     requires { (place : ℕ) → slice_index levels.now place ≤ 32 }
     ensures { EachIndex levels.now (λ place. slice_index levels.now place < result) }
@@ -96,7 +96,7 @@ fn level_count(levels: &[u8]) -> u8
     count
 }
 
-/// Marks what the marked objects of a level draw, where that of the levels above is marked.
+/// Marks the elements drawn by the marked objects of a level, after those of all greater levels.
 fn mark_level<S: Store>(
     store: &S,
     levels: &[u8],
@@ -120,7 +120,7 @@ fn mark_level<S: Store>(
     }
 }
 
-/// Marks the elements that the object at a place draws.
+/// Marks the elements drawn by the object at an index of the store.
 fn mark_drawing_at<S: Store>(store: &S, marks: &mut [bool], named: &mut [bool], place: usize)
     requires marks { length marks.old ≡ length (ids_of (S.contents store.now)) }
     requires all { length named.old ≡ 65536 }
@@ -135,7 +135,7 @@ fn mark_drawing_at<S: Store>(store: &S, marks: &mut [bool], named: &mut [bool], 
     }
 }
 
-/// Marks the elements that the object of an ID draws.
+/// Marks the elements drawn by an object, given its ID.
 fn mark_drawing<S: Store>(store: &S, marks: &mut [bool], named: &mut [bool], id: ObjectId)
     requires marks { length marks.old ≡ length (ids_of (S.contents store.now)) }
     requires all { length named.old ≡ 65536 }
@@ -150,7 +150,7 @@ fn mark_drawing<S: Store>(store: &S, marks: &mut [bool], named: &mut [bool], id:
     }
 }
 
-/// Marks the elements that an object draws.
+/// Marks the elements drawn by an object.
 fn mark_drawn<S: Store>(store: &S, marks: &mut [bool], named: &mut [bool], object: &Object<Vec<u8>>)
     requires marks { length marks.old ≡ length (ids_of (S.contents store.now)) }
     requires all { length named.old ≡ 65536 }
@@ -171,8 +171,7 @@ fn mark_drawn<S: Store>(store: &S, marks: &mut [bool], named: &mut [bool], objec
     }
 }
 
-/// Marks the elements that children stand for. What was named before is done, and costs no look-up: lists name the same objects
-/// again and again.
+/// Marks the elements of children. Skips IDs already in `named`, without a look-up: many lists have the same objects.
 fn mark_children<S: Store>(
     store: &S,
     marks: &mut [bool],
@@ -195,7 +194,7 @@ fn mark_children<S: Store>(
     }
 }
 
-/// Marks the element that the item of a list's index stands for.
+/// Marks the element of the list's current item.
 fn mark_item<S: Store>(store: &S, marks: &mut [bool], list: &InputList)
     requires { length marks.old ≡ length (ids_of (S.contents store.now)) }
     ensures { Marks (S.contents store.now) (showing.item_of list.now.items (showing.number_shown (S.contents store.now) list.now.variable list.now.value)) marks.old marks.new }
@@ -220,7 +219,7 @@ fn mark_soft_keys<S: Store>(store: &S, marks: &mut [bool], mask: ObjectId)
     }
 }
 
-/// Marks the elements that keys stand for.
+/// Marks the elements of soft keys.
 fn mark_keys<S: Store>(store: &S, marks: &mut [bool], keys: &Entries<ObjectId>)
     requires { length marks.old ≡ length (ids_of (S.contents store.now)) }
     ensures { Marks (S.contents store.now) keys.now marks.old marks.new }
@@ -230,7 +229,7 @@ fn mark_keys<S: Store>(store: &S, marks: &mut [bool], keys: &Entries<ObjectId>)
     }
 }
 
-/// Marks what a name stands for, if that is an element.
+/// Marks the element that an ID resolves to, if it is an element.
 fn mark_named<S: Store>(store: &S, marks: &mut [bool], name: ObjectId)
     requires { length marks.old ≡ length (ids_of (S.contents store.now)) }
     ensures { Marks (S.contents store.now) (name ∷ []) marks.old marks.new }
@@ -241,7 +240,7 @@ fn mark_named<S: Store>(store: &S, marks: &mut [bool], name: ObjectId)
     }
 }
 
-/// The place of an element that is named itself, which nearly all are.
+/// The index of an element that an ID refers to directly, as nearly all IDs do. `None` for other IDs.
 fn element_place<S: Store>(store: &S, name: ObjectId) -> Option<usize>
     ensures { IfSome result (λ place. IsPlace (finite.entries (S.contents store.now)) name place
         × IsTrue (showing.is_element (finite.get (S.contents store.now) name))
@@ -254,7 +253,7 @@ fn element_place<S: Store>(store: &S, name: ObjectId) -> Option<usize>
     None
 }
 
-/// Whether an element stands at a place.
+/// Whether the object at an index of the store is an element.
 fn is_element_at<S: Store>(store: &S, place: usize) -> bool
     ensures { (entry : ℕ × Seen) → slice_get (finite.entries (S.contents store.now)) place ≡ Some entry → result ≡ showing.is_element (Some entry.1) }
 {
@@ -264,7 +263,7 @@ fn is_element_at<S: Store>(store: &S, place: usize) -> bool
     }
 }
 
-/// Marks what a name stands for, a pointer for its value, if that is an element.
+/// Marks the element that an ID resolves to, directly or through a pointer, if it is an element.
 fn mark_behind<S: Store>(store: &S, marks: &mut [bool], name: ObjectId)
     requires { length marks.old ≡ length (ids_of (S.contents store.now)) }
     ensures { Marks (S.contents store.now) (name ∷ []) marks.old marks.new }
@@ -280,7 +279,7 @@ fn mark_behind<S: Store>(store: &S, marks: &mut [bool], name: ObjectId)
     }
 }
 
-/// What an ID in a list stands for: a pointer for its value.
+/// The ID that a listed ID resolves to: a pointer's value, or the ID itself. `None` if the object is missing.
 fn stands_for<S: Store>(store: &S, id: ObjectId) -> Option<ObjectId>
     ensures { result ≡ showing.stands_for (S.contents store.now) id }
 {
@@ -300,7 +299,7 @@ fn if_there<S: Store>(store: &S, id: ObjectId) -> Option<ObjectId>
     }
 }
 
-/// Whether an object is there that is neither a pointer nor a hidden container.
+/// Whether an object exists and is neither a pointer nor a hidden container.
 fn is_element<S: Store>(store: &S, id: ObjectId) -> bool
     ensures { result ≡ showing.is_element (finite.get (S.contents store.now) id) }
 {
@@ -321,7 +320,7 @@ fn is_drawn(object: &Object<Vec<u8>>) -> bool
     }
 }
 
-/// The number that an object shows: that of its variable, if it has one.
+/// The number that an object shows: its variable's value, if it has a variable.
 fn number_shown<S: Store>(store: &S, variable: ObjectId, own: u32) -> Option<u32>
     ensures { result ≡ showing.number_shown (S.contents store.now) variable own }
 {

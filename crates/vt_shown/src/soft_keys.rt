@@ -1,4 +1,4 @@
-//! The soft keys of a mask.
+//! Looks up the soft keys of a mask.
 
 ghost use Rattle.std.specs.Prelude.{◌≡◌};
 ghost use Rattle.std.specs.FinMap as finite;
@@ -7,7 +7,7 @@ ghost use Rattle.vt_shown.specs.Showing as showing;
 use vt_kinds::{Object, ObjectId};
 use vt_stores::Store;
 
-/// The soft key mask of a mask, NULL of what is none.
+/// The soft key mask of a mask. NULL if `mask` is not a mask.
 pub fn soft_key_mask<S: Store>(store: &S, mask: ObjectId) -> ObjectId
     ensures { result ≡ showing.soft_key_mask_of (finite.get (S.contents store.now) mask) }
 {

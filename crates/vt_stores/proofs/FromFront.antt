@@ -1,4 +1,4 @@
--- What a search from the front finds.
+-- The results of a linear search for an ID, from the front.
 use Rattle.std.proofs.Common.{◌≡◌, ℕ, suc, ◌+◌, Bool, true, false, cond, eqb, List, [], ◌∷◌, map, Option, Some, None, refl, sym, ap, subst, ◌∙◌, arith}
 use Rattle.std.proofs.lemmas.Bool.{eqb-true}
 use Rattle.std.specs.Prelude.{IfSome, IfNone}
@@ -48,7 +48,7 @@ module _ {B : Type 0} where
   none_from q i [] none = refl
   none_from q i (e ∷ es) none = none_by_case q i e es (eqb q e.0) refl none (none_from q (i + 1) es)
 
-  -- ---- from the first on
+  -- ---- a search that starts at index 0
 
   pub front_some : (q : ℕ) (es : List (ℕ × Object B)) (o : Option ℕ) → o ≡ position_from (λ e. eqb q e.0) 0 es → IfSome o (IsPlace (map shown es) q)
   front_some q es (Some p) is =

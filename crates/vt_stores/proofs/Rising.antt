@@ -1,4 +1,4 @@
--- Entries that are sorted by their IDs, and what is found among them.
+-- Entries sorted by ID: they rise strictly if their IDs are unique, and the lookups of IDs among them.
 use Rattle.std.proofs.Common.{◌≡◌, ℕ, suc, ◌+◌, ◌<◌, ◌≤◌, Bool, true, false, cond, not, ◌&&◌, eqb, List, [], ◌∷◌, map, filter, length, Option, Some, None, refl, sym, ap, ap₂, subst, ◌∙◌, arith, inl, inr}
 use Rattle.std.proofs.lemmas.Bool.{eqb-true, eq-eqb, ne_eqb, cases_lt}
 use Rattle.std.proofs.lemmas.Map.Keys.{ge_from_not_lt}
@@ -30,7 +30,7 @@ equal a = sym (nat_cmp_is a a Equal refl)
 pub greater : (a b : ℕ) → b < a → nat_cmp a b ≡ Greater
 greater a b lt = sym (nat_cmp_is a b Greater lt)
 
--- one of three
+-- the order of two numbers: less, equal or greater
 pub data Three (a b : ℕ) : Type 0 where
   below : a < b → Three a b
   same : a ≡ b → Three a b
@@ -75,7 +75,7 @@ pub T_of : (b : Bool) → IsTrue b → T b
 T_of true is = tt
 T_of false is = absurd cc
 
--- ---- below all
+-- ---- lower bounds of all IDs
 
 below_all_is : (a e : ℕ) (es : Objects) → a < e → IsTrue (below_all nat_cmp e es) → IsTrue (below_all nat_cmp a es)
 below_all_is a e [] lt all = refl
@@ -84,10 +84,10 @@ below_all_is a e (x ∷ es) lt all =
     true_both (is_lt (nat_cmp a x.0)) (below_all nat_cmp a es)
     (subst (λ (o : Ordering). IsTrue (is_lt o)) (sym (less a x.0 (less_than a e x.0 lt (three e x.0) parts.0))) refl) (below_all_is a e es lt parts.1)
 
--- ---- what is found
+-- ---- the result of a lookup
 
 module _ {B : Type 0} where
-  -- the entries of an ID
+  -- the entries with an ID
   of : ℕ → List (ℕ × Object B) → List (ℕ × Object B)
   of q es = filter (λ e. eqb q e.0) es
 
@@ -115,7 +115,7 @@ module _ {B : Type 0} where
       ap (λ (b : Bool). cond b (Some (seen e.1)) (object_at (map shown es) q)) (equals_by q e.0 (three q e.0))
       ∙ found_case e (of q es) (object_at (map shown es) q) (eqb q e.0) (found q es)
 
-  -- ---- no ID twice
+  -- ---- unique IDs
 
   AtMostOnce : List (ℕ × Object B) → Type 0
   AtMostOnce es = (q : ℕ) → length (of q es) ≤ 1
@@ -142,7 +142,7 @@ module _ {B : Type 0} where
       let all = once e.0 in
       omega arith
 
-  -- ---- sorted entries with each ID once rise
+  -- ---- sorted entries with unique IDs rise strictly
 
   abbrev pub Sorted : List (ℕ × Object B) → Type 0
   Sorted es = IsSortedByKey (λ (e : ℕ × Object B). e.0) nat_cmp es
@@ -171,7 +171,7 @@ module _ {B : Type 0} where
       let next : IsTrue (is_lt (nat_cmp a.0 e.0)) = subst (λ (o : Ordering). IsTrue (is_lt o)) (sym (less a.0 e.0 lt)) refl in
       true_both _ _ (true_both _ _ next (below_all_is a.0 e.0 (map shown es) lt parts.0)) later
 
-  -- ---- distinct IDs
+  -- ---- distinct IDs are unique
 
   none_of : (q : ℕ) (es : List (ℕ × Object B)) → AllByRecursion (λ k. eqb q k ≡ false) (map (λ e. e.0) es) → length (of q es) ≡ 0
   unfolding of
@@ -190,7 +190,7 @@ module _ {B : Type 0} where
   distinct_once [] distinct q = omega arith
   distinct_once (e ∷ es) distinct q = once_case q e es (eqb q e.0) refl distinct.0 (distinct_once es distinct.1 q)
 
-  -- ---- sorted, and none moved past another of its ID
+  -- ---- a stable sort keeps the entries of each ID
 
   abbrev pub Stable : List (ℕ × Object B) → List (ℕ × Object B) → Type 0
   Stable es sorted = IsStableByKey (λ (e : ℕ × Object B). e.0) nat_cmp es sorted
@@ -226,7 +226,7 @@ module _ {B : Type 0} where
   ids_shown [] = refl
   ids_shown (e ∷ es) = ap (λ (l : List ℕ). e.0 ∷ l) (ids_shown es)
 
--- ---- rising IDs are distinct
+-- ---- strictly rising IDs are distinct
 
 none_alike : (a : ℕ) (s : Objects) → IsTrue (below_all nat_cmp a s) → AllByRecursion (λ k. eqb a k ≡ false) (ids s)
 none_alike a [] lower = tt

@@ -1,4 +1,4 @@
--- What a search among rising entries finds.
+-- The results of a binary search for an ID among entries with rising IDs.
 use Rattle.std.proofs.Common.{◌≡◌, ◌≢◌, ℕ, zero, suc, ◌<◌, ◌≤◌, Bool, true, false, cond, List, [], ◌∷◌, map, length, Option, Some, None, refl, sym, ap, subst, ◌∙◌, arith, inl, inr}
 use Rattle.std.proofs.lemmas.Bool.{cases_lt}
 use Rattle.std.specs.Prelude.{slice_index_or, slice_get, IsTrue}
@@ -17,7 +17,7 @@ use Rattle.vt_stores.specs.Stores.{shown}
 use Rattle.vt_stores.specs.Stores.{Objects, IsRising, IsPlace, object_at}
 use Rattle.vt_stores.proofs.Rising.{less, equal, greater, Three, below, same, above, three, both_true}
 
--- two numbers in the order that a test says
+-- a true test is_lt on nat_cmp means that the first number is less
 pub is_below : (a b : ℕ) → Three a b → IsTrue (is_lt (nat_cmp a b)) → a < b
 is_below a b (below lt) is = lt
 is_below a b (same e) is =
@@ -89,7 +89,7 @@ module _ {B : Type 0} where
       let b = (slice_index_or es j d).0 in
       index_by a b id (rising_at es i j d rising le lt) (three a id) (three b id)
 
-  -- ---- the object at a place
+  -- ---- the object at an index
 
   pub get_at : (es : List (ℕ × Object B)) (i : ℕ) (d : ℕ × Object B) → i < length es → slice_get (map shown es) i ≡ Some (shown (slice_index_or es i d))
   get_at [] i d lt = absurd (omega arith)
@@ -118,7 +118,7 @@ module _ {B : Type 0} where
         found = subst (λ (k : ℕ). object_at (map shown es) k ≡ Some (seen e.1)) same_id (found_at es i d rising lt);
       }
 
-  -- ---- nothing there
+  -- ---- a missing ID
 
   missed : (es : List (ℕ × Object B)) (id : ℕ) → ((i : ℕ) (d : ℕ × Object B) → i < length es → (slice_index_or es i d).0 ≢ id) → object_at (map shown es) id ≡ None
   missed [] id differs = refl
@@ -135,7 +135,7 @@ module _ {B : Type 0} where
         | inr upper ↦ not_by Greater (slice_index_or es k d).0 id (parts.1 k d upper lt) greater_no
       ])
 
-  -- ---- what a search answers
+  -- ---- the result of a binary search
 
   placed_at : (es : List (ℕ × Object B)) (id i : ℕ) → IsRising (map shown es) → i < length es → HoldsAt (λ (e : ℕ × Object B). nat_cmp e.0 id ≡ Equal) es i
       → IsPlace (map shown es) id i
@@ -152,7 +152,7 @@ module _ {B : Type 0} where
   search_missed es id (Ok i) rising lt found = tt
   search_missed es id (Err i) rising lt found = none_at es id i (found (in_order es id rising))
 
-  -- the same for what was searched and answered
+  -- search_found for equal entries, view, ID and result
   pub found_in : (es searched : List (ℕ × Object B)) (seen_as : Objects) (k id : ℕ) (r : Result ℕ ℕ) (out : Option ℕ)
       → searched ≡ es → seen_as ≡ map shown es → k ≡ id → out ≡ result_ok r → IsRising (map shown es) → IsSearchInRange r (length searched)
       → IsBinarySearchResult (λ (e : ℕ × Object B). nat_cmp e.0 k) searched r → IfSome out (λ place. IsPlace seen_as id place)

@@ -1,4 +1,4 @@
--- What is the same of an object wherever its bytes lie.
+-- Properties of an object that do not depend on its byte buffers: slots, kind, macro entries and macro bytes.
 use Rattle.std.proofs.Common.{◌≡◌, ℕ, [], ◌∷◌, Bool, true, false, cond, Option, Some, None, refl, ap, ◌∙◌}
 use Rattle.std.specs.Option.{option_map}
 use Rattle.std.specs.Ordering.{nat_cmp, eq_by_cmp}
@@ -107,7 +107,7 @@ pub fixed_case : (b : Bool) (o : Seen) (later : Option Fixed) (rest : Option See
 fixed_case true o later rest is = refl
 fixed_case false o later rest is = is
 
--- what stays of an object is found where it is
+-- the shape holds each ID's fixed properties
 pub fixed_found : (objects : Objects) (id : ℕ) → fixed_at (shape_of objects) id ≡ option_map fixed (object_at objects id)
 fixed_found [] id = refl
 fixed_found (e ∷ objects) id = fixed_case (eq_by_cmp nat_cmp id e.0) e.1 (fixed_at (shape_of objects) id) (object_at objects id) (fixed_found objects id)

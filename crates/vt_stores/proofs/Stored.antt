@@ -1,4 +1,4 @@
--- What stores of objects by rising ID answer, and what they hold after a write.
+-- The results of a store's methods, and its map after a write.
 use Rattle.std.proofs.Common.{◌≡◌, ℕ, zero, suc, ◌<◌, ◌≤◌, Bool, true, false, cond, eqb, List, [], ◌∷◌, length, get_or, set, map, Option, Some, None, refl, sym, ap, subst, ◌∙◌, arith, T}
 use Rattle.std.proofs.lemmas.Map.Views.{All-map-IsPermutation}
 use Rattle.std.proofs.lemmas.Cmp.{nat_cmp_total}
@@ -29,7 +29,7 @@ get_from s q rising = finite.get-from_sorted nat_cmp s q (T_of _ rising)
 pub len_from : (s : Objects) → IsRising s → finite.len (finite.from_sorted {R = nat_cmp} s) ≡ length s
 len_from s rising = finite.len-entries (finite.from_sorted s) ∙ ap length (entries_from s rising)
 
--- what is by rising ID has the map of what it was made of
+-- sorting by ID keeps the map
 pub map_of_rising : (s : Objects) → finite.from_sorted {R = nat_cmp} (by_rising_id s) ≡ finite.from_entries s
 unfolding by_rising_id
 map_of_rising s =
@@ -48,7 +48,7 @@ pub null_free : (s : Objects) → AreStored s → finite.get (finite.from_sorted
 null_free s stored = get_from s 0xFFFF stored.rising ∙ none_named s stored.named.named
 
 module _ {B : Type 0} where
-  -- in another order none is NULL either
+  -- a permutation of the entries still has no NULL
   pub still_named : (es sorted : List (ℕ × Object B)) → IsPermutation es sorted → AreNamed (map shown es) → IsRising (map shown sorted) → AreStored (map shown sorted)
   still_named es sorted moved named rising =
       let all : All (λ (id : ℕ). id < 0xFFFF) (map (λ (e : ℕ × Object B). e.0) es) = subst (All (λ (id : ℕ). id < 0xFFFF)) (ids_shown es) named.named in
@@ -60,13 +60,13 @@ module _ {B : Type 0} where
         };
       }
 
-  -- distinct IDs, as the entries have them
+  -- the entries' IDs are distinct
   pub distinct_in : (es : List (ℕ × Object B)) → AreNamed (map shown es) → IsDistinct eqb (map (λ e. e.0) es)
   distinct_in es named = subst (IsDistinct eqb) (ids_shown es) named.distinct
 
-  -- ---- a write
+  -- ---- a write to one entry
 
-  -- the entry that stands at a place, with another object
+  -- replacing the object of the entry at an index
   pub put_at : (es : List (ℕ × Object B)) (p : ℕ) (x : ℕ × Object B) (w : Object B) → IsRising (map shown es) → p < length es → x ≡ get_or es p x
       → map shown (set es p (x.0, w)) ≡ put nat_cmp x.0 (seen w) (map shown es)
   put_at [] p x w rising lt is = absurd (omega arith)
@@ -122,7 +122,7 @@ module _ {B : Type 0} where
   kept es q o stored none =
       sym (ap (λ (f : Option Seen). replaced f (finite.from_sorted (map shown es)) q o) (get_from (map shown es) q stored.rising ∙ none))
 
-  -- ---- a place that was found
+  -- ---- a found index
 
   pub within_place : (es : List (ℕ × Object B)) (q p : ℕ) → IsPlace (map shown es) q p → p < length es
   within_place es q p at = inside es p at.object at.there
@@ -144,9 +144,9 @@ module _ {B : Type 0} where
   pub object_at_place : (es : List (ℕ × Object B)) (q p : ℕ) (x : ℕ × Object B) → IsPlace (map shown es) q p → x ≡ get_or es p x → Some (seen x.1) ≡ object_at (map shown es) q
   object_at_place es q p x at is = ap (λ (e : ℕ × Seen). Some e.1) (same_shown es q p x at is) ∙ sym at.found
 
-  -- ---- what a store answers
+  -- ---- the results of a store's lookups
 
-  -- entries that were searched are those that are kept
+  -- an index found in equal entries
   pub placed : (es searched : List (ℕ × Object B)) (q p : ℕ) → searched ≡ es → IsPlace (map shown searched) q p → IsPlace (map shown es) q p
   placed es searched q p same at = subst (λ (l : List (ℕ × Object B)). IsPlace (map shown l) q p) same at
 
@@ -228,12 +228,12 @@ module _ {B : Type 0} where
   entry_within es searched s p x same view stored lt is =
       entry_some es s p x view stored (subst (λ (l : List (ℕ × Object B)). slice_get l p ≡ Some x) same (some_within searched p x lt is))
 
-  -- ---- what a store is made of
+  -- ---- the construction of a store
 
   pub made_of : (es copies xs : List (ℕ × Object B)) → map shown es ≡ by_rising_id (map shown copies) → map shown copies ≡ map shown xs → map_of (map shown es) ≡ contents_of xs
   made_of es copies xs sorted same = ap map_of sorted ∙ map_of_rising (map shown copies) ∙ ap (λ (t : Objects). finite.from_entries {R = nat_cmp} t) same
 
-  -- ---- a write, where the store is seen as its objects
+  -- ---- a write, seen as the store's objects
 
   pub wrote_in : (es : List (ℕ × Object B)) (s : Objects) (q p : ℕ) (x : ℕ × Object B) (w : Object B) → map shown es ≡ s → AreStored (map shown es) → IsPlace (map shown es) q p → x ≡ get_or es p x
       → map_of (map shown (set es p (x.0, w))) ≡ with_object (map_of s) q (seen w)
@@ -245,7 +245,7 @@ module _ {B : Type 0} where
       → map_of (map shown es) ≡ with_object (map_of s) q o
   kept_in es s q o view stored none = kept es q o stored none ∙ ap (λ (t : Objects). with_object (map_of t) q o) view
 
--- ---- entries of distinct IDs, one by one
+-- ---- entries with distinct IDs, built one by one
 
 pub named_none : AreNamed []
 unfolding IsDistinct

@@ -1,4 +1,4 @@
--- What the contracts of this crate cite.
+-- The specifications that the contracts of vt_stores use.
 pub mod Rows
 pub mod Shapes
 pub mod Stores

@@ -1,4 +1,4 @@
--- The row of the objects that a store lends.
+-- The representation of the objects that a store lends, for the contracts of `get_mut`.
 use denote.RattleType.{RattleType}
 use Rattle.std.specs.Borrow.{u8}
 use Rattle.std.specs.contracts.vec.Vec as vec

@@ -1,5 +1,5 @@
--- What no command changes of the objects of a pool: which IDs there are, their kinds, the macros of their events, and
--- the bytes of macros (docs/PROFILE.md, "What every store keeps").
+-- The shape of a store, which no command changes: its IDs, kinds, macro entries and macro bytes
+-- (docs/PROFILE.md, "What every store keeps").
 use Rattle.std.specs.Prelude.{ℕ, List, [], map, Option}
 use Rattle.std.specs.Option.{option_map}
 use Rattle.std.specs.Ordering.{nat_cmp}
@@ -15,7 +15,7 @@ pub record Fixed : Type 0 where
   pub macros : List MacroEntry
   pub bytes : List ℕ
 
--- the bytes of a macro
+-- the bytes of a macro; empty for other kinds
 abbrev pub macro_bytes : Seen → List ℕ
 macro_bytes (objects.Macro o) = o.bytes
 macro_bytes o = []
@@ -23,14 +23,14 @@ macro_bytes o = []
 abbrev pub fixed : Seen → Fixed
 fixed o = record { kind = kind_of o; macros = macros_of o; bytes = macro_bytes o }
 
--- by rising ID
+-- the fixed properties of each ID, by rising ID
 abbrev pub Shape : Type 0
 Shape = List (ℕ × Fixed)
 
 abbrev pub shape_of : Objects → Shape
 shape_of objects = map (λ e. (e.0, fixed e.1)) objects
 
--- what there is under an ID
+-- the fixed properties of an ID
 abbrev pub fixed_at : Shape → ℕ → Option Fixed
 fixed_at shape id = finite.find nat_cmp id shape
 

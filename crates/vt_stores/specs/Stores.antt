@@ -1,4 +1,4 @@
--- A store as a finite map from IDs to objects, what it may be made of, and what a write through it leaves.
+-- A store as a finite map from IDs to objects: its construction, its lookups and its writes.
 use Rattle.std.specs.Prelude.{◌≡◌, ◌<◌, ℕ, List, map, eqb, Option, Some, None, IsTrue, slice_get}
 use Rattle.std.specs.List.{IsDistinct, All}
 use Rattle.std.specs.Ordering.{nat_cmp}
@@ -6,7 +6,7 @@ use Rattle.std.specs.FinMap as finite
 use Rattle.vt_kinds.specs.declared.object.Object.{Object}
 use Rattle.vt_kinds.specs.Records.{Seen, seen}
 
--- objects with their IDs
+-- objects under their IDs
 abbrev pub Objects : Type 0
 Objects = List (ℕ × Seen)
 
@@ -16,37 +16,37 @@ shown e = (e.0, seen e.1)
 abbrev pub ids : Objects → List ℕ
 ids objects = map (λ e. e.0) objects
 
--- no ID stands twice, and none is NULL
+-- IDs are unique, and none is NULL
 pub record AreNamed (objects : Objects) : Type 0 where
   pub distinct : IsDistinct eqb (ids objects)
   pub named : All (λ id. id < 0xFFFF) (ids objects)
 
--- ---- by rising ID
+-- ---- objects by rising ID
 
--- IDs with their objects, by rising ID; of those under one ID the first counts
+-- objects by rising ID; the first one counts for a repeated ID
 unfoldable pub by_rising_id : Objects → Objects
 by_rising_id entries = finite.entries (finite.from_entries {R = nat_cmp} entries)
 
--- each ID is below those after it
+-- IDs rise strictly
 abbrev pub IsRising : Objects → Type 0
 IsRising objects = IsTrue (finite.is_sorted nat_cmp objects)
 
--- each ID is below those after it, and none is NULL
+-- IDs rise strictly, and none is NULL
 pub record AreStored (objects : Objects) : Type 0 where
   pub rising : IsRising objects
   pub named : AreNamed objects
 
--- what there is under an ID
+-- the object of an ID
 abbrev pub object_at : Objects → ℕ → Option Seen
 object_at objects id = finite.find nat_cmp id objects
 
--- the object of an ID stands at the place
+-- the object of an ID is at an index
 pub record IsPlace (objects : Objects) (id place : ℕ) : Type 0 where
   pub object : Seen
   pub there : slice_get objects place ≡ Some (id, object)
   pub found : object_at objects id ≡ Some object
 
--- ---- the map
+-- ---- the map from IDs to objects
 
 abbrev pub ObjectMap : Type 0
 ObjectMap = finite.FinMap nat_cmp Seen
@@ -55,7 +55,7 @@ ObjectMap = finite.FinMap nat_cmp Seen
 abbrev pub map_of : Objects → ObjectMap
 map_of objects = finite.from_sorted objects
 
--- the map of a list of objects under their IDs: of an ID that stands twice the first object
+-- the map of a list of objects under their IDs; the first one counts for a repeated ID
 abbrev pub contents_of : {B : Type 0} → List (ℕ × Object B) → ObjectMap
 contents_of es = finite.from_entries (map shown es)
 
@@ -63,6 +63,6 @@ abbrev pub replaced : Option Seen → ObjectMap → ℕ → Seen → ObjectMap
 replaced None m id o = m
 replaced (Some old) m id o = finite.insert m id o
 
--- the map with another object under an ID that is there, and else the map as it is
+-- replaces the object of an ID; without effect for a missing ID
 abbrev pub with_object : ObjectMap → ℕ → Seen → ObjectMap
 with_object m id o = replaced (finite.get m id) m id o

@@ -1,6 +1,6 @@
 //! Stores of objects: finite maps from IDs to objects.
 //!
-//! `Store` is such a map; `SortedStore` and `ListStore` are two, both by rising ID.
+//! `Store` is the trait; `SortedStore` and `ListStore` implement it, both by rising ID.
 //!
 //! docs/PROFILE.md, "What every store keeps", has the rules.
 #![tactic(auto)]
@@ -14,5 +14,5 @@ pub use list_store::ListStore;
 pub use sorted_store::SortedStore;
 pub use store::Store;
 
-/// A growth that was refused.
+/// The error of a failed allocation.
 pub use std::alloc::AllocError as OutOfMemory;

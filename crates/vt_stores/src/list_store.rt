@@ -1,4 +1,4 @@
-//! A store that is searched from its front.
+//! A store with a linear search.
 
 ghost use Rattle.std.specs.Prelude.{◌≡◌, ◌==◌};
 ghost use Rattle.std.specs.List.{position_from};
@@ -10,12 +10,12 @@ use std::alloc::{AllocError, Global};
 use std::marker::Model;
 use vt_kinds::{Object, ObjectId};
 
-/// The objects by rising ID, searched from the front: for tests, beside the store that is searched by halves.
+/// Objects by rising ID with a linear search: a simple store for tests, next to `SortedStore`.
 pub struct ListStore {
     entries: Vec<(ObjectId, Object<Vec<u8>>)>,
 }
 
-// Written out, so that its proof is not done again in each crate above.
+// Written out, so that the crates above need not prove it again.
 impl Drop for ListStore {
     fn drop(self) {
         let ListStore { entries: _entries } = self;
@@ -75,7 +75,7 @@ impl Store for ListStore {
     }
 }
 
-/// The place of an ID among entries by rising ID, if it is there.
+/// The index of an ID among entries by rising ID, or `None`.
 fn place_of(entries: &[(ObjectId, Object<Vec<u8>>)], id: ObjectId) -> Option<usize>
     ensures { result ≡ position_from (λ e. id == e.0) 0 entries.now }
 {

@@ -1,4 +1,4 @@
-//! A store by rising ID, which keeps where each ID stands.
+//! A store by rising ID with a table of indices.
 
 ghost use Rattle.std.specs.Prelude.{◌≡◌, None, IfOk, IfSome, IfNone, map, slice_get};
 ghost use Rattle.std.specs.Option.{option_map};
@@ -14,15 +14,15 @@ use std::alloc::{AllocError, Global};
 use std::marker::Model;
 use vt_kinds::{Object, ObjectId};
 
-/// The objects by rising ID. Where each ID stands is kept in 2 bytes for each number from the first ID to the last; an ID that is
-/// not there is searched by halves.
+/// Objects by rising ID. A table of their indices takes 2 bytes for each number from the first ID to the last one; a
+/// binary search covers IDs that the table misses.
 pub struct SortedStore {
     entries: Vec<(ObjectId, Object<Vec<u8>>)>,
-    // Where to look for each ID, counted from the first one.
+    // The index to try for each number from the first ID on.
     places: Vec<u16>,
 }
 
-// Written out, so that its proof is not done again in each crate above.
+// Written out, so that the crates above need not prove it again.
 impl Drop for SortedStore {
     fn drop(self) {
         let SortedStore {
@@ -44,7 +44,7 @@ impl Model for SortedStore {
 }
 
 impl SortedStore {
-    /// A store of these objects, in any order. No ID stands twice, and none is NULL. They are not copied.
+    /// Makes a store of these objects, in any order, without a copy. IDs must be unique, and none may be NULL.
     pub fn from_vec(entries: Vec<(ObjectId, Object<Vec<u8>>)>) -> Result<SortedStore, AllocError>
         requires { AreNamed (map shown entries.items) }
         ensures made { IfOk result (λ store. store ≡ by_rising_id (map shown entries.items)) }
@@ -117,7 +117,7 @@ impl Store for SortedStore {
     }
 }
 
-/// Where each ID stands, counted from the first one. No contract rests on it: a place that is looked up is tested.
+/// Makes the table of indices, from the first ID to the last one. No contract relies on it: each index is tested at its use.
 fn places_of(
     alloc: Global,
     entries: &[(ObjectId, Object<Vec<u8>>)],
@@ -136,7 +136,7 @@ fn places_of(
     Ok(places)
 }
 
-/// The place of an ID among entries by rising ID, if it is there.
+/// The index of an ID among entries by rising ID, or `None`.
 fn place_of(entries: &[(ObjectId, Object<Vec<u8>>)], places: &[u16], id: ObjectId) -> Option<usize>
     requires { AreStored (map shown entries.now) }
     ensures some { IfSome result (IsPlace (map shown entries.now) id) }
@@ -150,7 +150,7 @@ fn place_of(entries: &[(ObjectId, Object<Vec<u8>>)], places: &[u16], id: ObjectI
     }
 }
 
-/// The place that is kept for an ID, if the ID stands there.
+/// The index that `places` holds for an ID, if the ID is there.
 fn kept_place(
     entries: &[(ObjectId, Object<Vec<u8>>)],
     places: &[u16],
@@ -165,7 +165,7 @@ fn kept_place(
     stands_at(entries, id, usize::from(*place))
 }
 
-/// The place, if the ID stands there.
+/// The index, if the ID is there.
 fn stands_at(entries: &[(ObjectId, Object<Vec<u8>>)], id: ObjectId, place: usize) -> Option<usize>
     requires { AreStored (map shown entries.now) }
     ensures { IfSome result (IsPlace (map shown entries.now) id) }

@@ -1,4 +1,4 @@
-//! Objects by rising ID.
+//! Copies of objects, and their sort by ID.
 
 ghost use Rattle.std.specs.Prelude.{◌≡◌, IfOk, OnOk, map};
 ghost use Rattle.vt_stores.specs.Stores.{AreNamed, AreStored, shown, by_rising_id};
@@ -6,7 +6,7 @@ ghost use Rattle.vt_stores.specs.Stores.{AreNamed, AreStored, shown, by_rising_i
 use std::alloc::{AllocError, Global};
 use vt_kinds::{Object, ObjectId};
 
-/// Copies of objects with their IDs.
+/// Copies objects with their IDs.
 pub fn copies(
     alloc: Global,
     objects: &[(ObjectId, Object<Vec<u8>>)],
@@ -20,7 +20,7 @@ pub fn copies(
     Ok(copies)
 }
 
-/// Brings objects into the order of their IDs.
+/// Sorts objects by their IDs.
 pub fn sort(entries: &mut Vec<(ObjectId, Object<Vec<u8>>)>) -> Result<(), AllocError>
     requires { AreNamed (map shown entries.old.items) }
     ensures stored { OnOk result (AreStored (map shown entries.new.items)) }

@@ -1,4 +1,4 @@
-//! Where the objects of a working set lie.
+//! The store of a working set's objects.
 
 ghost use Rattle.std.specs.Prelude.{◌≡◌, ◌<◌, None, IfOk, IfSome, IfNone, map, slice_get};
 ghost use Rattle.std.specs.Option.{option_map};
@@ -12,11 +12,11 @@ ghost use Rattle.vt_stores.specs.Rows.{object_row};
 use std::alloc::{AllocError, Global};
 use vt_kinds::{Object, ObjectId};
 
-/// A finite map from IDs to objects. Its IDs stay as they were made, and none is NULL.
+/// A finite map from IDs to objects. Its set of IDs never changes, and NULL is not in it.
 pub trait Store: Drop {
     ghost contents: { Self → ObjectMap };
 
-    /// A store of copies of these objects, in any order. No ID stands twice, and none is NULL.
+    /// Makes a store of copies of these objects, in any order. IDs must be unique, and none may be NULL.
     fn from_objects(
         alloc: Global,
         objects: &[(ObjectId, Object<Vec<u8>>)],
@@ -26,28 +26,28 @@ pub trait Store: Drop {
         requires { AreNamed (map shown objects.now) }
         ensures { IfOk result (λ store. contents store ≡ contents_of objects.now) };
 
-    /// The object of an ID, if it is there. NULL is no object's ID.
+    /// Returns the object of an ID, or `None`; always `None` for NULL.
     fn get(&self, id: ObjectId) -> Option<&Object<Vec<u8>>>
         ensures value { option_map (λ o. seen o.now) result ≡ finite.get (contents self.now) id }
         ensures named { finite.get (contents self.now) 0xFFFF ≡ None };
 
-    /// The object of an ID to be changed, if it is there. The write changes that object and no other.
+    /// Returns the object of an ID for a change, or `None`. A write changes this object alone.
     fn get_mut(&mut self, id: ObjectId) -> Option<&mut Object<Vec<u8>>>
         ensures* writes_back { sem 𝓛 (LendsSo Self.row object_row self.entry result
             (λ n w. contents n ≡ with_object (contents self.old) id (seen w))
             (λ n. contents n ≡ contents self.old)) }
         ensures value { option_map (λ o. seen o.now) result ≡ finite.get (contents self.old) id };
 
-    /// How many objects there are. NULL is no object's ID.
+    /// The number of objects. NULL is no object's ID.
     fn count(&self) -> usize
         ensures count { result ≡ finite.len (contents self.now) }
         ensures named { All (λ id. id < 0xFFFF) (ids (finite.entries (contents self.now))) };
 
-    /// The object that stands at a place, by rising ID from 0, and its ID. None from `count` on.
+    /// Returns the object at an index, by rising ID from 0, and its ID; `None` from `count` on.
     fn entry_at(&self, place: usize) -> Option<(ObjectId, &Object<Vec<u8>>)>
         ensures { option_map (λ e. (e.0, seen e.1.now)) result ≡ slice_get (finite.entries (contents self.now)) place };
 
-    /// The place of an ID, if it is there.
+    /// The index of an ID, or `None` if it is missing.
     fn place(&self, id: ObjectId) -> Option<usize>
         ensures some { IfSome result (IsPlace (finite.entries (contents self.now)) id) }
         ensures none { IfNone result (finite.get (contents self.now) id ≡ None) };

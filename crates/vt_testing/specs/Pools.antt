@@ -1,9 +1,9 @@
--- The pools of the tests, by their bytes.
+-- The object pool of bytes, for tests.
 use Rattle.std.specs.Prelude.{◌≡◌, ℕ, List}
 use Rattle.vt_stores.specs.Stores.{Objects, by_rising_id}
 use Rattle.vt_pool.specs.Pools.{Entry, AreRecords, IsInForce, joined}
 
--- The bytes are whole records, and the objects are those that the records leave in force, by rising ID.
+-- The bytes are whole records, and the objects are those of the records in force, by rising ID.
 pub record IsPoolOf (bytes : List ℕ) (objects : Objects) : Type 0 where
   pub records : List Entry
   pub whole : AreRecords records

@@ -1,4 +1,4 @@
--- The messages and the replies of the steps, where the session is the one that stands.
+-- The messages and replies of the TP steps agree with the history if the session does.
 use Rattle.std.proofs.Common.{◌≡◌, ℕ, suc, ◌+◌, Bool, true, false, cond, eqb, List, ◌∷◌, ◌++◌, length, take, Option, Some, None, ap, ap₂, sym, subst, ◌∙◌, refl, arith, eq-eqb, eqb-true}
 use Rattle.std.proofs.lemmas.Bool.{false≢true}
 use Rattle.vt_can.specs.declared.transport.sessions.Timed.{Timed}
@@ -16,7 +16,7 @@ use Rattle.vt_transport.specs.Steps.{SessionOutcome, after_packet, HasPackets}
 use Rattle.vt_transport.specs.Protocol.{protocol, StepsAssembleMessages}
 use Rattle.vt_transport.proofs.Assembly.{packet_more, packet_whole, packet_wrong, IsNext, packet_last, sent_packet, Matches, IsStanding, grown_bytes, matches}
 
--- the message
+-- the message of a step is whole in the history
 
 whole_of_packets : (hs : List SessionEvent) (number : ℕ) (packet : List ℕ) (current : Timed SessionState) (message : Message) → IsStanding hs current
     → number ≡ current.session.received + 1 → current.session.received + 1 ≡ current.session.opening.packets
@@ -66,7 +66,7 @@ whole_step now hs session (Came (Aborted pgn)) message m is = absurd cc
 whole_step now hs session (Came (Data number packet)) message m is = whole_packet now number packet hs session message m is
 whole_step now hs session (Came Other) message m is = absurd cc
 
--- and the other way
+-- a whole message in the history is that of the step
 
 message_of : (now number : ℕ) (packet : List ℕ) (session : Option (Timed SessionState)) (o : Opening) (packets : List (List ℕ)) (message : Message) → HasPackets session o packets
     → number ≡ length packets + 1 → length packets + 1 ≡ o.packets → message.pgn ≡ o.pgn → message.bytes ≡ take o.size (joined (packet ∷ packets))
@@ -99,7 +99,7 @@ message_step now hs session x message m whole =
     (message_next now number packet hs session whole.opening whole.packets message m
     (packet_last hs number packet whole.opening whole.packets (last_of spelling _ hs whole.opening whole.packets sent)) whole.all whole.pgn whole.bytes)
 
--- the reply
+-- the reply of a step is that of the history
 
 reply_at : (now number : ℕ) (packet : List ℕ) (current : Timed SessionState) (whole : Bool) → eqb (current.session.received + 1) current.session.opening.packets ≡ whole
     → number ≡ current.session.received + 1 → (after_packet now (Some current) number packet).reply ≡ reply_to current.session.opening (current.session.received + 1)

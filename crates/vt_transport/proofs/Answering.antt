@@ -1,4 +1,4 @@
--- A call of the sender that puts a session or removes one gives an answer.
+-- A sender's call that inserts or removes a session gives the answer of the specification.
 use Rattle.std.proofs.Common.{◌≡◌, ℕ, ◌<◌, ◌≤◌, ◌+◌, ◌-◌, min, true, false, eqb, List, [], ◌∷◌, map, Option, Some, None, ap, sym, subst, ◌∙◌, refl, arith, eq-eqb, ne_eqb, lt-ltb, le-ltb, ltb}
 use Rattle.std.specs.FinMap as finite
 use Rattle.vt_can.specs.Assigned.{VT_TO_ECU}
@@ -33,7 +33,7 @@ put_answers old new to timed m left given frames was removed own_address is stay
   others = put_again_others old.sessions new.sessions to timed m left was removed is;
 }
 
--- the answer of the session that was removed, or that there was none
+-- the answer of the removed session, or without a session
 pub answers_removed : (old new : SenderState) (to now : ℕ) (frame : TpFrame) (m : ByAddress Message) (removed : Option (Timed Message)) (timed : Timed Message)
     (given : Answer) (frames : List Frame) → old.sessions ≡ m → removed ≡ finite.get m to → removed ≡ Some timed
     → given ≡ session_answer old.own_address to now timed frame → Answers old new to given frames → Answers old new to (answer_of old to now (Some frame)) frames
@@ -105,7 +105,7 @@ packets_sent own_address to now current count next pgn same some first within =
     let h : ltb (packet_count_of current.session) next ≡ false = le-ltb _ _ within in
     rw (e, f, g, h)
 
--- the answers to the end and to an abort
+-- the answers to an end of message and to an abort
 
 pub ended_message : (own_address to now pgn : ℕ) (current : Option (Timed Message)) → is_of_group pgn current ≡ true
     → unanswered None ≡ answered own_address to now current (Some (EndOfMessage pgn))
@@ -123,7 +123,7 @@ aborted_message own_address to now pgn None is = refl
 aborted_message own_address to now pgn (Some current) is =
     let e : eqb pgn VT_TO_ECU ≡ true = eq-eqb _ _ is in rw e
 
--- the same frames from this node's address, in other terms
+-- the frames of an answer, carried over equalities
 
 pub refusal_frames : (own_address own_address' to pgn pgn' : ℕ) (frame : Frame) (frames : List Frame) → frames ≡ frame ∷ [] → frame ≡ reply_frame own_address to (Abort Disorder pgn)
     → own_address ≡ own_address' → pgn ≡ pgn' → frames ≡ reply_frame own_address' to (Abort Disorder pgn') ∷ []

@@ -1,4 +1,4 @@
--- The steps on the session of a source assemble the messages that were sent.
+-- The TP steps on the session of a source assemble the messages sent by it.
 use Rattle.std.proofs.Common.{◌≡◌, ℕ, suc, ◌+◌, ◌<◌, max, Bool, true, false, cond, eqb, List, [], ◌∷◌, ◌++◌, length, take, Option, Some, None, ap, ap₂, sym, subst, ◌∙◌, refl, arith, eq-eqb, eqb-true, ne_eqb}
 use Rattle.std.proofs.lemmas.Bool.{false≢true}
 use Rattle.vt_can.specs.Assigned.{VT_TO_ECU}
@@ -20,7 +20,7 @@ use Rattle.vt_transport.specs.Steps.{SessionOutcome, after_packet, HasPackets}
 use Rattle.vt_transport.specs.Protocol.{protocol}
 use Rattle.vt_transport.proofs.Openings.{opened_packets}
 
--- the session of the steps and the one that stands are the same
+-- the session of the steps is the one open in the history
 abbrev pub opening_of : SessionState → Opening
 opening_of current = current.opening
 
@@ -62,7 +62,7 @@ packet_wrong now number packet current wrong =
     let e : eqb number (current.session.received + 1) ≡ false = ne_eqb _ _ wrong in
     rw e
 
--- what a history has of one that is a packet shorter
+-- a history that ends with a packet, and the packets before it
 pub record IsNext (hs : List SessionEvent) (number : ℕ) (packet : List ℕ) (o : Opening) (packets : List (List ℕ)) : Type 0 where
   pub before : List (List ℕ)
   pub all : packets ≡ packet ∷ before
@@ -85,7 +85,7 @@ next_of hs later earlier number packet o (last ∷ before) split opened quiet in
 not_rts : (number : ℕ) (packet : List ℕ) (o : Opening) → Came (Data number packet) ≡ Came (Rts o) → ⊥
 not_rts number packet o e = cc
 
--- a packet that a history ends with
+-- the last packet of a history
 pub packet_last : (hs : List SessionEvent) (number : ℕ) (packet : List ℕ) (o : Opening) (packets : List (List ℕ))
     → Last spelling (Came (Data number packet)) hs o packets → IsNext hs number packet o packets
 packet_last hs number packet o packets (AtRequest is opened none) = absurd (not_rts number packet o is)
@@ -98,7 +98,7 @@ sent_packet hs number packet o packets next =
     sent_more spelling hs (Came (Data number packet)) o packets (packet ∷ packets) tt
     (λ later in_order. ap₂ (λ (n : ℕ) (ys : List (ℕ × List ℕ)). (n, packet) ∷ ys) next in_order)
 
--- an RTS
+-- the session after an RTS
 
 abbrev fresh : ℕ → Opening → Timed SessionState
 fresh now o = record { last = now; session = record { opening = o; bytes = []; received = 0 } }
@@ -115,7 +115,7 @@ matches_rts now hs o =
     matches_request spelling opening_of HasPackets o (fresh now o) [] refl (λ quiet. quiet) (λ o' e. cc) refl (opened_packets o)
     (λ packets none. subst (λ (ps : List (List ℕ)). HasPackets (Some (fresh now o)) o ps) (sym (no_packets packets none)) (has_fresh now o)) hs
 
--- a packet
+-- the session after a packet
 
 abbrev grown : ℕ → Timed SessionState → List ℕ → Timed SessionState
 grown now current packet = record {
@@ -123,7 +123,7 @@ grown now current packet = record {
   session = record { opening = current.session.opening; bytes = take current.session.opening.size (current.session.bytes ++ packet); received = current.session.received + 1 };
 }
 
--- the bytes of a session and a packet
+-- the bytes of a session with one more packet
 pub grown_bytes : (current : Timed SessionState) (packet : List ℕ) (o : Opening) (packets : List (List ℕ)) → HasPackets (Some current) o packets
     → take current.session.opening.size (current.session.bytes ++ packet) ≡ take o.size (joined (packet ∷ packets))
 grown_bytes current packet o packets h =
@@ -152,7 +152,7 @@ stands_packet now number packet hs session o packets m n more =
     subst (λ (ps : List (List ℕ)). HasPackets (after_packet now session number packet).session o ps) (sym n.all)
     (has_packet now number packet session o n.before (m.stands o n.before (record { sent = n.sent; more = omega arith })) n.next (omega arith))
 
--- a session that stands, and its next packet
+-- an open session after its next packet
 standing_grown : (now number : ℕ) (packet : List ℕ) (hs : List SessionEvent) (current : Timed SessionState) → IsStanding hs current → number ≡ current.session.received + 1
     → (current.session.received + 1 ≡ current.session.opening.packets → ⊥) → IsStanding (Came (Data number packet) ∷ hs) (grown now current packet)
 standing_grown now number packet hs current k next more =
@@ -194,7 +194,7 @@ matches_packet now number packet hs session m = record {
   only = λ current' is. standing_packet now number packet hs session current' m is;
 }
 
--- each event
+-- the session after each session event
 
 matches_abort : (hs : List SessionEvent) (session : Option (Timed SessionState)) (pgn : ℕ) (b : Bool) → eqb pgn VT_TO_ECU ≡ b → Matches hs session
     → Matches (Came (Aborted pgn) ∷ hs) (cond b session None)

@@ -1,4 +1,4 @@
--- A message that is sent is whole with its last packet.
+-- A sent message is whole for its receiver with its last packet.
 use Rattle.std.proofs.Common.{◌≡◌, ℕ, zero, suc, ◌+◌, ◌-◌, ◌*◌, ◌≤◌, List, [], ◌∷◌, ◌++◌, length, take, drop, replicate, true, refl, sym, ap, ap₂, subst, ◌∙◌, arith, Bool, false, ◌&&◌, leb, eqb, eq-eqb, cond, Option, ◌/◌, ◌^◌, ◌<◌, Some, None, lit<}
 use Rattle.std.proofs.lemmas.List.{take-take, take_all, take-append-le, drop-append-le, length-take, length-append}
 use Rattle.std.proofs.lemmas.Bool.{leb-true}
@@ -51,7 +51,7 @@ cut_packets bytes count within all =
     ∙ take-append-le (length bytes) bytes (replicate 7 FILL) (omega arith)
     ∙ take_all (length bytes) bytes (omega arith))
 
--- the events after the RTS
+-- the session events after the RTS
 abbrev later_events : Message → ℕ → List SessionEvent
 later_events message zero = []
 later_events message (suc count) = packet_of message (suc count) ∷ later_events message count
@@ -110,7 +110,7 @@ whole_in_full message size =
     let last : suc (packet_count_of message - 1) ≡ packet_count_of message = omega (arith, least) in
     subst (λ (j : ℕ). IsWhole (begun message (packet_count_of message - 1)) (packet_of message j) message) last (whole_at message (packet_count_of message - 1) last size)
 
--- the frames as they are read
+-- the frames as decoded by the receiver
 
 both_true : (a b : Bool) → a ≡ true → b ≡ true → (a && b) ≡ true
 both_true true true first second = refl

@@ -1,4 +1,4 @@
--- What an RTS that opens a session says.
+-- An RTS that opens a TP session has the number of packets of its size, which is at least one.
 use Rattle.std.proofs.Common.{◌≡◌, ◌+◌, ◌/◌, ◌≤◌, ◌<◌, true, eqb, leb, arith}
 use Rattle.std.proofs.lemmas.Bool.{eqb-true, leb-true}
 use Rattle.vt_can.proofs.lemmas.transport.Booleans.{all_of}

@@ -8,7 +8,7 @@ use Rattle.vt_transport.specs.Senders.{numbers_from}
 abbrev pub fill : List ℕ
 fill = FILL ∷ FILL ∷ FILL ∷ FILL ∷ FILL ∷ FILL ∷ FILL ∷ []
 
--- fewer than seven bytes, filled
+-- fewer than seven bytes, filled up to seven
 filled_short : (xs : List ℕ) → length xs < 7 → xs ++ drop (length xs) fill ≡ take 7 (xs ++ fill)
 filled_short [] h = refl
 filled_short (a ∷ []) h = refl
@@ -31,7 +31,7 @@ filled xs n is =
           ap (λ (k : ℕ). take k xs ++ drop k fill) seven ∙ append-nil (take 7 xs) ∙ sym (take-append-le 7 xs fill long))
     ]
 
--- the bytes that are copied into a packet, with what fills it up
+-- the bytes copied into a packet, and its filling
 pub filled_packet : (bytes read : List ℕ) (number index n : ℕ) (copied : List ℕ) → read ≡ bytes → index ≡ number
     → n ≡ min (length (take (length read - 7 * (index - 1)) (drop (7 * (index - 1)) read))) 7
     → copied ≡ take n (take (length read - 7 * (index - 1)) (drop (7 * (index - 1)) read))

@@ -1,4 +1,4 @@
--- Steps and answers without times, and frames of other groups.
+-- TP steps and answers without times, and frames of other parameter groups.
 use Rattle.std.proofs.Common.{◌≡◌, ℕ, Bool, true, false, ◌||◌, cond, eqb, ltb, ◌+◌, [], Option, Some, None, refl, ap, ◌∙◌}
 use Rattle.std.specs.FinMap as finite
 use Rattle.vt_can.specs.Assigned.{TP_CM, TP_DT, VT_TO_ECU}
@@ -15,7 +15,7 @@ use Rattle.vt_transport.specs.SessionState.{SessionState}
 use Rattle.vt_transport.specs.Protocol.{protocol, IsTimeless, OtherGroupsAreIgnored}
 use Rattle.vt_transport.specs.Senders.{Answer, AnswersAreTimeless, OtherGroupsAreUnanswered, answered, unanswered, untimed_answer, packet_count_of}
 
--- the steps
+-- the steps of a receiver
 
 session_or_none : {T : Type 0} (b : Bool) (x : Option (Timed T)) → untimed_session (cond b x None) ≡ untimed_session (cond b (untimed_session x) None)
 session_or_none true None = refl
@@ -43,7 +43,7 @@ timeless now (Some current) (EndOfMessage pgn) = refl
 timeless now None Other = refl
 timeless now (Some current) Other = refl
 
--- the answers
+-- the answers of a sender
 
 answer_cond : (b : Bool) (x y x' y' : Answer) → untimed_answer x ≡ untimed_answer x' → untimed_answer y ≡ untimed_answer y'
     → untimed_answer (cond b x y) ≡ untimed_answer (cond b x' y')
@@ -65,7 +65,7 @@ timeless_answers own_address to now (Some current) (Some (Rts o)) = refl
 timeless_answers own_address to now (Some current) (Some (Data number packet)) = refl
 timeless_answers own_address to now (Some current) (Some Other) = refl
 
--- frames of other groups
+-- frames of other parameter groups
 
 pub ignored : OtherGroupsAreIgnored
 ignored receiver now frame of_other_groups =

@@ -1,4 +1,4 @@
--- What the sender sends, as the receiver hears it. Every list of events has the latest first.
+-- The frames of a sender as session events of the receiver. Every list of session events has the latest first.
 use Rattle.std.specs.Prelude.{◌≡◌, ◌<◌, ℕ, zero, suc, ◌-◌, ◌^◌, true, Some, List, [], ◌∷◌, length}
 use Rattle.vt_can.specs.Assigned.{NO_LIMIT}
 use Rattle.vt_can.specs.transport.Messages.{Message}
@@ -9,7 +9,7 @@ use Rattle.vt_transport.specs.Messages.{SessionEvent, IsWhole}
 use Rattle.vt_transport.specs.Wire.{tp_frame, rts_frame, packet_bytes, packet_frame}
 use Rattle.vt_transport.specs.Senders.{packet_count_of, has_size}
 
--- what the RTS of a message says
+-- the fields of the RTS of a message
 abbrev pub opening_of : Message → Opening
 opening_of message = record { size = length message.bytes; packets = packet_count_of message; most = NO_LIMIT; pgn = message.pgn }
 
@@ -21,8 +21,8 @@ abbrev pub begun : Message → ℕ → List SessionEvent
 begun message zero = Came (Rts (opening_of message)) ∷ []
 begun message (suc count) = packet_of message (suc count) ∷ begun message count
 
--- The frames of a message from one address to another say so to the other node, and with its last packet
--- the message is whole there.
+-- The frames of a message decode to its RTS and its packets for the other node, and the last packet makes the
+-- message whole there.
 pub record IsReceived (own_address to : ℕ) (message : Message) : Type 0 where
   pub request : tp_frame to (rts_frame own_address to (length message.bytes) message.pgn) ≡ Some (Rts (opening_of message))
   pub packets : (j : ℕ) → tp_frame to (packet_frame own_address to message.bytes j) ≡ Some (Data j (packet_bytes message.bytes j))

@@ -1,5 +1,5 @@
--- The messages of one source, over the whole list of what came from it (ISO 11783-3;
--- docs/PROFILE.md, "The TP receiver"). Every list of events and of packets has the latest first.
+-- The TP messages of one source by its whole history (ISO 11783-3; docs/PROFILE.md, "The TP receiver").
+-- Every list of session events and of packets has the latest first.
 use Rattle.std.specs.Prelude.{◌≡◌, ℕ, ◌+◌, ◌-◌, ◌/◌, ◌%◌, Bool, nat_le, ◌==◌, ◌&&◌, if◌then◌else◌, min, Option, Some, None, List, [], ◌∷◌, length}
 use Rattle.vt_can.specs.declared.transport.wire.Reason.TheVariants.{Disorder}
 use Rattle.vt_can.specs.Assigned.{VT_TO_ECU}
@@ -20,18 +20,18 @@ SessionEvent = histories.SessionEvent TpFrame
 abbrev pub opens : Opening → Bool
 opens o = nat_le 9 o.size && nat_le o.size 1785 && o.packets == (o.size + 6) / 7
 
--- the packets that a CTS may ask for
+-- the greatest number of packets of one CTS
 abbrev pub allowed : Opening → ℕ
 allowed o = if o.most == 0 then 255 else o.most
 
--- what leaves a session as it is: no RTS, no timeout, and no abort but of VT_TO_ECU, which is one to a sender
+-- a session event other than an RTS, a timeout or an abort; an abort of VT_TO_ECU is quiet, as one to a sender
 abbrev pub IsQuiet : SessionEvent → Type 0
 IsQuiet TimedOut = ⊥
 IsQuiet (Came (Rts o)) = ⊥
 IsQuiet (Came (Aborted pgn)) = pgn ≡ VT_TO_ECU
 IsQuiet (Came _) = Unit {0}
 
--- the packets that came, with their sequence numbers
+-- the packets received, with their sequence numbers
 abbrev pub packets_in : List SessionEvent → List (ℕ × List ℕ)
 packets_in [] = []
 packets_in (TimedOut ∷ hs) = packets_in hs
@@ -43,7 +43,7 @@ abbrev pub numbered : List (List ℕ) → List (ℕ × List ℕ)
 numbered [] = []
 numbered (packet ∷ packets) = (length packets + 1, packet) ∷ numbered packets
 
--- Messages are spelled by an RTS and by DTs with the sequence numbers of their packets.
+-- The encoding of messages: an RTS, then DTs with the sequence numbers of their packets.
 abbrev pub spelling : Spelling TpFrame Opening (List (List ℕ))
 spelling = record {
   request = λ o. Rts o;
@@ -62,7 +62,7 @@ spelling = record {
 abbrev pub IsOpen : List SessionEvent → Opening → List (List ℕ) → Type 0
 IsOpen = histories.IsOpen spelling
 
--- an event is the last packet of a message
+-- a session event is the last packet of a message
 abbrev pub IsWhole : List SessionEvent → SessionEvent → Message → Type 0
 IsWhole = histories.IsWhole spelling
 
@@ -71,7 +71,7 @@ abbrev pub first_reply : Opening → Reply
 first_reply o =
     if opens o then ClearToSend (min (allowed o) o.packets) 1 o.pgn else Abort Disorder o.pgn
 
--- the reply to packet j in its turn: the end, the next CTS after all that one may ask for, or none
+-- the reply to packet j in sequence: the end of message, the next CTS after all packets of the last one, or none
 abbrev pub reply_to : Opening → ℕ → Option Reply
 reply_to o j =
     if j == o.packets then Some (End o.size o.packets o.pgn)
@@ -82,7 +82,7 @@ abbrev pub packet_reply : Opening → ℕ → ℕ → Option Reply
 packet_reply o count number =
     if number == count + 1 then reply_to o number else Some (Abort Disorder o.pgn)
 
--- the reply to x after hs
+-- the reply to session event x after history hs
 abbrev pub IsAnswered : List SessionEvent → SessionEvent → Option Reply → Type 0
 IsAnswered hs TimedOut reply = reply ≡ None
 IsAnswered hs (Came (Rts o)) reply = reply ≡ Some (first_reply o)

@@ -1,4 +1,4 @@
--- The transport protocol, as the definitions of receivers, runs and histories take it, and its laws.
+-- The transport protocol as a `Protocol` for receivers, runs and histories, and its theorems.
 use Rattle.std.specs.Prelude.{◌≡◌, ℕ, Bool, false}
 use Rattle.std.specs.FinMap as finite
 use Rattle.vt_can.specs.declared.transport.wire.Reason.TheVariants.{Timeout}
@@ -21,7 +21,7 @@ use Rattle.vt_transport.specs.Wire.{tp_frame, reply_frame}
 use Rattle.vt_transport.specs.SessionState.{SessionState}
 use Rattle.vt_transport.specs.Steps.{HasPackets, step}
 
--- An RTS opens a session, and no other frame does.
+-- Only an RTS opens a session.
 abbrev pub opens_session : TpFrame → Bool
 opens_session (Rts o) = opens o
 opens_session _ = false
@@ -40,34 +40,34 @@ protocol = record {
   reply_frame = reply_frame;
 }
 
--- The steps keep the session that stands, and give its messages and its replies.
+-- The steps keep the session open in the history, and give its messages and replies.
 abbrev pub StepsAssembleMessages : Type 0
 StepsAssembleMessages = steps.StepsAssembleMessages spelling (λ current. current.opening) HasPackets protocol IsAnswered
 
--- The messages of a source depend on its frames and their times alone.
+-- The messages of a source depend on its own frames and their times alone.
 abbrev pub MessagesDependOnTheirSource : Type 0
 MessagesDependOnTheirSource = bus.MessagesDependOnTheirSource protocol
 
--- A run of a receiver hands out these messages.
+-- A run of a receiver hands out the messages of each source.
 abbrev pub RunsHandOutMessages : Type 0
 RunsHandOutMessages = bus.RunsHandOutMessages protocol
 
--- They are those that are whole in the histories of their sources, with marks for the timeouts.
+-- The sessions and messages of a run are those of the sources' histories, with marks for the timeouts.
 abbrev pub SessionsAreOfHistories : Type 0
 SessionsAreOfHistories = marks.SessionsAreOfHistories protocol
 
 abbrev pub RunsHandOutWholeMessages : Type 0
 RunsHandOutWholeMessages = marks.RunsHandOutWholeMessages protocol IsWhole
 
--- Apart from the time that a session has afterwards, a step depends on no time.
+-- A step depends on no time, except for the time of the session afterwards.
 abbrev pub IsTimeless : Type 0
 IsTimeless = protocols.IsTimeless protocol
 
--- a frame of neither of the protocol's groups
+-- a frame of neither of the protocol's parameter groups
 abbrev pub IsOfAnotherProtocol : Frame → Type 0
 IsOfAnotherProtocol = IsOfAnotherGroup TP_CM TP_DT
 
--- A receiver ignores it.
+-- A receiver ignores a frame of neither of the protocol's parameter groups.
 abbrev pub OtherGroupsAreIgnored : Type 0
 OtherGroupsAreIgnored = (receiver : ReceiverState SessionState) (now : ℕ) (frame : Frame) → IsOfAnotherProtocol frame
     → outcome protocol receiver now frame ≡ silent (finite.get receiver.sessions (source_of frame))

@@ -1,4 +1,4 @@
--- A sender as a value, and what its calls answer (docs/PROFILE.md, "The TP sender").
+-- A sender as a value, and the results of its calls (docs/PROFILE.md, "The TP sender").
 use Rattle.std.specs.Prelude.{◌≡◌, ℕ, zero, suc, max, true, false, ◌+◌, ◌-◌, ◌/◌, Bool, nat_lt, nat_le, ◌==◌, ◌&&◌, ◌||◌, if◌then◌else◌, min, Option, Some, None, List, [], ◌∷◌, length, map, refl}
 use Rattle.std.specs.Coded.{Coded, code_by, coded×, coded_ℕ, coded_list}
 use Rattle.std.specs.FinMap as finite
@@ -19,7 +19,7 @@ abbrev pub message_code : Coded Message
 message_code =
     code_by (ℕ × List ℕ) (coded× coded_ℕ (coded_list coded_ℕ)) (λ m. (m.pgn, m.bytes)) (λ p. record { pgn = p.0; bytes = p.1 }) (λ _. refl)
 
--- its address, and the messages that it sends, by destination
+-- a sender's address, and its messages by destination
 pub record SenderState : Type 0 where
   pub own_address : ℕ
   pub sessions : ByAddress Message
@@ -37,7 +37,7 @@ abbrev pub numbers_from : ℕ → ℕ → List ℕ
 numbers_from next zero = []
 numbers_from next (suc count) = next ∷ numbers_from (suc next) count
 
--- what a step leaves of a destination's session, and the frames that it sends there
+-- the result of a step: the session of a destination after it, and the frames to send there
 pub record Answer : Type 0 where
   pub session : Option (Timed Message)
   pub frames : List Frame
@@ -45,8 +45,8 @@ pub record Answer : Type 0 where
 abbrev pub refreshed : ℕ → Timed Message → Option (Timed Message)
 refreshed now current = Some (record { last = max now current.last; session = current.session })
 
--- the answer to a CTS of the session's group: none where it asks for none, an abort where its next
--- packet isn't one of the message's, and else the packets asked for, up to the last
+-- the answer to a CTS of the session's parameter group: no frame if it asks for no packet, an abort if
+-- its next packet is not in the message, and otherwise the packets asked for, up to the last
 abbrev pub clear_to_send : ℕ → ℕ → ℕ → Timed Message → ℕ → ℕ → Answer
 clear_to_send own_address to now current count next =
     let last = packet_count_of current.session in
@@ -79,7 +79,7 @@ answered own_address to now (Some current) (Some frame) = session_answer own_add
 abbrev pub untimed_answer : Answer → Answer
 untimed_answer given = record { session = untimed_session given.session; frames = given.frames }
 
--- the answer of the session to a destination, if there is one
+-- the answer to a frame from a destination, by the session to it, if there is one
 abbrev pub answer_of : SenderState → ℕ → ℕ → Option TpFrame → Answer
 answer_of sender to now frame = answered sender.own_address to now (finite.get sender.sessions to) frame
 
@@ -90,7 +90,7 @@ abbrev pub is_of_group : ℕ → Option (Timed Message) → Bool
 is_of_group pgn None = false
 is_of_group pgn (Some current) = pgn == current.session.pgn
 
--- the session to a destination has given this answer, and those to the others stay
+-- the session to a destination has given this answer, and the others are unchanged
 pub record Answers (old new : SenderState) (to : ℕ) (given : Answer) (frames : List Frame) : Type 0 where
   pub own_address : new.own_address ≡ old.own_address
   pub session : finite.get new.sessions to ≡ given.session
@@ -101,18 +101,18 @@ pub record Answers (old new : SenderState) (to : ℕ) (given : Answer) (frames :
 abbrev pub has_size : List ℕ → Bool
 has_size bytes = nat_le 9 (length bytes) && nat_le (length bytes) 1785
 
--- a session to a destination without one was opened, and its RTS is the frame
+-- a session was opened to a destination without one, and the frame is its RTS
 pub record Starts (old new : SenderState) (now to : ℕ) (message : Message) (frame : Frame) : Type 0 where
   pub free : finite.get old.sessions to ≡ None
   pub size : has_size message.bytes ≡ true
   pub new_is : new ≡ record { own_address = old.own_address; sessions = finite.insert old.sessions to (record { last = now; session = message }) }
   pub frame_is : frame ≡ rts_frame old.own_address to (length message.bytes) message.pgn
 
--- the abort of a session to a destination that is overdue
+-- the abort of an overdue session to a destination
 abbrev pub timeout_frame : ℕ → ℕ → Message → Frame
 timeout_frame own_address to message = reply_frame own_address to (Abort Timeout message.pgn)
 
--- the session of the least destination that is overdue was removed, and its abort is the frame
+-- the overdue session of the least destination was removed, and the frame is its abort
 pub record TimesOut (old new : SenderState) (now : ℕ) (frame : Frame) : Type 0 where
   pub own_address : new.own_address ≡ old.own_address
   pub to : ℕ
@@ -120,12 +120,12 @@ pub record TimesOut (old new : SenderState) (now : ℕ) (frame : Frame) : Type 0
   pub expired : Expires old.sessions new.sessions now to session
   pub abort : frame ≡ timeout_frame old.own_address to session
 
--- Apart from the time that a session has afterwards, an answer depends on no time.
+-- An answer depends on no time, except for the time of the session afterwards.
 abbrev pub AnswersAreTimeless : Type 0
 AnswersAreTimeless = (own_address to now : ℕ) (current : Option (Timed Message)) (frame : Option TpFrame)
     → untimed_answer (answered own_address to now current frame) ≡ untimed_answer (answered own_address to 0 (untimed_session current) frame)
 
--- A sender ignores a frame of neither of the protocol's groups.
+-- A sender ignores a frame of neither of the protocol's parameter groups.
 abbrev pub OtherGroupsAreUnanswered : Type 0
 OtherGroupsAreUnanswered = (sender : SenderState) (now : ℕ) (frame : Frame) → IsOfAnotherGroup TP_CM TP_DT frame
     → answer sender now frame ≡ unanswered (finite.get sender.sessions (source_of frame))

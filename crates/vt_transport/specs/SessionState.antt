@@ -1,9 +1,9 @@
--- The session of a source.
+-- The TP session of a source as a value.
 use Rattle.std.specs.Prelude.{ℕ, List, refl}
 use Rattle.std.specs.Coded.{Coded, code_by, coded×, coded_ℕ, coded_list}
 use Rattle.vt_transport.specs.declared.messages.Opening.{Opening}
 
--- a session: its RTS, the bytes so far, and the number of packets that brought them
+-- a session: its RTS, and the bytes and the number of packets received
 pub record SessionState : Type 0 where
   pub opening : Opening
   pub bytes : List ℕ

@@ -1,4 +1,4 @@
--- One step of a receiver on the session of one source.
+-- One step of a TP receiver on the session of one source.
 use Rattle.std.specs.Prelude.{◌≡◌, ℕ, ◌+◌, ◌==◌, if◌then◌else◌, max, Option, Some, None, List, [], ◌++◌, length, take}
 use Rattle.vt_can.specs.declared.transport.sessions.Timed.{Timed}
 use Rattle.vt_can.specs.declared.transport.wire.Reason.TheVariants.{Disorder}
@@ -24,7 +24,7 @@ after_rts now o = record {
   message = None;
 }
 
--- the next packet of a session: the last one, or one with more to come
+-- the step of the next packet of a session, which may be the last one
 abbrev pub next_packet : ℕ → Timed SessionState → List ℕ → SessionOutcome
 next_packet now current packet =
     let o = current.session.opening in
@@ -52,7 +52,7 @@ step now current (Data number packet) = after_packet now current number packet
 step now current (Aborted pgn) = silent (if pgn == VT_TO_ECU then current else None)
 step now current _ = silent current
 
--- a session has just these packets
+-- a session has exactly these packets
 abbrev pub HasPackets : Option (Timed SessionState) → Opening → List (List ℕ) → Type 0
 HasPackets None o packets = ⊥
 HasPackets (Some current) o packets =

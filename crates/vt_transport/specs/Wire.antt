@@ -11,7 +11,7 @@ use Rattle.vt_transport.specs.declared.messages.TpFrame.TheVariants.{Rts, Cts, E
 use Rattle.vt_transport.specs.declared.messages.Reply.{Reply}
 use Rattle.vt_transport.specs.declared.messages.Reply.TheVariants.{ClearToSend, End, Abort}
 
--- what the bytes of a TP.CM frame say
+-- the decoding of a TP.CM frame
 abbrev pub connection_management : List ℕ → TpFrame
 connection_management bytes =
     let control = slice_index bytes 0 in
@@ -23,7 +23,7 @@ connection_management bytes =
     else if control == ABORT then Aborted pgn
     else Other
 
--- what a frame is to a node
+-- a frame decoded for a node
 abbrev pub tp_frame : ℕ → Frame → Option TpFrame
 tp_frame = wire.frame_in TP_CM TP_DT connection_management (λ number bytes. Data number bytes)
 
@@ -35,7 +35,7 @@ reply_bytes (Abort reason pgn) = abort_bytes reason pgn
 abbrev pub reply_frame : ℕ → ℕ → Reply → Frame
 reply_frame own_address to reply = frame_of TP_CM own_address to (reply_bytes reply)
 
--- the RTS of a message, which allows FF packets in a CTS
+-- the RTS of a message, with FF as the greatest number of packets of one CTS
 abbrev pub rts_frame : ℕ → ℕ → ℕ → ℕ → Frame
 rts_frame own_address to size pgn =
     frame_of TP_CM own_address to (TP_RTS ∷ (little_bytes 2 size ++ (size + 6) / 7 ∷ NO_LIMIT ∷ little_bytes 3 pgn))

@@ -1,9 +1,9 @@
-//! The transport protocol of ISO 11783-3, which carries messages of 9 to 1785 bytes in packets of seven.
+//! The transport protocol (TP) of ISO 11783-3, for messages of 9 to 1785 bytes in packets of seven.
 //!
-//! - `Receiver` hears the frames of all sources, and answers each by what it has `Heard`: nothing, a reply, or a
-//!   whole message with its `Bytes`.
-//! - `Sender` sends a message to each of any destinations, or refuses it by a `SendFault`.
-//! - `laws` has what the definitions come to.
+//! - `Receiver` handles the frames of all sources, and answers each with `Heard`: nothing, a reply, or a whole
+//!   message with its `Bytes`.
+//! - `Sender` sends at most one message at a time to each destination. `SendFault` is the reason of a refusal.
+//! - `laws` has theorems about the definitions in specs/.
 //!
 //! docs/PROFILE.md, "Transport", has the rules. Times are in microseconds.
 #![tactic(auto)]
@@ -20,5 +20,5 @@ pub use receiver::Receiver;
 pub use sender::{SendFault, Sender};
 pub use vt_can::{Bytes, Heard};
 
-/// A growth that was refused.
+/// A refused allocation.
 pub use std::alloc::AllocError as OutOfMemory;

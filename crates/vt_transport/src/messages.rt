@@ -1,4 +1,4 @@
-//! The messages of the transport protocol (ISO 11783-3).
+//! The decoded frames and the replies of the transport protocol (ISO 11783-3).
 
 ghost use Rattle.std.specs.Prelude.{◌≡◌, ◌<◌};
 ghost use Rattle.vt_transport.specs.Messages.{opens, allowed, first_reply, reply_to};
@@ -11,17 +11,17 @@ pub(crate) const LEAST_SIZE: u16 = 9;
 /// The most bytes of a message.
 pub(crate) const GREATEST_SIZE: u16 = 1785;
 
-/// What a request to send says.
+/// The fields of a request to send (RTS).
 #[derive(Clone, Copy, Debug)]
 pub(crate) struct Opening {
     pub(crate) size: u16,
     pub(crate) packets: u8,
-    // The most packets that a CTS may ask for, and 0 for no limit.
+    // The greatest number of packets of one CTS, 0 for no limit.
     pub(crate) most: u8,
     pub(crate) pgn: u32,
 }
 
-/// What a frame of the transport protocol says.
+/// A decoded frame of the transport protocol.
 #[derive(Clone, Copy, Debug)]
 pub(crate) enum TpFrame {
     Rts(Opening),
@@ -32,7 +32,7 @@ pub(crate) enum TpFrame {
     Other,
 }
 
-/// What this node answers in a session.
+/// A reply of this node in a session.
 #[derive(Clone, Copy, Debug)]
 pub(crate) enum Reply {
     ClearToSend { count: u8, next: u8, pgn: u32 },
@@ -41,7 +41,7 @@ pub(crate) enum Reply {
 }
 
 impl Opening {
-    /// Whether the size is one of a message, and the packets are those that it takes.
+    /// Whether the size is that of a message, and the number of packets fits it.
     pub(crate) fn opens(&self) -> bool
         ensures { result ≡ opens self.now }
     {
@@ -50,14 +50,14 @@ impl Opening {
             && u16::from(self.packets) == (self.size + 6) / 7
     }
 
-    /// The packets that a CTS may ask for.
+    /// The greatest number of packets of one CTS.
     pub(crate) fn allowed(&self) -> u8
         ensures { result ≡ allowed self.now }
     {
         if self.most == 0 { 255 } else { self.most }
     }
 
-    /// The reply to the request.
+    /// The reply to the RTS.
     pub(crate) fn first_reply(&self) -> Reply
         ensures { result ≡ first_reply self.now }
     {
@@ -75,7 +75,7 @@ impl Opening {
         }
     }
 
-    /// The reply to a packet that came in its turn, and isn't the last one.
+    /// The reply to a packet in sequence, other than the last one.
     pub(crate) fn reply_to(&self, number: u8) -> Option<Reply>
         requires { number < self.now.packets }
         ensures { result ≡ reply_to self.now number }

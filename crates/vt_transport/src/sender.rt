@@ -1,4 +1,4 @@
-//! The sender.
+//! The TP sender.
 
 ghost use Rattle.std.specs.Prelude.{◌≡◌, ◌↔◌, ℕ, ◌%◌, ◌^◌, false, Some, None, Err, [], ◌∷◌, is_some, IsSome, IfOk, OnErr, IfSome, IfNone};
 ghost use Rattle.std.specs.FinMap as finite;
@@ -24,7 +24,7 @@ pub enum SendFault {
     /// A message to that destination is being sent.
     #[error("a message to that destination is still being sent")]
     Busy,
-    /// A message has 9 to 1785 bytes.
+    /// The message has fewer than 9 or more than 1785 bytes.
     #[error("a message has 9 to 1785 bytes")]
     Size,
     /// The memory for the message was refused.
@@ -32,7 +32,7 @@ pub enum SendFault {
     OutOfMemory,
 }
 
-/// The sender of a node: at most one session for each destination, seen as the map of the messages by
+/// The TP sender of a node: at most one session for each destination, seen as the map of the messages by
 /// destination, and the node's address.
 ///
 /// docs/PROFILE.md, "The TP sender".
@@ -42,7 +42,7 @@ pub struct Sender {
     alloc: Global,
 }
 
-// Written out, so that its proof is not done again in each crate above.
+// Written out, not derived: the drop is proved once here, and not in each crate above.
 impl Drop for Sender {
     fn drop(self) {
         let Sender {
@@ -65,7 +65,7 @@ impl Model for Sender {
 }
 
 impl Sender {
-    /// The sender of the node at this address, without sessions. It takes no memory.
+    /// Creates the sender of the node at an address, without sessions. Does not allocate.
     pub fn new(alloc: Global, own_address: u8) -> Sender
         ensures { result ≡ record { own_address = own_address; sessions = finite.empty } }
     {
@@ -76,12 +76,12 @@ impl Sender {
         }
     }
 
-    /// Starts to send a message of 9 to 1785 bytes, and answers its request to send. Of the parameter
-    /// group number the low 24 bits count. The faults are tested in the order of the enum, and after one
-    /// the sender is as it was. docs/PROFILE.md, "The TP sender".
+    /// Starts to send a message of 9 to 1785 bytes, and returns its request to send. Only the low 24 bits
+    /// of the parameter group number count. The faults are tested in the order of the enum; after one the
+    /// sender is unchanged. docs/PROFILE.md, "The TP sender".
     ///
-    /// The group may be any. The sender knows one thing of a virtual terminal: an abort with PGN 00E600
-    /// ends the session to its source, whatever the group of that session, and no other abort does.
+    /// The parameter group may be any. Aborts are those of a virtual terminal: an abort with PGN 00E600 ends
+    /// the session to its source, whatever the parameter group of that session, and no other abort does.
     pub fn start(&mut self, now: u64, to: u8, pgn: u32, message: &[u8]) -> Result<Frame, SendFault>
         ensures ok { IfOk result
             (λ frame. Starts self.old self.new now to (record { pgn = pgn % 2 ^ 24; bytes = message.now }) frame) }
@@ -112,7 +112,7 @@ impl Sender {
         self.sessions.get(to).is_some()
     }
 
-    /// Hears a frame, and answers the frames to be sent to its source. It takes no memory.
+    /// Handles a frame, and returns the frames to send to its source. Does not allocate.
     /// docs/PROFILE.md, "The TP sender".
     pub fn hear(&mut self, now: u64, frame: &Frame) -> ArrayVec<Frame, 255>
         ensures { Answers self.old self.new (source_of frame.now) (answer self.old now frame.now)
@@ -129,8 +129,9 @@ impl Sender {
         }
     }
 
-    /// The abort of a session that has had none of its frames for more than 1,250,000 microseconds,
-    /// the least destination first. Call it until it answers `None`. docs/PROFILE.md, "Timeouts".
+    /// Ends the overdue session of the least destination and returns its abort. A session is overdue more
+    /// than 1,250,000 microseconds after its last frame. Call it until it returns `None`. docs/PROFILE.md,
+    /// "Timeouts".
     pub fn expire(&mut self, now: u64) -> Option<Frame>
         ensures some { IfSome result (λ frame. TimesOut self.old self.new now frame) }
         ensures none { IfNone result (self.new ≡ self.old) }
@@ -202,7 +203,7 @@ impl Sender {
         ArrayVec::new()
     }
 
-    // Whether the message that goes to a destination is of this group.
+    // Whether the message being sent to a destination is of this parameter group.
     fn sends(&self, to: u8, pgn: u32) -> bool
         ensures { result ≡ is_of_group pgn (finite.get self.now.sessions to) }
     {

@@ -1,4 +1,4 @@
-//! A message as it goes out.
+//! A message being sent.
 
 ghost use Rattle.std.specs.Prelude.{◌≡◌, ◌≤◌, ◌<◌, ◌+◌, ◌-◌, true, map, min};
 ghost use Rattle.vt_transport.specs.Wire.{packet_bytes, packet_frame};
@@ -10,7 +10,7 @@ use std::marker::Model;
 use vt_can::Frame;
 use vt_can::assigned::FILL;
 
-/// A message of 9 to 1785 bytes that is being sent.
+/// A message of 9 to 1785 bytes being sent.
 #[derive(Drop)]
 pub(crate) struct Outgoing {
     pgn: u32,
@@ -52,7 +52,7 @@ impl Outgoing {
         ((self.bytes.len() + 6) / 7) as u8
     }
 
-    /// The frames of as many packets as are asked for from one on, up to the last packet.
+    /// The frames of up to `count` packets, from packet `next` on.
     pub(crate) fn frames(
         &self,
         own_address: u8,
@@ -74,7 +74,7 @@ impl Outgoing {
         frames
     }
 
-    // A packet, the last one filled with FF.
+    // A packet of the message. The last one is filled with FF.
     fn packet(&self, number: u8) -> [u8; 7]
         requires first { 1 ≤ number }
         requires last { number ≤ packet_count_of self.now }

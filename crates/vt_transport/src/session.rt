@@ -1,4 +1,4 @@
-//! A message as it comes in.
+//! A TP session: a message being received.
 
 ghost use Rattle.std.specs.Prelude.{◌≡◌, ◌≤◌, ℕ, max, true, Some, [], length, List, vec_len, vec_capacity};
 ghost use Rattle.vt_can.specs.transport.Messages.{size_and_first_byte};
@@ -10,7 +10,7 @@ use crate::messages::{Opening, Reply};
 use std::marker::Model;
 use vt_can::{Bytes, Reason, Received, append_packet};
 
-/// A message of which packets are still to come.
+/// A message with packets still to come.
 #[derive(Drop)]
 pub(crate) struct Session {
     opening: Opening,
@@ -34,7 +34,7 @@ impl Model for Session {
 }
 
 impl Session {
-    /// A session whose message has room in `bytes`.
+    /// Opens a session. `bytes` is empty and has the capacity for its message.
     pub(crate) fn new(opening: Opening, bytes: Vec<u8>) -> Session
         requires opened { opens opening ≡ true }
         requires empty { vec_len bytes ≡ 0 }
@@ -54,7 +54,7 @@ impl Session {
         self.opening.pgn
     }
 
-    /// Takes a packet, which must be the next one.
+    /// Appends a packet. Any packet other than the next one is refused.
     pub(crate) fn receive(mut self, number: u8, packet: [u8; 7]) -> Received<Session, Reply>
         ensures { (now last : ℕ) → outcome_of (max now last) result
             ≡ after_packet now (Some (record { last = last; session = self })) number packet }
@@ -84,7 +84,7 @@ impl Session {
         Received::More(self, reply)
     }
 
-    /// The size and first byte of the message that a packet completes, if it does.
+    /// The size and first byte of the message completed by a packet, if it completes one.
     pub(crate) fn completed_by(&self, number: u8) -> Option<(usize, u8)>
         ensures { (now last : ℕ) (packet : List ℕ) → length packet ≡ 7
             → result ≡ size_and_first_byte (after_packet now (Some (record { last = last; session = self.now })) number packet).message }

@@ -10,7 +10,7 @@ use byteorder::{ByteOrder, LittleEndian};
 use vt_can::assigned::{ABORT, FILL, NO_LIMIT, TP_CM, TP_CTS, TP_DT, TP_END, TP_RTS};
 use vt_can::{Frame, abort_bytes, frame_of, is_transport_frame_to, numbered_packet, three_bytes};
 
-/// What a frame says to a node. It is of the transport protocol, to the node's address and of 8 bytes.
+/// Decodes a frame of the transport protocol to the node's address with 8 bytes. `None` for any other frame.
 pub(crate) fn tp_frame(own_address: u8, frame: &Frame) -> Option<TpFrame>
     ensures { result ≡ tp_frame own_address frame.now }
 {
@@ -51,7 +51,7 @@ fn connection_management(bytes: &[u8]) -> TpFrame
     }
 }
 
-/// The frame that a reply is, from this node to another.
+/// The frame of a reply from this node to another.
 pub(crate) fn reply_frame(own_address: u8, to: u8, reply: Reply) -> Frame
     ensures { result ≡ reply_frame own_address to reply }
 {
@@ -77,7 +77,7 @@ fn reply_bytes(reply: Reply) -> [u8; 8]
     }
 }
 
-/// The request to send a message, which allows FF packets in a CTS.
+/// The request to send a message, with FF as the greatest number of packets of one CTS.
 pub(crate) fn rts_frame(own_address: u8, to: u8, size: u16, pgn: u32) -> Frame
     requires { size ≤ 1785 }
     ensures { result ≡ rts_frame own_address to size pgn }
@@ -91,7 +91,7 @@ pub(crate) fn rts_frame(own_address: u8, to: u8, size: u16, pgn: u32) -> Frame
     frame_of(TP_CM, own_address, to, bytes)
 }
 
-/// A packet of a message.
+/// The frame of a packet.
 pub(crate) fn data_frame(own_address: u8, to: u8, number: u8, packet: [u8; 7]) -> Frame
     ensures { result ≡ frame_of TP_DT own_address to (number ∷ packet) }
 {

@@ -1,4 +1,4 @@
--- The last rules of a pool, after those before them.
+-- The last rules of a pool follow from the rules before them and from the tests.
 use Rattle.std.proofs.Common.{◌≡◌, None, arith}
 use Rattle.vt_rank.specs.Paths.{HasNoCircle}
 use Rattle.vt_chains.specs.declared.limits.Limits.{Limits}

@@ -1,4 +1,4 @@
--- What is included is there, where no slot names what is not.
+-- All included objects exist, if no slot refers to a missing object.
 use Rattle.std.proofs.Common.{◌≡◌, ℕ, Bool, true, false, cond, not, eqb, List, [], ◌∷◌, map, Option, Some, None, refl, sym, ap, subst, ◌∙◌}
 use Rattle.std.specs.Prelude.{is_some, Contains}
 use Rattle.std.specs.Option.{option_map}
@@ -20,9 +20,9 @@ use Rattle.vt_chains.proofs.Including.{entry_case, object_of, stands, same_ids, 
 use Rattle.vt_chains.proofs.Elements.{Contains-nil, option_case}
 use Rattle.vt_chains.proofs.Slots.{included_in, slot_case}
 
--- ---- what is included is there
+-- ---- included objects exist
 
--- the slots of an entry pass
+-- the slots of an entry pass, if all slots pass
 entry_passes : (objects all : Objects) (id : ℕ) (o : Seen) → first_failing (is_there (shape_of all)) (flat_map slot_references objects) ≡ None → object_at objects id ≡ Some o
     → first_failing (is_there (shape_of all)) (map (of_slot id) (slots_of o)) ≡ None
 entry_passes [] all id o pass is = absurd cc
@@ -42,7 +42,7 @@ there_by : (null : Bool) (there : Bool) (b : Bool) → not b ≡ true → cond b
 there_by null there true differs is = absurd cc
 there_by null there false differs is = is
 
--- of slots that pass, what is included is there
+-- objects included by slots that pass exist
 slots_there : (shape : Shape) (parent : ℕ) (slots : List Slot) (next : ℕ) → first_failing (is_there shape) (map (of_slot parent) slots) ≡ None
     → Contains (included_in slots) next → is_some (kind_at shape next) ≡ true
 slots_there shape parent [] next pass h = absurd (Contains-nil next h)
@@ -58,7 +58,7 @@ none_there : (o : Option Seen) → o ≡ None → is_some (option_map kind_of o)
 none_there None is some = absurd cc
 none_there (Some o) is some = absurd cc
 
--- where no slot names what is not there, all that is included is there
+-- if no slot refers to a missing object, all included objects exist
 pub all_there : (objects : Objects) (id next : ℕ) → rules.missing objects ≡ None → Contains (included objects id) next → object_at objects next ≡ None → ⊥
 all_there objects id next pass h none =
     let o = object_of objects id next h in
@@ -67,7 +67,7 @@ all_there objects id next pass h none =
     (subst (λ (k : Option _). is_some k ≡ true) (kind_found objects next)
     (slots_there (shape_of objects) id (slots_of o.0) next (entry_passes objects objects id o.0 pass o.1) inside))
 
--- ---- in a store by rising ID
+-- ---- stores by rising ID
 
 pub closed : (objects : Objects) → rules.missing objects ≡ None → IsClosed (ids objects) (included objects)
 closed objects pass id other h =

@@ -1,4 +1,4 @@
--- The objects of a pool have distinct IDs, none of them NULL.
+-- The objects of a pool have distinct IDs other than NULL.
 use Rattle.std.proofs.Common.{ℕ, ◌<◌, [], ◌∷◌}
 use Rattle.std.proofs.lemmas.List.Elements.{All-nil, All-cons}
 use Rattle.std.specs.List.{All}

@@ -1,4 +1,4 @@
--- What the macros of a pool cost, in the graph of the triggers and in the pool.
+-- A macro costs the same in the graph of the triggers and in the pool.
 use Rattle.std.proofs.Common.{◌≡◌, ℕ, zero, suc, ◌+◌, ◌<◌, ◌≤◌, max, Bool, true, false, cond, List, [], ◌∷◌, ◌++◌, map, length, Option, Some, None, refl, sym, ap, ap₂, ◌∙◌, arith, inl, inr}
 use Rattle.std.proofs.lemmas.List.{append-nil, get_or-map}
 use Rattle.std.proofs.lemmas.List.Sums.{sum_by-cons, sum_by-append}
@@ -101,7 +101,7 @@ module _ (shape : Shape) (events : List Listing) (g : Graph) (are : AreTriggers 
   ]
 
 module _ (shape : Shape) (events : List Listing) (g : Graph) (are : AreTriggers shape events g) where
-  -- ---- what macros cost
+  -- ---- the costs of macros
 
   none_yet : (n : ℕ) → graphs.cost_within 0 g n ≡ pools.cost_within 0 shape n
   unfolding graphs.cost_within pools.cost_within
@@ -116,7 +116,7 @@ module _ (shape : Shape) (events : List Listing) (g : Graph) (are : AreTriggers 
   within_are zero = everywhere none_yet
   within_are (suc depth) = everywhere (λ n. one_more depth n (within_are depth))
 
-  -- a macro costs what its node does
+  -- a macro costs as much as its node
   pub cost_is : (n : ℕ) → graphs.cost_of g n ≡ pools.cost shape n
   unfolding graphs.cost_of pools.cost
   cost_is n = ap (λ (cost : ℕ → ℕ). cost n) (within_are 256)
@@ -128,26 +128,26 @@ module _ (shape : Shape) (events : List Listing) (g : Graph) (are : AreTriggers 
   costs_are_totals totals n =
       sym (cost_is n) ∙ totals n ∙ total_is shape events g are (graphs.cost_of g) n ∙ ap (λ (cost : ℕ → ℕ). macro_cost cost shape n) costs_are
 
-  -- ---- budgets of events
+  -- ---- the budgets of events
 
   budget_is : (id event : ℕ) → budget shape id event ≡ sum_by (graphs.cost_of g) (listed shape (listing id event))
   unfolding budget
   budget_is id event = ap (λ (cost : ℕ → ℕ). sum_by cost (listed shape (listing id event))) (sym costs_are)
 
-  -- a group costs the budget of the event at its place
+  -- a group costs the budget of the event at its index
   pub group_cost_is : (k : ℕ) (raised : Listing) → k < length events → raised ≡ slice_index_or events k raised → group_cost g k ≡ budget shape raised.id raised.event
   group_cost_is k raised lt is =
       ap (sum_by (graphs.cost_of g)) (groups_at shape events g are k ∙ get_or-map (listed shape) events k raised [] lt ∙ ap (listed shape) (sym is))
       ∙ sym (budget_is raised.id raised.event)
 
-  -- and so does the group of any event
+  -- the group of any event costs the budget of the event
   pub budget_of : (raised : Listing) (k : ℕ) → group_of_event events raised ≡ Some k → group_cost g k ≡ budget shape raised.id raised.event
   budget_of raised k is =
       ap (sum_by (graphs.cost_of g))
       (sym (append-nil (group_of g k)) ∙ ap (λ (o : Option ℕ). flat_map (group_of g) (option_to_list o)) (sym is) ∙ group_listed shape events g are raised)
       ∙ sym (budget_is raised.id raised.event)
 
-  -- an event without a group has no macros
+  -- an event without a group has budget 0
   pub no_budget : (raised : Listing) → group_of_event events raised ≡ None → budget shape raised.id raised.event ≡ 0
   no_budget raised is =
       budget_is raised.id raised.event
@@ -164,7 +164,7 @@ module _ (shape : Shape) (events : List Listing) (g : Graph) (are : AreTriggers 
       let le = each k refl in
       omega arith
 
-  -- where the groups at which an event may be cost no more than a cap, neither does the event
+  -- if the groups of an event cost at most a cap, so does the event
   pub budget_within : (raised : Listing) (cap : ℕ) → ((k : ℕ) → group_of_event events raised ≡ Some k → group_cost g k ≤ cap) → budget shape raised.id raised.event ≤ cap
   budget_within raised cap each = within_case raised cap (group_of_event events raised) refl each
 

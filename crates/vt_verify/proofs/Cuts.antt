@@ -1,4 +1,4 @@
--- Macros' bytes, piece by piece.
+-- The bytes of a macro, cut command by command.
 use Rattle.std.proofs.Common.{◌≡◌, ℕ, eqb, List, [], ◌∷◌, ◌++◌, length, Option, Some, None, refl, sym, ap, ◌∙◌, arith}
 use Rattle.std.proofs.lemmas.Bool.{ne_eqb}
 use Rattle.std.specs.Prelude.{is_some, IsTrue}
@@ -15,13 +15,13 @@ pub whole_rest : CutIsOne → (bytes piece rest : List ℕ) → IsSplit bytes pi
 whole_rest law bytes piece rest split =
     ap is_some (law.first bytes piece rest split) ∙ some_mapped (λ (pieces : List (List ℕ)). piece ∷ pieces) (cut rest)
 
--- where no piece is left, the bytes were cut to their end just if none are left
+-- the bytes are whole exactly if none remain when no further command can be cut
 pub whole_end : CutIsOne → (rest : List ℕ) → ((piece next : List ℕ) → IsSplit rest piece next → ⊥) → eqb (length rest) 0 ≡ is_some (cut rest)
 unfolding cut_within
 whole_end law [] never = refl
 whole_end law (b ∷ rest) never = ne_eqb (length (b ∷ rest)) 0 (λ e. absurd (omega (arith, e))) ∙ sym (ap is_some (law.none (b ∷ rest) (omega arith) never))
 
--- ---- the pieces of bytes that are whole
+-- ---- the commands of whole bytes
 
 pieces_case : (piece : List ℕ) (found : Option (List (List ℕ))) → IsTrue (is_some found)
     → flat_map (λ pieces. pieces) (option_to_list (option_map (λ pieces. piece ∷ pieces) found)) ≡ piece ∷ flat_map (λ pieces. pieces) (option_to_list found)
@@ -41,13 +41,13 @@ no_pieces_case : (found : Option (List (List ℕ))) → found ≡ None → IsTru
 no_pieces_case None is whole = absurd cc
 no_pieces_case (Some pieces) is whole = absurd cc
 
--- where whole bytes begin with no piece, there are none
+-- whole bytes have no commands, if none can be cut from them
 pub no_piece : CutIsOne → (rest : List ℕ) → ((piece next : List ℕ) → IsSplit rest piece next → ⊥) → IsTrue (is_some (cut rest)) → cut_or_none rest ≡ []
 unfolding cut_or_none cut_within
 no_piece law [] never whole = refl
 no_piece law (b ∷ rest) never whole = absurd (no_pieces_case _ (law.none (b ∷ rest) (omega arith) never) whole)
 
--- ---- and their commands
+-- ---- the commands read from the bytes
 
 pub next_command : CutIsOne → (bytes piece rest : List ℕ) → IsSplit bytes piece rest → IsTrue (is_some (cut bytes))
     → commands_of bytes ≡ option_to_list (macro_command piece) ++ commands_of rest

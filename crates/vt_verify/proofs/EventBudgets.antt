@@ -1,4 +1,4 @@
--- The budgets of events, at their places.
+-- The budget of each event is at the event's index.
 use Rattle.std.proofs.Common.{◌≡◌, ℕ, suc, ◌+◌, ◌<◌, Bool, true, false, cond, List, [], ◌∷◌, map, length, Option, Some, None, refl, sym, ap, ap₂, subst, ◌∙◌, arith}
 use Rattle.std.proofs.lemmas.Bool.{eqb-true, or_from}
 use Rattle.std.proofs.lemmas.Option.{slice_get-map, get_or_from_slice_get, same_Some}
@@ -13,7 +13,7 @@ use Rattle.vt_verify.specs.TriggerGraphs.{is_event_of, has, listed_events}
 use Rattle.vt_verify.specs.Budgets.{cost, budget}
 use Rattle.vt_verify.proofs.Graphs.{unlisted}
 
--- ---- at each place the budget of the event that stands there
+-- ---- each index has the budget of its event
 
 pub each_step : {E : Type 0} (f : E → ℕ) (steps : List ℕ) (events : List E) → length steps ≡ length events
     → ((k : ℕ) (e : E) → k < length events → e ≡ slice_index_or events k e → slice_index steps k ≡ f e) → steps ≡ map f events
@@ -30,7 +30,7 @@ step_at f steps events k e n are there is =
     is ∙ ap (λ (l : List ℕ). slice_index_or l k n) are
     ∙ get_or_from_slice_get (map f events) k (f e) n (slice_get-map f events k ∙ ap (option_map f) there)
 
--- ---- an event among them
+-- ---- an event of the list
 
 same_event : (q e : Listing) → is_event_of q e ≡ true → e ≡ q
 same_event q e is =
@@ -71,7 +71,7 @@ not_there q i (e ∷ events) none =
     let both = parts (is_event_of q e) i (position_from (is_event_of q) (i + 1) events) none in
     or_from (is_event_of q e) (has events q) both.0 (not_there q (i + 1) events both.1)
 
--- at an event that is not among them no macro runs
+-- no macro runs at an event that is not in the list
 pub no_event : (shape : Shape) (q : Listing) → position_from (is_event_of q) 0 (listed_events shape) ≡ None → budget shape q.id q.event ≡ 0
 unfolding budget
 no_event shape q none =

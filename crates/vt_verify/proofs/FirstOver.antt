@@ -1,4 +1,4 @@
--- The first macro or object over the greatest budget, in the graph of the triggers and in the pool.
+-- The first macro or object over the greatest budget is the same in the graph of the triggers and in the pool.
 use Rattle.std.proofs.Common.{◌≡◌, ℕ, zero, suc, ◌+◌, ◌<◌, ◌≤◌, Bool, true, false, cond, List, [], ◌∷◌, ◌++◌, map, length, get_or, Option, Some, refl, sym, ap, subst, ◌∙◌, arith, inl, inr}
 use Rattle.std.proofs.lemmas.Option.{same_Some}
 use Rattle.std.proofs.lemmas.Bool.{eqb-true, cases_lt}
@@ -27,7 +27,7 @@ use Rattle.vt_stores.proofs.Searching.{is_below}
 
 -- ---- events by rising ID
 
--- no ID is less than that of the event before, nor the first less than this
+-- the IDs of the events do not fall, and none is below `low`
 Climbs : ℕ → List Listing → Type 0
 Climbs low [] = Unit {0}
 Climbs low (e ∷ events) = (low ≤ e.id) × Climbs e.id events
@@ -85,7 +85,7 @@ all_from_zero (e ∷ es) = (omega arith, all_from_zero es)
 events_climb : (shape : Shape) → IsTrue (finite.is_sorted nat_cmp shape) → Climbs 0 (listed_events shape)
 events_climb shape rising = objects_climb shape shape rising 0 (all_from_zero shape)
 
--- ---- the place of an event
+-- ---- the index of an event
 
 pub there : (events : List Listing) (k : ℕ) (raised : Listing) → slice_get events k ≡ Some raised → (k < length events) × (raised ≡ slice_index_or events k raised)
 there [] k raised is = absurd cc
@@ -127,21 +127,21 @@ at_place q i (e ∷ events) k some =
     place_case e events i q k (position_from (is_event_of q) (i + 1) events) (is_event_of q e) refl (at_place q (i + 1) events k) some
 
 module _ (shape : Shape) (events : List Listing) (g : Graph) (are : AreTriggers shape events g) where
-  -- ---- groups that are there
+  -- ---- groups within the list
 
   no_group : (k : ℕ) → length events ≤ k → group_cost g k ≡ 0
   no_group k le =
       let len = length-map events (listed shape) in
       ap (sum_by (graphs.cost_of g)) (groups_at shape events g are k ∙ get_or_past (map (listed shape) events) k [] (omega arith))
 
-  -- a group that is over a cap has an event
+  -- a group that costs more than a cap has an event
   pub over_is_inside : (cap k : ℕ) → cap < group_cost g k → k < length events
   over_is_inside cap k lt = elim (cases_lt k (length events)) [
     | inl inside ↦ inside
     | inr beyond ↦ let none = no_group k beyond in absurd (omega arith)
   ]
 
-  -- ---- the first that is over it
+  -- ---- the first macro or object over the cap
 
   pub first_macro : (steps n : ℕ) → graphs.IsFirstOver g steps (over.Node n) → IsFirstOver steps shape n
   first_macro steps n first =
@@ -150,7 +150,7 @@ module _ (shape : Shape) (events : List Listing) (g : Graph) (are : AreTriggers 
       Macro (omega arith) (λ other less. costs_within shape events g are steps other (first.1 other less))
 
   module _ (rising : IsTrue (finite.is_sorted nat_cmp shape)) where
-    -- groups of lesser IDs stand before
+    -- the groups of lesser IDs have lesser indices
     before : (k : ℕ) (raised : Listing) → k < length events → raised ≡ slice_index_or events k raised
         → (other event j : ℕ) → other < raised.id → group_of_event events (listing other event) ≡ Some j → j < k
     before k raised inside is other event j less found =
@@ -174,7 +174,7 @@ module _ (shape : Shape) (events : List Listing) (g : Graph) (are : AreTriggers 
         (λ other event less. budget_within shape events g are (listing other event) steps
         (λ j found. first.2 j (before k raised inside is other event j less found)))
 
--- ---- what a cap on the graph says of objects whose IDs rise
+-- ---- the first object over the cap, for objects with rising IDs
 
 pub first_over : (objects : Objects) (events : List Listing) (g : Graph) → IsRising objects → AreTriggers (shape_of objects) events g
     → (steps k : ℕ) (raised : Listing) → slice_get events k ≡ Some raised → graphs.IsFirstOver g steps (over.Group k) → IsFirstOver steps (shape_of objects) raised.id

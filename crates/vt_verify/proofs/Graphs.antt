@@ -1,4 +1,4 @@
--- What the macros of a pool trigger, in the graph of the triggers and in the pool.
+-- A macro triggers the same macros in the graph of the triggers and in the pool.
 use Rattle.std.proofs.Common.{◌≡◌, ℕ, zero, suc, ◌+◌, ◌<◌, ◌≤◌, Bool, true, false, cond, ◌&&◌, ◌||◌, List, [], ◌∷◌, ◌++◌, map, take, Option, Some, None, refl, sym, ap, ap₂, subst, ◌∙◌, arith, inl, inr}
 use Rattle.std.proofs.lemmas.List.{append-nil, length-take, get_or_past}
 use Rattle.std.proofs.lemmas.List.Folds.{list_any-append}
@@ -24,14 +24,14 @@ use Rattle.vt_verify.proofs.Passes.{each_of_each}
 use Rattle.vt_stores.proofs.Rising.{both_true}
 use Rattle.vt_verify.proofs.ListedEvents.{tied_same, from, numbers_are}
 
--- functions that are equal at each place
+-- functions that are equal at each argument are equal
 pub everywhere : {A B : Type 0} {f h : A → B} → ((x : A) → f x ≡ h x) → f ≡ h
 everywhere equal = λ i x. equal x i
 
 pub same_lists : {A B : Type 0} (f h : A → List B) (xs : List A) → ((x : A) → f x ≡ h x) → flat_map f xs ≡ flat_map h xs
 same_lists f h xs equal = ap (λ f. flat_map f xs) (everywhere equal)
 
--- ---- events at which macros are listed are among those of the pool
+-- ---- listed events are among those of the pool
 
 or_true : (a : Bool) → (a || true) ≡ true
 or_true true = refl
@@ -123,7 +123,7 @@ unlisted_case (m ∷ ms) h listed = ap (λ h. cond h (m ∷ ms) []) (listed m ms
 pub unlisted : (shape : Shape) (q : Listing) → cond (has (listed_events shape) q) (listed shape q) [] ≡ listed shape q
 unlisted shape q = unlisted_case (listed shape q) (has (listed_events shape) q) (λ m ms is. has_listed shape q.id q.event m ms is)
 
--- ---- the group of an event has the macros that are listed there
+-- ---- the group of an event has the macros listed there
 
 same_event : (shape : Shape) (q e : Listing) → is_event_of q e ≡ true → listed shape e ≡ listed shape q
 same_event shape q e is =
@@ -145,7 +145,7 @@ found_group shape all q i (e ∷ events) at =
     (λ is. ap all (sym here) ∙ at 0 ∙ same_event shape q e is)
     (found_group shape all q (i + 1) events (λ j. let next : (i + 1) + j ≡ i + suc j = omega arith in ap all next ∙ at (suc j)))
 
--- ---- what triggers what
+-- ---- the triggers of nodes
 
 group_nodes : (g : Graph) (ks : List ℕ) → flat_map (nodes_of g) (map items.Group ks) ≡ flat_map (group_of g) ks
 group_nodes g [] = refl
@@ -172,7 +172,7 @@ unnamed_case : (n : ℕ) (found : Option Fixed) → 256 ≤ n → flat_map (comm
 unnamed_case n None high = refl
 unnamed_case n (Some f) high = append-nil (commands_in n f) ∙ not_named (is_macro f.kind) (nat_le n 255) f.bytes (above_case (nat_le n 255) n refl high)
 
--- macros above 255 have no commands that count
+-- macros with IDs above 255 have no commands
 pub unnamed : (shape : Shape) (n : ℕ) → 256 ≤ n → commands shape n ≡ []
 unfolding commands
 unnamed shape n high = unnamed_case n (fixed_at shape n) high
@@ -183,7 +183,7 @@ no_items g n high =
     let short = length-take 256 (lists g.nodes) in
     get_or_past (take 256 (lists g.nodes)) n [] (omega arith)
 
--- the macros of an event, where the events are those of the pool
+-- the groups of the events of a pool have the listed macros
 pub listings_are : (shape : Shape) (events : List Listing) (groups : List (List ℕ)) → events ≡ listed_events shape
     → groups ≡ map (listed shape) (listed_events shape) → AreListings shape (events, groups)
 listings_are shape events groups events_are groups_are q =
@@ -199,7 +199,7 @@ module _ (shape : Shape) (events : List Listing) (g : Graph) (are : AreTriggers 
   unfolding group_of
   groups_at k = ap (λ (groups : List (List ℕ)). slice_index_or groups k []) are.groups
 
-  -- the macros listed at an event, by its group
+  -- the group of an event has the macros listed at it
   pub group_listed : (q : Listing) → flat_map (group_of g) (option_to_list (group_of_event events q)) ≡ listed shape q
   group_listed q =
       found_group shape (group_of g) q 0 events (λ j. let same : 0 + j ≡ j = omega arith in ap (group_of g) same ∙ groups_at j)
@@ -224,7 +224,7 @@ module _ (shape : Shape) (events : List Listing) (g : Graph) (are : AreTriggers 
       (group_nodes g (groups_of events (row_listings command)) ∙ groups_listed (row_listings command))
       ∙ sym (flat_map-append (listed shape) (hidden shape command) (row_listings command))
 
-  -- the macros that a macro triggers are those of its node
+  -- the macros triggered by a macro are those of its node
   pub triggered_is : (n : ℕ) → graphs.triggered g n ≡ triggered shape n
   triggered_is n = elim (cases_lt n 256) [
     | inl lt ↦ ap (flat_map (nodes_of g)) (are.nodes n lt)
@@ -236,7 +236,7 @@ module _ (shape : Shape) (events : List Listing) (g : Graph) (are : AreTriggers 
   triggered_are : graphs.triggered g ≡ triggered shape
   triggered_are = everywhere triggered_is
 
-  -- ---- so paths and circles are the same
+  -- ---- paths and circles are the same in both
 
   pub path_is : (path : List ℕ) → IsPath (graphs.triggered g) path → IsPath (triggered shape) path
   path_is path is = subst (λ (next : ℕ → List ℕ). IsPath next path) triggered_are is

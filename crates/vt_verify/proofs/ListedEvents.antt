@@ -1,4 +1,4 @@
--- The events at which objects list macros, and the groups of these.
+-- The events at which objects list macros, and their groups.
 use Rattle.std.proofs.Common.{◌≡◌, ◌≢◌, ℕ, zero, suc, ◌+◌, ◌-◌, ◌<◌, ◌≤◌, Bool, true, false, cond, ◌&&◌, ◌||◌, List, [], ◌∷◌, ◌++◌, map, filter, take, drop, length, get_or, Option, Some, None, refl, sym, ap, ap₂, subst, ◌∙◌, arith}
 use Rattle.std.proofs.Math.Seq.{drop-cons}
 use Rattle.std.proofs.lemmas.List.{append_assoc, append-nil, map-append, take_more}
@@ -54,9 +54,9 @@ next_is xs i x lt is =
 pub group_is : (events : List Listing) (raised : Listing) → position (is_event_of raised) events ≡ group_of_event events raised
 group_is events raised = position_from-zero (is_event_of raised) events
 
--- ---- what is made so far, and what is left
+-- ---- the list made so far and the remaining list
 
--- what comes next moves from what is left to what is made
+-- the next elements move from the remaining list to the list made so far
 pub moved : {A : Type 0} (made next left all : List A) → made ++ (next ++ left) ≡ all → (made ++ next) ++ left ≡ all
 moved made next left all is = append_assoc made next left ∙ is
 
@@ -67,7 +67,7 @@ next_group events made raised left all is =
     moved made (map items.Group (option_to_list (group_of_event events raised))) (map items.Group (groups_of events left)) all
     (ap (λ (gs : List Item). made ++ gs) (sym (map-append items.Group (option_to_list (group_of_event events raised)) (groups_of events left))) ∙ is)
 
--- ---- the groups of masks that are hidden
+-- ---- the groups of the Hide events of masks
 
 hidden_case : (events : List Listing) (b : Bool) (e : ℕ × Fixed) (rest : Shape)
     → groups_of events (map (λ mask. listing mask 4) (map (λ e. e.0) (cond b (e ∷ rest) rest)))
@@ -97,7 +97,7 @@ module _ {B : Type 0} (events : List Listing) where
       (sym (ap hidden_of (next_is es i e lt is) ∙ first_hidden e (drop (i + 1) es)))
       ∙ left)
 
--- ---- the macro under an ID is whole, where all are
+-- ---- each macro is whole, if all are
 
 module _ {R : Type 0} (test : R → Bool) (made : ℕ × Fixed → List R) where
   passing_case : (id : ℕ) (e : ℕ × Fixed) (b : Bool) (rest : Option Fixed) → (b ≡ true → id ≡ e.0) → first_failing test (made e) ≡ None
@@ -107,7 +107,7 @@ module _ {R : Type 0} (test : R → Bool) (made : ℕ × Fixed → List R) where
       ap (first_failing test) (append-nil (made (id, e.1))) ∙ ap (λ (id : ℕ). first_failing test (made (id, e.1))) (alike refl) ∙ pass
   passing_case id e false rest alike pass later = later
 
-  -- what is made of the object under an ID passes, where all does
+  -- the list of one object passes, if the lists of all objects pass
   passing_under : (shape : Shape) (id : ℕ) → first_failing test (flat_map made shape) ≡ None
       → first_failing test (flat_map (λ f. made (id, f)) (option_to_list (fixed_at shape id))) ≡ None
   passing_under [] id all = refl
@@ -135,7 +135,7 @@ whole_bytes shape id found bytes all is some =
     ∙ ap (first_failing is_whole) (sym (named_bytes id (fixed_at shape id)))
     ∙ passing_under is_whole named_macro shape id all)
 
--- ---- and each of its pieces is a command
+-- ---- each macro command of a whole macro is a command
 
 pieces_under : (shape : Shape) (id : ℕ) (found : Option (List ℕ))
     → option_to_list found ≡ flat_map (λ f. option_to_list (bytes_in id f)) (option_to_list (fixed_at shape id))
@@ -164,7 +164,7 @@ command_case None later cs is rest = absurd cc
 command_case (Some DeletePool) later cs is rest = absurd cc
 command_case (Some c) later cs is rest = ap (λ (l : List (Option Command)). Some c ∷ l) rest
 
--- where all pieces are allowed, they read as the commands
+-- if all macro commands are allowed, their bytes read as the commands
 pub pieces_read : (id at : ℕ) (ps : List (List ℕ)) → first_failing is_allowed (placed id at ps) ≡ None
     → map command_at ps ≡ map Some (flat_map (λ piece. option_to_list (macro_command piece)) ps)
 pieces_read id at [] all = refl
@@ -172,14 +172,14 @@ pieces_read id at (p ∷ ps) all =
     let parts = allowed_case (is_some (macro_command p)) (first_failing is_allowed (placed id (at + length p) ps)) (record { id = id; at = at; bytes = p }) all in
     command_case (command_at p) (map command_at ps) (flat_map (λ piece. option_to_list (macro_command piece)) ps) parts.0 (pieces_read id (at + length p) ps parts.1)
 
--- the commands of the macro whose bytes are found
+-- the bytes of a macro have its commands
 pub commands_found : (shape : Shape) (id : ℕ) (found : Option (List ℕ))
     → option_to_list found ≡ flat_map (λ f. option_to_list (bytes_in id f)) (option_to_list (fixed_at shape id)) → flat_map commands_of (option_to_list found) ≡ commands shape id
 unfolding commands
 commands_found shape id found is =
     ap (flat_map commands_of) is ∙ each_of_each commands_of (λ (f : Fixed). option_to_list (bytes_in id f)) (option_to_list (fixed_at shape id))
 
--- ---- the events, in order
+-- ---- the numbers of events, in order
 
 unfoldable pub from : ℕ → ℕ → List ℕ
 from zero start = []
@@ -204,9 +204,9 @@ next_event n high =
     let back : 0 + n ≡ n = omega arith in
     next_is event_numbers n n (omega arith) (sym (at ∙ back))
 
--- ---- the events at which nothing is listed
+-- ---- the events without listed macros
 
--- an entry of another event is passed by
+-- an entry of another event adds no macro
 pub not_listed : (event : ℕ) (entries : List MacroEntry) (i : ℕ) (d : MacroEntry) → i < length entries → (get_or entries i d).event ≢ event
     → macros_at event (drop i entries) ≡ macros_at event (drop (i + 1) entries)
 not_listed event entries i d lt other =
@@ -224,7 +224,7 @@ passed_by {A = A} F (suc count) n m is le none =
     ∙ ap (λ (more : List A). more ++ flat_map F (drop (n + 1) event_numbers)) (none n (omega arith) (omega (arith, is)))
     ∙ passed_by F count (n + 1) m (omega (arith, is)) le (λ event low high. none event (omega arith) high)
 
--- events that add nothing are passed by
+-- events without listed macros add nothing
 pub none_between : {A : Type 0} (F : ℕ → List A) (n m : ℕ) → n ≤ m → m ≤ 27 → ((event : ℕ) → n ≤ event → event < m → F event ≡ [])
     → flat_map F (drop n event_numbers) ≡ flat_map F (drop m event_numbers)
 none_between F n m le high none = passed_by F (m - n) n m (omega arith) high none
@@ -241,7 +241,7 @@ none_if_any : (q r : Listing) (ms : List ℕ) → is_event_of q r ≡ false → 
 none_if_any q r [] is = refl
 none_if_any q r (m ∷ ms) is = neither (is_event_of q r) false is refl
 
--- an event of a greater number is not there yet
+-- an event with a greater number is not in the list yet
 pub still_new : (id n event : ℕ) (keys : List Listing) (ms : List ℕ) → n + 1 ≤ event → has keys (listing id event) ≡ false
     → has (keys ++ if_any (listing id n) ms) (listing id event) ≡ false
 still_new id n event keys ms le none =
@@ -249,9 +249,9 @@ still_new id n event keys ms le none =
     ∙ neither (has keys (listing id event)) (has (if_any (listing id n) ms) (listing id event)) none
     (none_if_any (listing id event) (listing id n) ms (never_both (nat_eq id id) (nat_eq event n) (ne_eqb event n (λ e. absurd (omega (arith, e))))))
 
--- ---- the events of objects whose IDs rise
+-- ---- the events of objects with rising IDs
 
--- what an object adds
+-- the events of one object
 abbrev pub events_of : ℕ × Fixed → List Listing
 events_of e = events_in e.0 e.1
 
@@ -296,7 +296,7 @@ module _ {B : Type 0} where
       → has (flat_map events_of (shape_of (map shown (take i es)))) (listing e.0 event) ≡ false
   not_yet es i e event lt is rising = others (listing e.0 event) (shape_of (map shown (take i es))) (apart es i e lt is rising)
 
-  -- what is made of one more object
+  -- the list of one more object comes last
   pub one_more : {A : Type 0} (F : ℕ × Fixed → List A) (es : List (ℕ × Object B)) (i : ℕ) (e : ℕ × Object B) → i < length es → e ≡ get_or es i e
       → flat_map F (shape_of (map shown (take (i + 1) es))) ≡ flat_map F (shape_of (map shown (take i es))) ++ F (e.0, fixed (seen e.1))
   one_more F es i e lt is =
@@ -306,7 +306,7 @@ module _ {B : Type 0} where
       ∙ flat_map-append F (shape_of (map shown (take i es))) ((e.0, fixed (seen e.1)) ∷ [])
       ∙ ap (λ more. flat_map F (shape_of (map shown (take i es))) ++ more) (append-nil (F (e.0, fixed (seen e.1))))
 
--- ---- these are the events at which macros are listed, and their macros
+-- ---- the events found are those at which macros are listed
 
 IsFound : Shape → ℕ × Fixed → Type 0
 IsFound shape e = fixed_at shape e.0 ≡ Some e.1
@@ -330,7 +330,7 @@ all_found (e ∷ shape) rising =
       found_later e shape shape parts.0 (all_found shape parts.1),
     )
 
--- the macros listed at an event of an object that is there
+-- the macros listed at an event of an existing object
 pub listed_here : (shape : Shape) (id : ℕ) (f : Fixed) (event : ℕ) → fixed_at shape id ≡ Some f → IsTrue (is_event event)
     → listed shape (listing id event) ≡ listed_in event id f
 unfolding listed
@@ -378,7 +378,7 @@ below_fixed : (a : ℕ) (objects : Objects) → below_all nat_cmp a (shape_of ob
 below_fixed a [] = refl
 below_fixed a (e ∷ objects) = ap (λ (b : Bool). is_lt (nat_cmp a e.0) && b) (below_fixed a objects)
 
--- what stays of objects rises as they do
+-- the shape of objects is sorted exactly if the objects are
 pub shape_rises : (objects : Objects) → finite.is_sorted nat_cmp (shape_of objects) ≡ finite.is_sorted nat_cmp objects
 shape_rises [] = refl
 shape_rises (e ∷ objects) = ap₂ (λ (a b : Bool). a && b) (below_fixed e.0 objects) (shape_rises objects)

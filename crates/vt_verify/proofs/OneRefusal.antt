@@ -1,4 +1,4 @@
--- Two refusals of a pool say the same.
+-- The refusal of a pool is unique, except for the choice of its chain or circle.
 use Rattle.std.proofs.Common.{◌≡◌, ◌<◌, ◌≤◌, ℕ, zero, suc, List, [], ◌∷◌, take, Option, Some, None, refl, sym, ap, ap₂, subst, ◌∙◌, arith, inl, inr}
 use Rattle.std.proofs.lemmas.Option.{same_Some}
 use Rattle.std.proofs.lemmas.Bool.{cases_lt}
@@ -17,7 +17,7 @@ use Rattle.vt_verify.specs.Rules.{Rule, HasWorkingSet, HasOneWorkingSet, Referen
 use Rattle.vt_verify.specs.Rules.IsFirstOver.{Macro, Object}
 use Rattle.vt_verify.proofs.Refusals.{first_rules_fail}
 
--- ---- one rule is the first to fail
+-- ---- the first rule to fail is unique
 
 all_at : {A : Type 0} (P : A → Type 0) (xs : List A) (n i : ℕ) (x : A) → slice_get xs i ≡ Some x → i < n → AllByRecursion P (take n xs) → P x
 all_at P [] n i x is lt all = absurd cc
@@ -69,7 +69,7 @@ module _ (limits : Limits) (objects : Objects) where
       named_by (rule_of q) rule (first_rules_fail limits objects q other) (nameless q named)
       (subst (λ (o : Option Rule). IfSome o (IsFirstToFail limits objects)) by (first_rules_fail limits objects r is))
 
--- ---- what a rule names is one
+-- ---- the culprit of a rule is unique
 
 names_one : (first : Option Reference) (parent id of other : ℕ) (says : ℕ → ℕ → Refusal) → Names first parent id → Names first of other → says parent id ≡ says of other
 names_one first parent id of other says x y =
@@ -81,7 +81,7 @@ at_one first id at of other says x y =
     let same : x.0 ≡ y.0 = same_Some x.0 y.0 (sym x.1 ∙ y.1) in
     ap₂ says (sym x.2 ∙ ap (λ (p : Piece). p.id) same ∙ y.2) (sym x.3 ∙ ap (λ (p : Piece). p.at) same ∙ y.3)
 
--- the first macro whose bytes end inside a command
+-- `id` is the first macro whose bytes end inside a command
 abbrev IsCutShort : Option (ℕ × List ℕ) → ℕ → Type 0
 IsCutShort first id = (m : ℕ × List ℕ) × (first ≡ Some m) × (m.0 ≡ id)
 
@@ -90,7 +90,7 @@ cut_one first id other x y =
     let same : x.0 ≡ y.0 = same_Some x.0 y.0 (sym x.1 ∙ y.1) in
     sym x.2 ∙ ap (λ (m : ℕ × List ℕ). m.0) same ∙ y.2
 
--- the first macro of a circle is not below the least on any
+-- the first macro of a circle is not below the least on any circle
 starts_above : (next : ℕ → List ℕ) (n : ℕ) (path : List ℕ) → IsCircle next path → IsLeastOnCircles next n → n ≤ slice_index path 0
 starts_above next n [] circle least = absurd circle
 starts_above next n (m ∷ ms) circle least = least (m ∷ ms) circle 0 0 (omega arith)
@@ -117,7 +117,7 @@ over_one steps shape id other x y =
       ]
     ]
 
--- ---- each refusal, and another by the same rule
+-- ---- each refusal, compared with another of the same rule
 
 module _ (limits : Limits) (objects : Objects) where
   like_none : (q : Refusal) → rule_of q ≡ Some HasWorkingSet → SaysTheSame refusals.NoWorkingSet q

@@ -1,4 +1,4 @@
--- A pass over objects, of which each has a list that is tested.
+-- The first failure in a pass over objects, each with a list of tested elements.
 use Rattle.std.proofs.Common.{◌≡◌, ℕ, suc, ◌+◌, ◌<◌, Bool, true, false, cond, List, [], ◌∷◌, ◌++◌, map, drop, length, get_or, Option, Some, None, refl, sym, ap, ◌∙◌, arith}
 use Rattle.std.proofs.Math.Seq.{drop-cons}
 use Rattle.std.proofs.lemmas.Grind.{flat_map-append}
@@ -15,7 +15,7 @@ module _ {R : Type 0} (test : R → Bool) where
   failing_case true x first rest r later is = later is
   failing_case false x first rest r later is = is
 
-  -- what fails in a list fails first in all that begins with it
+  -- the first failure of a list is the first failure of every longer list that begins with it
   pub fails_in : (xs ys : List R) (r : R) → first_failing test xs ≡ Some r → first_failing test (xs ++ ys) ≡ Some r
   fails_in [] ys r is = absurd cc
   fails_in (x ∷ xs) ys r is = failing_case (test x) x (first_failing test xs) (first_failing test (xs ++ ys)) r (fails_in xs ys r) is
@@ -24,7 +24,7 @@ module _ {R : Type 0} (test : R → Bool) where
   passing_case true x first rest last later is = later is
   passing_case false x first rest last later is = absurd cc
 
-  -- where all of a list pass, the first that fails is in what follows
+  -- if a whole list passes, the first failure is that of the list after it
   pub passes_in : (xs ys : List R) → first_failing test xs ≡ None → first_failing test (xs ++ ys) ≡ first_failing test ys
   passes_in [] ys is = refl
   passes_in (x ∷ xs) ys is =
@@ -34,17 +34,17 @@ module _ {R : Type 0} (test : R → Bool) where
   both_case true x first rest P later back is = let p = later is in (back p, p)
   both_case false x first rest P later back is = absurd cc
 
-  -- where all pass, those in front do and those that follow
+  -- if two joined lists pass, both pass
   pub all_pass : (xs ys : List R) → first_failing test (xs ++ ys) ≡ None → (first_failing test xs ≡ None) × (first_failing test ys ≡ None)
   all_pass [] ys is = (refl, is)
   all_pass (x ∷ xs) ys is =
       let parts = both_case (test x) x (first_failing test xs) (first_failing test (xs ++ ys)) ((first_failing test xs ≡ None) × (first_failing test ys ≡ None)) (all_pass xs ys) (λ p. p.0) is in
       (parts.0, parts.1.1)
 
-  -- ---- over objects
+  -- ---- lists of objects
 
   module _ {B : Type 0} (list : ℕ × Seen → List R) where
-    -- what is left begins with the list of the next object
+    -- the remaining list begins with the list of the next object
     next : (items : List (ℕ × Object B)) (i : ℕ) (item : ℕ × Object B) → i < length items → item ≡ get_or items i item
         → flat_map list (map shown (drop i items)) ≡ list (shown item) ++ flat_map list (map shown (drop (i + 1) items))
     next items i item lt is =
@@ -72,7 +72,7 @@ module _ {R : Type 0} (test : R → Bool) where
         left ∙ ap (first_failing test) (next items i item lt is)
         ∙ passes_in (list (shown item)) _ (sym fails ∙ none)
 
--- ---- where what is found is told in part
+-- ---- a result made of the failing element
 
 module _ {R S : Type 0} (test : R → Bool) (told : R → S) where
   fails_case : (first : Option R) (whole : Option R) (out : Option S) (s : S) → ((r : R) → first ≡ Some r → whole ≡ Some r) → out ≡ option_map told first → out ≡ Some s
@@ -101,7 +101,7 @@ module _ {R S : Type 0} (test : R → Bool) (told : R → S) where
         (passes_case (first_failing test (list (shown item))) _ (first_failing test (flat_map list (map shown (drop (i + 1) items)))) found
         (passes_in test (list (shown item)) _) fails none)
 
--- ---- lists over what stays of objects
+-- ---- lists made of the shape of objects
 
 pub over_objects : {R : Type 0} (list : ℕ × Fixed → List R) (objects : Objects) → flat_map list (shape_of objects) ≡ flat_map (λ e. list (e.0, fixed e.1)) objects
 over_objects list [] = refl

@@ -1,4 +1,4 @@
--- The pieces of a macro's bytes, tested one after the other.
+-- The macro commands of a macro's bytes, tested one after the other.
 use Rattle.std.proofs.Common.{◌≡◌, ℕ, ◌+◌, ◌-◌, ◌≤◌, Bool, true, false, cond, List, ◌∷◌, length, Some, refl, ap, ◌∙◌, arith}
 use Rattle.std.proofs.lemmas.List.{length-append}
 use Rattle.vt_commands.specs.Pieces.{IsSplit}
@@ -9,7 +9,7 @@ use Rattle.vt_stores.specs.Shapes.{Shape}
 use Rattle.vt_verify.specs.Macros.{placed, cut_or_none}
 use Rattle.vt_verify.specs.Targets.{piece_passes}
 
--- a test looks at the bytes alone
+-- a test depends on the bytes alone
 same_test : (t : PieceTest) (shape : Shape) (id at : ℕ) (bytes : List ℕ)
     → piece_passes t shape (record { id = id; at = at; bytes = bytes }) ≡ piece_passes t shape (record { id = 0; at = 0; bytes = bytes })
 same_test IsAllowed shape id at bytes = refl
@@ -31,7 +31,7 @@ passes_here t shape id at rest piece ps is passes =
     ∙ ap (λ (b : Bool). cond b (first_failing (piece_passes t shape) (placed id (at + length piece) ps)) (Some (record { id = id; at = at; bytes = piece })))
     (same_test t shape id at piece ∙ passes)
 
--- where the next piece stands
+-- the offset of the next macro command
 pub next_at : (bytes rest piece next : List ℕ) → IsSplit rest piece next → length rest ≤ length bytes
     → (length bytes - length rest) + length piece ≡ length bytes - length next
 next_at bytes rest piece next split le =

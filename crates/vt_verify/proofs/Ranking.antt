@@ -1,4 +1,4 @@
--- Macros that are sorted by their ranks.
+-- Sorting macros by rank puts each macro after those that it triggers.
 use Rattle.std.proofs.Common.{◌≡◌, ℕ, ◌+◌, ◌≤◌, List, ◌∷◌, ◌++◌, length, sym, ap, subst, ◌∙◌, arith}
 use Rattle.std.proofs.lemmas.List.{get_or-append-add, length-append}
 use Rattle.std.specs.Prelude.{Contains, slice_index, IsPermutation}
@@ -11,7 +11,7 @@ use Rattle.vt_verify.specs.TriggerGraphs.{AreTriggers}
 use Rattle.vt_verify.specs.Orders.{named_macros, IsByRank}
 use Rattle.vt_verify.proofs.Graphs.{triggered_is}
 
--- of sorted numbers none that stands from one on is less
+-- in a sorted list no key is less than the key of an element before it
 none_less : (key : ℕ → ℕ) (order front back : List ℕ) (m n : ℕ) → IsNonDecreasingBy key order → order ≡ front ++ m ∷ back → Contains (m ∷ back) n → key m ≤ key n
 none_less key order front back m n sorted is h =
     let all = subst (IsNonDecreasingBy key) is sorted in

@@ -1,4 +1,4 @@
--- A pool that meets all rules is refused for none of them.
+-- A pool that meets all rules is refused by none of them.
 use Rattle.std.proofs.Common.{◌≡◌, ℕ, Option, Some, None, arith}
 use Rattle.vt_verify.specs.declared.refusal.Refusal.TheVariants as refusals
 use Rattle.vt_stores.specs.Shapes.{shape_of}
@@ -17,7 +17,7 @@ within steps objects id all (Object costs event over least) =
     let le = all.budgets id event in
     absurd (omega arith)
 
--- the rule that a refusal names fails, and those before it hold
+-- the rule of a refusal fails, and all rules before it hold
 pub first_rules_fail : FirstRulesFail
 first_rules_fail limits objects refusals.NoWorkingSet is = record { before = tt; fails = λ holds. absurd (omega (arith, holds, is)) }
 first_rules_fail limits objects refusals.TwoWorkingSets is = record { before = ((omega (arith, is)), tt); fails = λ holds. absurd (omega (arith, holds, is)) }

@@ -1,4 +1,4 @@
--- References that are there and fit.
+-- References that exist and fit pass both tests.
 use Rattle.std.proofs.Common.{◌≡◌, ◌≢◌, Bool, true, false, cond, List, [], ◌∷◌, Option, Some, None, refl, sym, ap, ◌∙◌}
 use Rattle.std.proofs.lemmas.Bool.{eq-eqb, ne_eqb}
 use Rattle.std.specs.Prelude.{IsTrue, is_some, ◌&&◌}
@@ -27,7 +27,7 @@ module _ {R : Type 0} (a b : R → Bool) where
   both_pass [] is = (refl, refl)
   both_pass (x ∷ xs) is = both_case (a x) (b x) x (first_failing (λ x. a x && b x) xs) (first_failing a xs) (first_failing b xs) (both_pass xs) is
 
--- what passes is passed by
+-- an element that passes is skipped
 pub passed : {R : Type 0} (test : R → Bool) (x : R) (xs : List R) → IsTrue (test x) → first_failing test (x ∷ xs) ≡ first_failing test xs
 passed test x xs is = ap (λ (b : Bool). cond b (first_failing test xs) (Some x)) is
 
@@ -42,7 +42,7 @@ null_fits objects r stored null =
     (ap (λ (b : Bool). cond b true (allows r.kinds r.id (kind_at (shape_of objects) r.id))) (eq-eqb r.id 0xFFFF null))
     ∙ ap (λ (o : Option Seen). first_failing (fits (shape_of objects)) (pointed r o)) (ap (object_at objects) null ∙ null_names_none objects stored)
 
--- ---- an object that is there
+-- ---- an object that exists
 
 module _ {B : Type 0} (objects : Objects) (r : Reference) (o : Object B) (found : Some (seen o) ≡ object_at objects r.id) (named : r.id ≢ 0xFFFF) where
   kind_is : kind_at (shape_of objects) r.id ≡ Some (kind_of o)

@@ -1,4 +1,4 @@
--- The objects of an update, and of a store those under other IDs.
+-- The objects of an update and the other objects of a store make the updated store.
 use Rattle.std.proofs.Common.{◌≡◌, ℕ, zero, suc, ◌+◌, ◌<◌, ◌≤◌, Bool, true, false, cond, eqb, List, [], ◌∷◌, ◌++◌, take, length, Option, Some, None, refl, sym, ap, ap₂, subst, ◌∙◌, arith, inl, inr}
 use Rattle.std.proofs.lemmas.Bool.{cases_eq, ne_eqb, or_from}
 use Rattle.std.proofs.lemmas.Cmp.{nat_cmp_total}
@@ -22,7 +22,7 @@ use Rattle.vt_pool.specs.Pools.{contents}
 use Rattle.vt_chains.specs.Depths.{IsAt, ids_of}
 use Rattle.vt_chains.proofs.Places.{rising, above_at, stands_of, object_of, get_placed, within}
 
--- ---- what is found in lists that are joined
+-- ---- lookups in joined lists
 
 or_case : {A : Type 0} (b : Bool) (x : A) (later rest : Option A) → cond b (Some x) (or_else later rest) ≡ or_else (cond b (Some x) later) rest
 or_case true x later rest = refl
@@ -84,7 +84,7 @@ named_more es id o named none lt =
       named = subst (All (λ (k : ℕ). k < 0xFFFF)) (sym same) (All-push (λ (k : ℕ). k < 0xFFFF) (ids es) id named.named lt);
     }
 
--- ---- made so far
+-- ---- the objects made so far
 
 pub record IsUpdating (m : ObjectMap) (update made : Objects) (place : ℕ) : Type 0 where
   pub named : AreNamed made
@@ -140,7 +140,7 @@ module _ (m : ObjectMap) (update made : Objects) (place id : ℕ) (o : Seen) (th
         ∙ ap (or_else (object_at update q)) (sym (took q));
   }
 
--- an entry of the store, unless the update has another
+-- the next entry of the store is appended, unless the update has its ID
 unless_case : (m : ObjectMap) (update made next : Objects) (place id : ℕ) (o : Seen) (found : Option Seen) → slice_get (finite.entries m) place ≡ Some (id, o) → id < 0xFFFF
     → object_at update id ≡ found → next ≡ unless found made id o → IsUpdating m update made place → IsUpdating m update next (place + 1)
 unless_case m update made next place id o None there lt looks becomes is =

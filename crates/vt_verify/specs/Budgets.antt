@@ -1,4 +1,4 @@
--- What macros cost, and what events may cost (docs/PROFILE.md, "Costs and budgets").
+-- The costs of macros and the budgets of events (docs/PROFILE.md, "Costs and budgets").
 use Rattle.std.specs.Prelude.{◌≡◌, ℕ, zero, suc, ◌+◌, if◌then◌else◌, sum_by, List, map}
 use Rattle.vt_commands.specs.declared.command.Command.{Command}
 use Rattle.vt_rank.specs.Costs.{greatest}
@@ -10,17 +10,17 @@ use Rattle.vt_verify.specs.Macros.{commands}
 use Rattle.vt_verify.specs.TriggerGraphs.{listed_events}
 use Rattle.vt_verify.specs.Triggers.{listing, listed, row_listings, changes_mask, masks}
 
--- ---- where each macro costs this much
+-- ---- totals, for given costs of the macros
 
 abbrev pub total : (ℕ → ℕ) → Shape → Listing → ℕ
 total cost shape raised = sum_by cost (listed shape raised)
 
--- the costliest of the masks that may be hidden
+-- the cost of the costliest Hide event of a mask, for a command that changes an active mask
 abbrev pub hidden_cost : (ℕ → ℕ) → Shape → Command → ℕ
 hidden_cost cost shape command =
     if changes_mask command then greatest (λ mask. total cost shape (listing mask (event_number Hide))) (masks shape) else 0
 
--- one for the command, and what it may raise
+-- one step for the command, and the cost of the events that it may raise
 abbrev pub command_cost : (ℕ → ℕ) → Shape → Command → ℕ
 command_cost cost shape command = 1 + hidden_cost cost shape command + sum_by (total cost shape) (row_listings command)
 
@@ -29,20 +29,20 @@ macro_cost cost shape id = sum_by (command_cost cost shape) (commands shape id)
 
 -- ---- the cost
 
--- where chains of triggers count up to this many macros
+-- the cost of a macro, counting chains of triggers of up to `depth` macros
 unfoldable pub cost_within : ℕ → Shape → ℕ → ℕ
 cost_within zero shape id = 0
 cost_within (suc depth) shape id = macro_cost (cost_within depth shape) shape id
 
--- no chain without a circle has more than 256 macros
+-- the cost of a macro: no chain without a circle has more than 256 macros
 unfoldable pub cost : Shape → ℕ → ℕ
 cost shape id = cost_within 256 shape id
 
--- the budget of an event of an object: what the macros cost that are listed there, repeats counted
+-- the budget of an event of an object: the cost of the macros listed there, repeats counted
 unfoldable pub budget : Shape → ℕ → ℕ → ℕ
 budget shape id event = total (cost shape) shape (listing id event)
 
--- each macro costs what its commands cost
+-- each macro costs the sum of its commands
 abbrev pub CostsAreTotals : Shape → Type 0
 CostsAreTotals shape = (id : ℕ) → cost shape id ≡ macro_cost (cost shape) shape id
 

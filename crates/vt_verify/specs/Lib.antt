@@ -1,4 +1,4 @@
--- What the contracts of this crate cite.
+-- The definitions used in the contracts of vt_verify.
 pub mod Budgets
 pub mod Lists
 pub mod Macros

@@ -1,4 +1,4 @@
--- The first of a list that fails a test.
+-- The first element of a list that fails a test.
 use Rattle.std.specs.Prelude.{Bool, if◌then◌else◌, List, [], ◌∷◌, Option, Some, None}
 
 abbrev pub first_failing : {A : Type 0} → (A → Bool) → List A → Option A

@@ -1,4 +1,4 @@
--- The macros that a pool may name, and their commands (docs/PROFILE.md, "A macro's bytes", "Commands in macros").
+-- The macros with IDs up to 255 and their commands (docs/PROFILE.md, "A macro's bytes", "Commands in macros").
 use Rattle.std.specs.Prelude.{ℕ, ◌+◌, Bool, true, false, nat_le, ◌&&◌, if◌then◌else◌, List, [], ◌∷◌, length, map, Option, Some, None, is_some}
 use Rattle.std.specs.Option.{option_to_list}
 use Rattle.std.specs.List.{flat_map}
@@ -14,11 +14,11 @@ abbrev pub is_macro : Kind → Bool
 is_macro kinds.Macro = true
 is_macro kind = false
 
--- macros above 255 cannot be named
+-- macros with IDs above 255 cannot be referenced by entries or commands
 abbrev pub may_be_named : ℕ → Fixed → Bool
 may_be_named id f = is_macro f.kind && nat_le id 255
 
--- the bytes of a macro that may be named
+-- the bytes of a macro with an ID of at most 255
 abbrev pub bytes_in : ℕ → Fixed → Option (List ℕ)
 bytes_in id f = if may_be_named id f then Some f.bytes else None
 
@@ -28,11 +28,11 @@ abbrev pub but_delete_pool : Option Command → Option Command
 but_delete_pool (Some DeletePool) = None
 but_delete_pool command = command
 
--- the command that a piece of a macro's bytes is, if it is one that macros may have
+-- the command of one macro command's bytes; None for Delete Object Pool, which macros may not have
 abbrev pub macro_command : List ℕ → Option Command
 macro_command piece = but_delete_pool (command_at piece)
 
--- a piece of the bytes of a macro, and where in them it stands
+-- the bytes of one macro command, with the ID of its macro and the offset in the macro's bytes
 pub record Piece : Type 0 where
   pub id : ℕ
   pub at : ℕ
@@ -42,14 +42,14 @@ abbrev pub placed : ℕ → ℕ → List (List ℕ) → List Piece
 placed id at [] = []
 placed id at (bytes ∷ pieces) = record { id = id; at = at; bytes = bytes } ∷ placed id (at + length bytes) pieces
 
--- the pieces of bytes, where they are cut
+-- the bytes cut into macro commands; none if they cannot be cut
 unfoldable pub cut_or_none : List ℕ → List (List ℕ)
 cut_or_none bytes = flat_map (λ pieces. pieces) (option_to_list (cut bytes))
 
 unfoldable pub commands_of : List ℕ → List Command
 commands_of bytes = flat_map (λ piece. option_to_list (macro_command piece)) (cut_or_none bytes)
 
--- ---- all macros that may be named, by rising ID
+-- ---- all macros with IDs up to 255, by rising ID
 
 abbrev pub named_macro : ℕ × Fixed → List (ℕ × List ℕ)
 named_macro e = map (λ bytes. (e.0, bytes)) (option_to_list (bytes_in e.0 e.1))
@@ -57,7 +57,7 @@ named_macro e = map (λ bytes. (e.0, bytes)) (option_to_list (bytes_in e.0 e.1))
 abbrev pub macros : Shape → List (ℕ × List ℕ)
 macros shape = flat_map named_macro shape
 
--- their bytes end with a command
+-- the bytes of a macro end with a whole command
 abbrev pub is_whole : ℕ × List ℕ → Bool
 is_whole m = is_some (cut m.1)
 

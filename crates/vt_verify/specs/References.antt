@@ -1,4 +1,4 @@
--- The IDs that objects name, and what may stand there (docs/PROFILE.md, "Places and their kinds", "Pointers").
+-- The references of objects and the kinds allowed for them (docs/PROFILE.md, "Places and their kinds", "Pointers").
 use Rattle.std.specs.Prelude.{ℕ, Bool, true, nat_le, ◌&&◌, ◌==◌, if◌then◌else◌, List, [], ◌∷◌, map, Option, Some, None, is_some}
 use Rattle.std.specs.List.{flat_map}
 use Rattle.vt_kinds.specs.declared.kind.Kind.{Kind}
@@ -16,11 +16,11 @@ use Rattle.vt_stores.specs.Stores.{Objects, object_at}
 
 -- ---- tests of a reference
 
--- NULL, where NULL may stand, or an ID that is there
+-- NULL, where NULL is allowed, or the ID of an existing object
 abbrev pub is_there : Shape → Reference → Bool
 is_there shape r = if r.id == 0xFFFF then r.may_be_null else is_some (kind_at shape r.id)
 
--- macros above 255 are no macros that can be named
+-- macros with IDs above 255 are not allowed as sets.Macros
 abbrev pub may_stand : Kinds → ℕ → Kind → Bool
 may_stand sets.Macros id kind = is_member sets.Macros kind && nat_le id 255
 may_stand kinds id kind = is_member kinds kind
@@ -29,7 +29,7 @@ abbrev pub allows : Kinds → ℕ → Option Kind → Bool
 allows kinds id None = true
 allows kinds id (Some kind) = may_stand kinds id kind
 
--- a kind that is allowed; NULL and an ID that is not there are not looked at
+-- an object of an allowed kind; NULL and missing objects pass
 abbrev pub fits : Shape → Reference → Bool
 fits shape r = if r.id == 0xFFFF then true else allows r.kinds r.id (kind_at shape r.id)
 
@@ -54,7 +54,7 @@ slot_references e = map (of_slot e.0) (slots_of e.1)
 abbrev pub references : Objects → List Reference
 references objects = flat_map slot_references objects
 
--- A pointer stands for its value: that has to fit where the pointer stands.
+-- A referenced pointer's value has to fit in place of the pointer.
 abbrev pub pointed : Reference → Option Seen → List Reference
 pointed r (Some (objects.ObjectPointer pointer)) = record r { id = pointer.value } ∷ []
 pointed r _ = []
@@ -62,6 +62,6 @@ pointed r _ = []
 abbrev pub with_value : Objects → Reference → List Reference
 with_value objects r = r ∷ pointed r (object_at objects r.id)
 
--- the slots of an object, and the values of the pointers that they name
+-- the references of an object's slots, each followed by the value of a referenced pointer
 abbrev pub values_of : Objects → ℕ × Seen → List Reference
 values_of objects e = flat_map (with_value objects) (slot_references e)

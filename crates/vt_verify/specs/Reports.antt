@@ -10,7 +10,7 @@ use Rattle.vt_stores.specs.Stores.{Objects}
 use Rattle.vt_verify.specs.Budgets.{budget}
 use Rattle.vt_verify.specs.TriggerGraphs.{listed_events}
 
--- ---- of an accepted pool
+-- ---- the report of an accepted pool
 
 abbrev pub count_line : ℕ → List ℕ
 count_line count = codes "accepted " ++ (decimal count ++ codes " objects\n")
@@ -22,17 +22,17 @@ budget_line raised budget =
 abbrev pub event_line : Shape → Listing → List ℕ
 event_line shape raised = budget_line raised (budget shape raised.id raised.event)
 
--- how many objects there are, and a line for each event at which one lists a macro
+-- the number of objects, and a line for each event at which an object lists a macro
 unfoldable pub report_text : Objects → List ℕ
 report_text objects = count_line (length objects) ++ flat_map (event_line (shape_of objects)) (listed_events (shape_of objects))
 
--- ---- of a refused pool
+-- ---- the report of a refused pool
 
 -- numbers, each after a space
 abbrev pub numbers : List ℕ → List ℕ
 numbers ns = flat_map (λ n. codes " " ++ decimal n) ns
 
--- the line of a refusal, without its newline; want of memory has none in a report
+-- the line of a refusal, without its newline; OutOfMemory has no line in a report
 abbrev pub refusal_text : Refusal → List ℕ
 refusal_text refusals.NoWorkingSet = codes "refused 1 NoWorkingSet"
 refusal_text refusals.TwoWorkingSets = codes "refused 2 TwoWorkingSets"

@@ -1,5 +1,5 @@
--- What a pool has to meet, in the order in which it is tested, and what a refusal says (docs/PROFILE.md,
--- "Verification of a pool").
+-- The rules of a pool, in the order of the tests, and the meaning of a refusal (docs/PROFILE.md, "Verification of a
+-- pool").
 use Rattle.std.specs.Prelude.{◌≡◌, ◌≤◌, ◌<◌, ℕ, Bool, true, false, List, [], ◌∷◌, filter, length, take, slice_index, Option, Some, None, IfSome}
 use Rattle.std.specs.List.{flat_map, AllByRecursion}
 use Rattle.vt_kinds.specs.declared.kind.Kind.{Kind}
@@ -20,13 +20,13 @@ use Rattle.vt_verify.specs.Targets.{macro_references, has_attribute}
 use Rattle.vt_verify.specs.Triggers.{triggered}
 use Rattle.vt_verify.specs.Budgets.{cost, budget, CostsAreTotals}
 
--- ---- the first culprit of each pass
+-- ---- the first culprit of each rule
 
 abbrev pub is_working_set : Kind → Bool
 is_working_set kinds.WorkingSet = true
 is_working_set kind = false
 
--- how many objects are working sets
+-- the number of working sets
 abbrev pub working_sets : Shape → ℕ
 working_sets shape = length (filter (λ e. is_working_set e.1.kind) shape)
 
@@ -51,12 +51,12 @@ macro_wrong_kind shape = first_failing (fits shape) (macro_references shape)
 abbrev pub other_attribute : Shape → Option Piece
 other_attribute shape = first_failing (has_attribute shape) (pieces shape)
 
--- no macro and no event costs more steps than this
+-- no macro and no event costs more than `steps`
 pub record IsWithinBudget (steps : ℕ) (shape : Shape) : Type 0 where
   pub costs : (id : ℕ) → cost shape id ≤ steps
   pub budgets : (id event : ℕ) → budget shape id event ≤ steps
 
--- the least macro that costs more, or where there is none the least object with such an event
+-- the least macro that costs more, or else the least object with such an event
 pub data IsFirstOver (steps : ℕ) (shape : Shape) (id : ℕ) : Type 0 where
   Macro : steps < cost shape id → ((other : ℕ) → other < id → cost shape other ≤ steps) → IsFirstOver steps shape id
   Object : ((other : ℕ) → cost shape other ≤ steps) → (event : ℕ) → steps < budget shape id event
@@ -78,7 +78,7 @@ pub data Rule : Type 0 where
   TriggersAreNoCircle : Rule
   BudgetsAreWithin : Rule
 
--- in the order of the tests
+-- all rules, in the order of the tests
 abbrev pub rules : List Rule
 rules =
     HasWorkingSet ∷ HasOneWorkingSet ∷ ReferencesAreThere ∷ ReferencesFit ∷ ChainsAreShort ∷ MacrosAreWhole
@@ -98,7 +98,7 @@ Holds limits objects AttributesAreThere = other_attribute (shape_of objects) ≡
 Holds limits objects TriggersAreNoCircle = HasNoCircle (triggered (shape_of objects))
 Holds limits objects BudgetsAreWithin = IsWithinBudget limits.steps (shape_of objects)
 
--- A pool is acceptable where all rules hold.
+-- A pool is acceptable if all rules hold.
 pub record IsAcceptable (limits : Limits) (objects : Objects) : Type 0 where
   pub working_set : Holds limits objects HasWorkingSet
   pub one_working_set : Holds limits objects HasOneWorkingSet
@@ -113,8 +113,8 @@ pub record IsAcceptable (limits : Limits) (objects : Objects) : Type 0 where
   pub no_circle : Holds limits objects TriggersAreNoCircle
   pub within_budget : Holds limits objects BudgetsAreWithin
 
--- The objects of an accepted pool: they stand by rising ID, none under NULL, and meet all rules of this terminal; and each macro
--- costs what its commands cost.
+-- The objects of an accepted pool: their IDs rise, no ID is NULL, and they meet all rules of this terminal; and each
+-- macro costs the sum of its commands.
 pub record IsVerified (objects : Objects) : Type 0 where
   pub stored : AreStored objects
   pub acceptable : IsAcceptable terminal objects
@@ -122,21 +122,21 @@ pub record IsVerified (objects : Objects) : Type 0 where
 
 -- ---- refusals
 
--- the first of a pass, as parent and ID
+-- the parent and the ID of the first reference that fails
 abbrev pub Names : Option Reference → ℕ → ℕ → Type 0
 Names first parent id = (r : Reference) × (first ≡ Some r) × (r.parent ≡ parent) × (r.id ≡ id)
 
--- the first of a pass, as a macro and the place in its bytes
+-- the macro and the offset of the first macro command that fails
 abbrev pub IsAt : Option Piece → ℕ → ℕ → Type 0
 IsAt first id at = (p : Piece) × (first ≡ Some p) × (p.id ≡ id) × (p.at ≡ at)
 
--- the IDs are a circle of triggers, none twice, and the first of them is the least on any
+-- the IDs are a circle of triggers without repeats, and the first of them is the least on any circle
 pub record IsLeastCircle (shape : Shape) (path : List ℕ) : Type 0 where
   pub circle : IsCircle (triggered shape) path
   pub once : IsDistinct path
   pub least : IsLeastOnCircles (triggered shape) (slice_index path 0)
 
--- how many rules are tested before
+-- the number of rules that are tested before
 abbrev pub place : Rule → ℕ
 place HasWorkingSet = 0
 place HasOneWorkingSet = 1
@@ -155,7 +155,7 @@ place BudgetsAreWithin = 11
 abbrev pub HoldBefore : Limits → Objects → Rule → Type 0
 HoldBefore limits objects rule = AllByRecursion (Holds limits objects) (take (place rule) rules)
 
--- What a refusal says of a pool: the first rule that fails, and its first culprit. Memory may run out at any growth.
+-- The meaning of a refusal: the first rule that fails, and its first culprit. Memory may run out at any allocation.
 abbrev pub IsRefused : Limits → Objects → Refusal → Type 0
 IsRefused limits objects refusals.NoWorkingSet = working_sets (shape_of objects) ≡ 0
 IsRefused limits objects refusals.TwoWorkingSets = 1 < working_sets (shape_of objects)
@@ -176,13 +176,13 @@ abbrev pub IsWantOfMemory : Refusal → Type 0
 IsWantOfMemory refusals.OutOfMemory = Unit {0}
 IsWantOfMemory refusal = ⊥
 
--- Of a pool that is acceptable no refusal says anything but want of memory.
+-- An acceptable pool is refused only for want of memory.
 abbrev pub RefusalsAreTrue : Type 0
 RefusalsAreTrue = (limits : Limits) (objects : Objects) (refusal : Refusal) → IsAcceptable limits objects → IsRefused limits objects refusal → IsWantOfMemory refusal
 
--- ---- the rule that a refusal names
+-- ---- the rule of a refusal
 
--- want of memory names none
+-- the rule of a refusal; want of memory has none
 abbrev pub rule_of : Refusal → Option Rule
 rule_of refusals.NoWorkingSet = Some HasWorkingSet
 rule_of refusals.TwoWorkingSets = Some HasOneWorkingSet
@@ -198,7 +198,7 @@ rule_of (refusals.MacroCircle path) = Some TriggersAreNoCircle
 rule_of (refusals.OverBudget id) = Some BudgetsAreWithin
 rule_of refusals.OutOfMemory = None
 
--- The rule that a refusal names fails, and those before it hold.
+-- The rule of a refusal fails, and all rules before it hold.
 pub record IsFirstToFail (limits : Limits) (objects : Objects) (rule : Rule) : Type 0 where
   pub before : HoldBefore limits objects rule
   pub fails : Holds limits objects rule → ⊥
@@ -206,22 +206,22 @@ pub record IsFirstToFail (limits : Limits) (objects : Objects) (rule : Rule) : T
 abbrev pub FirstRulesFail : Type 0
 FirstRulesFail = (limits : Limits) (objects : Objects) (refusal : Refusal) → IsRefused limits objects refusal → IfSome (rule_of refusal) (IsFirstToFail limits objects)
 
--- ---- the refusal of a pool
+-- ---- the uniqueness of the refusal
 
--- They say the same: any chain that is too long is one, and a circle is named by its first macro.
+-- Two refusals are the same, except for the choice of a chain that is too long or of a circle with the same first macro.
 abbrev pub SaysTheSame : Refusal → Refusal → Type 0
 SaysTheSame (refusals.TooDeep chain) (refusals.TooDeep other) = Unit {0}
 SaysTheSame (refusals.MacroCircle path) (refusals.MacroCircle other) = slice_index path.items 0 ≡ slice_index other.items 0
 SaysTheSame refusal other = refusal ≡ other
 
--- But for want of memory, two refusals of a pool say the same.
+-- The refusal of a pool is unique, except for want of memory.
 abbrev pub RefusalsAreOne : Type 0
 RefusalsAreOne = (limits : Limits) (objects : Objects) (r q : Refusal) → IsRefused limits objects r → IsRefused limits objects q
     → (IsWantOfMemory r → ⊥) → (IsWantOfMemory q → ⊥) → SaysTheSame r q
 
 -- ---- greater limits
 
--- What is acceptable stays so where the limits grow.
+-- Acceptable objects stay acceptable under greater limits.
 abbrev pub GreaterLimitsAccept : Type 0
 GreaterLimitsAccept = (small great : Limits) (objects : Objects) → small.inclusions ≤ great.inclusions → small.steps ≤ great.steps
     → IsAcceptable small objects → IsAcceptable great objects

@@ -1,5 +1,5 @@
--- What a command may raise, and which macros that starts (docs/PROFILE.md, "What a command may raise", "Triggers and
--- circles").
+-- The events that a command may raise, and the macros that they start (docs/PROFILE.md, "What a command may raise",
+-- "Triggers and circles").
 use Rattle.std.specs.Prelude.{ℕ, Bool, true, false, nat_le, ◌==◌, if◌then◌else◌, List, [], ◌∷◌, ◌++◌, filter, map}
 use Rattle.std.specs.Option.{option_to_list}
 use Rattle.std.specs.List.{flat_map}
@@ -18,7 +18,7 @@ use Rattle.vt_verify.specs.Macros.{may_be_named, commands}
 abbrev pub listing : ℕ → ℕ → Listing
 listing id event = record { id = id; event = event }
 
--- what is raised, by the number of its event
+-- the listing of a raised event, by the event's number
 abbrev pub listing_of : Raised → Listing
 listing_of raised = listing raised.id (event_number raised.event)
 
@@ -26,7 +26,7 @@ listing_of raised = listing raised.id (event_number raised.event)
 abbrev pub row_listings : Command → List Listing
 row_listings command = map listing_of (row_events command)
 
--- ---- the old mask of Change Active Mask may be any
+-- ---- the former mask of a Change Active Mask may be any mask
 
 abbrev pub is_mask : Kind → Bool
 is_mask kinds.DataMask = true
@@ -44,17 +44,17 @@ changes_mask command = false
 abbrev pub hidden : Shape → Command → List Listing
 hidden shape command = if changes_mask command then map (λ mask. listing mask (event_number Hide)) (masks shape) else []
 
--- what a command may raise
+-- the events that a command may raise
 abbrev pub may_raise : Shape → Command → List Listing
 may_raise shape command = hidden shape command ++ row_listings command
 
--- ---- the macros that are listed
+-- ---- the listed macros
 
 -- the macros that entries list at an event
 abbrev pub macros_at : ℕ → List MacroEntry → List ℕ
 macros_at event entries = map (λ e. e.macro_id) (filter (λ e. e.event == event) entries)
 
--- a macro that can be named is run by its name: that is an event of itself
+-- the run of a macro by name is an event of itself, if its ID is at most 255
 abbrev pub run_by_name : ℕ → Fixed → List ℕ
 run_by_name id f = if may_be_named id f then id ∷ [] else []
 
@@ -62,7 +62,7 @@ run_by_name id f = if may_be_named id f then id ∷ [] else []
 abbrev pub listed_in : ℕ → ℕ → Fixed → List ℕ
 listed_in event id f = if event == event_number RunByName then run_by_name id f else macros_at event f.macros
 
--- the events that there are
+-- whether a number is an event's number
 abbrev pub is_event : ℕ → Bool
 is_event event = nat_le event 26
 
@@ -74,6 +74,6 @@ listed shape raised =
 abbrev pub triggered_by : Shape → Command → List ℕ
 triggered_by shape command = flat_map (listed shape) (may_raise shape command)
 
--- the macros that a macro triggers
+-- the macros triggered by a macro
 abbrev pub triggered : Shape → ℕ → List ℕ
 triggered shape id = flat_map (triggered_by shape) (commands shape id)

@@ -1,4 +1,4 @@
-//! Pools that are accepted.
+//! Accepted object pools.
 
 ghost use Rattle.std.specs.Prelude.{◌≡◌, ◌++◌, map, Some, is_some, string_bytes, IfOk, OnOk, OnErr, IsTrue};
 ghost use Rattle.std.specs.List.{flat_map};
@@ -22,7 +22,7 @@ use std::alloc::{AllocError, Global};
 use std::marker::Model;
 use vt_objects::{Object, ObjectId, SortedStore};
 
-/// The objects of a pool that meets all rules, in memory of their own, and what their events can cost.
+/// The objects of a pool that meets all rules, copied into its own memory, with the budgets of its events.
 #[derive(Drop)]
 pub struct Accepted {
     pub(crate) objects: SortedStore,
@@ -31,14 +31,14 @@ pub struct Accepted {
     pub(crate) order: Vec<u8>,
 }
 
-/// What was found of an accepted pool, for who goes on with it.
+/// The parts of an accepted pool.
 #[derive(Drop)]
 pub struct AcceptedParts {
     /// The objects by rising ID.
     pub objects: SortedStore,
-    /// The depth of each, as `find_depths` finds it.
+    /// The depth of each object, as returned by `find_depths`.
     pub depths: Vec<u8>,
-    /// Which macros run at the events of the objects.
+    /// The macros that run at the events of the objects.
     pub listings: Listings,
 }
 
@@ -67,23 +67,23 @@ impl Accepted {
     /// The objects by rising ID.
     pub fn objects(&self) -> &[(ObjectId, Object<Vec<u8>>)]
         ensures all { map shown result.now ≡ self.now }
-        // The IDs rise, and none is NULL.
+        // The IDs rise, and no ID is NULL.
         ensures stored { AreStored self.now }
         ensures acceptable { IsAcceptable terminal self.now }
-        // Each macro costs what its commands cost.
+        // Each macro costs the sum of its commands.
         ensures totals { CostsAreTotals (shape_of self.now) }
         ensures verified { IsVerified self.now }
     {
         self.objects.entries()
     }
 
-    /// Its parts, which are taken over and not copied.
+    /// The parts of the pool, moved and not copied.
     pub fn into_parts(self) -> AcceptedParts
         ensures objects { result.objects ≡ self }
-        // The IDs rise, and none is NULL.
+        // The IDs rise, and no ID is NULL.
         ensures stored { AreStored self }
         ensures acceptable { IsAcceptable terminal self }
-        // Each macro costs what its commands cost.
+        // Each macro costs the sum of its commands.
         ensures totals { CostsAreTotals (shape_of self) }
         ensures depths { HasDepths terminal self result.depths.items }
         ensures listings { AreListings (shape_of self) result.listings }
@@ -102,17 +102,17 @@ impl Accepted {
         }
     }
 
-    /// The macros whose IDs are at most 255, each once, so that each triggers only macros before it.
+    /// The macros with IDs up to 255, each once and after all macros that it triggers.
     pub fn by_rank(&self) -> &[u8]
         ensures { IsByRank (shape_of self.now) result.now }
     {
         &self.order
     }
 
-    /// The bytes of a macro: its commands, one after the other. Empty where no macro of the number is there.
+    /// The bytes of macro `id`: its commands, one after the other. Empty if the pool has no such macro.
     pub fn macro_bytes(&self, id: u8) -> &[u8]
         ensures whole { IsTrue (is_some (cut result.now)) }
-        // Each piece reads as the command that it is.
+        // The bytes of each macro command read as that command.
         ensures commands { map command_at (cut_or_none result.now) ≡ map Some (commands (shape_of self.now) id) }
     {
         match macro_bytes(&self.objects, ObjectId::from_raw(u16::from(id))) {
@@ -121,18 +121,18 @@ impl Accepted {
         }
     }
 
-    /// Which macros run at the events of the objects, in memory of its own.
+    /// The macros that run at the events of the objects, in newly allocated memory.
     pub fn listings(&self, alloc: Global) -> Result<Listings, AllocError>
         ensures { IfOk result (AreListings (shape_of self.now)) }
     {
         Listings::of_objects(alloc, &self.objects)
     }
 
-    /// How many steps an event of an object can cost at most: 0 where no macro runs at it, and for a number that is no
-    /// event's. Event 0 of a macro is that it is run by its name.
+    /// The most steps that an event of an object can cost: 0 if no macro runs at it or if `event` is not an event's
+    /// number. Event 0 of a macro runs the macro itself.
     pub fn budget(&self, id: ObjectId, event: u8) -> u32
         ensures budget { result ≡ budget (shape_of self.now) id event }
-        // Each macro costs what its commands cost.
+        // Each macro costs the sum of its commands.
         ensures totals { CostsAreTotals (shape_of self.now) }
     {
         match self.budgets.events.get_index_of(&Listing { id, event }) {
@@ -141,8 +141,8 @@ impl Accepted {
         }
     }
 
-    /// Appends the report: how many objects there are, and the budget of each event at which macros run. After
-    /// `OutOfMemory` the vector is as it was. docs/PROFILE.md, "The report of an accepted pool".
+    /// Appends the report: the number of objects, and the budget of each event at which macros run. After `OutOfMemory`
+    /// the vector is unchanged. docs/PROFILE.md, "The report of an accepted pool".
     pub fn report(&self, out: &mut Vec<u8>) -> Result<(), AllocError>
         ensures ok { OnOk result (out.new.items ≡ out.old.items ++ report_text self.now) }
         ensures err { OnErr result (out.new.items ≡ out.old.items) }
@@ -166,7 +166,7 @@ impl Accepted {
     }
 }
 
-/// The most bytes of a line, with its end.
+/// The most bytes of a line, newline included.
 const MOST_IN_LINE: usize = 37;
 
 fn line(alloc: Global, raised: Listing, budget: u32) -> Result<String, AllocError>

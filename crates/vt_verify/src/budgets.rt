@@ -1,4 +1,4 @@
-//! What the events of a pool can cost.
+//! The budgets of a pool's events.
 
 ghost use Rattle.std.specs.Prelude.{◌≡◌, IfOk};
 ghost use Rattle.vt_rank.specs.Costs.{AreCosts};
@@ -13,7 +13,7 @@ use indexmap::IndexSet;
 use std::alloc::{AllocError, Global};
 use vt_rank::Costs;
 
-/// The events at which macros run, and of each the macros and how many steps it can cost, at its place.
+/// The events at which macros run. `groups` and `steps` have the macros and the budget of each event at its index.
 #[derive(Drop)]
 pub(crate) struct Budgets {
     pub(crate) events: IndexSet<Listing>,
@@ -22,7 +22,7 @@ pub(crate) struct Budgets {
 }
 
 impl Budgets {
-    /// The budgets of the events of a graph. Its nodes are let go: they take several times the bytes of the macros.
+    /// The budgets of the events of a graph. Frees the nodes: they take several times the bytes of the macros.
     pub(crate) fn of_triggers(
         alloc: Global,
         triggers: Triggers,

@@ -1,4 +1,4 @@
-//! The commands of macros.
+//! Reads the commands of macros.
 
 ghost use Rattle.std.specs.Prelude.{◌≡◌};
 ghost use Rattle.std.specs.Option.{option_map};
@@ -8,7 +8,7 @@ ghost use Rattle.vt_verify.specs.Macros.{bytes_in, macro_command};
 
 use vt_objects::{Command, Object, ObjectId};
 
-/// The bytes of a macro, if it is one that may be named: its ID is at most 255.
+/// The bytes of the object, if it is a macro with an ID of at most 255.
 pub(crate) fn named_macro(id: ObjectId, object: &Object<Vec<u8>>) -> Option<&[u8]>
     ensures { option_map (λ bytes. bytes.now) result ≡ bytes_in id (fixed (seen object.now)) }
 {
@@ -18,7 +18,7 @@ pub(crate) fn named_macro(id: ObjectId, object: &Object<Vec<u8>>) -> Option<&[u8
     }
 }
 
-/// The command that a piece of a macro's bytes is, if it is one that macros may have: all but Delete Object Pool.
+/// Reads one macro command from its bytes; `None` for Delete Object Pool and for bytes that are no command.
 pub(crate) fn macro_command(piece: &[u8]) -> Option<Command<'_>>
     ensures { result ≡ macro_command piece.now }
 {

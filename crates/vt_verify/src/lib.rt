@@ -1,11 +1,11 @@
-//! Verification of object pools: whether every reference, inclusion, macro and trigger of a pool is as it must be,
-//! and how many steps each event of it can cost.
+//! Verification of object pools: whether all references, inclusions, macros and triggers of a pool are valid, and how
+//! many steps each of its events can cost.
 //!
-//! - `verify` and `verify_update` answer an `Accepted` pool, or the first `Refusal`. It is taken apart as `AcceptedParts`, with its
-//!   `Listings` of what runs at each event.
-//! - `find_depths` of vt_chains finds the depths of a store's objects, or a `Chain` that is too long; the `Limits` of this terminal
-//!   are `TERMINAL_LIMITS`.
-//! - `laws` has what the definitions come to.
+//! - `verify` and `verify_update` return an `Accepted` pool or the first `Refusal`. `Accepted::into_parts` returns its
+//!   `AcceptedParts`, with the `Listings` of the macros that run at each event.
+//! - `find_depths` of vt_chains finds the depths of a store's objects, or a `Chain` that is too long; the `Limits` of
+//!   this terminal are `TERMINAL_LIMITS`.
+//! - `laws` has the theorems about the definitions.
 //!
 //! docs/PROFILE.md, "Verification of a pool", has the rules, "Costs and budgets" what an event costs, and "Reports"
 //! the texts.
@@ -32,5 +32,5 @@ pub use refusal::Refusal;
 pub use verification::{verify, verify_update};
 pub use vt_chains::{Chain, Limits, TERMINAL_LIMITS, find_depths};
 
-/// A growth that was refused.
+/// A refused allocation.
 pub use std::alloc::AllocError as OutOfMemory;

@@ -1,4 +1,4 @@
-//! The events at which macros run, by their numbers.
+//! The events at which macros run, by number.
 
 ghost use Rattle.std.specs.Prelude.{◌≡◌, ◌<◌, ◌≤◌, ◌++◌, ℕ, [], map, IfOk, OnOk, false};
 ghost use Rattle.vt_kinds.specs.Records.{seen};
@@ -24,7 +24,7 @@ pub(crate) struct Listing {
 }
 
 impl Listing {
-    /// The event that is raised, by its number.
+    /// The listing of a raised event, by the event's number.
     pub(crate) fn of(raised: Raised) -> Listing
         ensures { result ≡ listing_of raised }
     {
@@ -35,18 +35,18 @@ impl Listing {
     }
 }
 
-/// The last event.
+/// The number of the last event.
 pub(crate) const LAST_EVENT: u8 = 26;
 
-/// Which macros run at the events of objects.
+/// The macros that run at the events of objects.
 pub struct Listings {
-    /// The events at which any run.
+    /// The events at which macros run.
     pub(crate) events: IndexSet<Listing>,
-    /// The macros of each event, at its place.
+    /// The macros of each event, at its index.
     pub(crate) groups: Vec<Vec<u8>>,
 }
 
-// Written out, so that its proof is not done again in each crate above.
+// Written by hand, so that the crates above need not prove it again.
 impl Drop for Listings {
     fn drop(self) {
         let Listings {
@@ -66,7 +66,7 @@ impl Model for Listings {
 }
 
 impl Listings {
-    /// Those of no event. They take no memory.
+    /// No listings. Allocates nothing.
     pub fn new(alloc: Global) -> Listings
         ensures { result ≡ ([], []) }
     {
@@ -76,7 +76,7 @@ impl Listings {
         }
     }
 
-    /// Those of the objects of a pool.
+    /// The listings of the objects of a pool.
     pub(crate) fn of_objects(alloc: Global, objects: &SortedStore) -> Result<Listings, AllocError>
         ensures { IfOk result (AreListings (shape_of objects.now)) }
     {
@@ -84,8 +84,8 @@ impl Listings {
         Ok(Listings { events, groups })
     }
 
-    /// The macros that run at an event of an object, in the order of its list: none at an ID that is not there, nor
-    /// at a number that is no event's. Event 0 of a macro is that it is run by its name.
+    /// The macros that run at an event of an object, in the order of its list. Empty if the object is missing or `event`
+    /// is not an event's number. Event 0 of a macro runs the macro itself.
     pub fn at(&self, id: ObjectId, event: u8) -> &[u8]
         ensures { result.now ≡ macros_of self.now (listing id event) }
     {
@@ -99,7 +99,7 @@ impl Listings {
     }
 }
 
-/// The events at which macros run, by rising ID and number, and the macros of each.
+/// The events at which macros run, by rising ID and number, and the macros of each event.
 pub(crate) fn listed_events(
     alloc: Global,
     objects: &SortedStore,
@@ -115,7 +115,7 @@ pub(crate) fn listed_events(
     Ok((events, groups))
 }
 
-/// Appends the events of an object at which macros run, and the macros of each.
+/// Appends the events of an object at which macros run, and the macros of each event.
 fn put_listings(
     alloc: Global,
     events: &mut IndexSet<Listing>,
@@ -135,7 +135,7 @@ fn put_listings(
     Ok(())
 }
 
-/// The first event from one on at which macros may run, or one past the last where they run at none of them.
+/// The first event from `from` on at which macros run; 27 if there is none.
 fn next_listed(id: ObjectId, object: &Object<Vec<u8>>, from: u8) -> u8
     requires { from ≤ 27 }
     ensures within { (from ≤ result) × (result ≤ 27) }
@@ -147,7 +147,7 @@ fn next_listed(id: ObjectId, object: &Object<Vec<u8>>, from: u8) -> u8
     next_entry(object.macros(), from)
 }
 
-/// The least event of entries from one on, or one past the last where there is none.
+/// The least event of the entries from event `from` on; 27 if there is none.
 fn next_entry(entries: &[MacroEntry], from: u8) -> u8
     requires { from ≤ 27 }
     ensures within { (from ≤ result) × (result ≤ 27) }
@@ -162,7 +162,7 @@ fn next_entry(entries: &[MacroEntry], from: u8) -> u8
     next
 }
 
-/// Appends an event and its macros, where any run.
+/// Appends an event and its macros, if any macros run at it.
 fn put_listing(
     alloc: Global,
     events: &mut IndexSet<Listing>,
@@ -183,7 +183,7 @@ fn put_listing(
     Ok(())
 }
 
-/// The macros that run at an event of an object, in their order.
+/// The macros that run at an event of an object, in the order of its list.
 fn listed_in(
     alloc: Global,
     id: ObjectId,
@@ -198,7 +198,7 @@ fn listed_in(
     }
 }
 
-/// The macro itself, if it is one that can be named.
+/// The macro itself, if its ID is at most 255; empty for other objects.
 fn run_by_name(alloc: Global, id: ObjectId, object: &Object<Vec<u8>>) -> Result<Vec<u8>, AllocError>
     ensures { IfOk result (λ macros. macros.items ≡ run_by_name id (fixed (seen object.now))) }
 {
@@ -207,7 +207,7 @@ fn run_by_name(alloc: Global, id: ObjectId, object: &Object<Vec<u8>>) -> Result<
     Ok(macros)
 }
 
-/// The macros that entries list at an event, in their order.
+/// The macros listed by the entries at an event, in the order of the entries.
 fn macros_at(alloc: Global, entries: &[MacroEntry], event: u8) -> Result<Vec<u8>, AllocError>
     ensures { IfOk result (λ macros. macros.items ≡ macros_at event entries.now) }
 {

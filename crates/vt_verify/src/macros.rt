@@ -1,4 +1,4 @@
-//! The bytes of macros.
+//! Tests of the bytes of macros.
 
 ghost use Rattle.std.specs.Prelude.{◌≡◌, ◌-◌, length, None, IfSome, IsTrue, is_some};
 ghost use Rattle.std.specs.Option.{option_map};
@@ -40,7 +40,7 @@ fn cut_short_in(id: ObjectId, object: &Object<Vec<u8>>) -> Option<ObjectId>
 fn is_whole(bytes: &[u8]) -> bool
     ensures { result ≡ is_some (cut bytes.now) }
 {
-    // What is left is cut as the whole is.
+    // The remaining bytes are cut into the same commands as in the whole.
     cut_is_one();
     let mut rest = bytes;
     while let Some((_, next)) = split_command(rest) {
@@ -49,16 +49,16 @@ fn is_whole(bytes: &[u8]) -> bool
     rest.is_empty()
 }
 
-/// What is asked of a piece of a macro's bytes.
+/// A test of one macro command.
 #[derive(Clone, Copy, Debug, PartialEq, Eq)]
 pub(crate) enum PieceTest {
-    /// It is a command that macros may have.
+    /// The bytes are a command that macros may have.
     IsAllowed,
-    /// Where it changes an attribute, the kind of its object has the attribute.
+    /// The object of a Change Attribute has that attribute.
     HasAttribute,
 }
 
-/// The first piece of a macro, by rising ID, that fails a test: the macro, and where in its bytes the piece stands.
+/// The first macro command, by rising ID, that fails a test: the ID of its macro and the offset in the macro's bytes.
 pub(crate) fn failing_piece(objects: &SortedStore, test: PieceTest) -> Option<(ObjectId, usize)>
     requires { rules.cut_short (shape_of objects.now) ≡ None }
     ensures { result ≡ option_map (λ p. (p.id, p.at)) (first_failing (piece_passes test (shape_of objects.now)) (pieces (shape_of objects.now))) }
@@ -95,7 +95,7 @@ fn failing_in(
     requires { IsTrue (is_some (cut bytes.now)) }
     ensures { result ≡ option_map (λ p. (p.id, p.at)) (first_failing (piece_passes test (shape_of objects.now)) (pieces_of (id, bytes.now))) }
 {
-    // What is left is cut as the whole is.
+    // The remaining bytes are cut into the same commands as in the whole.
     cut_is_one();
     let mut rest = bytes;
     while let Some((piece, next)) = split_command(rest) {

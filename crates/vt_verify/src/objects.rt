@@ -1,4 +1,4 @@
-//! The objects of a pool, and of an update, by rising ID.
+//! Copies of the objects of a pool or of an updated store, by rising ID.
 
 ghost use Rattle.std.specs.Prelude.{◌≡◌, IfOk, OnOk, map};
 ghost use Rattle.std.specs.FinMap as finite;
@@ -23,7 +23,7 @@ pub(crate) fn sorted(alloc: Global, pool: &Pool<'_>) -> Result<SortedStore, Allo
     Ok(objects)
 }
 
-/// Copies of the objects of an update, and of those of a store under other IDs, by rising ID.
+/// Copies of all objects of an update and of the other objects of a store, by rising ID.
 pub(crate) fn updated<S: Store>(
     alloc: Global,
     store: &S,
@@ -40,7 +40,7 @@ pub(crate) fn updated<S: Store>(
     SortedStore::from_vec(entries)
 }
 
-/// Appends a copy of an object, unless an update has another one under its ID.
+/// Appends a copy of an object, unless the update has an object with its ID.
 fn put_unless_updated(
     alloc: Global,
     entries: &mut Vec<(ObjectId, Object<Vec<u8>>)>,
@@ -56,7 +56,7 @@ fn put_unless_updated(
     Ok(())
 }
 
-/// Copies of the objects of a pool, in its order.
+/// Copies of the objects of a pool, in the order of the pool.
 fn copies(alloc: Global, pool: &Pool<'_>) -> Result<Vec<(ObjectId, Object<Vec<u8>>)>, AllocError>
     ensures entries { IfOk result (λ entries. map shown entries.items ≡ pool.now) }
     ensures each { AreObjects pool.now }
@@ -69,7 +69,7 @@ fn copies(alloc: Global, pool: &Pool<'_>) -> Result<Vec<(ObjectId, Object<Vec<u8
     Ok(entries)
 }
 
-/// The kind of the object of an ID, if it is there.
+/// The kind of an object, or `None` if it is missing.
 pub(crate) fn kind_at(objects: &SortedStore, id: ObjectId) -> Option<Kind>
     ensures { result ≡ kind_at (shape_of objects.now) id }
 {

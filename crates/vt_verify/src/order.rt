@@ -14,7 +14,7 @@ use std::alloc::{AllocError, Global};
 use vt_objects::{Object, ObjectId, SortedStore};
 use vt_rank::Ranks;
 
-/// The macros that can be named, each after those that it triggers.
+/// The macros with IDs up to 255, each after all macros that it triggers.
 pub(crate) fn by_rank(
     alloc: Global,
     objects: &SortedStore,
@@ -30,7 +30,7 @@ pub(crate) fn by_rank(
     Ok(order)
 }
 
-/// The macros that can be named, by rising ID.
+/// The macros with IDs up to 255, by rising ID.
 fn macros(alloc: Global, objects: &SortedStore) -> Result<Vec<u8>, AllocError>
     ensures { IfOk result (λ macros. macros.items ≡ named_macros (shape_of objects.now)) }
 {
@@ -41,7 +41,7 @@ fn macros(alloc: Global, objects: &SortedStore) -> Result<Vec<u8>, AllocError>
     Ok(macros)
 }
 
-/// Appends the ID of a macro, if it is one that can be named.
+/// Appends the ID of an object, if it is a macro with an ID of at most 255.
 pub(crate) fn put_macro(
     macros: &mut Vec<u8>,
     id: ObjectId,

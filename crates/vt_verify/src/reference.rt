@@ -1,4 +1,4 @@
-//! One ID that an object names.
+//! References from an object to another.
 
 ghost use Rattle.std.specs.Prelude.{◌≡◌};
 ghost use Rattle.vt_stores.specs.Shapes.{shape_of};
@@ -8,27 +8,27 @@ ghost use Rattle.vt_verify.specs.Targets.{of_target, macro_reference};
 use crate::objects::kind_at;
 use vt_objects::{Kind, Kinds, ObjectId, Slot, SortedStore, Target};
 
-/// An ID that an object names, and what may stand there.
+/// A reference: an ID in an object, and the kinds allowed for it.
 #[derive(Clone, Copy, Debug, PartialEq, Eq)]
 pub(crate) struct Reference {
-    /// The object that names it.
+    /// The object that has the reference.
     pub(crate) parent: ObjectId,
-    /// The ID, or NULL.
+    /// The referenced ID, or NULL.
     pub(crate) id: ObjectId,
-    /// Whether NULL may stand there.
+    /// Whether NULL is allowed.
     pub(crate) may_be_null: bool,
-    /// The kinds that may stand there.
+    /// The allowed kinds.
     pub(crate) kinds: Kinds,
 }
 
-/// What is asked of a reference.
+/// A test of a reference.
 #[derive(Clone, Copy, Debug, PartialEq, Eq)]
 pub(crate) enum Test {
-    /// It is NULL, where NULL may stand, or an ID that is there.
+    /// The ID is NULL, where NULL is allowed, or the ID of an existing object.
     IsThere,
-    /// It is of a kind that is allowed. NULL and an ID that is not there are not looked at.
+    /// The object is of an allowed kind. NULL and missing objects pass.
     Fits,
-    /// Both: it is there and it fits.
+    /// The reference passes both tests: `IsThere` and `Fits`.
     Stands,
 }
 
@@ -45,7 +45,7 @@ impl Reference {
         }
     }
 
-    /// The reference of what a command of a macro names.
+    /// The reference of a target of a macro's command.
     pub(crate) fn of_target(parent: ObjectId, target: Target) -> Reference
         ensures { result ≡ of_target parent target }
     {
@@ -57,7 +57,7 @@ impl Reference {
         }
     }
 
-    /// The reference to a macro that can be named.
+    /// The reference to a macro with an ID of at most 255.
     pub(crate) fn to_macro(parent: ObjectId, id: ObjectId) -> Reference
         ensures { result ≡ macro_reference parent id }
     {
@@ -115,8 +115,7 @@ impl Reference {
     }
 }
 
-/// Whether an object of a kind may stand where these kinds are allowed. Macros above 255 are no macros that can be
-/// named.
+/// Whether an object of a kind is allowed for these kinds. Macros with IDs above 255 are not allowed as `Kinds::Macros`.
 pub(crate) fn may_stand(kinds: Kinds, id: ObjectId, kind: Kind) -> bool
     ensures { result ≡ may_stand kinds id kind }
 {

@@ -1,4 +1,4 @@
-//! The references of all slots.
+//! Tests of the references of all slots.
 
 ghost use Rattle.std.specs.Prelude.{◌≡◌, None, Some, IsTrue};
 ghost use Rattle.std.specs.Option.{option_to_list};
@@ -13,7 +13,7 @@ ghost use Rattle.vt_verify.specs.Rules as rules;
 use crate::reference::{Reference, Test, may_stand};
 use vt_objects::{Object, ObjectId, SortedStore, Store, slots};
 
-/// Whether what each slot names is there and fits, and what a pointer among that names fits too. Each is looked up
+/// Whether the objects of all slots exist and fit, and the values of referenced pointers fit too. Looks up each object
 /// once.
 pub(crate) fn all_stand(objects: &SortedStore) -> bool
     ensures there { IsTrue result → rules.missing objects.now ≡ None }
@@ -57,7 +57,7 @@ fn stands(objects: &SortedStore, reference: Reference) -> bool
     }
 }
 
-/// Whether the value of the pointer fits, where the object that a reference names is one.
+/// Whether the value of a referenced pointer fits; true for objects of other kinds.
 fn value_fits(objects: &SortedStore, reference: Reference, object: &Object<Vec<u8>>) -> bool
     ensures { IsTrue result → first_failing (fits (shape_of objects.now)) (pointed reference (Some (seen object.now))) ≡ None }
 {
@@ -73,7 +73,7 @@ fn value_fits(objects: &SortedStore, reference: Reference, object: &Object<Vec<u
     }
 }
 
-/// The first slot, by rising ID, that names what is not there.
+/// The first slot, by rising ID, that refers to a missing object.
 pub(crate) fn missing(objects: &SortedStore) -> Option<Reference>
     ensures { result ≡ rules.missing objects.now }
 {
@@ -101,7 +101,7 @@ fn missing_in(
     None
 }
 
-/// The first slot, by rising ID, that names an object of another kind than may stand there, or a pointer to one.
+/// The first slot, by rising ID, that refers to an object of a wrong kind or to a pointer to such an object.
 pub(crate) fn wrong_kind(objects: &SortedStore) -> Option<Reference>
     ensures { result ≡ rules.wrong_kind objects.now }
 {
@@ -128,7 +128,7 @@ fn wrong_kind_in(
     None
 }
 
-/// The reference, or that to the pointer's value, where it does not fit.
+/// The reference if it does not fit, or else the reference to its pointer's value if that does not fit.
 fn wrong_or_points_wrong(objects: &SortedStore, reference: Reference) -> Option<Reference>
     ensures { result ≡ first_failing (fits (shape_of objects.now)) (with_value objects.now reference) }
 {
@@ -142,7 +142,7 @@ fn wrong_or_points_wrong(objects: &SortedStore, reference: Reference) -> Option<
     }
 }
 
-/// The reference to the value of the pointer that a reference names.
+/// The reference to the value of a referenced pointer.
 fn pointed(objects: &SortedStore, reference: Reference) -> Option<Reference>
     ensures { option_to_list result ≡ pointed reference (object_at objects.now reference.id) }
 {

@@ -1,4 +1,4 @@
-//! Why a pool is not accepted.
+//! The reasons to refuse a pool.
 
 ghost use Rattle.std.specs.Prelude.{◌≡◌, Some};
 ghost use Rattle.vt_verify.specs.declared.refusal.Refusal.TheVariants as refusals;
@@ -10,36 +10,36 @@ use std::fmt;
 use vt_chains::Chain;
 use vt_objects::ObjectId;
 
-/// The first rule that a pool breaks, and its first culprit by rising ID, or a chain or a circle that there is
-/// (docs/PROFILE.md, "Verification of a pool"). It prints the line of its report; want of memory has none.
+/// The first rule that a pool breaks, and its first culprit by rising ID, or some chain or circle (docs/PROFILE.md,
+/// "Verification of a pool"). Its `Display` is the line of its report; `OutOfMemory` has none in a report.
 #[derive(Debug, Drop)]
 pub enum Refusal {
     /// No object is a working set.
     NoWorkingSet,
     /// More than one object is a working set.
     TwoWorkingSets,
-    /// A slot of `parent` names an ID that is not there, or NULL where NULL may not stand.
+    /// A slot of `parent` refers to a missing object, or is NULL where NULL is not allowed.
     Missing { parent: ObjectId, id: ObjectId },
-    /// A slot of `parent` names an object of another kind than may stand there, or a pointer to such an object; `id`
-    /// is then the pointer's value.
+    /// A slot of `parent` refers to an object of a kind that is not allowed, or to a pointer to such an object; `id` is
+    /// then the pointer's value.
     WrongKind { parent: ObjectId, id: ObjectId },
-    /// A chain of one inclusion too many: each ID includes the next.
+    /// A chain with one inclusion too many: each ID includes the next.
     TooDeep { chain: Chain },
     /// The bytes of a macro end inside a command.
     MacroBytes { id: ObjectId },
-    /// A macro has a command that macros may not have, at this place of its bytes.
+    /// A macro has a command that is not allowed in macros; `at` is its offset in the macro's bytes.
     MacroCommand { id: ObjectId, at: usize },
-    /// A macro entry or a command of `parent` names an ID that is not there, or NULL where NULL may not stand.
+    /// A macro entry or a command of `parent` refers to a missing object, or is NULL where NULL is not allowed.
     MacroMissing { parent: ObjectId, id: ObjectId },
-    /// A macro entry or a command of `parent` names an object of another kind than may stand there.
+    /// A macro entry or a command of `parent` refers to an object of a kind that is not allowed.
     MacroKind { parent: ObjectId, id: ObjectId },
-    /// A macro changes an attribute that the kind of its object does not have, at this place of its bytes.
+    /// A macro changes an attribute that its object does not have; `at` is the command's offset in the macro's bytes.
     MacroValue { id: ObjectId, at: usize },
-    /// Each macro of the path triggers the next, and the last one the first, which is the least on any circle.
+    /// A circle: each macro triggers the next, and the last one the first, the least macro on any circle.
     MacroCircle { path: ArrayVec<u8, 256> },
-    /// A macro can cost too many steps, or where none can, an event of an object: `id` is the macro or the object.
+    /// A macro can cost too many steps, or else an event of an object: `id` is the macro or the object.
     OverBudget { id: ObjectId },
-    /// A growth was refused.
+    /// An allocation was refused.
     OutOfMemory,
 }
 

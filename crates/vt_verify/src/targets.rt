@@ -1,4 +1,4 @@
-//! What the commands of macros and the macro entries of objects name.
+//! The references of the commands of macros and of macro entries.
 
 ghost use Rattle.std.specs.Prelude.{◌≡◌, map, None, Some, IfSome, IsTrue, is_some};
 ghost use Rattle.std.specs.Option.{option_to_list};
@@ -50,7 +50,7 @@ fn failing_of(
     }
 }
 
-/// The first macro entry that fails a test. Entries of other events than may be listed are not looked at.
+/// The first macro entry that fails a test. Entries for events that cannot be listed are skipped.
 fn failing_entry(
     objects: &SortedStore,
     id: ObjectId,
@@ -80,7 +80,7 @@ fn failing_command(
     requires { IsTrue (is_some (cut bytes.now)) }
     ensures { result ≡ first_failing (passes test (shape_of objects.now)) (flat_map (target_references (shape_of objects.now) id) (commands_of bytes.now)) }
 {
-    // What is left is cut as the whole is.
+    // The remaining bytes are cut into the same commands as in the whole.
     cut_is_one();
     let mut rest = bytes;
     while let Some((piece, next)) = split_command(rest) {
@@ -92,7 +92,7 @@ fn failing_command(
     None
 }
 
-/// The first target of a piece of a macro's bytes that fails a test.
+/// The first target of one macro command that fails a test.
 fn failing_in(objects: &SortedStore, id: ObjectId, piece: &[u8], test: Test) -> Option<Reference>
     ensures { result ≡ first_failing (passes test (shape_of objects.now)) (flat_map (target_references (shape_of objects.now) id) (option_to_list (macro_command piece.now))) }
 {
@@ -104,14 +104,14 @@ fn failing_in(objects: &SortedStore, id: ObjectId, piece: &[u8], test: Test) -> 
     }
 }
 
-/// The kind of the object that a command is for, if it is there.
+/// The kind of the object of a command, or `None` if it is missing.
 fn kind_for(objects: &SortedStore, command: &Command<'_>) -> Option<Kind>
     ensures { result ≡ kind_for (shape_of objects.now) (object_of command.now) }
 {
     kind_at(objects, command.object()?)
 }
 
-/// The reference to a target, if there is one and it fails a test.
+/// The reference to a target, if there is a target and it fails a test.
 fn failing(
     objects: &SortedStore,
     id: ObjectId,
@@ -127,7 +127,7 @@ fn failing(
     Some(reference)
 }
 
-/// Whether the kind of its object has the attribute that a command changes.
+/// Whether the object of a Change Attribute has that attribute; true for other commands.
 pub(crate) fn has_attribute(objects: &SortedStore, command: &Command<'_>) -> bool
     ensures { result ≡ command_has_attribute (shape_of objects.now) (Some command.now) }
 {

@@ -1,4 +1,4 @@
-//! The triggers of macros, as a graph.
+//! The graph of the triggers of macros.
 
 ghost use Rattle.std.specs.Prelude.{◌≡◌, ◌<◌, ◌++◌, ◌∷◌, ℕ, [], map, None, IfOk, OnOk, IsTrue, slice_index_or, is_some, if◌then◌else◌};
 ghost use Rattle.std.specs.Option.{option_map, option_to_list};
@@ -20,7 +20,7 @@ use vt_objects::laws::cut_is_one;
 use vt_objects::{Command, Event, Kind, ObjectId, SortedStore, Store, row_events, split_command};
 use vt_rank::{Graph, Item};
 
-/// The events at which macros run, and the graph of the macros. The macros of an event are the group of its place.
+/// The events at which macros run, and the graph of the macros. The group at an event's index has its macros.
 #[derive(Drop)]
 pub(crate) struct Triggers {
     pub(crate) events: IndexSet<Listing>,
@@ -28,7 +28,7 @@ pub(crate) struct Triggers {
 }
 
 impl Triggers {
-    /// The triggers of the macros of these objects.
+    /// The triggers of the macros of some objects.
     pub(crate) fn of_objects(alloc: Global, objects: &SortedStore) -> Result<Triggers, AllocError>
         requires { rules.cut_short (shape_of objects.now) ≡ None }
         ensures { IfOk result (λ t. AreTriggers (shape_of objects.now) t.events.keys t.graph) }
@@ -45,7 +45,7 @@ impl Triggers {
     }
 }
 
-/// The items of each macro that may be named.
+/// The items of each macro with an ID of at most 255.
 fn nodes(
     alloc: Global,
     objects: &SortedStore,
@@ -84,7 +84,7 @@ fn items_of(
     requires { IsTrue (is_some (cut bytes.now)) }
     ensures { IfOk result (λ items. items.items ≡ flat_map (command_items events.now.keys) (commands_of bytes.now)) }
 {
-    // What is left is cut as the whole is.
+    // The remaining bytes are cut into the same commands as in the whole.
     cut_is_one();
     let mut items = Vec::new(alloc);
     let mut rest = bytes;
@@ -95,7 +95,7 @@ fn items_of(
     Ok(items)
 }
 
-/// The bytes of the macro under an ID, if it is one that may be named.
+/// The bytes of macro `id`, if its ID is at most 255 and it exists.
 pub(crate) fn macro_bytes(objects: &SortedStore, id: ObjectId) -> Option<&[u8]>
     ensures { option_to_list (option_map (λ bytes. bytes.now) result) ≡ flat_map (λ f. option_to_list (bytes_in id f)) (option_to_list (fixed_at (shape_of objects.now) id)) }
 {
@@ -105,7 +105,7 @@ pub(crate) fn macro_bytes(objects: &SortedStore, id: ObjectId) -> Option<&[u8]>
     }
 }
 
-/// Appends what a piece of a macro's bytes adds to the cost of the macro.
+/// Appends the items that one macro command adds to the cost of its macro.
 fn put_piece(
     items: &mut Vec<Item>,
     events: &IndexSet<Listing>,
@@ -119,7 +119,7 @@ fn put_piece(
     }
 }
 
-/// Appends what a command adds to the cost of its macro.
+/// Appends the items that a command adds to the cost of its macro.
 fn put_items(
     items: &mut Vec<Item>,
     events: &IndexSet<Listing>,
@@ -147,7 +147,7 @@ fn put_most(items: &mut Vec<Item>, command: &Command<'_>) -> Result<(), AllocErr
     }
 }
 
-/// Appends the group of an event, if there is one.
+/// Appends the group of an event, if it has one.
 fn put_group(
     items: &mut Vec<Item>,
     events: &IndexSet<Listing>,
@@ -170,7 +170,7 @@ fn group_of(events: &IndexSet<Listing>, raised: Listing) -> Option<usize>
     events.get_index_of(&raised)
 }
 
-/// The groups of the macros that masks list where they are hidden.
+/// The groups of the Hide events of all masks.
 fn hidden(
     alloc: Global,
     objects: &SortedStore,
@@ -185,7 +185,7 @@ fn hidden(
     Ok(groups)
 }
 
-/// Appends the group of the event that hides an object, if it is a mask and there is one.
+/// Appends the group of the Hide event of an object, if the object is a mask and the event has a group.
 fn put_hidden(
     groups: &mut Vec<usize>,
     events: &IndexSet<Listing>,

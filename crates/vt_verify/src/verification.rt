@@ -1,4 +1,4 @@
-//! The tests of a pool, in their order.
+//! Verifies pools: tests the rules of a pool in their order.
 
 ghost use Rattle.std.specs.Prelude.{◌≡◌, ◌≤◌, OnOk, IfOk, IfErr};
 ghost use Rattle.vt_stores.specs.Stores.{AreStored, by_rising_id};
@@ -28,30 +28,30 @@ use vt_objects::{Kind, ObjectId, SortedStore, Store};
 use vt_pool::Pool;
 use vt_rank::{Costs, OverBudget, Ranks, costs, rank};
 
-/// Verifies a pool. A refusal names the first rule that it breaks, and of that the first culprit, or a chain or a
-/// circle that there is.
+/// Verifies a pool. A refusal reports the first rule that the pool breaks, and its first culprit, or some chain or
+/// circle.
 pub fn verify(alloc: Global, pool: &Pool<'_>) -> Result<Accepted, Refusal>
-    // What is accepted are the objects of the pool, and they meet all rules.
+    // The accepted objects are the objects of the pool, and they meet all rules.
     ensures accepted { IfOk result (λ accepted. (accepted ≡ by_rising_id pool.now) × IsAcceptable terminal accepted) }
     ensures verified { IfOk result IsVerified }
-    // A refusal names the first rule that fails, and its first culprit, or a chain or a circle.
+    // A refusal reports the first rule that fails, and its first culprit, or some chain or circle.
     ensures refused { IfErr result (IsRefused terminal (by_rising_id pool.now)) }
 {
     let objects = sorted(alloc, pool)?;
     accept(alloc, objects)
 }
 
-/// Verifies an update of a store: the objects of the pool, and those of the store under other IDs. The rules are those
-/// of a pool, and so are the refusals. Nothing is changed.
+/// Verifies an update of a store: the objects of the pool and the other objects of the store. The rules and the refusals
+/// are those of a pool. Changes nothing.
 pub fn verify_update<S: Store>(
     alloc: Global,
     store: &S,
     update: &Pool<'_>,
 ) -> Result<Accepted, Refusal>
-    // What is accepted is the store with the update, and it meets all rules.
+    // The accepted objects are those of the updated store, and they meet all rules.
     ensures accepted { IfOk result (λ accepted. (accepted ≡ updated (S.contents store.now) update.now) × IsAcceptable terminal accepted) }
     ensures verified { IfOk result IsVerified }
-    // A refusal names the first rule that fails, and its first culprit, or a chain or a circle.
+    // A refusal reports the first rule that fails, and its first culprit, or some chain or circle.
     ensures refused { IfErr result (IsRefused terminal (updated (S.contents store.now) update.now)) }
 {
     let objects = updated(alloc, store, update)?;
@@ -112,7 +112,7 @@ fn check_references(objects: &SortedStore) -> Result<(), Refusal>
     refuse_reference(objects)
 }
 
-/// The first slot that names what is not there, or else that of a kind that may not stand there.
+/// Refuses the first slot that refers to a missing object, or else the first that refers to a kind that is not allowed.
 fn refuse_reference(objects: &SortedStore) -> Result<(), Refusal>
     requires { HoldBefore terminal objects.now ReferencesAreThere }
     ensures ok { OnOk result (HoldBefore terminal objects.now ChainsAreShort) }
@@ -134,7 +134,7 @@ fn refuse_reference(objects: &SortedStore) -> Result<(), Refusal>
     }
 }
 
-/// The depths of the objects, unless a chain is too long.
+/// Finds the depths of the objects, or refuses a chain that is too long.
 fn check_inclusions(
     alloc: Global,
     objects: &SortedStore,
@@ -194,7 +194,7 @@ fn check_named(objects: &SortedStore) -> Result<(), Refusal>
     }
 }
 
-/// The first entry or command that names what is not there, or else that of a kind that may not stand there.
+/// Refuses the first entry or command with a missing object, or else the first with a kind that is not allowed.
 fn refuse_target(objects: &SortedStore) -> Result<(), Refusal>
     requires { HoldBefore terminal objects.now TargetsAreThere }
     ensures ok { OnOk result (HoldBefore terminal objects.now AttributesAreThere) }

@@ -1,4 +1,4 @@
--- What was written field by field is the spelling of the values.
+-- Writing a table field by field appends the encoding of its values.
 use Rattle.std.proofs.Common.{◌≡◌, ℕ, List, [], ◌∷◌, ◌++◌, refl, sym, ◌∙◌, append_assoc}
 use Rattle.std.proofs.lemmas.List.{append-nil}
 use Rattle.byteorder.specs.Endian.{little_bytes}

@@ -1,2 +1,2 @@
--- What the contracts of this crate cite.
+-- The specifications that the contracts of vt_writing use.
 pub mod Writing

@@ -1,4 +1,4 @@
-//! The entries of the lists of a record.
+//! Writing the entries of a record's lists.
 
 ghost use Rattle.std.specs.Prelude.{◌≡◌, ◌++◌, List, length, map, OnOk};
 ghost use Rattle.byteorder.specs.Endian.{little_bytes};
@@ -9,7 +9,7 @@ use crate::write::{put_i16, put_id, put_u8, put_u16};
 use std::alloc::AllocError;
 use vt_kinds::{Child, Entries, Language, MacroEntry, ObjectId, Point};
 
-/// An entry of a list, as it is written: a row of numbers of fixed sizes.
+/// A list entry that is written as a row of numbers of fixed sizes.
 pub trait WriteEntry: Drop {
     ghost sizes: { List Size };
 
@@ -74,7 +74,7 @@ impl WriteEntry for Point {
     }
 }
 
-/// Writes entries one after the other.
+/// Appends each entry of a list.
 pub fn put_entries<T: WriteEntry>(out: &mut Vec<u8>, entries: &Entries<T>) -> Result<(), AllocError>
     ensures { OnOk result (out.new.items ≡ out.old.items ++ rows_spelling T.sizes (map T.numbers entries.now)) }
 {
@@ -84,7 +84,7 @@ pub fn put_entries<T: WriteEntry>(out: &mut Vec<u8>, entries: &Entries<T>) -> Re
     Ok(())
 }
 
-/// Writes how many entries there are, and then the entries.
+/// Appends the number of entries and then each entry.
 pub fn put_counted<T: WriteEntry>(out: &mut Vec<u8>, entries: &Entries<T>) -> Result<(), AllocError>
     ensures { OnOk result (out.new.items ≡ (out.old.items ++ little_bytes 1 (length entries.now)) ++ rows_spelling T.sizes (map T.numbers entries.now)) }
 {

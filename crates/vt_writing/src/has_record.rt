@@ -1,4 +1,4 @@
-//! That every object has a record.
+//! Proof that every object has a record.
 
 ghost use Rattle.std.specs.Prelude.{◌<◌};
 ghost use Rattle.vt_kinds.specs.Records.{HasRecord, seen};
@@ -16,7 +16,7 @@ use kinds::{
 use std::convert::AsSlice;
 use vt_kinds::{Object, ObjectId};
 
-/// The law that every object has a record, under each ID but NULL.
+/// Theorem: every object has a record under each ID except NULL.
 pub fn objects_have_records<B: AsSlice<u8>>(id: ObjectId, object: &Object<B>)
     requires { id < 0xFFFF }
     ensures { HasRecord id (seen object.now) }

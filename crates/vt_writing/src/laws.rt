@@ -1,3 +1,3 @@
-//! What the definitions come to: each function is a law, and calling it changes nothing.
+//! The theorem about writing: the contract of a function without effect.
 
 pub use crate::has_record::objects_have_records;

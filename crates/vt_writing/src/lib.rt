@@ -1,7 +1,7 @@
-//! Records: the bytes of an object under its ID (ISO 11783-6), as they are written.
+//! Writing records: the bytes of an object under its ID (ISO 11783-6).
 //!
 //! - `write_object` writes a record.
-//! - `laws` has what the definitions come to: every object has a record.
+//! - `laws` has the theorem that every object has a record.
 //!
 //! docs/PROFILE.md, "Records", has the layout of each kind.
 #![tactic(auto)]
@@ -14,5 +14,5 @@ mod write;
 
 pub use write::write_object;
 
-/// A growth that was refused.
+/// The error of a failed allocation.
 pub use std::alloc::AllocError as OutOfMemory;

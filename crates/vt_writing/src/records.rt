@@ -1,4 +1,4 @@
-//! The records of all kinds: what stands behind the ID and the type.
+//! Writing the fields of each kind's record, after its ID and type.
 
 ghost use Rattle.std.specs.Prelude.{◌≡◌, OnOk};
 ghost use Rattle.vt_kinds.specs.Records.{fields_of, values_of, kind_of};
@@ -31,7 +31,7 @@ use std::convert::AsSlice;
 use variables::{write_number_variable, write_object_pointer, write_string_variable};
 use vt_kinds::Object;
 
-/// Writes the fields of an object.
+/// Appends the fields of an object.
 pub fn write_fields<B: AsSlice<u8>>(out: &mut Vec<u8>, object: &Object<B>) -> Result<(), AllocError>
     ensures { OnOk result (out.new.items ≡ written out.old.items (fields_of (kind_of object.now)) (values_of object.now)) }
 {

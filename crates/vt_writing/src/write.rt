@@ -1,4 +1,4 @@
-//! Writing records.
+//! Appends numbers, bytes and whole records to a vector.
 
 ghost use Rattle.std.specs.Prelude.{◌≡◌, ◌<◌, ◌++◌, OnOk, OnErr};
 ghost use Rattle.std.specs.Int.{w16, w32, cast_unsigned};
@@ -42,7 +42,7 @@ pub fn put_i16(out: &mut Vec<u8>, n: i16) -> Result<(), AllocError>
     put_u16(out, n.cast_unsigned())
 }
 
-/// Bytes, one after the other.
+/// Appends a list of bytes.
 pub fn put_u8s(out: &mut Vec<u8>, numbers: &[u8]) -> Result<(), AllocError>
     ensures { OnOk result (out.new.items ≡ each_written 1 out.old.items numbers.now) }
 {
@@ -52,7 +52,7 @@ pub fn put_u8s(out: &mut Vec<u8>, numbers: &[u8]) -> Result<(), AllocError>
     Ok(())
 }
 
-/// Numbers, one after the other.
+/// Appends a list of two-byte numbers.
 pub fn put_u16s(out: &mut Vec<u8>, numbers: &[u16]) -> Result<(), AllocError>
     ensures { OnOk result (out.new.items ≡ each_written 2 out.old.items numbers.now) }
 {
@@ -83,7 +83,7 @@ pub fn put_bytes(out: &mut Vec<u8>, bytes: &[u8]) -> Result<(), AllocError>
     out.extend_from_slice(bytes)
 }
 
-/// Appends the bytes of a scale.
+/// Appends the four bytes of a scale.
 pub fn put_scale(out: &mut Vec<u8>, scale: Scale) -> Result<(), AllocError>
     ensures { OnOk result (out.new.items ≡ out.old.items ++ little_bytes 4 (scale_number scale)) }
 {
@@ -91,7 +91,7 @@ pub fn put_scale(out: &mut Vec<u8>, scale: Scale) -> Result<(), AllocError>
     Ok(())
 }
 
-/// Appends the record of an object under an ID, which is not NULL. After an error the vector is as it was.
+/// Appends the record of an object under an ID other than NULL. After an error the vector is unchanged.
 #[tactic(auto, using(crate::proofs::Writing::written_is))]
 pub fn write_object<B: AsSlice<u8>>(
     alloc: Global,

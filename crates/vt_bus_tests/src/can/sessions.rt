@@ -1,7 +1,7 @@
 use std::process::Abort;
 use vt_can::{Sessions, Timed};
 
-// The address and the session that expire, and 0 for both where none does.
+// The address and the session that expire, or 0 for both if none does.
 fn expired(sessions: &mut Sessions<u32>, now: u64) -> (u8, u32) {
     sessions.expire(now).unwrap_or((0, 0))
 }

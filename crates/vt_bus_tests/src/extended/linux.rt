@@ -2,7 +2,7 @@ use super::linux_20000::{LOG_20000, SENT_20000};
 use super::linux_logs::*;
 use super::*;
 
-// What a receiver answers: the text of its reply, and whether it hands out this message.
+// The answer of a receiver: the text of its reply, and whether it hands out this message.
 fn answer(heard: Heard, sent: &[u8]) -> (ArrayVec<u8, 25>, bool) {
     match heard {
         Heard::Nothing => (ArrayVec::new(), false),
@@ -13,7 +13,7 @@ fn answer(heard: Heard, sent: &[u8]) -> (ArrayVec<u8, 25>, bool) {
     }
 }
 
-// The packets that a frame announces.
+// The number of packets announced by a frame.
 fn announced(frame: &Frame) -> u8 {
     match frame.bytes.as_slice() {
         [0x16, count, ..] => *count,
@@ -30,8 +30,8 @@ fn filled(part: &[u8]) -> [u8; 7] {
     bytes
 }
 
-// The packets that were announced, after so many that came: whether all but the last are taken in
-// silence, and what is answered to that.
+// Whether the announced packets, after the first `done` ones, get no answer except for the last one, and the
+// answer to the last one.
 fn hears_packets(
     receiver: &mut Receiver,
     now: u64,
@@ -49,7 +49,7 @@ fn hears_packets(
     Ok((silent, heard, whole))
 }
 
-// Whether a receiver gives the answers of a log, and the bytes sent.
+// Whether a receiver gives the answers of a log, and hands out the bytes sent.
 fn follows(alloc: Global, log: &[&[u8]], sent: &[u8]) -> Result<bool, OutOfMemory> {
     let mut receiver = Receiver::new(alloc, NODE);
     let mut same = true;
@@ -76,7 +76,7 @@ fn follows(alloc: Global, log: &[&[u8]], sent: &[u8]) -> Result<bool, OutOfMemor
     Ok(same && whole && heard.is_empty())
 }
 
-// The bytes of a text of hexadecimal digits, which lies in parts.
+// The bytes of hexadecimal digits in several texts.
 fn decoded(alloc: Global, parts: &[&[u8]]) -> Result<Vec<u8>, Fail> {
     let mut bytes = Vec::new(alloc);
     for digits in parts {
@@ -86,7 +86,7 @@ fn decoded(alloc: Global, parts: &[&[u8]]) -> Result<Vec<u8>, Fail> {
     Ok(bytes)
 }
 
-// That a receiver follows a session: its log, and the bytes sent, in hexadecimal.
+// Expects that a receiver follows a session: its log, and the bytes sent, in hexadecimal.
 fn expect_session(
     rt: &(impl Abort + AllocGlobal),
     log: &[&[u8]],

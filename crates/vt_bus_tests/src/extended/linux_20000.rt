@@ -1,4 +1,4 @@
-// The longest session of the J1939 stack of the Linux kernel, as the others in linux_logs.rt.
+// The longest session of the J1939 stack of the Linux kernel, recorded like those in linux_logs.rt.
 
 pub(super) const LOG_20000: [&[u8]; 26] = [
     b"(1795329442.843520) vcan0 1CC82680#14204E000000E700",
@@ -29,7 +29,7 @@ pub(super) const LOG_20000: [&[u8]; 26] = [
     b"(1795329442.847642) vcan0 1CC88026#17204E000000E700",
 ];
 
-// In parts, as one text of so many digits is read slowly.
+// The digits are in several texts, because one text of 40,000 digits is read slowly.
 pub(super) const SENT_20000: [&[u8]; 16] = [
     b"\
         11876C9B16254E157D1EB645390DCFAE6F29B9D3CD394E73A91DE8EE5D0E67EE4316BF0A30D9B826B1C0624200F25335DC4B69068C32D5DD12F1E391421F87081806D3EAD61C\

@@ -1,4 +1,4 @@
-// What a receiver refuses with an abort and what it ignores.
+// Frames that a receiver refuses with an abort, and frames that it ignores.
 use super::Act::Hears;
 use super::Wanted::*;
 use super::*;
@@ -21,7 +21,7 @@ const DISORDER: &[u8] = b"1CC88026#FF07FFFFFF00E700";
 
 const TOO_LARGE: &[u8] = b"1CC88026#FF02FFFFFF00E700";
 
-// Whether a session of nine bytes opens, and takes the first of two packets.
+// Whether a session of nine bytes opens, and accepts the first of two packets.
 pub(super) fn opens(receiver: &mut Receiver) -> Result<bool, OutOfMemory> {
     Ok(
         answers(receiver, REQUEST, Reply(CLEAR))?
@@ -39,12 +39,12 @@ fn is_ignored(receiver: &mut Receiver, line: &[u8]) -> Result<bool, OutOfMemory>
     )
 }
 
-// Whether a frame after the first packet is answered so, and the last packet finds no session.
+// Whether a frame after the first packet gets this answer, and the last packet finds no session.
 fn ends(receiver: &mut Receiver, line: &[u8], wanted: Wanted) -> Result<bool, OutOfMemory> {
     Ok(opens(receiver)? && answers(receiver, line, wanted)? && answers(receiver, LAST, Silence)?)
 }
 
-// Frames that end a session, and what is answered to them.
+// Frames that end a session, and the answers to them.
 const ENDS: [(&[u8], Wanted); 15] = [
     // Sizes.
     (
@@ -63,7 +63,7 @@ const ENDS: [(&[u8], Wanted); 15] = [
         b"(1.000000) can0 1CC82680#14FFFFFFFF00E700",
         Reply(TOO_LARGE),
     ),
-    // Counts: none, past the last packet, and the most.
+    // Counts: 0, past the last packet, and the greatest.
     (
         b"(1.000000) can0 1CC82680#160001000000E700",
         Reply(DISORDER),
@@ -93,7 +93,7 @@ const ENDS: [(&[u8], Wanted); 15] = [
         b"(1.000000) can0 1CC82680#160101000100E700",
         Reply(DISORDER),
     ),
-    // Packets 0, 1 again and 3.
+    // Packet numbers: 0, 1 again, and 3.
     (
         b"(1.000000) can0 1CC72680#00B4E8036400FFFF",
         Reply(DISORDER),
@@ -103,7 +103,7 @@ const ENDS: [(&[u8], Wanted); 15] = [
         b"(1.000000) can0 1CC72680#030500FFFFFFFFFF",
         Reply(DISORDER),
     ),
-    // An abort of another group.
+    // An abort of another parameter group.
     (b"(1.000000) can0 1CC82680#FF03FFFFFF00E600", Silence),
 ];
 
@@ -158,9 +158,9 @@ fn groups_and_aborts(rt: HostRuntime) -> Result<(), Fail> {
     Ok(())
 }
 
-// Frames that leave a session as it is.
+// Frames that do not change a session.
 const IGNORED: [&[u8]; 18] = [
-    // Short ones.
+    // Short frames.
     b"(1.000000) can0 1CC82680#140900000000E7",
     b"(1.000000) can0 1CC82680#160000000000E7",
     b"(1.000000) can0 1CC82680#FF07FFFFFF00E7",
@@ -174,7 +174,7 @@ const IGNORED: [&[u8]; 18] = [
     b"(1.000000) can0 1CC82681#160000000000E700",
     b"(1.000000) can0 1CC72681#020500FFFFFFFFFF",
     b"(1.000000) can0 1CC82681#FF07FFFFFF00E700",
-    // Its own replies, the other transport protocol, and a message.
+    // The receiver's own replies, frames of the other transport protocol, and a message.
     b"(1.000000) can0 1CC82680#150202000000E700",
     b"(1.000000) can0 1CC82680#170900000000E700",
     b"(1.000000) can0 1CEC2680#10090002FF00E700",

@@ -9,7 +9,7 @@ fn control(from: u8, to: u8, bytes: [u8; 8]) -> Frame {
     }
 }
 
-// Whether a source is answered when it asks for nine bytes, of a group with its address.
+// Whether a source gets an answer to its request for nine bytes, of a parameter group with its address.
 fn requests(receiver: &mut Receiver, source: u8) -> Result<bool, OutOfMemory> {
     let request = control(source, NODE, [0x14, 9, 0, 0, 0, source, 0xE7, 0]);
     let clear = control(NODE, source, [0x15, 2, 1, 0, 0, source, 0xE7, 0]);
@@ -24,7 +24,7 @@ fn is_reply(heard: &Heard, text: &[u8]) -> bool {
     }
 }
 
-// Whether a source announces its two packets, and the first is taken.
+// Whether a source announces its two packets, and the first one is accepted.
 fn begins(receiver: &mut Receiver, source: u8) -> Result<bool, OutOfMemory> {
     let offset = control(source, NODE, [0x16, 2, 0, 0, 0, source, 0xE7, 0]);
     let announced = matches!(receiver.hear(0, &offset)?, Heard::Nothing);
@@ -32,7 +32,7 @@ fn begins(receiver: &mut Receiver, source: u8) -> Result<bool, OutOfMemory> {
     Ok(announced && matches!(receiver.hear(0, &first)?, Heard::Nothing))
 }
 
-// Whether the second packet of a source makes its message whole.
+// Whether the second packet of a source completes its message.
 fn ends(receiver: &mut Receiver, source: u8) -> Result<bool, OutOfMemory> {
     let last = packet_from(source, 2, [source, source, 0xFF, 0xFF, 0xFF, 0xFF, 0xFF]);
     let end = control(NODE, source, [0x17, 9, 0, 0, 0, source, 0xE7, 0]);

@@ -1,4 +1,4 @@
-// A call that is refused memory changes nothing, so it may be made again.
+// A call of the ETP receiver that is refused memory changes nothing, and may be repeated.
 use super::refusing::{BYTES, END, LAST, REQUEST, opens};
 use super::*;
 
@@ -11,7 +11,7 @@ fn opens_again(receiver: &mut Receiver) -> Result<bool, OutOfMemory> {
     }
 }
 
-// Whether a second request is taken, and leaves the session that is open where it is refused.
+// Whether a second request opens a session, and keeps the open session if it is refused memory.
 fn hears_again(receiver: &mut Receiver) -> Result<bool, OutOfMemory> {
     let opened = match opens(receiver) {
         Ok(same) => same,
@@ -20,7 +20,7 @@ fn hears_again(receiver: &mut Receiver) -> Result<bool, OutOfMemory> {
     Ok(opened && answers(receiver, LAST, WHOLE)?)
 }
 
-// The same of a request that is prepared, and so is not refused any more.
+// Whether a prepared request is not refused memory, and a refused preparation keeps the open session.
 fn prepares_again(receiver: &mut Receiver) -> Result<bool, OutOfMemory> {
     let Ok(Line::Frame { time, frame }) = parse_line(REQUEST) else {
         return Ok(false);

@@ -5,7 +5,7 @@ use std::test::Fail;
 
 const OWN: u8 = 0x26;
 
-// A claim, and what it means for the node of `OWN` and `NAME`.
+// A claim, and its meaning for the node of `OWN` and `NAME`.
 const ANSWERS: [(u8, u64, ClaimMeaning); 9] = [
     (OWN, 0, ClaimMeaning::Lost),
     (OWN, 0x2000_1D00_0000_0000, ClaimMeaning::Lost),
@@ -18,7 +18,7 @@ const ANSWERS: [(u8, u64, ClaimMeaning); 9] = [
     (255, u64::MAX, ClaimMeaning::Nothing),
 ];
 
-/// Whether a first claim means this, before it is heard and then, and records its address.
+/// Whether a first claim has this meaning, before and after it is received, and its address is recorded.
 fn means(alloc: Global, address: u8, raw: u64, wanted: ClaimMeaning) -> Result<bool, OutOfMemory> {
     let mut claims = Claims::new(alloc, OWN, Name::from_raw(NAME));
     let name = Name::from_raw(raw);
@@ -40,14 +40,14 @@ fn claims_of_the_own_address(rt: HostRuntime) -> Result<(), Fail> {
     Ok(())
 }
 
-// Claims in their order, and who holds 80 and 81 after each.
+// Claims in order, and the holders of 80 and 81 after each.
 const CLAIMS: [(u8, u64, Option<u64>, Option<u64>); 12] = [
     (0x80, 5, Some(5), None),
     (0x80, 7, Some(5), None),
     (0x80, 3, Some(3), None),
-    // The holder leaves for another address, and the next holds the one that it left.
+    // The holder claims another address, and the next NAME holds its former address.
     (0x81, 3, Some(5), Some(3)),
-    // A claim from the null address frees the NAME's place.
+    // A claim from the null address releases the NAME's address.
     (254, 5, Some(7), Some(3)),
     (254, 5, Some(7), Some(3)),
     (0x81, 2, Some(7), Some(2)),
@@ -81,7 +81,7 @@ fn holders_of_addresses(rt: HostRuntime) -> Result<(), Fail> {
     Ok(())
 }
 
-// A NAME that has claimed 80, as `NAMES_OF_80` have, what it claims then, and who holds 80 after it.
+// A NAME of `NAMES_OF_80`, which have claimed 80; its next claim; and the holder of 80 after it.
 type Leaving = (u64, u8, Option<u64>);
 
 const NAMES_OF_80: [u64; 4] = [7, 3, 9, 5];
@@ -111,7 +111,7 @@ const LEAVINGS: [[Leaving; 4]; 5] = [
         (3, 254, Some(5)),
         (5, 254, None),
     ],
-    // One that comes back.
+    // A NAME that returns to its former address.
     [
         (3, 0x81, Some(5)),
         (3, 0x80, Some(3)),
@@ -120,7 +120,7 @@ const LEAVINGS: [[Leaving; 4]; 5] = [
     ],
 ];
 
-/// Whether 80 has these holders, after each that leaves it.
+/// Whether 80 has these holders after each of these claims.
 fn has_holders(alloc: Global, leavings: &[Leaving]) -> Result<bool, OutOfMemory> {
     let mut claims = Claims::new(alloc, OWN, Name::from_raw(NAME));
     for raw in NAMES_OF_80 {

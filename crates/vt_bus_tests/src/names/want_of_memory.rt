@@ -1,4 +1,5 @@
-//! A call that is refused memory changes nothing, and is made again. `make refuse-memory` refuses each request in turn.
+//! A call on claims or sets that is refused memory changes nothing, and is repeated. `make refuse-memory` refuses each
+//! request in turn.
 use super::*;
 use std::process::Abort;
 
@@ -6,7 +7,7 @@ const CLAIMERS: u64 = 48;
 
 const CLAIMS: u64 = 64;
 
-// The address and the NAME of a claim. Once all have claimed an address, they claim another one.
+// The address and the NAME of a claim. After all NAMEs have claimed an address, they claim another one.
 fn claim(time: u64) -> (u8, Name) {
     let turn = time % 3 + time / CLAIMERS;
     let name = Name::from_raw(time % CLAIMERS * 29 % CLAIMERS);
@@ -23,7 +24,7 @@ fn least_name(heard: u64, address: u8) -> Option<Name> {
     names.find(|name| last_claimed(heard, *name) == Some(address))
 }
 
-/// Whether so many claims were heard, and no more.
+/// Whether exactly the first `heard` claims have been received.
 fn has_heard(claims: &Claims, heard: u64) -> bool {
     let mut names = (0..CLAIMERS).map(Name::from_raw);
     let mut addresses = 0x80..0x83;
@@ -42,7 +43,7 @@ fn hear(rt: &impl Abort, claims: &mut Claims, time: u64) {
     assert_eq!(rt; said, Ok(wanted), "{time}");
 }
 
-// The number of a set is its address and its NAME. Every fifth is preloaded.
+// Whether a set is preloaded, as every fifth is. The number of a set is its address and its NAME.
 fn is_preloaded(number: u8) -> bool {
     number % 5 == 3
 }
@@ -57,7 +58,7 @@ fn is_set(set: &Set, number: u8) -> bool {
     same && set.address() == number
 }
 
-/// Whether the sets are those of these numbers, in this order.
+/// Whether the sets are those of the numbers from `first` to below `end`, in this order.
 fn are_sets(registry: &Registry, first: u8, end: u8) -> bool {
     let mut numbers = (first..end).enumerate();
     registry.len() == usize::from(end.saturating_sub(first))
@@ -86,7 +87,7 @@ fn master(rt: &impl Abort, registry: &mut Registry, number: u8) {
         assert!(rt; are_sets(registry, 0, number), "{number}");
         assert_eq!(rt; registry.master(number, Some(name), 2), Ok(()));
     }
-    // Once the set is there, it takes none.
+    // An existing set needs no memory.
     assert_eq!(rt; registry.master(number, Some(name), 2), Ok(()));
     assert_eq!(rt; registry.member(number, name), Ok(()));
 }
@@ -108,7 +109,7 @@ fn want_of_memory(rt: HostRuntime) {
             master(&rt, &mut registry, number);
         }
     }
-    // Once there is room, no master is refused, whatever was closed before it.
+    // With reserved capacity no master message is refused memory, whatever set was closed before it.
     for number in 20..23 {
         let name = Name::from_raw(number.into());
         reserve(&rt, &mut registry, number - 20, number);

@@ -2,7 +2,7 @@ use super::*;
 use std::alloc::Global;
 use std::test::Fail;
 
-// What a set is to be: its address, its NAME, its count and its members.
+// An expected set: its address, its NAME, its count and its members.
 type Wanted<'a> = (u8, Option<u64>, u8, &'a [u64]);
 
 fn is_set(set: &Set, wanted: &Wanted<'_>) -> bool {
@@ -65,7 +65,7 @@ fn counts_at_their_bounds(rt: HostRuntime) -> Result<(), Fail> {
     Ok(())
 }
 
-/// Sets of 82 with a member, 80 and FF, registered in this order.
+/// The sets of 82 (with a member), 80 and FF, registered in this order.
 fn three_sets(alloc: Global) -> Result<Registry, RegistryFault> {
     let mut registry = Registry::new(alloc);
     registry.master(0x82, Some(Name::from_raw(2)), 3)?;
@@ -79,7 +79,7 @@ fn three_sets(alloc: Global) -> Result<Registry, RegistryFault> {
 fn sets_in_their_order(rt: HostRuntime) -> Result<(), Fail> {
     assert!(rt; are_sets(&Registry::new(rt.alloc()), &[]));
     let mut registry = three_sets(rt.alloc())?;
-    // A master without a holder changes nothing.
+    // A master message from an address without a holder changes nothing.
     let refused = registry.master(0x80, None, 9);
     assert_eq!(rt; refused, Err(RegistryFault::NotClaimed));
     let wanted: [Wanted<'_>; 3] = [

@@ -6,7 +6,7 @@ use vt_can::assigned::TP_DT;
 
 const LINUX: u8 = 0x80;
 
-// What a receiver answers: the text of its reply, and whether it hands out this message.
+// The answer of a receiver: the text of its reply, and whether it hands out this message.
 fn answer(heard: Heard, sent: &[u8]) -> (ArrayVec<u8, 25>, bool) {
     match heard {
         Heard::Nothing => (ArrayVec::new(), false),
@@ -17,7 +17,7 @@ fn answer(heard: Heard, sent: &[u8]) -> (ArrayVec<u8, 25>, bool) {
     }
 }
 
-// Whether a receiver gives the answers of a log, and the bytes sent.
+// Whether a receiver gives the answers of a log, and hands out the bytes sent.
 fn follows(alloc: Global, log: &[&[u8]], sent: &[u8]) -> Result<bool, OutOfMemory> {
     let mut receiver = Receiver::new(alloc, NODE);
     let mut same = true;
@@ -38,7 +38,7 @@ fn follows(alloc: Global, log: &[&[u8]], sent: &[u8]) -> Result<bool, OutOfMemor
     Ok(same && whole && heard.is_empty())
 }
 
-// Whether a receiver follows each of these sessions: a log, and the bytes sent in hexadecimal.
+// Expects that a receiver follows each of these sessions: a log, and the bytes sent in hexadecimal.
 fn expect_sessions(
     rt: &(impl Abort + AllocGlobal),
     sessions: &[(&[&[u8]], &[u8])],
@@ -88,7 +88,7 @@ fn is_frame(line: &[u8], text: &[u8]) -> bool {
     }
 }
 
-// Whether a receiver gives the answers of a log without its packets, and the bytes sent.
+// Whether a receiver gives the answers of a log without its packets, and hands out the bytes sent.
 fn follows_packets(alloc: Global, log: &[&[u8]; 3], sent: &[u8]) -> Result<bool, OutOfMemory> {
     let [request, clear, end] = *log;
     let Ok(Line::Frame { time, frame }) = parse_line(request) else {
@@ -115,7 +115,7 @@ fn are_packets(frames: &ArrayVec<Frame, 255>, sent: &[u8]) -> bool {
     same
 }
 
-// Whether a sender in the place of Linux's sends the request of a log and the packets of the bytes.
+// Whether a sender instead of Linux's sends the request of a log and the packets of the bytes.
 fn sends_packets(alloc: Global, log: &[&[u8]; 3], sent: &[u8]) -> Result<bool, SendFault> {
     let [request, clear, _] = *log;
     let Ok(Line::Frame { time, frame }) = parse_line(clear) else {

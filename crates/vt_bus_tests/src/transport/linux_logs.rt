@@ -1,7 +1,7 @@
-// Sessions of the J1939 stack of the Linux kernel (can-j1939): its sender at 80 sent these bytes to its
+// TP sessions of the J1939 stack of the Linux kernel (can-j1939): its sender at 80 sent these bytes to its
 // receiver at 26, both on one virtual bus, and candump wrote the log.
 //
-// Of each session the log, and the bytes in hexadecimal, ten packets to a line.
+// Each session has its log, and the bytes in hexadecimal, ten packets to a line.
 
 pub(super) const LOG_9: [&[u8]; 5] = [
     b"(1795329415.081562) vcan0 1CEC2680#100900020200E700",
@@ -110,8 +110,8 @@ pub(super) const SENT_100: &[u8] = b"\
     11AD57366865126E55649ECB23AE1D48887544976EFEA46A48EB5D85A6EEB4D30621A133D62AC81F4DEF84724CE570331BC72431913951F4F5D1D95D49D2F8FA7D1E28D38424\
     1A6FCAFAEB8B4D7F14B60F154B9C95E70FA9D22829F53B9F8CDFF7EC66BD";
 
-// Of the longest two the log without its packets, which were the bytes in sevens, the last one filled with
-// FF, numbered from 1.
+// The longest two sessions have the log without its packets, which had seven bytes each, the last one filled
+// with FF, numbered from 1.
 
 pub(super) const LOG_1779: [&[u8]; 3] = [
     b"(1795329439.719249) vcan0 1CEC2680#10F306FFFF00E700",

@@ -17,7 +17,7 @@ const NINE: Wanted = Message(
 
 const DISORDER: Wanted = Reply(b"1CEC8026#FF07FFFFFF00E700");
 
-// The rest of a session whose first frames came.
+// Whether both packets of an open session complete its message.
 pub(super) fn both_packets(receiver: &mut Receiver) -> Result<bool, OutOfMemory> {
     let first = answers(receiver, FIRST, Silence)?;
     Ok(answers(receiver, LAST, NINE)? && first)

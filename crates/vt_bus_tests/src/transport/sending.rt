@@ -44,9 +44,9 @@ const TEN: &[u8] = b"\x08\x2D\x01\x08ABCDEF";
 
 const TWELVE: &[u8] = b"\x08\x2D\x01\x08ABCDEFGH";
 
-// What happens to a sender: it starts a message to a destination with the request of this text, or refuses it;
-// it answers the frame of a line with frames of these texts; or the abort that is due at a time has this text,
-// and is none for an empty one.
+// A step of a test: the sender starts a message to a destination with the request of this text, or refuses it;
+// it answers the frame of a line with frames of these texts; or the abort due at a time has this text, and there
+// is none for an empty text.
 #[derive(Clone, Copy)]
 enum SenderAct {
     Starts(u8, &'static [u8], &'static [u8]),
@@ -64,7 +64,7 @@ fn does(sender: &mut Sender, act: SenderAct) -> Result<bool, SendFault> {
     }
 }
 
-// Whether a new sender does all this, one after the other.
+// Whether a new sender passes all steps, one after the other.
 fn does_all(alloc: Global, acts: &[SenderAct]) -> Result<bool, SendFault> {
     let mut sender = Sender::new(alloc, NODE);
     let mut same = true;
@@ -119,11 +119,11 @@ const CASES: [(&str, &[SenderAct]); 5] = [
         &[
             Hears(b"(1.000000) can0 1CEC2680#110201FFFF00E600", &[]),
             START_80,
-            // Frames of another group.
+            // Frames of another parameter group.
             Hears(b"(1.000000) can0 1CEC2680#110201FFFF00E700", &[]),
             Hears(b"(1.000000) can0 1CEC2680#130C0002FF00E700", &[]),
             Hears(b"(1.000000) can0 1CEC2680#FF07FFFFFF00E700", &[]),
-            // It waits, whatever packet is named, and is refreshed.
+            // A CTS for no packets refreshes the session, whatever its next packet.
             Hears(b"(1.400000) can0 1CEC2680#110000FFFF00E600", &[]),
             Hears(b"(1.500000) can0 1CEC2680#110009FFFF00E600", &[]),
             Expires(2_750_000, b""),

@@ -7,8 +7,8 @@ ghost use Rattle.vt_transport.specs.Protocol.{protocol};
 
 use super::*;
 
-// An input as a node serves it: room is set aside, the sessions that are overdue end, and the frame is
-// heard, which is not refused any more.
+// Serves an input as a node does: reserves memory, ends the overdue sessions, and handles the frame, which
+// is not refused memory then.
 fn served(
     receiver: &mut Receiver,
     now: u64,
@@ -32,7 +32,7 @@ fn served(
     }
 }
 
-// Whether a frame is served, and prepared as a message of this size and first byte.
+// Whether a frame is served, and prepared for a message of this size and first byte.
 fn is_prepared(
     receiver: &mut Receiver,
     line: &[u8],
@@ -47,7 +47,7 @@ fn is_prepared(
     }
 }
 
-// A frame's line, and of what size and first byte the message is that is prepared for it.
+// The line of a frame, and the size and first byte of the message prepared for it.
 type Prepared = (&'static [u8], Option<(usize, u8)>);
 
 const PREPARED: [Prepared; 5] = [

@@ -19,7 +19,7 @@ fn digits(address: u8) -> [u8; 2] {
     [digit(address / 16), digit(address % 16)]
 }
 
-// A reply to a source, of a group with its address.
+// A reply to a source, of a parameter group with its address.
 fn reply_to(source: u8, text: &[u8; 25]) -> [u8; 25] {
     let mut text = *text;
     let [high, low] = digits(source);
@@ -30,7 +30,7 @@ fn reply_to(source: u8, text: &[u8; 25]) -> [u8; 25] {
     text
 }
 
-// Whether a source is answered when it asks for nine bytes, of a group with its address.
+// Whether a source gets an answer to its request for nine bytes, of a parameter group with its address.
 fn requests(receiver: &mut Receiver, source: u8) -> Result<bool, OutOfMemory> {
     let mut line = *b"(1.000000) can0 1CEC2600#10090002FF00E700";
     let [high, low] = digits(source);
@@ -42,7 +42,7 @@ fn requests(receiver: &mut Receiver, source: u8) -> Result<bool, OutOfMemory> {
     replies(receiver, &line, &clear)
 }
 
-// Whether the first packet of a source is taken.
+// Whether the first packet of a source is accepted.
 fn begins(receiver: &mut Receiver, source: u8) -> Result<bool, OutOfMemory> {
     let first = packet(
         source,
@@ -51,7 +51,7 @@ fn begins(receiver: &mut Receiver, source: u8) -> Result<bool, OutOfMemory> {
     Ok(matches!(receiver.hear(0, &first)?, Heard::Nothing))
 }
 
-// Whether the second packet of a source makes its message whole.
+// Whether the second packet of a source completes its message.
 fn ends(receiver: &mut Receiver, source: u8) -> Result<bool, OutOfMemory> {
     let last = packet(source, [2, source, source, 0xFF, 0xFF, 0xFF, 0xFF, 0xFF]);
     let end = reply_to(source, b"1CEC0026#13090002FF00E700");
@@ -89,7 +89,7 @@ fn every_source_in_rounds(rt: HostRuntime) -> Result<(), Fail> {
     Ok(())
 }
 
-// Whether 1,785 bytes are asked for by every source but two, with the answers that they are to have.
+// Whether the requests of all sources but two for 1,785 bytes get the expected answers.
 fn all_others_open(receiver: &mut Receiver) -> Result<bool, OutOfMemory> {
     let mut line = *b"(1.000000) can0 1CEC2600#10F906FFFF00E700";
     let mut answer = *b"1CEC0026#11FF01FFFF00E700";
@@ -117,7 +117,7 @@ fn digit(value: u8) -> u8
     }
 }
 
-// Whether a receiver replies this to the frame of a line.
+// Whether a receiver gives this reply to the frame of a line.
 fn replies(receiver: &mut Receiver, line: &[u8], text: &[u8]) -> Result<bool, OutOfMemory> {
     match parse_line(line) {
         Ok(Line::Frame { time, frame }) => {

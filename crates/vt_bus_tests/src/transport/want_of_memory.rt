@@ -1,4 +1,4 @@
-// A call that is refused memory changes nothing, so it may be made again.
+// A call of the TP receiver or sender that is refused memory changes nothing, and may be repeated.
 use super::*;
 
 const REQUEST: &[u8] = b"(1.000000) can0 1CEC2680#10090002FF00E700";
@@ -14,7 +14,7 @@ const WHOLE: Wanted = Wanted::Message(
     b"\xB4\xE8\x03\x64\x00\xFF\xFF\x05\x00",
 );
 
-// Whether a session of nine bytes opens, and takes the first of two packets.
+// Whether a session of nine bytes opens, and accepts the first of two packets.
 fn opens(receiver: &mut Receiver) -> Result<bool, OutOfMemory> {
     Ok(answers(receiver, REQUEST, CLEAR)? && answers(receiver, FIRST, Wanted::Silence)?)
 }
@@ -26,7 +26,7 @@ fn opens_again(receiver: &mut Receiver) -> Result<bool, OutOfMemory> {
     }
 }
 
-// Whether a second request is taken, and leaves the session that is open where it is refused.
+// Whether a second request opens a session, and keeps the open session if it is refused memory.
 fn hears_again(receiver: &mut Receiver) -> Result<bool, OutOfMemory> {
     let opened = match opens(receiver) {
         Ok(same) => same,
@@ -35,7 +35,7 @@ fn hears_again(receiver: &mut Receiver) -> Result<bool, OutOfMemory> {
     Ok(opened && answers(receiver, LAST, WHOLE)?)
 }
 
-// The same of a request that is prepared, and so is not refused any more.
+// Whether a prepared request is not refused memory, and a refused preparation keeps the open session.
 fn prepares_again(receiver: &mut Receiver) -> Result<bool, OutOfMemory> {
     let Ok(Line::Frame { time, frame }) = parse_line(REQUEST) else {
         return Ok(false);
@@ -56,7 +56,7 @@ const MESSAGE: &[u8] = b"\x08\x2D\x01\x08ABCDEF";
 
 const STARTED: &[u8] = b"1CEC8026#100A0002FF00E600";
 
-// Starts to send the message.
+// Starts to send the message, and repeats the call after a refusal.
 fn start_again(rt: &impl Abort, sender: &mut Sender) -> Result<Frame, SendFault> {
     match sender.start(0, 0x80, 0xE600, MESSAGE) {
         Err(SendFault::OutOfMemory) => {

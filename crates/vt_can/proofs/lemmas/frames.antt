@@ -1,2 +1,2 @@
--- Identifiers and frames.
+-- Lemmas on identifiers.
 pub mod Sums

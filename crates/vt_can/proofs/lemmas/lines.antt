@@ -1,4 +1,4 @@
--- The lines of a log.
+-- Lemmas on log lines.
 pub mod Cutting
 pub mod Shape
 pub mod Actions

@@ -1,4 +1,4 @@
--- What both transport protocols share.
+-- Lemmas on both transport protocols.
 pub mod Places
 pub mod ByAddress
 pub mod Overdue

@@ -10,6 +10,6 @@ abbrev pub is_to : ℕ → Option ℕ → Bool
 is_to own_address None = false
 is_to own_address (Some destination) = destination == own_address
 
--- the frame of a group, with priority 7
+-- the frame of a parameter group, with priority 7
 abbrev pub frame_of : ℕ → ℕ → ℕ → List ℕ → Frame
 frame_of pgn own_address to bytes = record { id = raw_of (addressed 7 pgn to own_address); bytes = record { items = bytes } }

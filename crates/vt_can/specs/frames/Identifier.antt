@@ -10,7 +10,7 @@ pub record Parts : Type 0 where
   pub pdu_specific : ℕ
   pub source : ℕ
 
--- each number fits its bits
+-- each of the six numbers fits its bits
 pub record IsParts (p : Parts) : Type 0 where
   pub priority : p.priority < 2 ^ 3
   pub extended_data_page : p.extended_data_page < 2
@@ -25,7 +25,7 @@ raw_of p =
     p.priority * 2 ^ 26 + p.extended_data_page * 2 ^ 25 + p.data_page * 2 ^ 24 + p.pdu_format * 2 ^ 16
     + p.pdu_specific * 2 ^ 8 + p.source
 
--- its six numbers again
+-- the six numbers of an identifier
 abbrev pub parts_of : ℕ → Parts
 parts_of raw = record {
   priority = raw / 2 ^ 26 % 2 ^ 3;
@@ -36,23 +36,23 @@ parts_of raw = record {
   source = raw % 2 ^ 8;
 }
 
--- The parameter group number. A PDU format below 240 has a destination, which counts as 0 there.
+-- The parameter group number. Its low byte is 0 for a PDU format below 240, which has a destination.
 abbrev pub pgn_of : Parts → ℕ
 pgn_of p =
     p.extended_data_page * 2 ^ 17 + p.data_page * 2 ^ 16 + p.pdu_format * 2 ^ 8
     + (if nat_lt p.pdu_format 240 then 0 else p.pdu_specific)
 
--- the address that a PDU format below 240 is sent to
+-- the destination address, for a PDU format below 240
 abbrev pub destination_of : Parts → Option ℕ
 destination_of p = if nat_lt p.pdu_format 240 then Some p.pdu_specific else None
 
--- a parameter group that is sent to a destination
+-- a parameter group whose frames have a destination
 pub record HasDestination (pgn : ℕ) : Type 0 where
   pub fits : pgn < 2 ^ 18
   pub format : pgn / 2 ^ 8 % 2 ^ 8 < 240
   pub no_destination : pgn % 2 ^ 8 ≡ 0
 
--- the numbers of a frame of such a group, from source to destination
+-- the six numbers of a frame with a destination
 abbrev pub addressed : ℕ → ℕ → ℕ → ℕ → Parts
 addressed priority pgn destination source = record {
   priority = priority;
@@ -63,7 +63,7 @@ addressed priority pgn destination source = record {
   source = source;
 }
 
--- The six numbers and the identifier determine each other.
+-- The six numbers of an identifier and the identifier determine each other.
 pub record PartsAreIdentifiers : Type 0 where
   pub parts_again : (p : Parts) → IsParts p → parts_of (raw_of p) ≡ p
   pub raw_again : (raw : ℕ) → raw < 2 ^ 29 → raw_of (parts_of raw) ≡ raw

@@ -7,7 +7,7 @@ use Rattle.hex.specs.Hex.{decode_of}
 use Rattle.vt_can.specs.declared.lines.line.Action.{Action}
 use Rattle.vt_can.specs.declared.lines.line.Action.TheVariants as actions
 
--- an action without where its text lies
+-- an action as a value, without the address of its text in memory
 pub data ActionValue : Type 0 where
   Press : (id : ℕ) → ActionValue
   Release : (id : ℕ) → ActionValue
@@ -24,26 +24,26 @@ action_value (actions.Number id n) = Number id n
 action_value (actions.Text id text) = Text id text.now
 action_value (actions.Set address) = Set address
 
--- a number in decimal digits, of which there is at least one
+-- a number written in one or more decimal digits
 pub record IsNumber (text : List ℕ) (n most : ℕ) : Type 0 where
   pub digits : AllPass is_ascii_digit text
   pub some : 0 < length text
   pub value : n ≡ digits_value 10 text
   pub fits : n ≤ most
 
--- a word, and an ID that is an object's
+-- a word and an object ID
 pub record HasId (word rest : List ℕ) (id : ℕ) : Type 0 where
   pub digits : List ℕ
   pub whole : rest ≡ word ++ digits
   pub id_is : IsNumber digits id 65534
 
--- a word, an ID, a space and more
+-- a word, an object ID, a space and more text
 pub record HasIdAnd (word rest : List ℕ) (id : ℕ) (more : List ℕ) : Type 0 where
   pub digits : List ℕ
   pub whole : rest ≡ word ++ digits ++ codes " " ++ more
   pub id_is : IsNumber digits id 65534
 
--- what stands behind `! `
+-- the text of an action, after `! `
 abbrev pub IsActionText : List ℕ → ActionValue → Type 0
 IsActionText rest (Press id) = HasId (codes "press ") rest id
 IsActionText rest (Release id) = HasId (codes "release ") rest id

@@ -1,26 +1,26 @@
--- The fields of a line, cut at the bytes that stand between them.
+-- Splits of a line into its fields.
 use Rattle.std.specs.Prelude.{◌≡◌, ◌==◌, ℕ, not, List, ◌∷◌, ◌++◌}
 use Rattle.std.specs.List.{AllPass}
 use Rattle.vt_can.specs.lines.Actions.{IsNumber}
 use Rattle.vt_can.specs.lines.Line.{HasNoSpace, IsSuffix}
 
--- the byte stands nowhere in the text
+-- the byte is not in the text
 abbrev pub Lacks : ℕ → List ℕ → Type 0
 Lacks byte text = AllPass (λ other. not (other == byte)) text
 
--- a text in two, at the first such byte
+-- the split of a text at the first occurrence of a byte
 pub record IsCut (byte : ℕ) (text front back : List ℕ) : Type 0 where
   pub front_lacks : Lacks byte front
   pub whole : text ≡ front ++ byte ∷ back
 
--- a word with no space, and what may end a frame line
+-- a word without a space, and a suffix of a frame line
 pub record IsThirdWord (text word : List ℕ) : Type 0 where
   pub suffix : List ℕ
   pub no_space : HasNoSpace word
   pub whole : text ≡ word ++ suffix
   pub suffix_is : IsSuffix suffix
 
--- an object's ID, and more behind the first space
+-- an object ID, and more text after the first space
 pub record IsIdAnd (text : List ℕ) (id : ℕ) (more : List ℕ) : Type 0 where
   pub digits : List ℕ
   pub cut : IsCut 32 text digits more

@@ -12,7 +12,7 @@ use Rattle.vt_can.specs.declared.lines.line.LineFault.TheVariants.{Time, Shape, 
 use Rattle.vt_can.specs.lines.Actions.{ActionValue, IsActionText}
 use Rattle.vt_can.specs.lines.Readings.{ParsedLine, FrameAt, OperatorAction, SkippedFrame, CommentLine}
 
--- What stands on a line: without the one carriage return that may end it.
+-- The content of a line: the line without one carriage return at its end.
 abbrev pub IsContent : List ℕ → List ℕ → Type 0
 IsContent line content = (line ≡ content ++ codes "\r") ⊎ ((line ≡ content) × ((front : List ℕ) → line ≡ front ++ codes "\r" → ⊥))
 
@@ -20,21 +20,21 @@ IsContent line content = (line ≡ content ++ codes "\r") ⊎ ((line ≡ content
 abbrev pub IsComment : List ℕ → Type 0
 IsComment content = (content ≡ []) ⊎ ((rest : List ℕ) × (content ≡ codes "#" ++ rest))
 
--- an operator line, and what it says
+-- an operator line, and its text after `! `
 abbrev pub IsOperatorLine : List ℕ → List ℕ → Type 0
 IsOperatorLine content rest = content ≡ codes "! " ++ rest
 
--- from least to most decimal digits
+-- a text of `least` to `most` decimal digits
 pub record AreDigits (least most : ℕ) (text : List ℕ) : Type 0 where
   pub digits : AllPass is_ascii_digit text
   pub no_fewer : least ≤ length text
   pub no_more : length text ≤ most
 
--- six digits of a fraction, or nine, of which the last three are dropped
+-- the digits of a fraction: six or nine
 abbrev pub IsFraction : List ℕ → Type 0
 IsFraction text = AreDigits 6 6 text ⊎ AreDigits 9 9 text
 
--- a line that begins with `(seconds.fraction)`, in microseconds, and what follows
+-- a line that begins with `(seconds.fraction)`: its time in microseconds, without digits 7 to 9 of the fraction, and the rest
 pub record HasTime (content : List ℕ) (time : ℕ) (rest : List ℕ) : Type 0 where
   pub seconds : List ℕ
   pub fraction : List ℕ
@@ -46,7 +46,7 @@ pub record HasTime (content : List ℕ) (time : ℕ) (rest : List ℕ) : Type 0 
 abbrev pub HasNoSpace : List ℕ → Type 0
 HasNoSpace text = AllPass (λ byte. not (byte == 32)) text
 
--- what may end a frame line
+-- the suffix of a frame line, which may be empty
 abbrev pub IsSuffix : List ℕ → Type 0
 IsSuffix text = (text ≡ []) ⊎ (text ≡ codes " R") ⊎ (text ≡ codes " T")
 
@@ -64,12 +64,12 @@ pub record HasShape (rest : List ℕ) (id text : List ℕ) : Type 0 where
   pub text_no_space : HasNoSpace text
   pub suffix_is : IsSuffix suffix
 
--- a text that begins with this byte
+-- whether a text begins with a byte
 abbrev pub begins_with : ℕ → List ℕ → Bool
 begins_with byte [] = false
 begins_with byte (other ∷ rest) = other == byte
 
--- the number of eight hex digits, by the four bytes that they write
+-- the number of an identifier, from its four decoded bytes
 abbrev pub id_of : Result (List ℕ) FromHexError → ℕ
 id_of (Ok bytes) = big_number 4 bytes
 id_of (Err e) = 0
@@ -79,7 +79,7 @@ data_reading time id (Err e) = Err Hex
 data_reading time id (Ok bytes) =
     if nat_lt 8 (length bytes) then Err Length else Ok (FrameAt time (record { id = id; bytes = record { items = bytes } }))
 
--- What a line of the right shape says: the first of these that applies.
+-- The reading of a frame line of the right shape: the first case that applies.
 abbrev pub frame_line_reading : ℕ → List ℕ → List ℕ → Result ParsedLine LineFault
 frame_line_reading time id text =
     if not (list_all is_hex_digit id) then Err Hex
@@ -94,7 +94,7 @@ pub record IsOtherLine (content : List ℕ) : Type 0 where
   pub no_comment : IsComment content → ⊥
   pub no_operator : (rest : List ℕ) → IsOperatorLine content rest → ⊥
 
--- What a line's content says, or the first of its faults.
+-- The reading of a line's content, or the first of its faults.
 pub data IsRead (content : List ℕ) : Result ParsedLine LineFault → Type 0 where
   comment : IsComment content → IsRead content (Ok CommentLine)
   operator_action : (rest : List ℕ) (d : ActionValue) → IsOperatorLine content rest → IsActionText rest d → IsRead content (Ok (OperatorAction d))
@@ -103,14 +103,14 @@ pub data IsRead (content : List ℕ) : Result ParsedLine LineFault → Type 0 wh
   no_shape : (time : ℕ) (rest : List ℕ) → HasTime content time rest → ((id text : List ℕ) → HasShape rest id text → ⊥) → IsRead content (Err Shape)
   frame_line : (time : ℕ) (rest id text : List ℕ) → HasTime content time rest → HasShape rest id text → IsRead content (frame_line_reading time id text)
 
--- how a line is read
+-- the reading of a line
 abbrev pub Reads : List ℕ → Result ParsedLine LineFault → Type 0
 Reads line reading = (content : List ℕ) × IsContent line content × IsRead content reading
 
--- a line that has a reading
+-- a line with a reading
 abbrev pub HasReading : List ℕ → Type 0
 HasReading line = (reading : Result ParsedLine LineFault) × Reads line reading
 
--- No line has two readings.
+-- The reading of a line is unique.
 abbrev pub ReadingsAreOne : Type 0
 ReadingsAreOne = (line : List ℕ) (a b : Result ParsedLine LineFault) → Reads line a → Reads line b → a ≡ b

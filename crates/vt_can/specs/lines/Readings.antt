@@ -1,4 +1,4 @@
--- What a line says, without where its text lies.
+-- Lines that have been read, as values without the address of their text in memory.
 use Rattle.std.specs.Prelude.{ℕ, Result, Ok, Err}
 use Rattle.vt_can.specs.declared.frames.frame.Frame.{Frame}
 use Rattle.vt_can.specs.declared.lines.line.Skipped.{Skipped}

@@ -1,4 +1,4 @@
--- Frames and frame lines as they are written (docs/PROFILE.md, "Written frames and lines").
+-- The written form of frames and frame lines (docs/PROFILE.md, "Written frames and lines").
 use Rattle.std.specs.Prelude.{◌<◌, ◌≤◌, ℕ, zero, suc, ◌+◌, ◌/◌, ◌%◌, ◌^◌, List, [], ◌∷◌, ◌++◌, length, codes, Ok}
 use Rattle.std.specs.List.{AllByRecursion}
 use Rattle.std.specs.Fmt.{decimal}
@@ -12,7 +12,7 @@ use Rattle.vt_can.specs.lines.Line.{Reads}
 abbrev pub frame_text : Frame → List ℕ
 frame_text frame = encode_upper (big_bytes 4 frame.id) ++ codes "#" ++ encode_upper frame.bytes.items
 
--- the lowest so many decimal digits of a number
+-- the k lowest decimal digits of a number
 abbrev pub lowest_digits : ℕ → ℕ → List ℕ
 lowest_digits zero n = []
 lowest_digits (suc k) n = lowest_digits k (n / 10) ++ (48 + n % 10) ∷ []
@@ -21,12 +21,12 @@ lowest_digits (suc k) n = lowest_digits k (n / 10) ++ (48 + n % 10) ∷ []
 abbrev pub line_text : ℕ → Frame → List ℕ
 line_text time frame = codes "(" ++ decimal (time / 10 ^ 6) ++ codes "." ++ lowest_digits 6 time ++ codes ") can0 " ++ frame_text frame
 
--- a frame whose identifier and bytes fit
+-- the identifier and the bytes of a frame are in their ranges
 pub record IsFrame (frame : Frame) : Type 0 where
   pub id : frame.id < 2 ^ 29
   pub short : length frame.bytes.items ≤ 8
   pub fits : AllByRecursion (λ byte. byte < 256) frame.bytes.items
 
--- A frame that is written as a line is read again, at its time.
+-- The line written for a frame and its time reads back as both.
 abbrev pub WrittenLinesAreRead : Type 0
 WrittenLinesAreRead = (time : ℕ) (frame : Frame) → time < 10 ^ 18 → IsFrame frame → Reads (line_text time frame) (Ok (FrameAt time frame))

@@ -1,4 +1,4 @@
--- One source among all that send on a bus, for a receiver with a session of each source.
+-- The session and the messages of one source among all sources on a bus.
 use Rattle.std.specs.Prelude.{◌≡◌, ◌≤◌, ℕ, Bool, ◌==◌, if◌then◌else◌, Option, Some, None, List, [], ◌∷◌, ◌++◌, filter}
 use Rattle.std.specs.FinMap as finite
 use Rattle.std.specs.Option.{option_to_list}
@@ -12,14 +12,14 @@ use Rattle.vt_can.specs.transport.Sessions.{ByAddress, alive}
 use Rattle.vt_can.specs.transport.Protocols.{Protocol}
 use Rattle.vt_can.specs.transport.Steps.{stepped}
 
--- a frame on the bus, and what it is to this node
+-- a frame on the bus, decoded for this node; None for a frame outside the protocol
 pub record Input (F : Type 0) : Type 0 where
   pub time : ℕ
   pub source : ℕ
   pub frame : Option F
 
 module _ {F : Type 0} where
-  -- Every list of inputs has the latest first, and time never goes back.
+  -- The times of inputs never go back. Every list of inputs has the latest first.
   abbrev pub IsInOrder : ℕ → List (Input F) → Type 0
   IsInOrder now [] = Unit {0}
   IsInOrder now (i ∷ inputs) = (i.time ≤ now) × IsInOrder i.time inputs
@@ -27,7 +27,7 @@ module _ {F : Type 0} where
   abbrev pub is_from : ℕ → Input F → Bool
   is_from source i = i.source == source
 
--- the message of a source that is handed out
+-- the message of a source in an answer
 abbrev pub handed_out : ℕ → Heard → Option Message
 handed_out source heard.Nothing = None
 handed_out source (heard.Reply reply) = None
@@ -48,44 +48,43 @@ module _ {S F R : Type 0} (protocol : Protocol S F R) where
   abbrev pub input_of : ℕ → ℕ → Frame → Input F
   input_of own_address now frame = record { time = now; source = source_of frame; frame = protocol.frame_in own_address frame }
 
-  -- the session that a frame of a source leaves, and the message that it completes
+  -- the session after a frame of its source, and the message completed by the frame
   abbrev pub session_after_frame : ℕ → Option (Timed S) → Option F → Option (Timed S)
   session_after_frame now current frame = (stepped protocol now current frame).session
 
   abbrev pub message_of_frame : ℕ → Option (Timed S) → Option F → Option Message
   message_of_frame now current frame = (stepped protocol now current frame).message
 
-  -- The session of a source. At each input of the bus the sessions that are overdue end, before its
-  -- frame is heard.
+  -- The session of a source. At each input of the bus the overdue sessions end before the frame is received.
   abbrev pub session_of : ℕ → List (Input F) → Option (Timed S)
   session_of source [] = None
   session_of source (i ∷ inputs) =
       let current = alive i.time (session_of source inputs) in
       if is_from source i then session_after_frame i.time current i.frame else current
 
-  -- the message of a source that an input completes
+  -- the message of a source completed by an input
   abbrev pub message_at : ℕ → Input F → List (Input F) → Option Message
   message_at source i inputs =
       if is_from source i then message_of_frame i.time (alive i.time (session_of source inputs)) i.frame else None
 
-  -- the messages that were assembled for a source, the latest first
+  -- the messages assembled for a source, the latest first
   abbrev pub messages_of : ℕ → List (Input F) → List Message
   messages_of source [] = []
   messages_of source (i ∷ inputs) = option_to_list (message_at source i inputs) ++ messages_of source inputs
 
-  -- They depend on the frames of the source and their times alone.
+  -- The messages of a source depend on its own frames and their times alone.
   abbrev pub MessagesDependOnTheirSource : Type 0
   MessagesDependOnTheirSource = (source now : ℕ) (inputs : List (Input F)) → IsInOrder now inputs
       → messages_of source inputs ≡ messages_of source (filter (is_from source) inputs)
 
-  -- An input is served: the sessions that are overdue end, and its source's makes a step and hands out its message.
+  -- The receiver serves an input: the overdue sessions end, then the source's session makes a step and hands out its message.
   pub record Serves (old new : ByAddress S) (i : Input F) (result : Heard) : Type 0 where
     pub session : finite.get new i.source ≡ session_after_frame i.time (alive i.time (finite.get old i.source)) i.frame
     pub others : (other : ℕ) → (other ≡ i.source → ⊥) → finite.get new other ≡ alive i.time (finite.get old other)
     pub message : (source : ℕ) → handed_out source result
         ≡ (if is_from source i then message_of_frame i.time (alive i.time (finite.get old i.source)) i.frame else None)
 
-  -- From no session, inputs were served, and this was answered to each.
+  -- A run: from no session, the receiver serves inputs one after the other, each with its answer.
   abbrev pub IsRun : ByAddress S → List (Input F × Heard) → Type 0
   IsRun sessions [] = sessions ≡ finite.empty
   IsRun sessions (x ∷ run) = (old : ByAddress S) × IsRun old run × Serves old sessions x.0 x.1

@@ -1,4 +1,4 @@
--- The history of one source, whatever its transport protocol, and the messages in it. Every list of events has the latest first.
+-- The history of one source in any transport protocol, and its messages. Every list of session events has the latest first.
 use Rattle.std.specs.Prelude.{◌≡◌, ◌<◌, ◌≤◌, ℕ, ◌*◌, Bool, true, List, [], ◌∷◌, ◌++◌, take}
 use Rattle.vt_can.specs.transport.Messages.{Message}
 
@@ -8,28 +8,28 @@ pub data SessionEvent (F : Type 0) : Type 0 where
   TimedOut : SessionEvent F
 
 module _ {F : Type 0} where
-  -- events without their times
+  -- session events without their times
   abbrev pub untimed : List (ℕ × SessionEvent F) → List (SessionEvent F)
   untimed [] = []
   untimed (x ∷ xs) = x.1 ∷ untimed xs
 
--- How frames (F) spell messages: by a request (O), and the packets (P) after it.
+-- The encoding of messages in frames (F): a request (O), and the packets (P) after it.
 pub record Spelling (F O P : Type 0) : Type 1 where
   -- the frame of a request, and whether it opens a session
   pub request : O → F
   pub opens : O → Bool
-  -- the size and the parameter group of its message, and the number of its packets
+  -- the size, the parameter group and the number of packets of a request's message
   pub size : O → ℕ
   pub pgn : O → ℕ
   pub total : O → ℕ
-  -- what leaves a session as it is
+  -- a session event other than a request, a timeout or an abort of the session
   pub IsQuiet : SessionEvent F → Type 0
-  -- what came after a request brings just these packets, in their order
+  -- the session events after a request bring exactly these packets, in their order
   pub Brings : O → List (SessionEvent F) → P → Type 0
-  -- their number, and their bytes
+  -- the number of packets, and their bytes
   pub count : P → ℕ
   pub bytes : P → List ℕ
-  -- an event that is a packet
+  -- a session event with a packet
   pub IsPacket : SessionEvent F → Type 0
 
 module _ {F O P : Type 0} (spelling : Spelling F O P) where
@@ -37,7 +37,7 @@ module _ {F O P : Type 0} (spelling : Spelling F O P) where
   AreQuiet [] = Unit {0}
   AreQuiet (h ∷ hs) = spelling.IsQuiet h × AreQuiet hs
 
-  -- After a request that opens came quiet events alone, which bring these packets.
+  -- After a request that opens a session, all session events are quiet and bring these packets.
   pub record Sent (hs : List (SessionEvent F)) (o : O) (packets : P) : Type 0 where
     pub earlier : List (SessionEvent F)
     pub later : List (SessionEvent F)
@@ -61,7 +61,7 @@ module _ {F O P : Type 0} (spelling : Spelling F O P) where
     pub pgn : message.pgn ≡ spelling.pgn opening
     pub bytes : message.bytes ≡ take (spelling.size opening) (spelling.bytes packets)
 
-  -- An open session has whole packets, fewer than all, and has room for the message.
+  -- An open session has received whole packets, but not all, and has capacity for the message.
   pub record IsReceiving (o : O) (received len capacity : ℕ) : Type 0 where
     pub opened : spelling.opens o ≡ true
     pub room : spelling.size o ≤ capacity

@@ -1,4 +1,4 @@
--- The history of a source on a bus: its frames, and a mark where its session was overdue.
+-- The history of a source on a bus: its frames, and a mark at each timeout of its session.
 use Rattle.std.specs.Prelude.{◌≡◌, ◌↔◌, ℕ, if◌then◌else◌, Option, Some, None, List, [], ◌∷◌}
 use Rattle.vt_can.specs.declared.transport.heard.Heard.{Heard}
 use Rattle.vt_can.specs.transport.Messages.{Message}
@@ -14,12 +14,12 @@ module _ {F : Type 0} where
   with_frame now (Some frame) xs = (now, Came frame) ∷ xs
 
 module _ {S F R : Type 0} (protocol : Protocol S F R) where
-  -- with a mark, where the session is overdue by now
+  -- a history with one more mark if its session is overdue
   abbrev pub marked : ℕ → List (ℕ × SessionEvent F) → List (ℕ × SessionEvent F)
   marked now xs = if is_overdue now (session_after protocol xs) then (now, TimedOut) ∷ xs else xs
 
-  -- The history of a source: at each input of the bus a mark where its session is overdue, and then the
-  -- frame, where it is the source's.
+  -- The history of a source: at each input of the bus, a mark if its session is overdue, then the frame if
+  -- it is the source's.
   abbrev pub history_of : ℕ → List (Input F) → List (ℕ × SessionEvent F)
   history_of source [] = []
   history_of source (i ∷ inputs) =
@@ -30,16 +30,16 @@ module _ {S F R : Type 0} (protocol : Protocol S F R) where
   abbrev pub SessionsAreOfHistories : Type 0
   SessionsAreOfHistories = (source : ℕ) (inputs : List (Input F)) → session_of protocol source inputs ≡ session_after protocol (history_of source inputs)
 
-  -- By what is whole in a history:
+  -- Over a definition of the whole messages in a history:
   module _ (IsWhole : List (SessionEvent F) → SessionEvent F → Message → Type 0) where
-    -- an input is a frame of the source, and with it the message is whole in the source's history
+    -- an input is a frame of the source that makes the message whole in the source's history
     pub record Completes (source : ℕ) (i : Input F) (inputs : List (Input F)) (message : Message) : Type 0 where
       pub from : i.source ≡ source
       pub frame : F
       pub frame_is : i.frame ≡ Some frame
       pub whole : IsWhole (untimed (marked i.time (history_of source inputs))) (Came frame) message
 
-    -- A run hands out a message of a source exactly where it is whole in the source's history.
+    -- A run hands out a message of a source exactly when it becomes whole in the source's history.
     abbrev pub RunsHandOutWholeMessages : Type 0
     RunsHandOutWholeMessages = (sessions : ByAddress S) (x : Input F × Heard) (run : List (Input F × Heard)) (source : ℕ) (message : Message)
         → IsRun protocol sessions (x ∷ run) → (handed_out source x.1 ≡ Some message) ↔ Completes source x.0 (inputs_of run) message

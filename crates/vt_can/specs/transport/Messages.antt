@@ -1,4 +1,4 @@
--- Messages that a transport protocol carries in packets. Every list of packets has the latest first.
+-- Messages carried in packets by a transport protocol. Every list of packets has the latest first.
 use Rattle.std.specs.Prelude.{ℕ, Option, Some, None, List, [], ◌∷◌, ◌++◌, length, slice_index}
 
 pub record Message : Type 0 where

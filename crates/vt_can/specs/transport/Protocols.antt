@@ -1,5 +1,4 @@
--- A transport protocol, as a receiver of it is stated: its session of a source (S), its frames (F) and its
--- replies (R).
+-- A transport protocol for a receiver: the session of a source (S), the frames (F) and the replies (R).
 use Rattle.std.specs.Prelude.{◌≡◌, ℕ, Bool, Option, Some, None}
 use Rattle.vt_can.specs.declared.frames.frame.Frame.{Frame}
 use Rattle.vt_can.specs.declared.transport.sessions.Timed.{Timed}
@@ -8,7 +7,7 @@ use Rattle.vt_can.specs.declared.transport.received.Received.TheVariants.{Refuse
 use Rattle.vt_can.specs.transport.Messages.{Message}
 use Rattle.vt_can.specs.transport.Sessions.{untimed_session}
 
--- what a step leaves of a session, and what it gives
+-- the result of a step: the session after it, its reply and its message
 pub record SessionOutcome (S R : Type 0) : Type 0 where
   pub session : Option (Timed S)
   pub reply : Option R
@@ -21,7 +20,7 @@ module _ {S R : Type 0} where
   abbrev pub ended : R → SessionOutcome S R
   ended reply = record { session = None; reply = Some reply; message = None }
 
-  -- What a frame makes of a session, as an outcome: one with more to come has this time from then on.
+  -- The outcome of a frame for its session. A session with packets to come gets this time.
   abbrev pub outcome_of : ℕ → Received S R → SessionOutcome S R
   outcome_of last (Refused reply) = ended reply
   outcome_of last (More session reply) =
@@ -34,19 +33,19 @@ module _ {S R : Type 0} where
   untimed_outcome out = record { session = untimed_session out.session; reply = out.reply; message = out.message }
 
 pub record Protocol (S F R : Type 0) : Type 0 where
-  -- what a frame is to the node at an address, if it is one of the protocol's
+  -- a frame decoded for the node at an address; None for a frame outside the protocol
   pub frame_in : ℕ → Frame → Option F
-  -- whether it opens a session, and the bytes of the message then
+  -- whether a frame opens a session, and the size of the message in bytes
   pub opens : F → Bool
   pub size : F → ℕ
-  -- its step, at a time, on the session of its source
+  -- the step of a frame, at a time, on the session of its source
   pub step : ℕ → Option (Timed S) → F → SessionOutcome S R
-  -- the reply that ends a session without frames
+  -- the reply that ends a session at its timeout
   pub timeout : S → R
   -- the frame of a reply, from one address to another
   pub reply_frame : ℕ → ℕ → R → Frame
 
--- Apart from the time that a session has afterwards, a step depends on neither the time of the frame nor that of the session.
+-- A step depends on neither the time of the frame nor the time of the session, except for the time of the session after it.
 abbrev pub IsTimeless : {S F R : Type 0} → Protocol S F R → Type 0
 IsTimeless {S} {F} {R} protocol = (now : ℕ) (current : Option (Timed S)) (frame : F)
     → untimed_outcome (protocol.step now current frame) ≡ untimed_outcome (protocol.step 0 (untimed_session current) frame)

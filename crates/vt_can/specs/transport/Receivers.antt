@@ -1,4 +1,4 @@
--- A receiver of a transport protocol as a value, and what its calls answer.
+-- A receiver of a transport protocol as a value, and the results of its calls.
 use Rattle.std.specs.Prelude.{◌≡◌, ◌≤◌, ℕ, true, false, Option, Some, None, refl}
 use Rattle.std.specs.Coded.{Coded, code_by, coded×, coded_ℕ}
 use Rattle.std.specs.FinMap as finite
@@ -11,7 +11,7 @@ use Rattle.vt_can.specs.transport.Sessions.{ByAddress, timed_code, alive, Expire
 use Rattle.vt_can.specs.transport.Protocols.{Protocol, SessionOutcome}
 use Rattle.vt_can.specs.transport.Steps.{stepped}
 
--- its address, the sessions by source, and the bytes for which it has room set aside
+-- a receiver's address, its sessions by source, and the number of bytes reserved for a message
 pub record ReceiverState (S : Type 0) : Type 0 where
   pub own_address : ℕ
   pub sessions : ByAddress S
@@ -22,22 +22,22 @@ receiver_state_code {S} code =
     code_by (ℕ × (ByAddress S × ℕ)) (coded× coded_ℕ (coded× (finite.code coded_ℕ (timed_code code)) coded_ℕ))
     (λ r. (r.own_address, (r.sessions, r.room))) (λ p. record { own_address = p.0; sessions = p.1.0; room = p.1.1 }) (λ _. refl)
 
--- the sessions of the other sources stay
+-- the sessions of the other sources are unchanged
 abbrev pub OthersStay : {S : Type 0} → ReceiverState S → ReceiverState S → ℕ → Type 0
 OthersStay old new source = (other : ℕ) → (other ≡ source → ⊥) → finite.get new.sessions other ≡ finite.get old.sessions other
 
 module _ {S F R : Type 0} (protocol : Protocol S F R) where
-  -- the step that a frame makes on the session of its source
+  -- the step of a frame on the session of its source
   abbrev pub outcome : ReceiverState S → ℕ → Frame → SessionOutcome S R
   outcome receiver now frame =
       stepped protocol now (finite.get receiver.sessions (source_of frame)) (protocol.frame_in receiver.own_address frame)
 
-  -- the step that a frame makes once the sessions that are overdue have ended
+  -- the step of a frame after the overdue sessions have ended
   abbrev pub timely_outcome : ReceiverState S → ℕ → Frame → SessionOutcome S R
   timely_outcome receiver now frame =
       stepped protocol now (alive now (finite.get receiver.sessions (source_of frame))) (protocol.frame_in receiver.own_address frame)
 
-  -- what a receiver answers with a reply and a message, which never comes without a reply
+  -- The answer of a receiver for a reply and a message. A message always has a reply.
   abbrev pub AnswersWith : ℕ → ℕ → Option R → Option Message → Heard → Type 0
   AnswersWith own_address source None None result = result ≡ heard.Nothing
   AnswersWith own_address source None (Some message) result = ⊥
@@ -45,13 +45,13 @@ module _ {S F R : Type 0} (protocol : Protocol S F R) where
   AnswersWith own_address source (Some reply) (Some message) result =
       result ≡ heard.Message source message.pgn message.bytes (protocol.reply_frame own_address source reply)
 
-  -- the session of a source has made a step, and this was answered
+  -- the session of a source has made a step with this answer
   pub record MakesStep (old new : ReceiverState S) (source : ℕ) (out : SessionOutcome S R) (result : Heard) : Type 0 where
     pub own_address : new.own_address ≡ old.own_address
     pub session : finite.get new.sessions source ≡ out.session
     pub answers : AnswersWith old.own_address source out.reply out.message result
 
-  -- there is room for the message that the frame opens, if it opens one
+  -- the reserved capacity is enough for the message of the frame, if it opens a session
   abbrev pub HasCapacityFor : Option F → ℕ → Type 0
   HasCapacityFor None room = Unit {0}
   HasCapacityFor (Some frame) room = protocol.opens frame ≡ true → protocol.size frame ≤ room
@@ -61,7 +61,7 @@ module _ {S F R : Type 0} (protocol : Protocol S F R) where
   OpensNone None = Unit {0}
   OpensNone (Some frame) = protocol.opens frame ≡ false
 
-  -- the session of the least address that is overdue was removed, and its abort is the frame
+  -- the overdue session of the least address was removed, and the frame is its abort
   pub record TimesOut (old new : ReceiverState S) (now : ℕ) (frame : Frame) : Type 0 where
     pub source : ℕ
     pub session : S

@@ -12,13 +12,13 @@ timed_code {T} code =
 abbrev pub ByAddress : Type 0 → Type 0
 ByAddress T = finite.FinMap nat_cmp (Timed T)
 
--- the map of the places that begin with that of an address
+-- the map of entries, the first of them for this address
 abbrev pub map_of_places : {X : Type 0} → ℕ → List (Option X) → finite.FinMap nat_cmp X
 map_of_places address [] = finite.empty
 map_of_places address (None ∷ places) = map_of_places (suc address) places
 map_of_places address (Some x ∷ places) = finite.insert (map_of_places (suc address) places) address x
 
--- a place for each address, and no session's last frame is before `earliest`
+-- an entry for each address, and no session's last frame is before `earliest`
 pub record ArePlaces {T : Type 0} (places : List (Option (Timed T))) (earliest : ℕ) : Type 0 where
   pub all : length places ≡ 256
   pub bound : (q : ℕ) (timed : Timed T) → get_or places q None ≡ Some timed → earliest ≤ timed.last
@@ -28,13 +28,13 @@ abbrev pub untimed_session : {T : Type 0} → Option (Timed T) → Option (Timed
 untimed_session None = None
 untimed_session (Some timed) = Some (record { last = 0; session = timed.session })
 
--- the numbers below n that pass a test, the least first, each with the same thing
+-- the numbers below n that pass a test, the least first, each paired with `what`
 unfoldable pub each_below : {X : Type 0} → (ℕ → Bool) → X → ℕ → List (ℕ × X)
 each_below passes what zero = []
 each_below passes what (suc n) = each_below passes what n ++ (if passes n then (n, what) ∷ [] else [])
 
 module _ {T : Type 0} where
-  -- each session is one of the 256 addresses
+  -- each session belongs to one of the 256 addresses
   pub record AreOfAddresses (sessions : ByAddress T) : Type 0 where
     pub none_above : (q : ℕ) → 256 ≤ q → finite.get sessions q ≡ None
     pub at_most : finite.len sessions ≤ 256
@@ -44,20 +44,20 @@ module _ {T : Type 0} where
   is_overdue now None = false
   is_overdue now (Some timed) = nat_lt 1250000 (now - timed.last)
 
-  -- a session that isn't overdue
+  -- the session unless it is overdue
   abbrev pub alive : ℕ → Option (Timed T) → Option (Timed T)
   alive now current = if is_overdue now current then None else current
 
-  -- the addresses whose sessions are overdue, the least first, each with the same thing
+  -- the addresses of overdue sessions, the least first, each paired with `what`
   abbrev pub each_overdue : {X : Type 0} → ℕ → ByAddress T → X → List (ℕ × X)
   each_overdue now sessions what = each_below (λ q. is_overdue now (finite.get sessions q)) what 256
 
-  -- the least address whose session is overdue
+  -- the least address with an overdue session
   pub record IsFirstOverdue (sessions : ByAddress T) (now address : ℕ) : Type 0 where
     pub overdue : is_overdue now (finite.get sessions address) ≡ true
     pub least : (q : ℕ) → q < address → is_overdue now (finite.get sessions q) ≡ false
 
-  -- of the sessions that are overdue, that of the least address is removed
+  -- the overdue session of the least address is removed
   pub record Expires (old new : ByAddress T) (now address : ℕ) (session : T) : Type 0 where
     pub small : address < 256
     pub last : ℕ
@@ -65,18 +65,18 @@ module _ {T : Type 0} where
     pub first : IsFirstOverdue old now address
     pub removed : new ≡ finite.remove old address
 
-  -- no session is overdue, and all stay
+  -- no session is overdue, and all are unchanged
   pub record NoneExpires (old new : ByAddress T) (now : ℕ) : Type 0 where
     pub none : (q : ℕ) → is_overdue now (finite.get old q) ≡ false
     pub stay : new ≡ old
 
--- Of the sessions that are overdue, the first is the one that expires, and the rest are overdue afterwards.
+-- The first overdue session expires, and the others are still overdue afterwards.
 pub record TheFirstExpires (T X : Type 0) : Type 0 where
   pub some : (old new : ByAddress T) (now address : ℕ) (session : T) (what : X) → Expires old new now address session
       → each_overdue now old what ≡ (address, what) ∷ each_overdue now new what
   pub none : (old new : ByAddress T) (now : ℕ) (what : X) → NoneExpires old new now → each_overdue now old what ≡ []
 
--- Where the session of an address is removed, there is none, those of the others stay, and it is one less.
+-- After the removal of an address's session the address has none, the others are unchanged, and there is one fewer.
 pub record IsRemoved {T : Type 0} (sessions : ByAddress T) (address : ℕ) : Type 0 where
   pub gone : finite.get (finite.remove sessions address) address ≡ None
   pub others : (other : ℕ) → (other ≡ address → ⊥) → finite.get (finite.remove sessions address) other ≡ finite.get sessions other

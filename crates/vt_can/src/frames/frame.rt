@@ -1,9 +1,9 @@
-//! A frame.
+//! A CAN frame.
 
 use crate::frames::identifier::CanId;
 use arrayvec::ArrayVec;
 
-/// A frame: its identifier, and up to eight bytes of data.
+/// A CAN frame: its identifier, and up to eight bytes of data.
 #[derive(Debug, Default, Drop)]
 pub struct Frame {
     pub id: CanId,

@@ -6,7 +6,7 @@ ghost use Rattle.vt_can.specs.frames.Identifier.{raw_of, parts_of, pgn_of, desti
 
 use std::marker::Model;
 
-/// The identifier of a frame, 29 bits.
+/// The 29-bit identifier of a frame.
 #[derive(Clone, Copy, Debug, Default, PartialEq, Eq)]
 pub struct CanId {
     raw: u32,
@@ -25,7 +25,7 @@ impl Model for CanId {
 }
 
 impl CanId {
-    /// The identifier that a number stands for, or `None` above 1FFFFFFF.
+    /// Returns the identifier with a number, or `None` above 1FFFFFFF.
     pub fn from_raw(raw: u32) -> Option<CanId>
         ensures { SomeIff result (raw < 2 ^ 29) raw }
     {
@@ -36,8 +36,8 @@ impl CanId {
         }
     }
 
-    /// The identifier of a frame of a parameter group that is sent from one address to another.
-    /// The PDU format of the group is below 240, and the priority below 8.
+    /// Returns the identifier of a frame from `source` to `destination`. The PDU format of its
+    /// parameter group is below 240, and the priority below 8.
     pub fn new(priority: u8, pgn: u32, destination: u8, source: u8) -> CanId
         requires priority { priority < 2 ^ 3 }
         requires group { HasDestination pgn }
@@ -51,14 +51,14 @@ impl CanId {
         CanId { raw }
     }
 
-    /// From 0, the most urgent, to 7.
+    /// The priority, from 0 (the most urgent) to 7.
     pub fn priority(self) -> u8
         ensures { result ≡ (parts_of self).priority }
     {
         (self.raw >> 26 & 7) as u8
     }
 
-    /// The parameter group number. A destination counts as 0 in it.
+    /// The parameter group number. Its low byte is 0 in a frame with a destination.
     pub fn pgn(self) -> u32
         ensures { result ≡ pgn_of (parts_of self) }
     {
@@ -70,15 +70,15 @@ impl CanId {
         }
     }
 
-    /// The address that the frame is from.
+    /// The source address.
     pub fn source(self) -> u8
         ensures { result ≡ (parts_of self).source }
     {
         (self.raw & 0xFF) as u8
     }
 
-    /// The address that the frame is sent to, for a PDU format below 240; `GLOBAL_ADDRESS` is
-    /// that of every node.
+    /// The destination address, or `None` for a PDU format of 240 or more. `GLOBAL_ADDRESS` means
+    /// all nodes.
     pub fn destination(self) -> Option<u8>
         ensures { result ≡ destination_of (parts_of self) }
     {

@@ -1,4 +1,4 @@
-//! The lines of the operator.
+//! Operator lines.
 
 ghost use Rattle.std.specs.Prelude.{ℕ, List, MatchOption};
 ghost use Rattle.vt_can.specs.lines.Actions.{ActionValue, IsActionText, IsNumber, action_value};
@@ -9,7 +9,7 @@ use crate::lines::fields::cut;
 use crate::lines::line::Action;
 use hex::FromHex;
 
-/// The action that stands on an operator line behind `! `.
+/// Parses an operator line, given without its leading `! `.
 pub fn action(rest: &[u8]) -> Option<Action<'_>>
     ensures { MatchOption result ((d : ActionValue) → IsActionText rest.now d → ⊥) (λ a. IsActionText rest.now (action_value a)) }
 {
@@ -31,7 +31,7 @@ pub fn action(rest: &[u8]) -> Option<Action<'_>>
     }
 }
 
-// The ID of an object, and what follows it behind one space.
+// Splits a text into an object ID and the text after one space.
 fn id_and_more(text: &[u8]) -> Option<(u16, &[u8])>
     ensures { MatchOption result
         ((id : ℕ) (more : List ℕ) → IsIdAnd text.now id more → ⊥)
@@ -41,7 +41,7 @@ fn id_and_more(text: &[u8]) -> Option<(u16, &[u8])>
     Some((object_id(id)?, more))
 }
 
-// The ID of an object, which is at most 65534.
+// Parses an object ID, at most 65534.
 fn object_id(text: &[u8]) -> Option<u16>
     ensures { MatchOption result ((id : ℕ) → IsNumber text.now id 65534 → ⊥) (λ id. IsNumber text.now id 65534) }
 {

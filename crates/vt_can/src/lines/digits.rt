@@ -1,4 +1,4 @@
-//! What digits say: numbers, an identifier, bytes of data.
+//! Parsing of digits: numbers, an identifier, bytes of data.
 
 ghost use Rattle.std.specs.Prelude.{◌≡◌, ◌<◌, ◌≤◌, ◌^◌, ℕ, length, take, MatchOption, MatchResult};
 ghost use Rattle.std.specs.List.{AllPass, list_all};
@@ -13,7 +13,7 @@ use crate::lines::line::LineFault;
 use arrayvec::ArrayVec;
 use hex::FromHex;
 
-/// The number that a text of from `least` to `most` decimal digits writes.
+/// Parses a number of `least` to `most` decimal digits.
 pub fn number(text: &[u8], least: usize, most: usize) -> Option<u64>
     requires { most ≤ 19 }
     ensures { MatchOption result
@@ -33,7 +33,7 @@ pub fn number(text: &[u8], least: usize, most: usize) -> Option<u64>
     Some(value)
 }
 
-/// The microseconds of a fraction of a second, of six digits or of nine.
+/// Parses a fraction of a second as microseconds: six digits, or nine with the last three dropped.
 pub fn micros(fraction: &[u8]) -> Option<u64>
     ensures { MatchOption result
         (IsFraction fraction.now → ⊥)
@@ -46,8 +46,7 @@ pub fn micros(fraction: &[u8]) -> Option<u64>
     }
 }
 
-/// The number that decimal digits write, if it is at most `most`. There may be any number of zeros
-/// in front.
+/// Parses a decimal number of at most `most`, with any number of leading zeros.
 pub fn decimal(text: &[u8], most: u32) -> Option<u32>
     ensures { MatchOption result ((n : ℕ) → IsNumber text.now n most → ⊥) (λ n. IsNumber text.now n most) }
 {
@@ -74,7 +73,7 @@ pub fn is_hex(text: &[u8]) -> bool
     text.iter().all(|byte| byte.is_ascii_hexdigit())
 }
 
-/// The identifier that eight hex digits write, or `None` above 1FFFFFFF.
+/// Parses an identifier of eight hex digits. `None` above 1FFFFFFF.
 pub fn identifier(text: &[u8]) -> Option<CanId>
     requires eight { length text.now ≡ 8 }
     requires digits { AllPass is_hex_digit text.now }
@@ -84,7 +83,7 @@ pub fn identifier(text: &[u8]) -> Option<CanId>
     CanId::from_raw(u32::from_be_bytes(bytes))
 }
 
-/// The data that up to sixteen hex digits write. A fault of the digits goes before one of their count.
+/// Parses data of up to sixteen hex digits. `Hex` takes precedence over `Length`.
 pub fn data_bytes(text: &[u8]) -> Result<ArrayVec<u8, 8>, LineFault>
     ensures { MatchResult result
         (λ v. (decode_of text.now ≡ Ok v.items) × (length v.items ≤ 8))

@@ -1,4 +1,4 @@
-//! The fields of a frame line, cut at the bytes that stand between them.
+//! The fields of a frame line, split at their separators.
 
 ghost use Rattle.std.specs.Prelude.{◌≡◌, ◌⊎◌, ◌↔◌, ℕ, List, codes, IsTrue, MatchOption};
 ghost use Rattle.vt_can.specs.lines.Line.{HasTime, HasShape};
@@ -6,7 +6,7 @@ ghost use Rattle.vt_can.specs.lines.Fields.{Lacks, IsCut, IsThirdWord};
 
 use crate::lines::digits::{micros, number};
 
-/// The time that a line begins with, in microseconds, and what follows it.
+/// Splits a line into its leading time, in microseconds, and the rest.
 pub fn time_of(content: &[u8]) -> Option<(u64, &[u8])>
     ensures { MatchOption result
         ((time : ℕ) (rest : List ℕ) → HasTime content.now time rest → ⊥)
@@ -20,7 +20,7 @@ pub fn time_of(content: &[u8]) -> Option<(u64, &[u8])>
     Some((seconds * 1_000_000 + micros, rest))
 }
 
-/// The ID and the data of what follows the time of a frame line, as they are written.
+/// Returns the ID and the data of a frame line as they are written. `rest` is the line after its time.
 pub fn shape_of(rest: &[u8]) -> Option<(&[u8], &[u8])>
     ensures { MatchOption result
         ((id text : List ℕ) → HasShape rest.now id text → ⊥)
@@ -39,7 +39,7 @@ pub fn shape_of(rest: &[u8]) -> Option<(&[u8], &[u8])>
     Some((id, text))
 }
 
-// The third word of a frame line, where at most ` R` or ` T` follows it.
+// The third word of a frame line, without a suffix ` R` or ` T`. `None` if another suffix follows.
 fn third_word(text: &[u8]) -> Option<&[u8]>
     ensures { MatchOption result
         ((word : List ℕ) → IsThirdWord text.now word → ⊥)
@@ -54,14 +54,14 @@ fn third_word(text: &[u8]) -> Option<&[u8]>
     Some(word)
 }
 
-// Whether it is the letter of a suffix.
+// Whether a text is the letter of a suffix.
 fn is_letter(text: &[u8]) -> bool
     ensures { IsTrue result ↔ ((text.now ≡ codes "R") ⊎ (text.now ≡ codes "T")) }
 {
     matches!(text, [b'R' | b'T'])
 }
 
-/// What stands before the first such byte, and what stands after it.
+/// Splits a text at the first occurrence of `byte`, which is in neither half.
 pub fn cut(text: &[u8], byte: u8) -> Option<(&[u8], &[u8])>
     ensures { MatchOption result (Lacks byte text.now) (λ p. IsCut byte text.now p.0.now p.1.now) }
 {

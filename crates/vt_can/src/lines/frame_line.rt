@@ -1,4 +1,4 @@
-//! A frame line of the right shape, read.
+//! Reading of a frame line of the right shape.
 
 ghost use Rattle.std.specs.Prelude.{◌≡◌, ◌⊎◌, length};
 ghost use Rattle.vt_can.specs.lines.Readings.{reading_of};
@@ -8,7 +8,7 @@ use crate::frames::Frame;
 use crate::lines::digits::{data_bytes, identifier, is_hex};
 use crate::lines::line::{Line, LineFault, Skipped};
 
-/// What a frame line says, by its time and its ID and data as they are written.
+/// Reads a frame line from its time, and its ID and data as they are written.
 pub fn read_frame_line(time: u64, id: &[u8], text: &[u8]) -> Result<Line<'static>, LineFault>
     requires { (length id.now ≡ 3) ⊎ (length id.now ≡ 8) }
     ensures { reading_of result ≡ frame_line_reading time id.now text.now }

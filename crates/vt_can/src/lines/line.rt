@@ -1,4 +1,4 @@
-//! The lines of a log.
+//! Reading of a log line.
 
 ghost use Rattle.std.specs.Prelude.{◌↔◌, IsTrue};
 ghost use Rattle.vt_can.specs.lines.Readings.{reading_of};
@@ -10,25 +10,25 @@ use crate::lines::fields::{shape_of, time_of};
 use crate::lines::frame_line::read_frame_line;
 use thiserror::Error;
 
-/// What a line of a log says.
+/// A log line that has been read.
 #[derive(Debug, Drop)]
 pub enum Line<'a> {
-    /// A frame at a time, in microseconds.
+    /// A frame, and its time in microseconds.
     Frame { time: u64, frame: Frame },
     /// An action of the operator.
     Operator(Action<'a>),
-    /// A frame that is not looked at.
+    /// A frame to be ignored.
     Skipped(Skipped),
-    /// Nothing: an empty line, or one that begins with `#`.
+    /// A comment: an empty line, or a line that begins with `#`.
     Comment,
 }
 
-/// What the operator does, most of it to an object by its ID.
+/// An action of the operator. The first number is an object ID, but an address in `Set`.
 #[derive(Clone, Copy, Debug, PartialEq, Eq)]
 pub enum Action<'a> {
     /// Presses a key or button.
     Press(u16),
-    /// Releases it.
+    /// Releases a key or button.
     Release(u16),
     /// Selects an input.
     Select(u16),
@@ -36,30 +36,30 @@ pub enum Action<'a> {
     Number(u16, u32),
     /// Enters a text into an input.
     Text(u16, &'a [u8]),
-    /// Selects the set of an address.
+    /// Selects the working set of an address.
     Set(u8),
 }
 
-/// Why a frame is not looked at.
+/// Why a frame is ignored.
 #[derive(Clone, Copy, Debug, PartialEq, Eq)]
 pub enum Skipped {
-    /// It asks for data, and has none.
+    /// A remote frame, which asks for data and has none.
     Remote,
-    /// It is one of CAN FD.
+    /// A CAN FD frame.
     Fd,
-    /// Its identifier has three digits, as one of 11 bits has.
+    /// An identifier of three digits, as for 11 bits.
     Short,
-    /// Its identifier is above 1FFFFFFF, as that of an error frame is.
+    /// An identifier above 1FFFFFFF, as in an error frame.
     Error,
 }
 
-/// Why a line cannot be read. A fault's number is its place here, from 1.
+/// Why a line cannot be read. The number of a fault is its position here, from 1.
 #[derive(Clone, Copy, Debug, PartialEq, Eq, Error)]
 pub enum LineFault {
-    /// It does not begin with `(seconds.fraction)`.
+    /// The line does not begin with `(seconds.fraction)`.
     #[error("the line does not begin with a time, as (1.000000)")]
     Time = 1,
-    /// It does not go on with ` interface ID#DATA`, and at most ` R` or ` T`.
+    /// The rest after the time is not ` interface ID#DATA`, with at most ` R` or ` T` at the end.
     #[error("after the time there is no interface with ID#DATA, and at most R or T")]
     Shape,
     /// The ID or the data is not written in hex digits, two for each byte.
@@ -68,7 +68,7 @@ pub enum LineFault {
     /// There are more than eight bytes of data.
     #[error("there are more than eight bytes of data")]
     Length,
-    /// It begins with `! `, and has the form of no action.
+    /// The line begins with `! `, but does not have the form of an action.
     #[error("after the exclamation mark there is no action of the operator")]
     Operator,
 }
@@ -96,7 +96,7 @@ pub fn parse_line(line: &[u8]) -> Result<Line<'_>, LineFault>
     read_frame_line(time, id, text)
 }
 
-// The line without the one carriage return that may end it.
+// The line without one carriage return at its end.
 fn content_of(line: &[u8]) -> &[u8]
     ensures { IsContent line.now result.now }
 {
@@ -106,7 +106,7 @@ fn content_of(line: &[u8]) -> &[u8]
     }
 }
 
-// Whether it is empty or begins with a number sign.
+// Whether a line is empty or begins with a number sign.
 fn is_comment(content: &[u8]) -> bool
     ensures { IsTrue result ↔ IsComment content.now }
 {

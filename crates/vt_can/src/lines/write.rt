@@ -1,4 +1,4 @@
-//! Frames and frame lines as they are written.
+//! Writing of frames and frame lines.
 
 ghost use Rattle.std.specs.Prelude.{◌≡◌, ◌<◌, ◌≤◌, ◌+◌, ◌*◌, ◌^◌, ◌++◌, length};
 ghost use Rattle.std.specs.Fmt.{decimal};
@@ -9,7 +9,7 @@ ghost use Rattle.vt_can.specs.lines.Writing.{frame_text, lowest_digits, line_tex
 use crate::frames::Frame;
 use arrayvec::ArrayVec;
 
-/// The text of a frame, `ID#DATA` in upper case digits: 9 to 25 bytes.
+/// The text of a frame, `ID#DATA` in upper case hex digits: 9 to 25 bytes.
 pub fn write_frame(frame: &Frame) -> ArrayVec<u8, 25>
     ensures { result.items ≡ frame_text frame.now }
 {
@@ -35,7 +35,7 @@ pub fn write_line(time: u64, frame: &Frame) -> ArrayVec<u8, 52>
     text
 }
 
-// Appends two upper case digits for each of up to eight bytes.
+// Appends two upper case hex digits for each of up to eight bytes.
 fn push_digits(text: &mut ArrayVec<u8, 25>, bytes: &[u8])
     requires few { length bytes.now ≤ 8 }
     requires room { array_vec_len text.old + 2 * length bytes.now ≤ 25 }
@@ -44,14 +44,14 @@ fn push_digits(text: &mut ArrayVec<u8, 25>, bytes: &[u8])
 {
     let mut buffer = [0u8; 16];
     let digits = &mut buffer[..2 * bytes.len()];
-    // The room is exactly what the digits take, so this does not fail.
+    // The buffer has exactly the length of the digits, so this does not fail.
     let _ = hex::encode_to_slice(bytes, digits);
     for digit in &*digits {
         text.push(digit.to_ascii_uppercase());
     }
 }
 
-// Appends bytes, for which there is room.
+// Appends bytes within the spare capacity.
 fn push_all(text: &mut ArrayVec<u8, 52>, bytes: &[u8])
     requires { array_vec_len text.old + length bytes.now ≤ 52 }
     ensures written { text.new.items ≡ text.old.items ++ bytes.now }
@@ -74,7 +74,7 @@ fn push_decimal(text: &mut ArrayVec<u8, 52>, n: u64)
     text.push(b'0' + (n % 10) as u8);
 }
 
-// Appends the lowest so many decimal digits of a number.
+// Appends the `count` lowest decimal digits of a number.
 fn push_lowest(text: &mut ArrayVec<u8, 52>, count: usize, n: u64)
     requires { array_vec_len text.old + count ≤ 52 }
     ensures written { text.new.items ≡ text.old.items ++ lowest_digits count n }

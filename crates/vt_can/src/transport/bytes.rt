@@ -19,14 +19,14 @@ impl Model for Bytes {
 }
 
 impl Bytes {
-    /// These bytes, in the memory that they stand in.
+    /// Wraps a vector without a copy.
     pub fn new(bytes: Vec<u8>) -> Bytes
         ensures { result ≡ bytes.items }
     {
         Bytes { bytes }
     }
 
-    /// The bytes, in the memory that they were received in.
+    /// Returns the vector without a copy.
     pub fn into_vec(self) -> Vec<u8>
         ensures { result.items ≡ self }
     {

@@ -1,14 +1,14 @@
-//! What a receiver answers to a frame.
+//! The answer of a receiver to a frame.
 
 use crate::frames::Frame;
 use crate::transport::bytes::Bytes;
 
-/// What a receiver answers to a frame. A reply is to be sent.
+/// The answer of a receiver to a frame. The caller sends the reply.
 #[derive(Debug, Drop)]
 pub enum Heard {
     Nothing,
     Reply(Frame),
-    /// A message is whole. Its end is to be acknowledged by `reply` before it is handled.
+    /// A whole message. The caller sends `reply`, the acknowledgement of its end, before it handles the message.
     Message {
         source: u8,
         pgn: u32,

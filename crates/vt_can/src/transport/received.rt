@@ -1,9 +1,9 @@
-//! What a frame makes of a session.
+//! The result of a frame for its session.
 
 use crate::transport::bytes::Bytes;
 
-/// What a frame makes of the session that it belongs to: its end by a reply, one with more to come, or a
-/// whole message, whose end is to be acknowledged.
+/// The result of a frame for its session: the end of the session with a reply, a session with packets to come, or a
+/// whole message with the acknowledgement of its end.
 #[derive(Debug, Drop)]
 pub enum Received<S, R> {
     Refused(R),

@@ -7,7 +7,7 @@ ghost use Rattle.vt_can.specs.transport.Sessions.{is_overdue, AreOfAddresses, Is
 
 use std::marker::Model;
 
-/// How long a session stays without one of its frames, in microseconds.
+/// The longest time that a session stays open without one of its frames, in microseconds.
 const TIMEOUT: u64 = 1_250_000;
 
 /// A session, and the time of its last frame in microseconds.
@@ -19,15 +19,15 @@ pub struct Timed<T> {
 
 /// At most one session for each of the 256 addresses, seen as a finite map from addresses.
 ///
-/// It takes no memory, and finds a session without a search.
+/// No call allocates. A session is found by its index, without a search.
 pub struct Sessions<T> {
     places: [Option<Timed<T>>; 256],
-    // No session's last frame was earlier, so most calls of `expire` look at no place.
+    // A lower bound of the times of last frames. Most calls of `expire` read nothing else.
     earliest: u64,
 }
 
-// Written out and not derived, so that how 256 places are let go is proved here, once, and not in each crate that lets go of a
-// value with sessions in it.
+// Written out, not derived: the drop of 256 entries is proved once here, and not in each crate that drops a value with
+// sessions in it.
 impl<T: Drop> Drop for Sessions<T> {
     fn drop(self) {
         let Sessions {
@@ -54,8 +54,8 @@ impl<T> Model for Sessions<T> {
 }
 
 impl<T> Timed<T> {
-    /// Whether more than 1,250,000 microseconds have passed since the last frame. A `now` before it
-    /// counts as no time passed.
+    /// Whether more than 1,250,000 microseconds have passed since the last frame. A `now` before the
+    /// last frame counts as no time passed.
     pub fn is_overdue(&self, now: u64) -> bool
         ensures { result ≡ is_overdue now (Some self.now) }
     {
@@ -64,7 +64,7 @@ impl<T> Timed<T> {
 }
 
 impl<T> Sessions<T> {
-    /// No session.
+    /// Creates the map without sessions.
     pub fn new() -> Sessions<T>
         ensures { result ≡ finite.empty }
     {
@@ -74,14 +74,14 @@ impl<T> Sessions<T> {
         }
     }
 
-    /// The session of an address, if there is one.
+    /// Returns the session of an address, if there is one.
     pub fn get(&self, address: u8) -> Option<&Timed<T>>
         ensures { option_copied result ≡ finite.get self.now address }
     {
         self.places[usize::from(address)].as_ref()
     }
 
-    /// Takes the session of an address out, if there is one.
+    /// Returns the session of an address and removes it.
     pub fn take(&mut self, address: u8) -> Option<Timed<T>>
         ensures found { result ≡ finite.get self.old address }
         ensures left { self.new ≡ finite.remove self.old address }
@@ -89,7 +89,7 @@ impl<T> Sessions<T> {
         self.places[usize::from(address)].take()
     }
 
-    /// Opens the session of an address, whose last frame came at `last`. One that is open there ends.
+    /// Opens a session for an address, with its last frame at `last`. An open session of the address ends.
     pub fn put(&mut self, address: u8, last: u64, session: T)
     where
         T: Drop,
@@ -108,8 +108,8 @@ impl<T> Sessions<T> {
         self.places[usize::from(address)] = None;
     }
 
-    /// Takes out the session of the least address among those without one of their frames for more
-    /// than 1,250,000 microseconds. A `now` before a session's last frame counts as no time passed.
+    /// Removes and returns the overdue session of the least address. A session is overdue more than
+    /// 1,250,000 microseconds after its last frame; a `now` before that frame counts as no time passed.
     /// docs/PROFILE.md, "Timeouts".
     pub fn expire(&mut self, now: u64) -> Option<(u8, T)>
         ensures some { IfSome result (λ expired. Expires self.old self.new now expired.0 expired.1) }
@@ -124,7 +124,7 @@ impl<T> Sessions<T> {
         Some((address, timed.session))
     }
 
-    // The least address whose session is overdue. Where there is none, `earliest` is exact afterwards.
+    // Returns the least address with an overdue session. If there is none, `earliest` is exact afterwards.
     fn first_overdue(&mut self, now: u64) -> Option<u8>
         ensures same { self.new ≡ self.old }
         ensures some { IfSome result (λ address. IsFirstOverdue self.old now address) }

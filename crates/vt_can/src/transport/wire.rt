@@ -1,4 +1,4 @@
-//! The bytes that the frames of both transport protocols share (ISO 11783-3; docs/PROFILE.md, "Transport messages").
+//! The bytes common to the frames of both transport protocols (ISO 11783-3; docs/PROFILE.md, "Transport messages").
 
 ghost use Rattle.std.specs.Prelude.{◌≡◌, ◌≤◌, ◌+◌, ◌++◌, min, length, take, drop, slice_index, vec_len, vec_capacity};
 ghost use Rattle.byteorder.specs.Endian.{little_bytes};
@@ -13,22 +13,22 @@ use arrayvec::ArrayVec;
 /// Why a node ends a session of a transport protocol.
 #[derive(Clone, Copy, Debug)]
 pub enum Reason {
-    /// A request of more bytes than the node takes.
+    /// A request of more bytes than the node accepts.
     TooLarge,
-    /// No frame of the session for too long.
+    /// No frame of the session within the timeout.
     Timeout,
     /// A frame out of order, or a request that no session can meet.
     Disorder,
 }
 
-/// Whether a frame is one to this node, with the eight bytes that frames of a transport protocol have.
+/// Whether a frame is addressed to this node and has eight bytes, as every frame of a transport protocol.
 pub fn is_transport_frame_to(own_address: u8, frame: &Frame) -> bool
     ensures { result ≡ is_transport_frame_to own_address frame.now }
 {
     frame.id.destination() == Some(own_address) && frame.bytes.len() == 8
 }
 
-/// The sequence number and the bytes of the packet that a data transfer carries.
+/// The sequence number and the packet in the bytes of a data transfer.
 pub fn numbered_packet(bytes: &[u8]) -> (u8, [u8; 7])
     requires { length bytes.now ≡ 8 }
     ensures { result ≡ (slice_index bytes.now 0, drop 1 bytes.now) }
@@ -38,7 +38,7 @@ pub fn numbered_packet(bytes: &[u8]) -> (u8, [u8; 7])
     (bytes[0], packet)
 }
 
-/// The frame of a group with a destination, from one node to another, with priority 7.
+/// A frame of priority 7 from one node to another, of a parameter group with a destination.
 pub fn frame_of(pgn: u32, own_address: u8, to: u8, bytes: [u8; 8]) -> Frame
     requires { HasDestination pgn }
     ensures { result ≡ frame_of pgn own_address to bytes }
@@ -49,7 +49,7 @@ pub fn frame_of(pgn: u32, own_address: u8, to: u8, bytes: [u8; 8]) -> Frame
     }
 }
 
-/// The abort of the session of a group.
+/// The bytes of the abort of a session, by the parameter group of its message.
 pub fn abort_bytes(reason: Reason, pgn: u32) -> [u8; 8]
     ensures { result ≡ abort_bytes reason pgn }
 {
@@ -65,7 +65,7 @@ pub fn three_bytes(number: u32) -> [u8; 3]
     [low, middle, high]
 }
 
-/// Appends the bytes of a packet that a message of this size still lacks. It takes no memory.
+/// Appends a packet to a message of `size` bytes, without the padding after its end. Does not allocate.
 pub fn append_packet(bytes: &mut Vec<u8>, size: usize, packet: [u8; 7])
     requires lacking { vec_len bytes.old ≤ size }
     requires room { size ≤ vec_capacity bytes.old }
@@ -77,7 +77,7 @@ pub fn append_packet(bytes: &mut Vec<u8>, size: usize, packet: [u8; 7])
     append(bytes, &packet[..left.min(7)]);
 }
 
-// Appends bytes for which there is room.
+// Appends bytes within the spare capacity.
 fn append(bytes: &mut Vec<u8>, part: &[u8])
     requires { vec_len bytes.old + length part.now ≤ vec_capacity bytes.old }
     ensures items { bytes.new.items ≡ bytes.old.items ++ part.now }

@@ -48,7 +48,7 @@ pub(crate) fn change_line_attributes(
     Ok(())
 }
 
-/// Sets all fields of fill attributes. `named` is the kind of the pattern, if that is there.
+/// Sets all fields of fill attributes. `named` is the kind of the pattern, or `None` if it is missing.
 pub(crate) fn change_fill_attributes(
     object: &mut Object<Vec<u8>>,
     named: Option<Kind>,

@@ -9,8 +9,8 @@ use crate::attributes::write_field;
 use vt_commands::attribute;
 use vt_kinds::{Kind, Kinds, Object, ObjectId, ValueType};
 
-/// Sets the attribute of a number. `named` is the kind of the object that the two lowest bytes of the value name, if that is
-/// there.
+/// Sets the attribute of a number. `named` is the kind of the object whose ID is the two lowest bytes of the value, or
+/// `None` if it is missing.
 pub(crate) fn change_attribute(
     object: &mut Object<Vec<u8>>,
     named: Option<Kind>,
@@ -34,7 +34,7 @@ pub(crate) fn change_attribute(
     Ok(())
 }
 
-/// Tests a macro that is to run: it is one, and its ID is at most 255.
+/// Tests a macro that is to run: the object is a macro with an ID of at most 255.
 pub(crate) fn execute_macro(object: &mut Object<Vec<u8>>, id: ObjectId) -> Result<(), u8>
     ensures result { HasResult result (changes.execute_macro id (seen object.old)) }
     ensures object { seen object.new ≡ left (seen object.old) (changes.execute_macro id (seen object.old)) }
@@ -48,7 +48,7 @@ pub(crate) fn execute_macro(object: &mut Object<Vec<u8>>, id: ObjectId) -> Resul
     Ok(())
 }
 
-/// Whether a field of a type takes a value.
+/// Whether a field of a type accepts a value.
 fn takes(value_type: ValueType, kind: Kind, value: u32, named: Option<Kind>) -> bool
     ensures { result ≡ changes.takes kind value_type value named }
 {

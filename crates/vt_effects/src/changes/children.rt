@@ -7,7 +7,7 @@ ghost use Rattle.vt_effects.specs.Changes.{HasResult, left, in_parent, child_at,
 
 use vt_kinds::{Child, Entries, Kind, Object, ObjectId};
 
-/// Moves every entry of a child by `dx` and `dy`, each less 127 pixels. `named` is the kind of the child, if that is there.
+/// Moves every entry of a child by `dx` and `dy`, each minus 127. `named` is the kind of the child, or `None` if missing.
 pub(crate) fn change_location(
     object: &mut Object<Vec<u8>>,
     named: Option<Kind>,
@@ -29,7 +29,7 @@ pub(crate) fn change_location(
     }
 }
 
-/// Puts every entry of a child where this one is. `named` is the kind of the child, if that is there.
+/// Moves every entry of a child to the position of `entry`. `named` is the kind of the child, or `None` if missing.
 pub(crate) fn change_position(
     object: &mut Object<Vec<u8>>,
     named: Option<Kind>,
@@ -75,7 +75,7 @@ fn shift(
     Ok(())
 }
 
-/// Puts every entry of a child where this one is.
+/// Moves every entry of a child to the position of `entry`.
 fn place(children: &mut Entries<Child>, named: Option<Kind>, entry: &Child) -> Result<(), u8>
     ensures result { HasResult result (changes.change_position named entry.now.id entry.now.x entry.now.y children.old) }
     ensures children { children.new ≡ left children.old (changes.change_position named entry.now.id entry.now.x entry.now.y children.old) }
@@ -94,21 +94,21 @@ fn place(children: &mut Entries<Child>, named: Option<Kind>, entry: &Child) -> R
     Ok(())
 }
 
-/// Whether a child stands among the entries.
+/// Whether a child is among the entries.
 fn stands_in(child: ObjectId, children: &Entries<Child>) -> bool
     ensures { result ≡ changes.stands_in child children.now }
 {
     children.as_slice().iter().any(|entry| entry.id == child)
 }
 
-/// Whether an entry of the child would leave the positions that a record can hold.
+/// Whether an entry of the child would get a position outside the range of a record.
 fn leaves(child: ObjectId, dx: u8, dy: u8, children: &Entries<Child>) -> bool
     ensures { result ≡ changes.leaves child dx dy children.now }
 {
     children.as_slice().iter().any(|entry| entry.id == child && shifted(*entry, dx, dy).is_none())
 }
 
-/// An entry, moved where it is of the child.
+/// Returns an entry, moved if it is of the child.
 fn shifted_child(entry: Child, child: ObjectId, dx: u8, dy: u8) -> Child
     requires { (entry.id == child && not (fits_record (changes.shifted dx dy entry))) ≡ false }
     ensures { result ≡ child_at child (changes.shifted dx dy) entry }
@@ -122,14 +122,14 @@ fn shifted_child(entry: Child, child: ObjectId, dx: u8, dy: u8) -> Child
     }
 }
 
-/// An entry, where this one is if both are of the same child.
+/// Returns `entry` if both entries are of the same child, or else the old one.
 fn placed_child(old: Child, entry: &Child) -> Child
     ensures { result ≡ child_at entry.now.id (placed entry.now.x entry.now.y) old }
 {
     if old.id == entry.id { *entry } else { old }
 }
 
-/// An entry moved, unless it leaves the positions that a record can hold.
+/// Returns a moved entry, or `None` if its position would be outside the range of a record.
 fn shifted(entry: Child, dx: u8, dy: u8) -> Option<Child>
     ensures some { IfSome result (λ child. (child ≡ changes.shifted dx dy entry) × IsTrue (fits_record child)) }
     ensures none { IfNone result (IsFalse (fits_record (changes.shifted dx dy entry))) }
@@ -140,7 +140,7 @@ fn shifted(entry: Child, dx: u8, dy: u8) -> Option<Child>
     }
 }
 
-/// A position moved by so many pixels, less 127, unless it leaves those that a record can hold.
+/// Moves a position by a number of pixels minus 127. Returns `None` outside the range of a record.
 fn moved(x: i16, by: u8) -> Option<i16>
     ensures moved { IfSome result (λ y. y ≡ changes.moved x by) }
     ensures some { IfSome result (λ y. IsTrue (is_position y)) }

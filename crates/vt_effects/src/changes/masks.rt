@@ -8,7 +8,7 @@ ghost use Rattle.vt_effects.specs.Changes.{HasResult, left};
 use crate::references::{is_one_of, may_stand};
 use vt_kinds::{Kind, Kinds, Object, ObjectId, Place};
 
-/// Makes a mask the active one. `named` is the kind of the mask, if that is there.
+/// Sets the active mask. `named` is the kind of the mask, or `None` if it is missing.
 pub(crate) fn change_active_mask(
     object: &mut Object<Vec<u8>>,
     named: Option<Kind>,
@@ -27,8 +27,8 @@ pub(crate) fn change_active_mask(
     Ok(())
 }
 
-/// Gives a mask other soft keys. Type 1 is a Data Mask, and type 2 an Alarm Mask; `named` is the kind of the soft key mask,
-/// if that is there.
+/// Sets the soft key mask of a mask. Type 1 is a Data Mask, and type 2 an Alarm Mask; `named` is the kind of the soft key
+/// mask, or `None` if it is missing.
 pub(crate) fn change_soft_key_mask(
     object: &mut Object<Vec<u8>>,
     named: Option<Kind>,

@@ -7,7 +7,7 @@ ghost use Rattle.vt_effects.specs.Changes.{HasResult, left};
 
 use vt_kinds::Object;
 
-/// Sets width and height. Kinds without a height take the width alone.
+/// Sets width and height. For kinds without a height, sets the width alone.
 pub(crate) fn change_size(object: &mut Object<Vec<u8>>, width: u16, height: u16) -> Result<(), u8>
     ensures result { HasResult result (changes.change_size width height (seen object.old)) }
     ensures object { seen object.new ≡ left (seen object.old) (changes.change_size width height (seen object.old)) }
@@ -69,7 +69,7 @@ pub(crate) fn change_size(object: &mut Object<Vec<u8>>, width: u16, height: u16)
     Ok(())
 }
 
-/// Sets the end point of a line, by its size and direction 0 or 1.
+/// Sets the end point of a line: its width, its height and its direction, 0 or 1.
 pub(crate) fn change_end_point(
     object: &mut Object<Vec<u8>>,
     width: u16,

@@ -7,7 +7,7 @@ ghost use Rattle.vt_effects.specs.Changes.{HasResult, left};
 
 use vt_kinds::Object;
 
-/// Writes the first bytes of a text over the one that is there, and spaces over what is left of it.
+/// Overwrites a text with the first bytes of another, and the rest of it with spaces.
 pub(crate) fn change_text(object: &mut Object<Vec<u8>>, length: u16, text: &[u8]) -> Result<(), u8>
     ensures result { HasResult result (changes.change_text length text.now (seen object.old)) }
     ensures object { seen object.new ≡ left (seen object.old) (changes.change_text length text.now (seen object.old)) }

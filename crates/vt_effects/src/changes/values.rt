@@ -9,8 +9,8 @@ use crate::numbers::{byte, id, word};
 use crate::references::may_stand;
 use vt_kinds::{Kind, Object, ObjectId, Place};
 
-/// Sets the value. Each kind looks at as many of the lowest bytes as its value has; `named` is the kind of the object that
-/// the two lowest name, if that is there.
+/// Sets the value. Each kind uses as many of the lowest bytes as its value has; `named` is the kind of the object whose
+/// ID is the two lowest bytes, or `None` if it is missing.
 pub(crate) fn change_value(
     object: &mut Object<Vec<u8>>,
     named: Option<Kind>,
@@ -54,7 +54,7 @@ pub(crate) fn change_value(
     Ok(())
 }
 
-/// Puts an item in a list. `named` is the kind of the item, if that is there.
+/// Sets the item at an index of a list. `named` is the kind of the item, or `None` if it is missing.
 pub(crate) fn change_item(
     object: &mut Object<Vec<u8>>,
     named: Option<Kind>,

@@ -1,11 +1,11 @@
-//! The attributes of each kind.
+//! Tests of the attributes of each kind.
 
 use std::process::Abort;
 use vt_objects::Field::*;
 use vt_objects::ValueType::{Byte, Long, Reference, SignedLong, Word};
 use vt_objects::{Attribute, Field, Kind, Place, ValueType, attribute};
 
-// The attributes of each kind by their numbers, from 1.
+// The attributes of each kind, by number from 1.
 const ATTRIBUTES: [(Kind, &[Option<(Field, ValueType)>]); 29] = [
     (
         Kind::WorkingSet,

@@ -1,4 +1,4 @@
-//! Changes of an object where it lies.
+//! Tests of changes of objects in place.
 
 ghost use Rattle.std.specs.Prelude.{IfOk, map};
 ghost use Rattle.vt_stores.specs.Stores.{AreNamed, shown};
@@ -24,7 +24,7 @@ fn entries_in_the_place_of_others(rt: HostRuntime) -> Result<(), Fail> {
     Ok(())
 }
 
-// The texts that are written over "8 km/h", and what is then there.
+// Texts written over "8 km/h", and the results.
 const OVER: [(&[u8], &[u8]); 4] = [
     (b"", b"      "),
     (b"9", b"9     "),
@@ -57,7 +57,7 @@ fn texts_over_others(rt: HostRuntime) -> Result<(), Fail> {
     Ok(())
 }
 
-/// Moves the first entry of a container's list.
+/// Moves the first child of a container.
 fn move_first<S: Store>(store: &mut S, parent: ObjectId, x: i16, y: i16) {
     if let Some(object) = store.get_mut(parent) {
         if let Object::Container(container) = object {
@@ -79,7 +79,7 @@ fn container(alloc: Global) -> Result<Object<Vec<u8>>, OutOfMemory> {
     }))
 }
 
-/// The same container under the IDs 7 and 8.
+/// Two equal containers with the IDs 7 and 8.
 fn two_containers(alloc: Global) -> Result<Vec<(ObjectId, Object<Vec<u8>>)>, OutOfMemory>
     ensures { IfOk result (λ objects. AreNamed (map shown objects.items)) }
 {
@@ -88,7 +88,7 @@ fn two_containers(alloc: Global) -> Result<Vec<(ObjectId, Object<Vec<u8>>)>, Out
     Ok(vec![in alloc; first, second]?)
 }
 
-/// Whether a container of two entries has this first one, and its size.
+/// Whether a container has two children, this first one, and its unchanged size.
 fn has_first(store: &SortedStore, id: u16, wanted: Child) -> bool {
     match store.get(object_id(id)) {
         Some(Object::Container(container)) => {

@@ -1,4 +1,4 @@
-//! Commands by their bytes.
+//! Tests of the decoding of commands.
 
 use std::process::Abort;
 use vt_objects::{Command, ObjectId};
@@ -155,7 +155,7 @@ fn parts_of(command: &Command<'_>) -> (u8, [u32; 5]) {
     }
 }
 
-// The bytes of each command, and its function and numbers.
+// The bytes of each command, with its function and numbers.
 const COMMANDS: [(&[u8], (u8, [u32; 5])); 23] = [
     (
         b"\xA0\x64\x00\x01\xFF\xFF\xFF\xFF",
@@ -257,7 +257,7 @@ fn reads_commands(rt: HostRuntime) {
     are_read(&rt, &COMMANDS);
 }
 
-// Whether a command is refused that has a byte less than its function has at least.
+// Whether a command with one byte less than its function's least number is refused.
 fn is_refused_short(bytes: &[u8], function: u8) -> bool {
     let most = match function {
         0xB3 => 4,

@@ -1,9 +1,9 @@
-//! Numbers as they are shown.
+//! Tests of the decimal text of shown numbers.
 
 use std::process::Abort;
 use vt_objects::{Decimal, Decimals, Scale};
 
-// Value, offset, scale and decimals, and what is shown.
+// Value, offset, scale and decimals, with the shown text.
 const SHOWN: [(u32, i32, Scale, u8, &[u8]); 81] = [
     (1235, 0, Scale::Thousandth, 2, b"1.24"),
     (0, -1235, Scale::Thousandth, 2, b"-1.24"),

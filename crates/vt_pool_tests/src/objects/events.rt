@@ -1,4 +1,4 @@
-//! The numbers of events, and the events of commands.
+//! Tests of the numbers of events, and of the events that commands raise.
 
 use std::process::Abort;
 use vt_objects::{Command, Event, row_events};
@@ -14,7 +14,7 @@ fn numbers_of_events(rt: HostRuntime) {
     }
 }
 
-// The bytes of commands, and the objects and numbers of the events that they raise.
+// The bytes of each command, with the objects and numbers of its events.
 const RAISED: [(&[u8], &[(u16, u8)]); 24] = [
     (b"\xA0\x64\x00\x00\xFF\xFF\xFF\xFF", &[(100, 4)]),
     (b"\xA0\x64\x00\x01\xFF\xFF\xFF\xFF", &[(100, 3)]),

@@ -1,4 +1,4 @@
-//! The kinds that each place allows and each command changes, by their numbers.
+//! Tests of the sets of kinds that references allow and commands change, by type number.
 
 use std::process::Abort;
 use vt_objects::{Kind, Kinds};
@@ -57,7 +57,7 @@ const SETS: [(Kinds, &[u8]); 26] = [
     (Kinds::Macros, &[28]),
 ];
 
-// Whether these are the kinds of a set.
+// Whether a set has exactly these kinds.
 fn has_members(set: Kinds, members: &[u8]) -> bool {
     let mut same = true;
     for number in 0..29u8 {

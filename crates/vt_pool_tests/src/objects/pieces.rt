@@ -1,9 +1,9 @@
-//! The bytes of macros, command by command.
+//! Tests of splitting a macro's bytes into commands.
 
 use std::process::Abort;
 use vt_objects::split_command;
 
-// The bytes of a macro, and how many of them the first command takes.
+// The bytes of a macro, with the length of its first command.
 const FIRST_COMMANDS: [(&[u8], Option<usize>); 13] = [
     (&[], None),
     (&[0xA4, 50, 0xFF, 0xFF, 0xFF, 0xFF, 0xFF], None),
@@ -23,7 +23,7 @@ const FIRST_COMMANDS: [(&[u8], Option<usize>); 13] = [
     (&[0xB3, 44, 1, 0xFF, 0xFF, 65, 66, 67, 68], None),
 ];
 
-// Whether the first command takes so many bytes.
+// Whether the first command has this length.
 fn is_split(bytes: &[u8], wanted: Option<usize>) -> bool {
     match (split_command(bytes), wanted) {
         (Some((first, rest)), Some(length)) => {

@@ -1,10 +1,10 @@
-//! What commands name.
+//! Tests of the object IDs in commands.
 
 use std::process::Abort;
 use vt_objects::{Command, Kind, Kinds, Target, targets};
 
-// The bytes of a command, the kind of the object that it is for, and the IDs that it names, whether each may be NULL,
-// and the kinds that may stand there.
+// The bytes of a command and the kind of the object that it changes, with its IDs: whether each may be NULL, and its
+// allowed kinds.
 const TARGETS: [(&[u8], Option<Kind>, &[(u16, bool, Kinds)]); 30] = [
     (
         b"\xA0\x64\x00\x00\xFF\xFF\xFF\xFF",
@@ -172,7 +172,7 @@ fn parts(target: Option<Target>) -> Option<(u16, bool, Kinds)> {
     Some((target.id.raw(), target.may_be_null, target.kinds))
 }
 
-/// Whether a command names these, and the first of them is the object that it is for.
+/// Whether a command has these IDs, and the first of them is the object that it changes.
 fn names(bytes: &[u8], kind: Option<Kind>, wanted: &[(u16, bool, Kinds)]) -> bool {
     let Some(command) = Command::read(bytes) else {
         return false;

@@ -1,9 +1,9 @@
-//! What a value of Change Attribute has to meet.
+//! Tests of the values that Change Attribute accepts.
 
 use std::process::Abort;
 use vt_objects::{Kind, Place, ValueType};
 
-// Each type of values, what its field gets of 0x04030201, and how many bytes it has.
+// Each value type, with the lowest bytes of 0x04030201 that its field stores, and its number of bytes.
 const WIDTHS: [(ValueType, u32, u8); 8] = [
     (ValueType::Byte, 0x01, 1),
     (ValueType::Word, 0x0201, 2),
@@ -32,7 +32,7 @@ fn lowest_bytes(rt: HostRuntime) {
     have_widths(&rt, &WIDTHS);
 }
 
-// Values, and whether a field of this sort takes their lowest bytes.
+// Value types and values, and whether a field accepts the lowest bytes.
 const NUMBERS: [(ValueType, u32, bool); 26] = [
     (ValueType::Byte, 0, true),
     (ValueType::Byte, 255, true),
@@ -74,7 +74,7 @@ fn numbers_taken(rt: HostRuntime) {
     are_taken(&rt, &NUMBERS);
 }
 
-// The kinds of objects, the places of them that attributes write, a kind that may stand there, and one that may not.
+// Kinds and their reference attributes, with an allowed kind and a refused kind.
 const REFERENCES: [(Kind, Place, Kind, Kind); 12] = [
     (
         Kind::DataMask,
@@ -150,7 +150,7 @@ const REFERENCES: [(Kind, Place, Kind, Kind); 12] = [
     ),
 ];
 
-// Whether a place takes an ID of an object of one kind, and of none of the other kind and of no object.
+// Whether a reference accepts an ID of an object of the allowed kind, and refuses the other kind and a missing object.
 fn takes(value_type: ValueType, kind: Kind, id: u32, allowed: Kind, other: Kind) -> bool {
     value_type.accepts(kind, id, Some(allowed))
         && !value_type.accepts(kind, id, Some(other))

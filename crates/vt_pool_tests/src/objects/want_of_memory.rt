@@ -1,4 +1,4 @@
-//! Copies and stores for which memory is refused: what is copied stays, and the call may be made again.
+//! Tests of copies and stores with failing allocations: the source is unchanged, and the call may be repeated.
 
 ghost use Rattle.std.specs.Prelude.{◌≡◌, IfOk, map};
 ghost use Rattle.vt_stores.specs.Stores.{AreNamed, shown};
@@ -11,7 +11,7 @@ use vt_objects::{
     StringVariable, WorkingSet,
 };
 
-/// What a call answers, made again where it was refused.
+/// The result of a call, which is repeated once after an error.
 macro_rules! again {
     ($call:expr) => {
         match $call {
@@ -26,7 +26,7 @@ const LANGUAGES: [Language; 1] = [Language {
     second: b'n',
 }];
 
-/// A Working Set with all three lists.
+/// A Working Set with children, macros and languages.
 fn working_set(alloc: Global) -> Result<Object<Vec<u8>>, OutOfMemory> {
     Ok(Object::WorkingSet(WorkingSet {
         colour: 1,
@@ -45,7 +45,7 @@ fn text(alloc: Global) -> Result<Object<Vec<u8>>, OutOfMemory> {
     }))
 }
 
-/// A text and a Working Set under the IDs 7 and 0.
+/// A String Variable and a Working Set with the IDs 7 and 0.
 fn two_objects(alloc: Global) -> Result<Vec<(ObjectId, Object<Vec<u8>>)>, OutOfMemory>
     ensures { IfOk result (λ objects. AreNamed (map shown objects.items)) }
 {
@@ -72,7 +72,7 @@ fn is_text(object: &Object<Vec<u8>>) -> bool {
     }
 }
 
-/// Whether each object is copied whole.
+/// Whether each object is copied completely.
 fn are_copied(alloc: Global, objects: &[(ObjectId, Object<Vec<u8>>)]) -> Result<bool, OutOfMemory> {
     let mut same = true;
     for (_, object) in objects {

@@ -1,4 +1,4 @@
-//! Pools that arrive in pieces.
+//! Tests of pool uploads in pieces.
 
 ghost use Rattle.std.specs.Prelude.{◌≤◌, length, IfOk};
 
@@ -8,7 +8,7 @@ use std::process::Abort;
 use std::test::Fail;
 use vt_pool::{OutOfMemory, Pool, PoolFault, Reading};
 
-/// A message of these bytes, behind its function.
+/// A message with these bytes after its function.
 pub(super) fn message(alloc: Global, bytes: &[u8]) -> Result<Vec<u8>, AllocError>
     ensures { IfOk result (λ message. 1 ≤ length message.items) }
 {
@@ -31,13 +31,13 @@ fn written(alloc: Global, pool: &Pool<'_>) -> Result<Vec<u8>, AllocError> {
     Ok(out)
 }
 
-/// Whether what has arrived is a pool that is written as these bytes.
+/// Whether the bytes so far are a pool that is written as these bytes.
 fn has_read(alloc: Global, reading: &Reading, bytes: &[u8]) -> Result<bool, Fail> {
     let pool = reading.pool()?;
     Ok(written(alloc, &pool)?.as_slice() == bytes)
 }
 
-/// Whether the bytes up to a place and those behind it are read as they are in one piece.
+/// Whether an upload in two pieces, cut at an index, is read like one in a single piece.
 fn is_read_in_two(alloc: Global, bytes: &[u8], cut: usize) -> Result<bool, Fail>
     requires { cut ≤ length bytes.now }
 {
@@ -56,7 +56,7 @@ fn each_cut(rt: HostRuntime) -> Result<(), Fail> {
     Ok(())
 }
 
-/// Pieces, and the fault behind each.
+/// Pieces of an upload, and the fault after each.
 const PIECES: [(&[u8], Option<PoolFault>); 3] = [
     (&[1, 0], None),
     (&[0x1D], Some(PoolFault::LeftOutType { at: 0 })),
@@ -80,7 +80,7 @@ fn a_fault_stays(rt: HostRuntime) -> Result<(), Fail> {
     expect_each(&rt, &PIECES)
 }
 
-/// The fault of bytes that come one by one, if they have one that more bytes do not cure.
+/// The lasting fault of bytes that arrive one by one, or `None`.
 fn fault_of_each(alloc: Global, bytes: &[u8]) -> Result<Option<PoolFault>, OutOfMemory> {
     let mut reading = Reading::new(alloc);
     for byte in bytes {

@@ -1,4 +1,4 @@
-//! One record of each kind, 0 to 28, under the IDs 256 to 284, whose fields are bytes that count up from 16.
+//! Tests with one record of each kind, 0 to 28, under the IDs 256 to 284; the bytes of their fields count up from 16.
 
 mod fields;
 mod references;
@@ -11,7 +11,7 @@ use std::test::Fail;
 use vt_objects::Object;
 use vt_pool::{Pool, PoolFault, read_pool};
 
-// The records by kind, as the table of records lays them out.
+// The record of each kind, laid out by the table of records.
 pub(super) const RECORDS: [&[u8]; 29] = [
     // WorkingSet
     &[
@@ -117,7 +117,7 @@ pub(super) const RECORDS: [&[u8]; 29] = [
     &[28, 1, 28, 8, 0, 16, 17, 18, 19, 20, 21, 22, 23],
 ];
 
-/// All these records, one after the other.
+/// The given records, joined.
 pub(super) fn joined(alloc: Global, records: &[&[u8]]) -> Result<Vec<u8>, AllocError> {
     let mut bytes = Vec::new(alloc);
     for record in records {
@@ -126,7 +126,7 @@ pub(super) fn joined(alloc: Global, records: &[&[u8]]) -> Result<Vec<u8>, AllocE
     Ok(bytes)
 }
 
-/// Whether an object is the one that stands at this place in the table.
+/// Whether an object is the one at this index of the table.
 fn is_in_place(object: &Object<&[u8]>, place: usize) -> bool {
     usize::from(object.kind().number()) == place && is_as_written(object)
 }
@@ -150,7 +150,7 @@ fn read_and_written_again(rt: HostRuntime) -> Result<(), Fail> {
     Ok(())
 }
 
-/// Adds the bytes of a record, each of which leaves it cut but the last.
+/// Appends the bytes of a record one by one; the pool is truncated until the last one.
 fn expect_cuts(
     rt: &(impl Abort + AllocGlobal),
     bytes: &mut Vec<u8>,

@@ -1,4 +1,4 @@
-//! Each call that can be refused memory: where it was, nothing has changed, and it may be made again.
+//! Tests of pools with failing allocations: an error changes nothing, and the call may be repeated.
 
 ghost use Rattle.std.specs.Prelude.{◌<◌, ◌≤◌, length, IfOk};
 
@@ -10,7 +10,7 @@ use std::test::Fail;
 use vt_objects::{Object, ObjectId};
 use vt_pool::{Pool, PoolFault, Reading, read_pool, write_object};
 
-/// Whether a record of the pool of all kinds begins at a place, or the pool ends there.
+/// Whether an index is the begin of a record in the pool of all kinds, or the pool's end.
 fn is_begin(at: usize) -> bool {
     let mut begin = 0usize;
     for record in RECORDS {
@@ -45,7 +45,7 @@ fn copied_again(alloc: Global, object: &Object<&[u8]>) -> Result<Object<Vec<u8>>
     }
 }
 
-/// Appends a record.
+/// Appends a record; repeats the call once after an error.
 fn write_again(
     rt: &(impl Abort + AllocGlobal),
     id: ObjectId,
@@ -62,7 +62,7 @@ fn write_again(
     write_object(rt.alloc(), id, object, out)
 }
 
-/// The copies of a pool's objects are written as the bytes that were read.
+/// Expects that copies of a pool's objects are written as the bytes that were read.
 fn expect_written(
     rt: &(impl Abort + AllocGlobal),
     pool: &Pool<'_>,
@@ -88,7 +88,7 @@ fn message_again(alloc: Global, bytes: &[u8]) -> Result<Vec<u8>, AllocError>
     }
 }
 
-/// Adds a piece.
+/// Adds a piece; repeats the call once after an error.
 fn feed_again(
     rt: &(impl Abort + AllocGlobal),
     reading: &mut Reading,
@@ -122,7 +122,7 @@ fn part(bytes: &[u8], from: usize, to: usize) -> &[u8] {
     bytes.get(from..to).unwrap_or(&[])
 }
 
-// The bytes arrive in three pieces, the last of which there is room for, so that it is not refused.
+// Uploads the bytes in three pieces; capacity is reserved for the last one, so it cannot fail.
 fn expect_arrived(rt: &(impl Abort + AllocGlobal), bytes: &[u8]) -> Result<(), Fail> {
     let mut reading = Reading::new(rt.alloc());
     feed_again(rt, &mut reading, part(bytes, 0, 5))?;

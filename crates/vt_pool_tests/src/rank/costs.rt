@@ -28,7 +28,7 @@ fn doubling(alloc: Global, last: u8) -> Result<Graph, AllocError> {
     })
 }
 
-/// A graph in which nodes 1, 2 and 3 have so many steps, with these groups and `most`; node 0 is a step and `Most`.
+/// A graph with these groups and `most`; nodes 1, 2 and 3 have these numbers of steps, and node 0 is a step and `Most`.
 fn stepping(
     alloc: Global,
     steps: [u8; 3],
@@ -56,7 +56,7 @@ fn costs_of(graph: &Graph, cap: u32) -> Result<Result<Costs, OverBudget>, Fail> 
     }
 }
 
-/// What a node costs, or what is over the cap.
+/// The cost of a node, or the node or group over the cap.
 fn cost_of(graph: &Graph, cap: u32, node: u8) -> Result<Result<u32, OverBudget>, Fail> {
     Ok(match costs_of(graph, cap)? {
         Ok(costs) => Ok(costs.node(node)),
@@ -64,7 +64,7 @@ fn cost_of(graph: &Graph, cap: u32, node: u8) -> Result<Result<u32, OverBudget>,
     })
 }
 
-// How many nodes double, the cap, and what the first of them costs.
+// The number of doubling nodes and the cap, with the cost of the first node.
 const DOUBLING: [(u8, u32, Result<u32, OverBudget>); 8] = [
     (16, 65_535, Ok(65_534)),
     (17, 65_535, Err(OverBudget::Node(1))),
@@ -85,7 +85,7 @@ fn nodes_that_double(rt: HostRuntime) -> Result<(), Fail> {
     Ok(())
 }
 
-// The groups of the graph, those of `Most`, the cap, and what node 0 costs. Nodes 1, 2 and 3 cost 1, 2 and 5.
+// The groups of the graph, those of `Most`, the cap, and the cost of node 0. Nodes 1, 2 and 3 cost 1, 2 and 5.
 const STEPPING: [(&[&[u8]], &[usize], u32, Result<u32, OverBudget>); 5] = [
     (&[&[1, 1, 2], &[3], &[2, 2]], &[0, 2], 65_535, Ok(5)),
     (&[&[1, 1, 2], &[3], &[2, 2]], &[0, 1, 2], 65_535, Ok(6)),

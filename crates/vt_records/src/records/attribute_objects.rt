@@ -1,4 +1,4 @@
-//! The records of the objects that say how others look.
+//! Reads the records of attribute objects: fonts, line, fill and input attributes.
 
 ghost use Rattle.std.specs.Prelude.{◌≡◌, ◌≤◌, length, IfOk};
 ghost use Rattle.vt_kinds.specs.Records.{fields_of, values_of, kind_of};

@@ -1,4 +1,4 @@
-//! The records of output graphics.
+//! Reads the records of output graphics.
 
 ghost use Rattle.std.specs.Prelude.{◌≡◌, ◌≤◌, length, IfOk};
 ghost use Rattle.vt_kinds.specs.Records.{fields_of, values_of, kind_of};

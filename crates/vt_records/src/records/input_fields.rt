@@ -1,4 +1,4 @@
-//! The records of input fields.
+//! Reads the records of input fields.
 
 ghost use Rattle.std.specs.Prelude.{◌≡◌, ◌≤◌, length, IfOk};
 ghost use Rattle.vt_kinds.specs.Records.{fields_of, values_of, kind_of};

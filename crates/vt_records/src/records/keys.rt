@@ -1,4 +1,4 @@
-//! The records of soft key masks, keys and buttons.
+//! Reads the records of soft key masks, keys and buttons.
 
 ghost use Rattle.std.specs.Prelude.{◌≡◌, ◌≤◌, length, IfOk};
 ghost use Rattle.vt_kinds.specs.Records.{fields_of, values_of, kind_of};

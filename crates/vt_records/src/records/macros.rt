@@ -1,4 +1,4 @@
-//! The records of macros.
+//! Reads the records of macros.
 
 ghost use Rattle.std.specs.Prelude.{◌≡◌, ◌≤◌, length, IfOk};
 ghost use Rattle.vt_kinds.specs.Records.{fields_of, values_of, kind_of};

@@ -1,4 +1,4 @@
-//! The records of the working set, masks and containers.
+//! Reads the records of the working set, masks and containers.
 
 ghost use Rattle.std.specs.Prelude.{◌≡◌, ◌≤◌, length, IfOk};
 ghost use Rattle.vt_kinds.specs.Records.{fields_of, values_of, kind_of};

@@ -1,4 +1,4 @@
-//! Reads and writes that fail at each place of a log.
+//! Reads and writes that fail at each byte of a log.
 
 use super::streams::{Narrow, Pieces};
 use std::alloc::{AllocError, Global};
@@ -33,7 +33,7 @@ pub(super) const LOG: &[u8] = b"(1.000000) can0 18EEFF81#0200000000008020\n\
     (1.000000) can0 14E72680#FFFFFFFFFFFFFFFF\n\
     (1.000000) can0 14E72680#AD0000D007FFFFFF\n";
 
-/// What the replay of it prints.
+/// The text of the replay of LOG.
 pub(super) const TEXT: &[u8] = b"screen 80 mask 1000\n\
     container 100 10 5 50x20\n\
     1CEC8126#110901FFFF00E700\n\
@@ -53,7 +53,7 @@ pub(super) const TEXT: &[u8] = b"screen 80 mask 1000\n\
     screen 80 mask 2000\n\
     lines 17 frames 17 operator 0 skipped 0 comments 0 faults 0\n";
 
-/// A terminal with a set at 80 that has the pool, which is accepted: what it may want is memory alone.
+/// A terminal with a set at 80 that has the accepted pool. Only memory can be refused.
 pub(super) fn started(alloc: Global) -> Result<Terminal, AllocError> {
     let accepted = accepted_pool(alloc, POOL)?;
     let mut terminal = Terminal::new(alloc, 0x26, Name::from_raw(0x2000_1D00_0000_0001));
@@ -61,7 +61,7 @@ pub(super) fn started(alloc: Global) -> Result<Terminal, AllocError> {
     Ok(terminal)
 }
 
-/// Whether a reader that fails after so many bytes ends the replay, with a front of its text.
+/// Whether a reader that fails after this many bytes ends the replay, with the beginning of its text written.
 fn is_cut_by_the_reader(alloc: Global, count: usize) -> Result<bool, Fail> {
     let Some(rest) = LOG.get(..count) else {
         return Err(Fail::new("the log is shorter"));
@@ -86,7 +86,7 @@ fn a_reader_that_fails_at_each_place(rt: HostRuntime) -> Result<(), Fail> {
     Ok(())
 }
 
-/// Whether a writer with room for so many bytes ends the replay, and has them.
+/// Whether a writer with capacity for this many bytes ends the replay, with exactly these bytes written.
 fn is_cut_by_the_writer(alloc: Global, room: usize) -> Result<bool, Fail> {
     let mut terminal = started(alloc)?;
     let mut reader: &[u8] = LOG;

@@ -1,4 +1,4 @@
-//! A line for which more than 250 frames are sent, and a flush that fails at last.
+//! A line with more than 250 frames sent, and a last flush that fails.
 
 use super::Shelf;
 use std::alloc::Global;
@@ -10,7 +10,7 @@ use vt_names::Name;
 use vt_program::{Status, run};
 use vt_server::Terminal;
 
-/// Appends a text for each address up to FD but the terminal's, 26, with its digits in the middle.
+/// Appends a text for each address up to FD except the terminal's, 26, with the address between its halves.
 fn put_each(alloc: Global, front: &str, back: &str, bytes: &mut Vec<u8>) -> Result<(), Fail> {
     for address in 0..=253u8 {
         if address != 0x26 {
@@ -22,7 +22,7 @@ fn put_each(alloc: Global, front: &str, back: &str, bytes: &mut Vec<u8>) -> Resu
     Ok(())
 }
 
-/// Each address begins a session, and all of these end at once.
+/// A log in which each address begins a session, and all sessions time out at once.
 fn log_of_sessions(alloc: Global) -> Result<Vec<u8>, Fail> {
     let mut log = Vec::new(alloc);
     put_each(
@@ -59,7 +59,7 @@ fn a_line_with_253_frames(rt: HostRuntime) -> Result<(), Fail> {
     Ok(())
 }
 
-/// A writer that can be flushed so many times.
+/// A writer that can be flushed this many times.
 #[derive(Drop)]
 struct Flushed {
     left: usize,
@@ -81,7 +81,7 @@ impl Write for Flushed {
     }
 }
 
-/// How a run ends whose writer can be flushed so many times, and whether a fault is named.
+/// The end of a run whose writer can be flushed this many times, and whether a fault is reported.
 fn ends_after(alloc: Global, left: usize) -> io::Result<(Status, bool)> {
     let mut out = Flushed { left };
     let mut errors = Vec::new(alloc);
@@ -94,7 +94,7 @@ fn ends_after(alloc: Global, left: usize) -> io::Result<(Status, bool)> {
     Ok((status, !errors.is_empty()))
 }
 
-// Before each of two reads, and at the end.
+// A replay flushes before each of two reads, and at the end.
 #[test]
 fn three_flushes(rt: HostRuntime) -> Result<(), Fail> {
     for left in 0..3 {

@@ -5,13 +5,13 @@ use std::fmt::Display;
 use std::process::Abort;
 use std::test::Fail;
 use vt_logs::ReplayFault;
-use vt_program::{UsageError, Status, run};
+use vt_program::{Status, UsageError, run};
 use vt_testing::POOL;
 
 const ABOUT: &str = "Replays a CAN log to a virtual terminal and prints what it answers, or checks \
     an object pool and prints its report\n";
 
-/// Runs the program on one word, which is no fault, and whether what it prints begins so.
+/// Whether a run of the program on one word succeeds, with a text that begins like this.
 fn prints(rt: &impl AllocGlobal, word: &str, wanted: &str) -> Result<bool, Fail> {
     let mut out = Vec::new(rt.alloc());
     let mut errors = Vec::new(rt.alloc());
@@ -33,7 +33,7 @@ fn help_is_no_fault(rt: HostRuntime) -> Result<(), Fail> {
     Ok(())
 }
 
-/// Runs the program where three bytes are written on the error output, and whether it still ends so.
+/// Whether a run ends with this status when the error output takes only three bytes.
 fn ends_alike(rt: &impl AllocGlobal, words: &[&str], wanted: Status) -> Result<bool, Fail> {
     let mut out = Vec::new(rt.alloc());
     let taken = Vec::new(rt.alloc());
@@ -54,7 +54,7 @@ fn messages_that_cannot_be_written(rt: HostRuntime) -> Result<(), Fail> {
     Ok(())
 }
 
-/// Whether a run on the files of the tests writes this on the error output.
+/// Whether a run on the files of the tests writes this text on the error output.
 fn has_errors(
     rt: &impl AllocGlobal,
     words: &[&str],
@@ -68,7 +68,7 @@ fn has_errors(
     Ok(errors.as_slice() == wanted.as_bytes())
 }
 
-/// Whether the error output of a run begins so, and nothing else is written.
+/// Whether the error output of a run begins like this, and nothing else is written.
 fn names_file(rt: &impl AllocGlobal, words: &[&str], start: &str) -> Result<bool, Fail> {
     let mut out = Vec::new(rt.alloc());
     let mut errors = Vec::new(rt.alloc());
@@ -150,7 +150,11 @@ fn faults_of_a_replay_are_named(rt: HostRuntime) -> Result<(), Fail> {
         let printed = is_printed(rt.alloc(), &fault, wanted)?;
         assert!(&rt; printed, "{wanted}");
     }
-    let memory = is_printed(rt.alloc(), &UsageError::Memory, "vt_replay: out of memory\n")?;
+    let memory = is_printed(
+        rt.alloc(),
+        &UsageError::Memory,
+        "vt_replay: out of memory\n",
+    )?;
     assert!(&rt; memory);
     Ok(())
 }

@@ -6,20 +6,20 @@ use std::test::Fail;
 use vt_program::Status;
 use vt_testing::POOL;
 
-/// The first two records of the pool, and these without the last byte.
+/// The first two records of the pool. CUT_RECORDS is without their last byte.
 const TWO_RECORDS: &[u8] = b"\x00\x00\x00\x00\x01\xE8\x03\x00\x00\x00\
     \xE8\x03\x01\x00\xFF\xFF\x01\x00\x64\x00\x0A\x00\x05\x00";
 
 const CUT_RECORDS: &[u8] = b"\x00\x00\x00\x00\x01\xE8\x03\x00\x00\x00\
     \xE8\x03\x01\x00\xFF\xFF\x01\x00\x64\x00\x0A\x00\x05";
 
-/// The pool, where the Container lists macro 3, which sets the volume, at event 4.
+/// The pool, with macro 3, which sets the volume, in the Container's list at event 4.
 const MACRO_POOL: &[u8] = b"\x00\x00\x00\x00\x01\xE8\x03\x00\x00\x00\
     \xE8\x03\x01\x00\xFF\xFF\x01\x00\x64\x00\x0A\x00\x05\x00\
     \x64\x00\x03\x32\x00\x14\x00\x00\x00\x01\x04\x03\
     \x03\x00\x1C\x08\x00\xA4\x32\xFF\xFF\xFF\xFF\xFF\xFF";
 
-/// Words that are not understood.
+/// Words that are refused.
 const REFUSED_WORDS: [&[&str]; 24] = [
     &["vt_replay"],
     &["vt_replay", "log", "pool"],
@@ -64,7 +64,7 @@ const REFUSED_WORDS: [&[&str]; 24] = [
     &["vt_replay", "pool", "--report=x"],
 ];
 
-/// Runs each command line, which is not understood.
+/// Expects each command line to be refused.
 fn expect_usage(rt: &(impl Abort + AllocGlobal), lines: &[&[&str]]) -> Result<(), Fail> {
     for words in lines {
         expect_run(rt, &(words, (HIDE, POOL), (Status::Usage, "", true)))?;

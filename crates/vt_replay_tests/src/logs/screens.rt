@@ -1,10 +1,10 @@
-//! Screens that change: by the operator, and with the set that is shown.
+//! Changes of the screen: by the operator, and with the shown set.
 
 use super::{Run, WITH_POOL, expect_runs};
 use std::test::Fail;
 use vt_program::Status;
 
-/// Working Set 0, Data Mask 1000 and Input Number 600 up to 10.
+/// Working Set 0, Data Mask 1000 and Input Number 600, of at most 10.
 const NUMBER_POOL: &[u8] = b"\x00\x00\x00\x00\x01\xE8\x03\x00\x00\x00\
     \xE8\x03\x01\x00\xFF\xFF\x01\x00\x58\x02\x00\x00\x00\x00\
     \x58\x02\x09\x0A\x00\x05\x00\x00\xFF\xFF\x00\xFF\xFF\x05\
@@ -27,8 +27,8 @@ const TWO_MASKS: &[u8] = b"\x00\x00\x00\x00\x01\xE8\x03\x00\x00\x00\
     \x64\x00\x03\x32\x00\x14\x00\x00\x00\x00\
     \xD0\x07\x02\x00\xFF\xFF\x01\x00\x00\x00";
 
-/// Set 81 uploads a pool whose Working Set changes to its Alarm Mask when it is shown no more, and changes its mask; so does
-/// set 80 at last.
+/// The set at 81 uploads a pool whose Working Set changes to its Alarm Mask on Deactivate, and changes its mask. The set at 80
+/// changes its mask last.
 const ALARMS: &[u8] = b"(1.000000) can0 18EEFF81#0200000000008020\n\
     (1.000000) can0 18FE0D81#01FFFFFFFFFFFFFF\n\
     (1.000000) can0 1CEC2681#103C0009FF00E700\n\

@@ -7,7 +7,7 @@ use vt_program::run;
 use vt_server::Terminal;
 use vt_testing::POOL;
 
-/// A reader that gives a few bytes at a time, and then fails or is at its end.
+/// A reader that returns at most `most` bytes at a time, then fails or is at its end.
 #[derive(Drop)]
 pub struct Pieces<'a> {
     pub rest: &'a [u8],
@@ -28,7 +28,7 @@ impl Read for Pieces<'_> {
     }
 }
 
-/// A writer that keeps some bytes, and then fails.
+/// A writer that takes `room` bytes, and then fails.
 #[derive(Drop)]
 pub struct Narrow {
     pub taken: Vec<u8>,
@@ -65,7 +65,7 @@ const COUNTS: Counts = Counts {
     faults: 2,
 };
 
-/// Whether a log that is read in pieces of so many bytes is replayed alike.
+/// Whether a log read in slices of at most this many bytes is replayed with the same text.
 fn is_replayed(alloc: Global, most: usize) -> bool {
     let mut reader = Pieces {
         rest: LOG,
@@ -107,7 +107,7 @@ fn a_reader_that_fails(rt: HostRuntime) {
     assert_eq!(&rt; out.as_slice(), b"screen none\nline 1 Shape\n".as_slice());
 }
 
-/// Whether a writer with room for so many bytes ends the replay, and has a front of its text.
+/// Whether a writer with capacity for this many bytes ends the replay, with the beginning of the text written.
 fn is_cut(alloc: Global, room: usize) -> bool {
     let mut reader: &[u8] = FAULTY;
     let taken = Vec::new(alloc);
@@ -126,7 +126,7 @@ fn writers_that_fail(rt: HostRuntime) {
     }
 }
 
-/// A writer that holds bytes back until it is flushed, which may fail.
+/// A writer that holds bytes back until it is flushed. The flush may fail.
 #[derive(Drop)]
 struct Holding {
     held: Vec<u8>,
@@ -150,7 +150,7 @@ impl Write for Holding {
     }
 }
 
-/// Whether a replay whose reader fails at last ends with a fault, and has this written out by then.
+/// Whether a replay whose reader fails at the end returns this fault, with this text written by then.
 fn is_written_out(alloc: Global, fails: bool, fault: ReplayFault, wanted: &[u8]) -> bool {
     let mut reader = Pieces {
         rest: FAULTY,
@@ -177,7 +177,7 @@ fn lines_are_written_out_before_the_next_read(rt: HostRuntime) {
     assert!(&rt; read && write);
 }
 
-/// Whether a report is cut at three bytes, and no fault is named.
+/// Whether a report is cut at three bytes without a fault being reported.
 fn report_is_cut(alloc: Global, pool: &[u8]) -> bool {
     let taken = Vec::new(alloc);
     let mut out = Narrow { taken, room: 3 };

@@ -1,4 +1,4 @@
-//! Replays and runs that are refused memory: what is written by then is a front of the text, and begun afresh they end.
+//! Replays and runs that are refused memory: the bytes written by then begin the text, and a new try succeeds.
 
 use super::faults::{LOG, TEXT, started};
 use super::{HIDE, Shelf, WITH_POOL};
@@ -10,7 +10,7 @@ use vt_logs::{ReplayFault, replay};
 use vt_program::{Status, run};
 use vt_testing::POOL;
 
-/// Room for all that is written, so that no writer is refused memory.
+/// An empty vector with capacity for the whole text, so that no writer is refused memory.
 fn room(alloc: Global) -> Result<Vec<u8>, AllocError> {
     match Vec::with_capacity(alloc, 1024) {
         Ok(room) => Ok(room),
@@ -18,7 +18,7 @@ fn room(alloc: Global) -> Result<Vec<u8>, AllocError> {
     }
 }
 
-/// Replays the log by a new terminal.
+/// Replays the log with a new terminal.
 fn replay_log(alloc: Global, out: &mut Vec<u8>) -> Result<(), ReplayFault> {
     let mut terminal = started(alloc)?;
     let mut reader: &[u8] = LOG;
@@ -38,7 +38,7 @@ fn expect_replay(rt: &(impl Abort + AllocGlobal)) -> Result<(), Fail> {
     Ok(())
 }
 
-/// Runs the program over the log and the pool.
+/// Runs the program on the log and the pool.
 fn run_on(
     alloc: Global,
     words: &[&str],

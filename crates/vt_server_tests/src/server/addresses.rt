@@ -1,4 +1,4 @@
-//! Claims of the terminal's address, Requests, echoes and the loss.
+//! Claims of the terminal's address, requests, echoes, and the loss of the address.
 
 use super::Said;
 
@@ -6,9 +6,9 @@ const CLAIM: &str = "18EEFF26#01000000001D0020";
 
 const CANNOT_CLAIM: &str = "18EEFFFE#01000000001D0020";
 
-// There is no set.
+// Cases without a set.
 pub(super) const CASES: [Said; 10] = [
-    // Requests to the terminal and to all, from any source, of three bytes at least.
+    // Requests to the terminal and to all, from any source, with at least three bytes.
     (&["18EA2680#00EE00"], &[CLAIM]),
     (&["18EAFF80#00EE00"], &[CLAIM]),
     (&["1CEA26FE#00EE00FFFF"], &[CLAIM]),
@@ -21,7 +21,7 @@ pub(super) const CASES: [Said; 10] = [
         ],
         &[],
     ),
-    // Claims of its address.
+    // Claims of the terminal's address.
     (&["18EEFF26#0200000000001D20"], &[CLAIM]),
     (
         &["18EEFF26#02000000001D0020", "18EEFF26#FFFFFFFFFFFFFFFF"],
@@ -40,7 +40,7 @@ pub(super) const CASES: [Said; 10] = [
         &["18EEFF80#0000000000000000", "18EEFFFE#0000000000000000"],
         &[],
     ),
-    // After the loss nothing is answered.
+    // After the loss of the address no frame is answered.
     (
         &[
             "18EA2680#00EE00",

@@ -1,9 +1,9 @@
-//! Which set is shown: alarms by their priority and by the order of registration, and else the set that is selected.
+//! The shown set: by alarm priority, then by order of registration, or else the selected set.
 
 use super::script::{Script, Step, expect_scripts};
 use super::*;
 
-// The pool of Working Set 0, Data Mask 1000 and Alarm Mask 2000, whose priority follows.
+// The pool of Working Set 0, Data Mask 1000 and Alarm Mask 2000, without the priority of the alarm.
 const SET: &str = "0000000001E803000000";
 
 const MASK: &str = "E8030100FFFF0000";
@@ -50,7 +50,7 @@ const UPLOADS: [Step; 12] = [
 ];
 
 const ALARMS: [Step; 14] = [
-    // An alarm of priority 2, one of priority 1 over it, and of two of them the set that registered first.
+    // An alarm of priority 2, an alarm of priority 1 over it, and the first registered set of two such alarms.
     Step::Line(
         "14E72682#AD0000D007FFFFFF",
         &["14E68226#ADD00700FFFFFFFF", "14E6FF26#FE82D007FFFF00FF"],
@@ -63,7 +63,7 @@ const ALARMS: [Step; 14] = [
         "14E72681#AD0000D007FFFFFF",
         &["14E68126#ADD00700FFFFFFFF", "14E6FF26#FE81D007FFFF00FF"],
     ),
-    // Another priority, and back.
+    // A change of the priority, and the change back.
     Step::Line(
         "14E72682#B0D00700FFFFFFFF",
         &["14E68226#B0D0070000FFFFFF", "14E6FF26#FE82D007FFFF00FF"],
@@ -72,7 +72,7 @@ const ALARMS: [Step; 14] = [
         "14E72682#B0D00702FFFFFFFF",
         &["14E68226#B0D0070200FFFFFF", "14E6FF26#FE81D007FFFF00FF"],
     ),
-    // While an alarm is shown the operator selects in vain, but is heard.
+    // While an alarm is shown the operator's selection is accepted, but not shown.
     Step::Line("! set 82", &[]),
     Step::Screen("screen 81 mask 2000\n"),
     // The alarms end one by one.
@@ -90,12 +90,12 @@ const ALARMS: [Step; 14] = [
     ),
     Step::Line("! set 80", &["9"]),
     Step::Line("! set 81", &["14E6FF26#FE81E803FFFF00FF"]),
-    // Another set's mask is not the one that is shown.
+    // A change of the active mask of a set that is not shown.
     Step::Line("14E72682#AD0000E803FFFFFF", &["14E68226#ADE80300FFFFFFFF"]),
     Step::Screen("screen 81 mask 1000\n"),
 ];
 
-// The set that is selected stays so until it has no pool, and then it is the first one that has.
+// The selected set stays selected until its pool is removed; then the first set with a pool is selected.
 const SELECTED: [Step; 10] = [
     Step::Line("! set 82", &["14E6FF26#FE82E803FFFF00FF"]),
     Step::Line(
@@ -106,7 +106,7 @@ const SELECTED: [Step; 10] = [
     Step::Pieces("82", MASK),
     Step::Line(ENDS_82, &[TAKEN_82]),
     Step::Screen("screen 81 mask 1000\n"),
-    // A claim closes the set that is shown.
+    // A claim closes the shown set.
     Step::Line("18EEFF81#0000000000800020", &["14E6FF26#FE80E803FFFF00FF"]),
     Step::Line("! set 81", &["9"]),
     Step::Line("18FE0D81#01FFFFFFFFFFFFFF", &[]),

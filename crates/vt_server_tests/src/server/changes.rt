@@ -1,4 +1,4 @@
-//! The events of a change of the set that is shown.
+//! The events of a change of the shown set.
 
 use super::script::{Script, Step, expect_scripts};
 use super::*;
@@ -19,7 +19,7 @@ const CLAIMS: Step = Step::Line("18EEFF81#0200000000800020", &[]);
 
 const IS_MASTER: Step = Step::Line("18FE0D81#01FFFFFFFFFFFFFF", &[]);
 
-// A set at 81 uploads the same, in hexadecimal, and has not ended it.
+// A set at 81 uploads the same pool, in hexadecimal, without its end.
 const UPLOADS: [Step; 8] = [
     CLAIMS,
     IS_MASTER,
@@ -50,11 +50,11 @@ const CHANGES: [Step; 10] = [
     Step::Screen("screen 81 mask 1000\nvalue 300 0 0 1\nvalue 301 0 0 9\n"),
     Step::Line("! set 80", &["14E6FF26#FE80E803FFFF00FF"]),
     Step::Screen("screen 80 mask 1000\nvalue 300 0 0 1\nvalue 301 0 0 2\n"),
-    // An update raises none.
+    // An update raises no event.
     Step::Pieces("80", "C8001507000000"),
     Step::Line("14E72680#12FFFFFFFFFFFFFF", &["14E68026#1200FFFFFFFF00FF"]),
     Step::Screen("screen 80 mask 1000\nvalue 300 0 0 7\nvalue 301 0 0 2\n"),
-    // The set that comes in the place of a deleted one is activated.
+    // The set shown after the deletion of a pool is activated.
     Step::Line(
         "14E72680#B2FFFFFFFFFFFFFF",
         &["14E68026#B200FFFFFFFFFFFF", "14E6FF26#FE81E803FFFF00FF"],
@@ -62,7 +62,7 @@ const CHANGES: [Step; 10] = [
     Step::Screen("screen 81 mask 1000\nvalue 300 0 0 1\nvalue 301 0 0 2\n"),
 ];
 
-// The first pool of a set, where none was shown.
+// The first pool of a set is activated if no set was shown.
 const FIRST: [Step; 2] = [
     Step::Line(
         "14E72681#12FFFFFFFFFFFFFF",
@@ -71,7 +71,7 @@ const FIRST: [Step; 2] = [
     Step::Screen("screen 81 mask 1000\nvalue 300 0 0 1\nvalue 301 0 0 9\n"),
 ];
 
-// A set whose Activate activates another mask: its first status has that mask.
+// A set with a macro on Activate that activates another mask: its first status has that mask.
 const ACTIVATED: [Step; 7] = [
     CLAIMS,
     IS_MASTER,
@@ -91,7 +91,7 @@ const ALARMED: &[u8] = b"\x00\x00\x00\x00\x01\xE8\x03\x00\x00\x00\
     \x64\x00\x03\x32\x00\x14\x00\x00\x00\x00\
     \xD0\x07\x02\x00\xFF\xFF\x01\x00\x00\x00";
 
-// At 81 the same, but Deactivate activates the alarm mask again: so the set is shown again, at the next input.
+// The pool ALARMED at 81, with a macro on Deactivate that activates the alarm mask: the set is shown again at the next input.
 const CHOSEN_ONCE: [Step; 13] = [
     CLAIMS,
     IS_MASTER,
@@ -111,7 +111,7 @@ const CHOSEN_ONCE: [Step; 13] = [
     ),
     Step::Screen("screen 80 mask 1000\ncontainer 100 10 5 50x20\n"),
     Step::Line("14E72680#FFFFFFFFFFFFFFFF", &["14E6FF26#FE81D007FFFF00FF"]),
-    // Of two alarms of one priority that of the set that was there first.
+    // Of two alarms of one priority the set registered first is shown.
     Step::Line(
         "14E72680#AD0000D007FFFFFF",
         &["14E68026#ADD00700FFFFFFFF", "14E6FF26#FE80D007FFFF00FF"],

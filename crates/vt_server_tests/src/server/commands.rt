@@ -3,7 +3,7 @@
 use super::script::{Script, Step, expect_scripts};
 use super::*;
 
-// Working Set 0, Data Mask 1000, and in it Container 100 with Object Pointer 200, which names nothing.
+// Working Set 0, Data Mask 1000, and in it Container 100 with Object Pointer 200, which is NULL.
 const POINTED: &[u8] = b"\x00\x00\x00\x00\x01\xE8\x03\x00\x00\x00\
     \xE8\x03\x01\x00\xFF\xFF\x01\x00\x64\x00\x0A\x00\x05\x00\
     \x64\x00\x03\x32\x00\x14\x00\x00\x01\x00\xC8\x00\x00\x00\x00\x00\
@@ -11,7 +11,7 @@ const POINTED: &[u8] = b"\x00\x00\x00\x00\x01\xE8\x03\x00\x00\x00\
 
 const CONTAINER_ALONE: Step = Step::Screen("screen 80 mask 1000\ncontainer 100 10 5 50x20\n");
 
-// The container in itself would be a chain without an end.
+// A pointer from the container to itself is refused, because the chain would have no end.
 const POINTS: [Step; 5] = [
     CONTAINER_ALONE,
     Step::Line("14E72680#A8C800FF64000000", &["14E68026#A8C8000264000000"]),
@@ -33,7 +33,7 @@ const AB: Step = Step::Screen(
     text 300 0 0 \"AB      \"\ninput 301 0 0 \"        \"\n",
 );
 
-// Two bytes in a frame, and nine in packets, which are too many.
+// Change String Value: two bytes in a frame, and nine in packets, more than the string holds.
 const WRITES: [Step; 7] = [
     Step::Screen(
         "screen 80 mask 1000\ncontainer 100 10 5 50x20\n\

@@ -1,4 +1,4 @@
-//! The key that is held, and the input that is selected, over changes of what is shown and updates.
+//! The held key and the selected input after changes of the screen and after updates.
 
 use super::script::{Script, Step, expect_scripts};
 use super::*;
@@ -14,7 +14,7 @@ const ENDS: &str = "14E72680#12FFFFFFFFFFFFFF";
 
 const ACCEPTED: &str = "14E68026#1200FFFFFFFF00FF";
 
-// A release has the mask of the press, and the key code as it is then.
+// A release message has the mask of the press and the present key code.
 const HELD: [Step; 11] = [
     Step::Line("! press 500", &["14E68026#0001F401E80307FF"]),
     Step::Line(
@@ -22,7 +22,7 @@ const HELD: [Step; 11] = [
         &["14E68026#ADD00700FFFFFFFF", "14E6FF26#FE80D007900100FF"],
     ),
     Step::Line("14E72680#AFF4010208000000", &["14E68026#AFF4010200FFFFFF"]),
-    // An update of another object keeps it, and so does one that is refused.
+    // An update of another object keeps the key held, and so does a refused update.
     Step::Pieces("80", "C8001507000000"),
     Step::Line(ENDS, &[ACCEPTED]),
     Step::Pieces("80", "C800"),
@@ -33,7 +33,7 @@ const HELD: [Step; 11] = [
     Step::Line("! release 500", &["14E68026#0000F401D00708FF"]),
 ];
 
-// An update that makes another kind of the key lets it go; one that brings it anew does not.
+// An update that changes the kind of the held key releases it; an update with a new record of the key does not.
 const UPDATED: [Step; 8] = [
     Step::Line("! press 500", &["14E68026#0001F401E80307FF"]),
     Step::Pieces("80", "F4010500090000"),
@@ -45,7 +45,7 @@ const UPDATED: [Step; 8] = [
     Step::Screen("screen 80 mask 1000\n"),
 ];
 
-// Each set has a key of its own.
+// Each set has its own held key.
 const OF_TWO_SETS: [Step; 15] = [
     Step::Line("18EEFF81#0200000000800020", &[]),
     Step::Line("18FE0D81#01FFFFFFFFFFFFFF", &[]),
@@ -64,7 +64,7 @@ const OF_TWO_SETS: [Step; 15] = [
     Step::Line("! release 500", &["6"]),
 ];
 
-// The same pool, but the press of the key activates Data Mask 2000, without soft keys.
+// The pool KEYS, with a macro on the key press that activates Data Mask 2000, without soft keys.
 const KEY_WITH_MACRO: &[u8] = b"\x00\x00\x00\x00\x01\xE8\x03\x00\x00\x00\
     \xE8\x03\x01\x00\x90\x01\x00\x00\
     \xD0\x07\x01\x00\xFF\xFF\x00\x00\
@@ -72,7 +72,7 @@ const KEY_WITH_MACRO: &[u8] = b"\x00\x00\x00\x00\x01\xE8\x03\x00\x00\x00\
     \xF4\x01\x05\x00\x07\x00\x01\x18\x01\
     \x01\x00\x1C\x08\x00\xAD\x00\x00\xD0\x07\xFF\xFF\xFF";
 
-// The message has the mask of before, and the status comes after it. The key that is shown no more is let go.
+// The key message has the mask before the press, and the status follows it. A key that is not shown any more is still released.
 const PRESSED: [Step; 4] = [
     Step::Line(
         "! press 500",

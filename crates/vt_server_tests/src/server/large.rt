@@ -4,7 +4,7 @@ use super::script::{expect_line, expect_screen, take_pieces};
 use super::*;
 use std::alloc::AllocError;
 
-/// The pool of the tests with 300 Number Variables, 2000 and up, behind it.
+/// The pool of the tests, followed by 300 Number Variables from ID 2000 on.
 fn large_pool(alloc: Global) -> Result<Vec<u8>, AllocError> {
     let mut bytes = Vec::from_slice(alloc, POOL)?;
     for id in 2000..2300u16 {
@@ -14,7 +14,7 @@ fn large_pool(alloc: Global) -> Result<Vec<u8>, AllocError> {
     Ok(bytes)
 }
 
-// Changes the value of the last variable, and of one that is not there.
+// Changes the value of the last variable, and of one that does not exist.
 fn expect_last(rt: &(impl Abort + AllocGlobal), terminal: &mut Terminal) -> Result<(), Fail> {
     let done = ["14E68026#A8FB080001000000"];
     expect_line(rt, terminal, "14E72680#A8FB08FF01000000", &done)?;
@@ -66,7 +66,7 @@ fn letters(alloc: Global, front: &str, count: usize) -> Result<String, AllocErro
     Ok(text)
 }
 
-// A message of 259 bytes, in 37 packets; and the text as it is shown, by its first 64 bytes.
+// A text in a message of 259 bytes, sent in 37 packets. The screen shows its first 64 bytes.
 fn expect_long_text(rt: &(impl Abort + AllocGlobal), terminal: &mut Terminal) -> Result<(), Fail> {
     let line = letters(rt.alloc(), "! text 301 ", 255)?;
     expect_line(rt, terminal, &line, &["1CEC8026#10030125FF00E600"])?;

@@ -1,10 +1,10 @@
-//! The terminal as a library: a pool, a frame, an action of the operator, and the screen.
+//! The terminal used as a library: a pool, a frame, an action of the operator, and the screen.
 
 use super::*;
 
 const HIDES_CONTAINER: &[u8] = b"(1.000000) can0 14E72680#A0640000FFFFFFFF";
 
-// The working set hides its container, and the operator presses a key that is not there.
+// The working set hides its container, and the operator presses a key that does not exist.
 fn hide_and_press(terminal: &mut Terminal, outputs: &mut Vec<Output>) -> Result<(), Fail> {
     let Ok(Line::Frame { time, frame }) = parse_line(HIDES_CONTAINER) else {
         return Err(Fail::new("no frame"));
@@ -16,7 +16,7 @@ fn hide_and_press(terminal: &mut Terminal, outputs: &mut Vec<Output>) -> Result<
 
 #[test]
 fn library_example(rt: HostRuntime) -> Result<(), Fail> {
-    // A working set at 80 has the pool from the start.
+    // The working set at 80 has the pool from the start.
     let mut terminal = preloaded_with(&rt, POOL)?;
     let mut outputs = Vec::new(rt.alloc());
     hide_and_press(&mut terminal, &mut outputs)?;

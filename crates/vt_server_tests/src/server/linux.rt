@@ -1,16 +1,16 @@
-//! Sessions of another implementation, as the terminal hears them.
+//! Transport sessions of another implementation, received by the terminal.
 
 use super::linux_logs::*;
 use super::script::{Script, Step, expect_scripts};
 use super::*;
 
-// At the end the bytes are no pool, since their first record has a type that there is not, and the pool stays.
+// The uploaded bytes are no pool, since their first record has an unknown type. The pool is unchanged.
 const ENDS: [Step; 2] = [
     Step::Line("14E72680#12", &["14E68026#1201FFFFFFFF01FF"]),
     Step::Line("14E72680#12", &["14E68026#1200FFFFFFFF00FF"]),
 ];
 
-// A session of 1,786 bytes, in two groups of packets, of which the first are all of seven bytes.
+// A session of 1,786 bytes in two groups of packets. The packets of the first group all have seven bytes.
 const LONG: [Step; 5] = [
     Step::Line(
         "(1795329417.512922) vcan0 1CC82680#14FA06000000E700",
@@ -25,7 +25,7 @@ const LONG: [Step; 5] = [
     ),
 ];
 
-// The terminal answers the packets as the receiver of the log did.
+// The terminal answers the packets as the receiver in the log did.
 const SCRIPTS: [Script; 9] = [
     Script {
         pool: Some(POOL),

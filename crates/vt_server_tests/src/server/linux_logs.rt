@@ -1,6 +1,5 @@
-// Sessions of the J1939 stack of the Linux kernel (can-j1939): its sender at 80 sent a piece of a pool to its
-// receiver at 26, both on one virtual bus, and candump wrote the log. What its receiver answered is what the
-// terminal sends.
+// Sessions of the J1939 stack of the Linux kernel (can-j1939). Its sender at 80 sent a piece of a pool to its receiver at 26,
+// both on one virtual bus, and candump wrote the log. The terminal must send the receiver's answers.
 
 use super::script::Step;
 
@@ -118,7 +117,7 @@ pub(super) const LOG_100: [Step; 16] = [
     ),
 ];
 
-// The bytes that one session by ETP sent, seven packets to a line.
+// The bytes sent in one ETP session, seven packets to a line.
 pub(super) const SENT_1786: &str = "\
     11C1FCF0CD023DB10F29D0B27E7F7B649185B04E8BA26F7A6061751ADD2126A4E6E43BB5601F53A6CC0D766E2C62145FE0\
     FE0DC9F335B290D8565F14EB7FAAAEB17513E2207FDE16F054639529D5C239261D62E053C16B466FF332F897882EE84D24\

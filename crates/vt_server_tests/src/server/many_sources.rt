@@ -1,9 +1,9 @@
-//! Sessions and sets of all addresses at once.
+//! Sessions and sets at all addresses at once.
 
 use super::script::{Step, expect_line, expect_step, take_line};
 use super::*;
 
-// A text with an address in the place of each `@`.
+// A text with an address instead of each `@`.
 fn text_of(alloc: Global, template: &str, address: u8) -> Result<String, Fail> {
     let digits = hex::encode_upper(alloc, [address])?;
     let mut text = String::new(alloc);
@@ -16,7 +16,7 @@ fn text_of(alloc: Global, template: &str, address: u8) -> Result<String, Fail> {
     Ok(text)
 }
 
-// A line of each address but the terminal's and another one, and what is sent for it, where something is.
+// Takes a line from each address except the terminal's and another one, and expects this to be sent, if it is not empty.
 fn expect_from_each(
     rt: &(impl Abort + AllocGlobal),
     terminal: &mut Terminal,
@@ -37,12 +37,12 @@ fn expect_from_each(
     Ok(())
 }
 
-// Each address asks to send 1,785 bytes, and is answered.
+// Each address requests to send 1,785 bytes, and is answered.
 const ASKS: &str = "1CEC26@#10F906FFFF00E700";
 
 const IS_CLEAR: &str = "1CEC@26#11FF01FFFF00E700";
 
-// A session of 80, each frame of which comes after one from each other address.
+// A session of 80, with a frame from each other address before each of its frames.
 const BESIDE: [Step; 3] = [
     Step::Line("1CEC2680#10090002FF00E700", &["1CEC8026#110201FFFF00E700"]),
     Step::Line("1CEB2680#01B4E8036400FFFF", &[]),
@@ -64,7 +64,7 @@ fn expect_beside(
     expect_ends(rt, terminal)
 }
 
-// All sessions end at once, by rising source.
+// All sessions time out at once, by rising source.
 fn expect_ends(rt: &(impl Abort + AllocGlobal), terminal: &mut Terminal) -> Result<(), Fail> {
     let mut outputs = Vec::new(rt.alloc());
     take_line(rt, terminal, "(2.250001) can0 18FFFF55#00", &mut outputs)?;
@@ -107,7 +107,7 @@ const MESSAGES: [(&str, &str); 2] = [
     ("14E726@#A0640000FFFFFFFF", "14E6@26#A064000000FFFFFF"),
 ];
 
-// The terminal's address is left out anyway.
+// Each address uploads a pool, except the terminal's own.
 fn upload_from_each(rt: &(impl Abort + AllocGlobal), terminal: &mut Terminal) -> Result<(), Fail> {
     for line in ["18EEFF@#@00000000800020", "18FE0D@#01FFFFFFFFFFFFFF"] {
         expect_from_each(rt, terminal, OWN, line, "")?;
@@ -117,14 +117,14 @@ fn upload_from_each(rt: &(impl Abort + AllocGlobal), terminal: &mut Terminal) ->
     }
     let sent = ["14E60026#1200FFFFFFFF00FF", "14E6FF26#FE00E803FFFF00FF"];
     expect_line(rt, terminal, "14E72600#12", &sent)?;
-    // The first one's again is an empty update.
+    // The first set ends its upload again, which is an empty update.
     for (line, sent) in MESSAGES {
         expect_from_each(rt, terminal, OWN, line, sent)?;
     }
     Ok(())
 }
 
-// Sets of 253 addresses, whose pieces come by turns. The first is shown: its pool comes before the others'.
+// Sets at 253 addresses send their pieces in turn. The first set is shown, since its pool is accepted first.
 #[test]
 fn sets_of_all_addresses(rt: HostRuntime) -> Result<(), Fail> {
     let mut terminal = started(&rt, None)?;

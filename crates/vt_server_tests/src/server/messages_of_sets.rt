@@ -1,4 +1,4 @@
-//! Messages of the masters of sets to the terminal.
+//! Messages from the masters of sets to the terminal.
 
 use super::script::expect_line;
 use super::*;
@@ -16,9 +16,9 @@ const KEYS: &str = "14E68026#C2FFFFFF40404006";
 
 const NONE_SHOWN: &str = "14E6FF26#FEFEFFFFFFFF00FF";
 
-// The messages of a set with a pool, and of others.
+// Messages of a set with a pool, and of other addresses.
 pub(super) const CASES: [Said; 16] = [
-    // Hide and show, an absent object, one that is no container, and another state.
+    // Hide/Show: done twice, and refused for an absent object, a wrong kind and a wrong state.
     (
         &["14E72680#A0640000FFFFFFFF"],
         &["14E68026#A064000000FFFFFF"],
@@ -31,7 +31,7 @@ pub(super) const CASES: [Said; 16] = [
         &["14E72680#A0650000FFFFFFFF"],
         &["14E68026#A065000002FFFFFF"],
     ),
-    // Of an absent object the state is not looked at.
+    // For an absent object the state is not checked.
     (
         &["14E72680#A0650002FFFFFFFF"],
         &["14E68026#A065000202FFFFFF"],
@@ -52,11 +52,11 @@ pub(super) const CASES: [Said; 16] = [
         ],
         &[],
     ),
-    // Get Memory, at the bound of the memory that there is, and too short.
+    // Get Memory: at the bound of the memory, above it, and too short.
     (&[ASKS_MEMORY, "14E72680#C0FF00001000"], &[MEMORY, MEMORY]),
     (&["14E72680#C0FF01001000"], &["14E68026#C00301FFFFFFFFFF"]),
     (&["14E72680#C0FF000010", "14E72680#"], &[]),
-    // Get Number of Soft Keys, Get Text Font Data, Get Hardware.
+    // Get Number of Soft Keys, Get Text Font Data and Get Hardware.
     (
         &["14E72680#C2", "14E72680#C3FFFFFFFFFFFFFF", "14E72680#C7"],
         &[
@@ -65,7 +65,7 @@ pub(super) const CASES: [Said; 16] = [
             "14E68026#C7000200E001E001",
         ],
     ),
-    // Maintenance, the functions that the terminal sends, and those that it does not know.
+    // Working Set Maintenance, functions that only the terminal sends, and unknown functions are ignored.
     (
         &[
             "14E72680#FFFFFFFFFFFFFFFF",
@@ -78,7 +78,7 @@ pub(super) const CASES: [Said; 16] = [
         ],
         &[],
     ),
-    // The reply to each command of eight bytes, of some done and refused.
+    // The reply to each command of eight bytes, some done and some refused.
     (
         &[
             "14E72680#A1640000FFFFFFFF",
@@ -127,7 +127,7 @@ pub(super) const CASES: [Said; 16] = [
             "14E68026#BE640002FFFFFFFF",
         ],
     ),
-    // Commands that are too short, and functions between them that are none.
+    // Commands that are too short, and functions between them that are no commands, are ignored.
     (
         &[
             "14E72680#A46400",
@@ -141,7 +141,7 @@ pub(super) const CASES: [Said; 16] = [
         ],
         &[],
     ),
-    // Delete Object Pool, and then without a pool: other commands have no reply.
+    // Delete Object Pool. Without a pool other commands have no reply.
     (
         &[
             "14E72680#B2FFFFFFFFFFFFFF",
@@ -156,7 +156,7 @@ pub(super) const CASES: [Said; 16] = [
             KEYS,
         ],
     ),
-    // Of an address without a set nothing is heard, nor of the terminal's own.
+    // Messages from an address without a set, and from the terminal's own address, are ignored.
     (
         &["14E72681#C2", "14E72681#A0640000FFFFFFFF", "14E72626#C2"],
         &[],
@@ -164,7 +164,7 @@ pub(super) const CASES: [Said; 16] = [
 ];
 
 pub(super) const WITHOUT_A_POOL: [Case; 2] = [
-    // The questions of a set without a pool are answered, and its commands are not.
+    // Technical requests of a set without a pool are answered, but not its commands.
     Case {
         preloaded: false,
         heard: &[
@@ -176,7 +176,7 @@ pub(super) const WITHOUT_A_POOL: [Case; 2] = [
         sent: &[MEMORY],
         sets: &[0x80],
     },
-    // Without a claim there is no set.
+    // Without a claim no set is registered.
     Case {
         preloaded: false,
         heard: &[MASTER_80, ASKS_MEMORY],
@@ -185,7 +185,7 @@ pub(super) const WITHOUT_A_POOL: [Case; 2] = [
     },
 ];
 
-// The pool of a set after its commands.
+// The effect of a set's commands on its pool.
 fn expect_pool(rt: &(impl Abort + AllocGlobal), terminal: &mut Terminal) -> Result<(), Fail> {
     assert!(rt; terminal.set(0x81).is_none());
     let hidden = ["14E68026#A064000000FFFFFF"];

@@ -1,4 +1,4 @@
-//! An upload in pieces, cut at any place, by frames and in packets.
+//! Uploads in pieces, cut at any index, in frames and in packets.
 
 use super::script::{Script, Step, expect_scripts, expect_steps, take_pieces};
 use super::*;
@@ -16,10 +16,10 @@ const DELETED: Step = Step::Line(
     &["14E68026#B200FFFFFFFFFFFF", "14E6FF26#FEFEFFFFFFFF00FF"],
 );
 
-// What each upload in two pieces ends with: its pool is accepted, shown, and deleted for the next one.
+// The end of each upload in two pieces: the pool is accepted, shown, and deleted for the next upload.
 const ENDS: [Step; 3] = [Step::Line("14E72680#12", ACCEPTED), SHOWN, DELETED];
 
-// Uploads a pool cut in two at each place, both parts in pieces of seven bytes.
+// Uploads a pool cut in two at each index, both halves in pieces of seven bytes.
 fn expect_cuts(
     rt: &(impl Abort + AllocGlobal),
     terminal: &mut Terminal,
@@ -55,7 +55,7 @@ fn an_upload_cut_at_each_place(rt: HostRuntime) -> Result<(), Fail> {
 const IN_PACKETS: [Step; 22] = [
     CLAIMS,
     IS_MASTER,
-    // By TP whole, and its end in packets too: the session ends before the reply.
+    // A pool uploaded whole by TP, and its end in packets too: the end of the session is sent before the reply.
     Step::Line("1CEC2680#10230005FF00E700", &["1CEC8026#110501FFFF00E700"]),
     Step::Line("1CEB2680#01110000000001E8", &[]),
     Step::Line("1CEB2680#0203000000E80301", &[]),
@@ -74,7 +74,7 @@ const IN_PACKETS: [Step; 22] = [
     ),
     SHOWN,
     DELETED,
-    // Its first bytes in a frame, the rest by ETP.
+    // A pool uploaded with its first bytes in a frame and the others by ETP.
     Step::Line("14E72680#110000000001E803", &[]),
     Step::Line("1CC82680#141C00000000E700", &["1CC88026#150401000000E700"]),
     Step::Line("1CC82680#160400000000E700", &[]),
@@ -86,7 +86,7 @@ const IN_PACKETS: [Step; 22] = [
     SHOWN,
 ];
 
-// A second master message keeps what was uploaded, and the uploads of two sets are their own.
+// A second master message keeps the upload, and the uploads of two sets are separate.
 const OF_TWO_SETS: [Step; 15] = [
     CLAIMS,
     IS_MASTER,
@@ -108,7 +108,7 @@ const OF_TWO_SETS: [Step; 15] = [
     SHOWN,
 ];
 
-// A fault in the first piece is answered at the end, and no sooner; a set that is closed has nothing uploaded.
+// A fault in the first piece is answered only at the end of the upload. A closed set loses its upload.
 const LOST: [Step; 11] = [
     CLAIMS,
     IS_MASTER,

@@ -1,4 +1,4 @@
-//! Whether the terminal tells that the screen may be another one.
+//! Whether the terminal reports that the screen may have changed.
 
 use super::script::{Script, Step, expect_scripts};
 use super::*;
@@ -9,18 +9,18 @@ const DRAWN: &[u8] = b"\x00\x00\x00\x00\x01\xE8\x03\x00\x00\x00\
     \x64\x00\x03\x32\x00\x14\x00\x00\x00\x00\
     \x2D\x01\x08\x0A\x00\x05\x00\x00\xFF\xFF\xFF\xFF\x00\xFF\xFF\x00\x08        \x01\x00";
 
-// The set of 80 is shown. Another one, of Working Set 0 and Data Mask 2000, comes to 81, and is shown then.
+// The set at 80 is shown. Another set, with Working Set 0 and Data Mask 2000, uploads a pool at 81, and is shown then.
 const WHILE_SHOWN: [Step; 31] = [
     Step::Redraws("18FFFF55#00", false),
     Step::Redraws("18EA2655#00EE00", false),
-    // A set registers, and uploads its pool.
+    // A set at 81 registers and uploads its pool.
     Step::Redraws("18EEFF81#0200000000800020", false),
     Step::Redraws("18FE0D81#01FFFFFFFFFFFFFF", false),
     Step::Redraws("14E72681#110000000001D007", false),
     Step::Redraws("14E72681#11000000D0070100", false),
     Step::Redraws("14E72681#11FFFF0000", false),
     Step::Redraws("14E72681#12", false),
-    // A command to it, one to the shown set that is refused, and messages that are none.
+    // A command to the set at 81, a refused command to the shown set, and messages that are no commands.
     Step::Redraws("14E72681#A7D00701FFFFFFFF", false),
     Step::Redraws("14E72680#A0C80001FFFFFFFF", false),
     Step::Redraws("14E72680#C2", false),
@@ -29,7 +29,7 @@ const WHILE_SHOWN: [Step; 31] = [
     Step::Redraws("14E72680#A0640000FFFFFFFF", true),
     Step::Redraws("18FFFF80#00", false),
     Step::Redraws("14E72680#A0640001FFFFFFFF", true),
-    // A command in packets, of which the last one has it whole.
+    // A command in packets, complete with the last one.
     Step::Redraws("1CEC2680#10090002FF00E700", false),
     Step::Redraws("1CEB2680#01B4E8036400FFFF", false),
     Step::Redraws("1CEB2680#020500FFFFFFFFFF", true),
@@ -42,16 +42,16 @@ const WHILE_SHOWN: [Step; 31] = [
     Step::Redraws("! set 55", false),
     Step::Redraws("! set 80", false),
     Step::Redraws("! set 81", true),
-    // The same commands, where the other set is shown.
+    // The same commands, while the other set is shown.
     Step::Redraws("14E72680#A0640000FFFFFFFF", false),
     Step::Redraws("14E72681#A7D00701FFFFFFFF", true),
-    // An update that is refused, and an empty one.
+    // A refused update, and an empty update.
     Step::Redraws("14E72681#11010022", false),
     Step::Redraws("14E72681#12", false),
     Step::Redraws("14E72681#12", true),
 ];
 
-// What ends the set that is shown, and what brings one.
+// Inputs that end the shown set, and an upload that brings one.
 const WHEN_IT_ENDS: [Step; 14] = [
     Step::Redraws("18EEFF80#0100000000800020", false),
     Step::Redraws("14E72680#B2FFFFFFFFFFFFFF", true),
@@ -64,14 +64,14 @@ const WHEN_IT_ENDS: [Step; 14] = [
     Step::Redraws("(4.000000) can0 18FFFF55#00", false),
     Step::Redraws("(4.000001) can0 18FFFF55#00", true),
     Step::Redraws("(9.000000) can0 18FFFF55#00", false),
-    // The loss of the address, after which nothing is heard.
+    // The loss of the address, after which all frames are ignored.
     Step::Redraws("18EEFF26#0000000000000000", true),
     Step::Redraws("14E72680#A0640000FFFFFFFF", false),
     Step::Redraws("! set 80", false),
 ];
 
-// Frames that are taken in one run, and whether the screen may be another one after it. The command that is done comes first,
-// between others, and last.
+// Frames of one run, and whether the screen may have changed after it. The command that is done stands first, between others, and
+// last.
 const RUNS: [(&[&str], bool); 5] = [
     (&["18FFFF80#00", "14E72680#C2"], false),
     (&["14E72680#A0640000FFFFFFFF", "18FFFF80#00"], true),

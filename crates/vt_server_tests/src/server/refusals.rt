@@ -1,4 +1,4 @@
-//! What the operator is refused, in the order of the tests, and what is sent for what is not.
+//! Refusals of operator actions, in the order of their tests, and the messages of accepted actions.
 
 use super::script::{Script, Step, expect_scripts};
 use super::*;
@@ -24,7 +24,7 @@ const OPERATED: &[u8] = b"\x00\x00\x00\x00\x01\xE8\x03\x00\x00\x00\
     \x90\x01\x04\x00\x01\x00\xF4\x01\
     \xF4\x01\x05\x00\x07\x00\x00";
 
-// Without a set to act on, each is refused for that.
+// Without a set each action is refused as NoSet.
 const NO_SET: [Step; 9] = [
     Step::Line("! press 1", &["9"]),
     Step::Line("! release 1", &["9"]),
@@ -37,7 +37,7 @@ const NO_SET: [Step; 9] = [
     Step::Line("! set FF", &["9"]),
 ];
 
-// A set without a pool is none to act on.
+// Without a pool each action on a set is refused as NoSet.
 const NO_POOL: [Step; 5] = [
     Step::Line("18EEFF80#0100000000800020", &[]),
     Step::Line("18FE0D80#01FFFFFFFFFFFFFF", &[]),
@@ -46,7 +46,7 @@ const NO_POOL: [Step; 5] = [
     Step::Line("! text 1 ABCDEFGH", &["9"]),
 ];
 
-// Not shown comes first, then the kind, and then that a key is held.
+// A key is refused first as not shown, then for its kind, and last because a key is held.
 const KEYS: [Step; 14] = [
     Step::Line("! release 500", &["6"]),
     Step::Line("! press 1", &["1"]),
@@ -64,7 +64,7 @@ const KEYS: [Step; 14] = [
     Step::Line("! release 604", &["14E68026#01005C02E80309FF"]),
 ];
 
-// Not shown, then the kind, then that the input is not enabled.
+// A selection is refused first as not shown, then for its kind, and last as not enabled.
 const SELECTIONS: [Step; 6] = [
     Step::Line("! select 605", &["1"]),
     Step::Line("! select 604", &["5"]),
@@ -74,7 +74,7 @@ const SELECTIONS: [Step; 6] = [
     Step::Line("! select 301", &[]),
 ];
 
-// And then the range.
+// A number is refused as not shown, for its kind, as not enabled, and last for its range.
 const NUMBERS: [Step; 12] = [
     Step::Line("! number 605 9", &["1"]),
     Step::Line("! number 301 9", &["5"]),
@@ -90,7 +90,7 @@ const NUMBERS: [Step; 12] = [
     Step::Line("! number 603 255", &["3"]),
 ];
 
-// And then the length, and last that a message is being sent: only for a text of more than four bytes.
+// A text is refused as not shown, for its kind, as not enabled, for its length, and last, if longer than four bytes, as busy.
 const TEXTS: [Step; 15] = [
     Step::Line("! text 605 A", &["1"]),
     Step::Line("! text 600 A", &["5"]),
@@ -165,7 +165,7 @@ const FAULTS: [(OperatorFault, &str); 9] = [
     ),
 ];
 
-// The number of a fault is one more than its place in the type.
+// The number of a fault is its index in the type plus one.
 fn expect_fault(
     rt: &(impl Abort + AllocGlobal),
     place: usize,

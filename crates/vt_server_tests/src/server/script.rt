@@ -1,26 +1,26 @@
-//! Scripts: what is heard, line by line, and what the terminal answers.
+//! Scripts: input lines and the terminal's answers.
 
 use super::*;
 
 // A step of a script.
 #[derive(Clone, Copy)]
 pub(super) enum Step {
-    // A line of a log, or what follows the interface of one at one second; and what is sent for it: frames, and
-    // the numbers of refusals.
+    // A line of a log, or the rest of one after its interface, at one second; and its outputs: frames, and the numbers of
+    // refusals.
     Line(&'static str, &'static [&'static str]),
-    // The pieces of a pool from an address, of up to seven bytes, both in hexadecimal. Nothing is sent for them.
+    // Pieces of a pool from an address, of up to seven bytes, both in hexadecimal. Nothing is sent for them.
     Pieces(&'static str, &'static str),
-    // The records that the set at 80 uploads and ends, in hexadecimal, and what is sent for their end.
+    // The records that the set at 80 uploads, in hexadecimal, and the outputs at the end of the upload.
     Upload(&'static [&'static str], &'static [&'static str]),
-    // Packets of the extended protocol from 80, numbered from 1, of bytes in hexadecimal; and what is sent for them.
+    // Packets of the extended protocol from 80, numbered from 1, with bytes in hexadecimal; and the outputs for them.
     Packets(&'static str, &'static [&'static str]),
-    // A line, and whether the screen may be another one after it.
+    // A line, and whether the screen may have changed after it.
     Redraws(&'static str, bool),
     // The text of the screen.
     Screen(&'static str),
 }
 
-// Steps, part by part, of a terminal without a set at first, or with a pool of these bytes at 80.
+// Steps, list by list, of a terminal without a set at first, or with a set at 80 with the pool of these bytes.
 #[derive(Clone, Copy)]
 pub(super) struct Script {
     pub(super) pool: Option<&'static [u8]>,
@@ -79,7 +79,7 @@ pub(super) fn expect_step(
     }
 }
 
-// Takes a line, and looks at what is sent for it.
+// Takes a line and checks its outputs.
 pub(super) fn expect_line(
     rt: &(impl Abort + AllocGlobal),
     terminal: &mut Terminal,
@@ -92,7 +92,7 @@ pub(super) fn expect_line(
     Ok(())
 }
 
-// Takes a line of a log, or what follows the interface of one at one second.
+// Takes a line of a log, or the rest of one after its interface, at one second.
 pub(super) fn take_line(
     rt: &(impl Abort + AllocGlobal),
     terminal: &mut Terminal,
@@ -121,8 +121,7 @@ fn take_input(
     terminal.step(input, outputs)
 }
 
-// Takes an input, if need be a second time: the memory is there then, and the first try has left the outputs
-// as they were.
+// Takes an input, a second time if memory was refused: memory is then available, and the first try left the outputs unchanged.
 fn step_again(
     rt: &(impl Abort + AllocGlobal),
     terminal: &mut Terminal,
@@ -139,7 +138,7 @@ fn step_again(
     }
 }
 
-// Takes the pieces of a pool, of which the digits are given.
+// Takes the pieces of a pool, given in hexadecimal digits.
 pub(super) fn take_pieces(
     rt: &(impl Abort + AllocGlobal),
     terminal: &mut Terminal,
@@ -170,7 +169,7 @@ fn expect_upload(
     expect_line(rt, terminal, "14E72680#12FFFFFFFFFFFFFF", sent)
 }
 
-// The time is that of the line before.
+// Takes packets at the time of the line before.
 fn expect_packets(
     rt: &(impl Abort + AllocGlobal),
     terminal: &mut Terminal,

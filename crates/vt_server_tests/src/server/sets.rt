@@ -1,4 +1,4 @@
-//! Sets that are registered, bound and closed.
+//! Sets that are registered, take a NAME and are closed.
 
 use super::script::expect_line;
 use super::*;
@@ -49,7 +49,7 @@ pub(super) const CASES: [Case; 18] = [
         sent: &[],
         sets: &[0x80],
     },
-    // A greater NAME leaves the set, and a lower one closes it.
+    // A claim by a greater NAME leaves the set unchanged, and a claim by a lower NAME closes it.
     Case {
         preloaded: false,
         heard: &[CLAIM_80, MASTER_80, "18EEFF80#0200000000800020"],
@@ -62,7 +62,7 @@ pub(super) const CASES: [Case; 18] = [
         sent: &[],
         sets: &[],
     },
-    // Its NAME claims no address, and another one.
+    // The NAME of a set claims no address, or another address.
     Case {
         preloaded: false,
         heard: &[CLAIM_80, MASTER_80, "18EEFFFE#0100000000800020"],
@@ -93,7 +93,7 @@ pub(super) const CASES: [Case; 18] = [
         sent: &[],
         sets: &[0x80, 0x81],
     },
-    // The terminal's NAME at 80; its claim of its own address is an echo, and is not recorded.
+    // The terminal's NAME at 80; a claim of the terminal's own address by it is an echo, and is not recorded.
     Case {
         preloaded: false,
         heard: &[
@@ -111,14 +111,14 @@ pub(super) const CASES: [Case; 18] = [
         sent: &["18EEFF26#01000000001D0020"],
         sets: &[],
     },
-    // A greater NAME claims the terminal's address, and leaves its own with the set there.
+    // A greater NAME claims the terminal's address, and loses its former address with the set there.
     Case {
         preloaded: false,
         heard: &[CLAIM_80, MASTER_80, "18EEFF26#0100000000800020"],
         sent: &["18EEFF26#01000000001D0020"],
         sets: &[],
     },
-    // A lower one is not recorded, and its set stays.
+    // A claim of the terminal's address by a lower NAME is not recorded, and the set of that NAME is unchanged.
     Case {
         preloaded: false,
         heard: &[
@@ -130,7 +130,7 @@ pub(super) const CASES: [Case; 18] = [
         sent: &["18EEFFFE#01000000001D0020"],
         sets: &[0x80],
     },
-    // A set that was preloaded takes the NAME of the holder at a claim from there, and then it is closed as others.
+    // A preloaded set takes the NAME of its address's holder at a claim from there; then it is closed like other sets.
     Case {
         preloaded: true,
         heard: &[MASTER_80, HIDE_80],
@@ -158,14 +158,15 @@ pub(super) const CASES: [Case; 18] = [
 ];
 
 pub(super) const OTHERS: [Case; 2] = [
-    // An address without a rule of its own is like others.
+    // An address without a special rule is like others.
     Case {
         preloaded: false,
         heard: &["18EEFFFF#0100000000800020", "18FE0DFF#01", "14E726FF#C2"],
         sent: &["14E6FF26#C2FFFFFF40404006"],
         sets: &[0xFF],
     },
-    // The frames of two sets in turn: each gets its own replies, and the claim that closes one leaves the other.
+    // The frames of two sets in turn: each set gets its own replies, and the claim that closes one set leaves the other
+    // unchanged.
     Case {
         preloaded: true,
         heard: &[
@@ -190,7 +191,7 @@ pub(super) const OTHERS: [Case; 2] = [
     },
 ];
 
-// How many members a set has, and at which place it stands.
+// The address and the number of members of the set at an index.
 fn members_at(registry: &WatchedRegistry, index: usize) -> Option<(u8, usize)> {
     match registry.at(index) {
         Some(set) => Some((set.address(), set.members().len())),
@@ -198,7 +199,7 @@ fn members_at(registry: &WatchedRegistry, index: usize) -> Option<(u8, usize)> {
     }
 }
 
-// The NAME that claims an address in these frames.
+// The NAME that claims an address in these tests.
 fn holder_of(address: u8) -> Option<Name> {
     match address {
         0x80 => Some(Name::from_raw(0x2000_8000_0000_0001)),
@@ -207,7 +208,7 @@ fn holder_of(address: u8) -> Option<Name> {
     }
 }
 
-// What a frame says, and its source.
+// The meaning of a frame, and its source.
 fn notice_in(alloc: Global, text: &str) -> Result<(u8, FrameMeaning), Fail> {
     match input_of(alloc, text)? {
         Input::Frame { frame, .. } => {
@@ -218,7 +219,7 @@ fn notice_in(alloc: Global, text: &str) -> Result<(u8, FrameMeaning), Fail> {
     }
 }
 
-// Registers what a frame says of a set. A refusal changes nothing.
+// Registers a set or a member by a frame. A refusal changes nothing.
 fn register(alloc: Global, registry: &mut WatchedRegistry, text: &str) -> Result<(), Fail> {
     let (source, notice) = notice_in(alloc, text)?;
     registry.reserve(source)?;

@@ -1,4 +1,4 @@
-//! The status, which goes out where the display is another than before the input.
+//! The status message, sent if the display differs from the one before the input.
 
 use super::script::{Script, Step, expect_scripts};
 use super::*;
@@ -12,14 +12,14 @@ const TWO_MASKS: &[u8] = b"\x00\x00\x00\x00\x01\xE8\x03\x00\x00\x00\
     \x01\x00\x1C\x10\x00\xAD\x00\x00\xD0\x07\xFF\xFF\xFF\xAD\x00\x00\xE8\x03\xFF\xFF\xFF";
 
 const CASES: [Step; 12] = [
-    // The active mask, and the same again.
+    // A change of the active mask, the same change again, and a refused change.
     Step::Line(
         "14E72680#AD0000D007FFFFFF",
         &["14E68026#ADD00700FFFFFFFF", "14E6FF26#FE80D007FFFF00FF"],
     ),
     Step::Line("14E72680#AD0000D007FFFFFF", &["14E68026#ADD00700FFFFFFFF"]),
     Step::Line("14E72680#AD00009001FFFFFF", &["14E68026#AD900102FFFFFFFF"]),
-    // The soft key mask of the mask that is active, and of another.
+    // A change of the soft key mask of the active mask, and of another mask.
     Step::Line(
         "14E72680#AE01D0079001FFFF",
         &["14E68026#AED007900100FFFF", "14E6FF26#FE80D007900100FF"],
@@ -30,14 +30,14 @@ const CASES: [Step; 12] = [
         &["14E68026#AFD0070200FFFFFF", "14E6FF26#FE80D007FFFF00FF"],
     ),
     Step::Line("14E72680#A7D00705FFFFFFFF", &["14E68026#A7D0070500FFFFFF"]),
-    // Both at once.
+    // A change of both at once.
     Step::Line(
         "14E72680#AD0000E803FFFFFF",
         &["14E68026#ADE80300FFFFFFFF", "14E6FF26#FE80E803900100FF"],
     ),
-    // Another mask and back again in one input.
+    // A change to another mask and back in one input.
     Step::Line("14E72680#BE0100FFFFFFFFFF", &["14E68026#BE010000FFFFFFFF"]),
-    // No active mask, by an update.
+    // An update without an active mask.
     Step::Pieces("80", "0000000001FFFF000000"),
     Step::Line(
         "14E72680#12FFFFFFFFFFFFFF",

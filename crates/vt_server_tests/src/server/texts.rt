@@ -1,4 +1,4 @@
-//! Texts of the operator that go out in packets.
+//! Texts of the operator sent in packets.
 
 use super::script::{Script, Step, expect_scripts};
 use super::*;
@@ -8,7 +8,7 @@ const LONG: &[u8] = b"\x00\x00\x00\x00\x01\xE8\x03\x00\x00\x00\
     \xE8\x03\x01\x00\xFF\xFF\x01\x00\x2D\x01\x00\x00\x00\x00\
     \x2D\x01\x08\x0A\x00\x05\x00\x00\xFF\xFF\xFF\xFF\x00\xFF\xFF\x00\x14                    \x01\x00";
 
-// Twenty bytes: a message of 24, in four packets.
+// A text of twenty bytes: a message of 24 bytes in four packets.
 const ENTERS: Step = Step::Line(
     "! text 301 ABCDEFGHIJKLMNOPQRST",
     &["1CEC8026#10180004FF00E600"],
@@ -24,10 +24,10 @@ const SENT: [Step; 12] = [
         "1CEC2680#110201FFFF00E600",
         &["1CEB8026#01082D0114414243", "1CEB8026#024445464748494A"],
     ),
-    // To wait, whatever the next packet; and a message of another group.
+    // A CTS to wait, whatever its next packet, and a CTS of another parameter group.
     Step::Line("1CEC2680#110009FFFF00E600", &[]),
     Step::Line("1CEC2680#110203FFFF00E700", &[]),
-    // More than there are, and one again.
+    // A CTS for more packets than remain, and for one packet again.
     Step::Line(
         "1CEC2680#110903FFFF00E600",
         &["1CEB8026#034B4C4D4E4F5051", "1CEB8026#04525354FFFFFFFF"],
@@ -42,12 +42,12 @@ const SENT: [Step; 12] = [
 
 const ENDED: [Step; 12] = [
     ENTERS,
-    // A packet before the first, and one behind the last.
+    // A CTS for a packet before the first, and for one after the last.
     Step::Line("1CEC2680#110100FFFF00E600", &["1CEC8026#FF07FFFFFF00E600"]),
     ENTERS,
     Step::Line("1CEC2680#110105FFFF00E600", &["1CEC8026#FF07FFFFFF00E600"]),
     ENTERS,
-    // An abort of another group is one of a receiver, and so is that of another node.
+    // An abort of another parameter group belongs to a receiver, and an abort of another node to another session.
     Step::Line("1CEC2680#FF01FFFFFF00E700", &[]),
     Step::Line("1CEC2681#FF01FFFFFF00E600", &[]),
     IS_BUSY,
@@ -61,7 +61,7 @@ const ENDED: [Step; 12] = [
     ENTERS,
 ];
 
-// The session outlives its set: a later set of the address meets it, until it times out.
+// A session outlives its set. A later set at the address meets it as busy until it times out.
 const AFTER_A_CLAIM: [Step; 11] = [
     Step::Line("18EEFF80#0100000000800020", &[]),
     Step::Line("! text 301 ABCDE", &["1CEC8026#10090002FF00E600"]),
@@ -85,7 +85,7 @@ const AFTER_A_CLAIM: [Step; 11] = [
     Step::Line("! text 301 ABCDE", &["1CEC8026#10090002FF00E600"]),
 ];
 
-// Before the first frame the time is 0, so that the session is over by the first.
+// Before the first frame the time is 0, so the session times out at the first frame.
 const BEFORE_THE_FIRST: [Step; 3] = [
     Step::Line("! text 301 ABCDE", &["1CEC8026#10090002FF00E600"]),
     Step::Line(

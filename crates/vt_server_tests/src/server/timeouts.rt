@@ -1,4 +1,4 @@
-//! What the time of a line ends: sessions, and sets.
+//! Timeouts of sessions and closings of silent sets by the time of a line.
 
 use super::script::{Script, Step, expect_scripts};
 use super::*;
@@ -12,13 +12,13 @@ const SILENT: [Step; 8] = [
     Step::Line("(4.000000) can0 18FFFF80#", &[]),
     Step::Line("(7.000000) can0 18FFFF55#00", &[]),
     Step::Line("! set 80", &[]),
-    // The frame that comes too late is not heard.
+    // The late frame of a closed set is ignored.
     Step::Line("(7.000001) can0 14E72680#A0640000FFFFFFFF", &[CLOSED]),
     Step::Screen("screen none\n"),
     Step::Line("! set 80", &["9"]),
 ];
 
-// The silence of a preloaded set begins with the first frame, whatever its time, and no line of the operator is one.
+// The silence of a preloaded set begins with the first frame, whatever its time, but not with an operator line.
 const PRELOADED: [Step; 6] = [
     Step::Line("! press 1", &["1"]),
     Step::Line("! set 80", &[]),
@@ -28,7 +28,8 @@ const PRELOADED: [Step; 6] = [
     Step::Line("(103.000001) can0 18FFFF55#00", &[CLOSED]),
 ];
 
-// That of another set with its registration; the frames of its address count, of whatever group, and to anyone.
+// The silence of a registered set begins with its registration. All frames of its address count, of any parameter group and to
+// any address.
 const REGISTERED: [Step; 8] = [
     Step::Line("(50.000000) can0 18EEFF81#0200000000800020", &[]),
     Step::Line("(51.000000) can0 18FE0D81#01FFFFFFFFFFFFFF", &[]),
@@ -43,8 +44,8 @@ const REGISTERED: [Step; 8] = [
     Step::Line("(60.000001) can0 14E72681#C2", &[]),
 ];
 
-// A second and a quarter without a packet, and one microsecond more. A packet that comes later has no session, and
-// a request a new one.
+// A second and a quarter without a packet, and one microsecond more. A later packet has no session, and a later request opens a
+// new one.
 const SESSIONS: [Step; 9] = [
     Step::Line("1CEC2680#10090002FF00E700", &["1CEC8026#110201FFFF00E700"]),
     Step::Line("(2.250000) can0 1CEB2680#01B4E8036400FFFF", &[]),
@@ -61,7 +62,7 @@ const SESSIONS: [Step; 9] = [
         "(4.750002) can0 1CEC2680#10090002FF00E700",
         &["1CEC8026#FF03FFFFFF00E700", "1CEC8026#110201FFFF00E700"],
     ),
-    // An earlier time counts as the latest.
+    // An earlier time counts as the latest time.
     Step::Line("(1.000000) can0 1CEB2680#01B4E8036400FFFF", &[]),
     Step::Line("(6.000002) can0 18FFFF55#00", &[]),
     Step::Line(
@@ -75,7 +76,7 @@ const WITH_INPUT: &[u8] = b"\x00\x00\x00\x00\x01\xE8\x03\x00\x00\x00\
     \xE8\x03\x01\x00\xFF\xFF\x01\x00\x2D\x01\x00\x00\x00\x00\
     \x2D\x01\x08\x0A\x00\x05\x00\x00\xFF\xFF\xFF\xFF\x00\xFF\xFF\x00\x08        \x01\x00";
 
-// Receivers of TP by their source, receivers of ETP, senders; and then the sets, and the frame.
+// The order of timeouts: TP receivers by source, ETP receivers, senders; then silent sets, and then the frame.
 const IN_ORDER: [Step; 8] = [
     Step::Line("18EEFF81#0200000000800020", &[]),
     Step::Line("18FE0D81#01FFFFFFFFFFFFFF", &[]),
@@ -99,7 +100,7 @@ const IN_ORDER: [Step; 8] = [
 
 const SHOWN: Step = Step::Screen("screen 80 mask 1000\ncontainer 100 10 5 50x20\n");
 
-// The loss of the address ends all: neither a packet, nor an action, nor time has an answer, and the screen stays.
+// The loss of the address ends all: no packet, action or time has an answer any more, and the screen is unchanged.
 const LOST: [Step; 9] = [
     Step::Line("1CEC2680#10090002FF00E700", &["1CEC8026#110201FFFF00E700"]),
     Step::Line("1CEB2680#01B4E8036400FFFF", &[]),
@@ -112,7 +113,7 @@ const LOST: [Step; 9] = [
     SHOWN,
 ];
 
-// What its own time ends is ended before it; then the set that was shown is shown no more, without a status.
+// Timeouts and closings by the time of the loss come before it. A shown set closed then is not shown any more, without a status.
 const LOST_LATE: [Step; 3] = [
     Step::Line("1CEC2680#10090002FF00E700", &["1CEC8026#110201FFFF00E700"]),
     Step::Line(

@@ -1,4 +1,4 @@
-//! Messages that come in packets.
+//! Messages received in packets.
 
 use super::{Case, Said};
 
@@ -14,11 +14,11 @@ const TP_END: &str = "1CEC8026#13090002FF00E700";
 
 const REPLY: &str = "14E68026#B4E803640000FFFF";
 
-// Sessions with a set that has a pool, at 80, and with a node that is no master, at 81.
+// Sessions with the master of a set with a pool, at 80, and with a node without a set, at 81.
 pub(super) const CASES: [Said; 8] = [
-    // Change Child Position by TP: its end goes out before its reply.
+    // Change Child Position by TP: the end of the session is sent before the reply.
     (&[TP_RTS, TP_FIRST, TP_LAST], &[TP_CTS, TP_END, REPLY]),
-    // By ETP.
+    // Change Child Position by ETP.
     (
         &[
             "1CC82680#140900000000E700",
@@ -32,23 +32,23 @@ pub(super) const CASES: [Said; 8] = [
             REPLY,
         ],
     ),
-    // A packet out of its turn, and then one without a session.
+    // A packet out of order, and then a packet without a session.
     (
         &[TP_RTS, TP_LAST, TP_FIRST],
         &[TP_CTS, "1CEC8026#FF07FFFFFF00E700"],
     ),
-    // An abort from the implement, and one of the terminal's own group, which is a sender's.
+    // An abort from the implement, and an abort of the terminal's own parameter group, which concerns a sender.
     (&[TP_RTS, "1CEC2680#FF01FFFFFF00E700", TP_FIRST], &[TP_CTS]),
     (
         &[TP_RTS, "1CEC2680#FF01FFFFFF00E600", TP_FIRST, TP_LAST],
         &[TP_CTS, TP_END, REPLY],
     ),
-    // A message of another group is dropped.
+    // A message of another parameter group is dropped.
     (
         &["1CEC2680#10090002FF00E800", TP_FIRST, TP_LAST],
         &["1CEC8026#110201FFFF00E800", "1CEC8026#13090002FF00E800"],
     ),
-    // So is one of a node that is no master, beside the session of another.
+    // A message of a node without a set is dropped, beside the session of another node.
     (
         &[
             TP_RTS,
@@ -66,7 +66,7 @@ pub(super) const CASES: [Said; 8] = [
             REPLY,
         ],
     ),
-    // Nothing comes of what is short, of what another node is to hear, and of echoes.
+    // Short frames, frames to another node, and echoes are ignored.
     (
         &[
             "1CEC2680#10090002FF00E7",
@@ -79,7 +79,7 @@ pub(super) const CASES: [Said; 8] = [
     ),
 ];
 
-// A claim between the packets takes the address of the set: the session stays, and its message has no reply.
+// A claim between the packets closes the set: the session continues, but its message has no reply.
 pub(super) const CLAIMED: [Case; 1] = [Case {
     preloaded: true,
     heard: &[

@@ -11,7 +11,7 @@ const WITH_CONTAINER: Step = Step::Screen("screen 80 mask 1000\ncontainer 100 10
 
 const WITHOUT_CONTAINER: Step = Step::Screen("screen 80 mask 1000\n");
 
-// Number Variable 200 joins the pool as it is now: the container stays hidden.
+// Number Variable 200 is added to the present pool: the container stays hidden.
 const JOINED: [Step; 7] = [
     WITH_CONTAINER,
     Step::Line("14E72680#A0640000FFFFFFFF", &["14E68026#A064000000FFFFFF"]),
@@ -22,7 +22,7 @@ const JOINED: [Step; 7] = [
     Step::Line("14E72680#A8C800FF09000000", &["14E68026#A8C8000009000000"]),
 ];
 
-// A record replaces the object of its ID, whatever commands have made of it.
+// A record replaces the object of its ID, also after commands changed the object.
 const REPLACED: [Step; 5] = [
     Step::Line("14E72680#A0640000FFFFFFFF", &["14E68026#A064000000FFFFFF"]),
     Step::Pieces("80", "64000301000200000000"),
@@ -31,7 +31,7 @@ const REPLACED: [Step; 5] = [
     Step::Line("14E72680#A0640001FFFFFFFF", &["14E68026#A064000100FFFFFF"]),
 ];
 
-// Refused, the pool stays as it was, and the transfer is empty: an empty one is accepted, and changes nothing.
+// After a refused update the pool is unchanged and the upload is empty. An empty update is accepted and changes nothing.
 const REFUSED: [Step; 14] = [
     Step::Line("14E72680#A0640000FFFFFFFF", &["14E68026#A064000000FFFFFF"]),
     Step::Pieces("80", "64001500000000"),
@@ -49,7 +49,7 @@ const REFUSED: [Step; 14] = [
     WITH_CONTAINER,
 ];
 
-// The working set's record brings another active mask: its status follows the reply.
+// A new record of the working set has another active mask: the status follows the reply.
 const OF_THE_ACTIVE_MASK: [Step; 6] = [
     Step::Pieces("80", "0000000001D007000000"),
     Step::Pieces("80", "D0070100FFFF0000"),
@@ -59,7 +59,7 @@ const OF_THE_ACTIVE_MASK: [Step; 6] = [
     Step::Screen("screen 80 mask 2000\n"),
 ];
 
-// A deleted pool is not updated: what is uploaded then has to be whole.
+// A deleted pool is not updated: the next upload has to be a whole pool.
 const AFTER_A_DELETION: [Step; 4] = [
     Step::Pieces("80", "C8001507000000"),
     Step::Line(
@@ -70,7 +70,7 @@ const AFTER_A_DELETION: [Step; 4] = [
     Step::Line(ENDS, &["14E68026#1201FFFFFFFF04FF"]),
 ];
 
-// What was uploaded is merged no second time: the container stays hidden.
+// An uploaded pool is merged only once: the container stays hidden.
 const OF_AN_UPLOAD: [Step; 8] = [
     Step::Line("18EEFF80#0100000000800020", &[]),
     Step::Line("18FE0D80#01FFFFFFFFFFFFFF", &[]),

@@ -1,4 +1,4 @@
-//! What the end of an upload is answered.
+//! The reply to the end of an upload.
 
 use super::script::{Script, Step, expect_scripts};
 use super::*;
@@ -15,11 +15,11 @@ const IS_MASTER: Step = Step::Line("18FE0D80#01FFFFFFFFFFFFFF", &[]);
 
 const ENDS: &str = "14E72680#12FFFFFFFFFFFFFF";
 
-// Uploads of a set without a pool. Each is refused with its reply, and leaves nothing to the next one.
+// Uploads of a set without a pool. Each is refused with its reply, and the next upload starts empty.
 const REFUSED: [Step; 27] = [
     CLAIMS,
     IS_MASTER,
-    // No pool: cut, of a type that there is not or that is left out, of a NULL ID, of another scale, of eight decimals.
+    // Bytes that are no pool: cut, of an unknown or unsupported type, with a NULL ID, another scale, or eight decimals.
     Step::Upload(&["0100"], &["14E68026#1201FFFFFFFF04FF"]),
     Step::Upload(
         &[WORKING_SET, MASK, "640003"],
@@ -37,16 +37,16 @@ const REFUSED: [Step; 27] = [
         &["01000C0000000000FFFF00FFFF00000000000000000000803F08000000"],
         &["14E68026#1201FFFFFFFF04FF"],
     ),
-    // The first faulty record is named.
+    // The reply is for the first faulty record.
     Step::Upload(&["010022", "FFFF15"], &["14E68026#1201FFFFFFFF01FF"]),
-    // No working set, and two.
+    // A pool without a working set, and one with two.
     Step::Upload(&[], &["14E68026#1201FFFFFFFF04FF"]),
     Step::Upload(&["01001500000000"], &["14E68026#1201FFFFFFFF04FF"]),
     Step::Upload(
         &[WORKING_SET, MASK, CONTAINER, "0100000000FFFF000000"],
         &["14E68026#1201FFFFFFFF04FF"],
     ),
-    // An object that is not there, NULL where an object has to be, and one of another kind.
+    // An absent object, NULL where an object is required, and an object of another kind.
     Step::Upload(&[WORKING_SET, MASK], &["14E68026#1201E803640002FF"]),
     Step::Upload(
         &[WORKING_SET, "E8030100FFFF0100FFFF0A000500"],
@@ -56,12 +56,12 @@ const REFUSED: [Step; 27] = [
         &[WORKING_SET, MASK, "64001500000000"],
         &["14E68026#1201E803640004FF"],
     ),
-    // A container in itself.
+    // A container that contains itself.
     Step::Upload(
         &[WORKING_SET, MASK, "64000332001400000100640000000000"],
         &["14E68026#1201FFFFFFFF04FF"],
     ),
-    // A macro that ends inside a command, and one with a command that macros do not have.
+    // A macro that ends inside a command, and a macro with a command not allowed in macros.
     Step::Upload(
         &[WORKING_SET, MASK, CONTAINER, "01001C0200A432"],
         &["14E68026#1201FFFF010004FF"],
@@ -70,7 +70,7 @@ const REFUSED: [Step; 27] = [
         &[WORKING_SET, MASK, CONTAINER, "01001C0800A2FFFFFFFFFFFFFF"],
         &["14E68026#1201FFFF010004FF"],
     ),
-    // A macro, and an object of a macro's command, that are not there, or of another kind.
+    // A macro, or an object of a macro's command, that is absent or of another kind.
     Step::Upload(
         &[WORKING_SET, MASK, "640003320014000000010309"],
         &["14E68026#12016400090002FF"],
@@ -87,7 +87,7 @@ const REFUSED: [Step; 27] = [
         &[WORKING_SET, MASK, CONTAINER, "01001C0800A0E80301FFFFFFFF"],
         &["14E68026#12010100E80304FF"],
     ),
-    // An attribute that a container does not have.
+    // A macro that changes an attribute that a container does not have.
     Step::Upload(
         &[WORKING_SET, MASK, CONTAINER, "01001C0800AF64000900000000"],
         &["14E68026#1201FFFF010004FF"],
@@ -112,8 +112,8 @@ const TAKEN: &[&str] = &["14E68026#1200FFFFFFFF00FF", "14E6FF26#FE80E803FFFF00FF
 const COSTLIEST: &str =
     "01001C2000BE0200FFFFFFFFFFBE0200FFFFFFFFFFBE0200FFFFFFFFFFBE0200FFFFFFFFFF";
 
-// Each of these macros but the last executes the next four times: the first costs 349,524 steps, so that macro 1
-// would cost 1,398,100.
+// Each of these macros except the last executes the next one four times. The first costs 349,524 steps, so that macro 1 would
+// cost 1,398,100.
 const COSTLY: &str = "02001C2000BE0300FFFFFFFFFFBE0300FFFFFFFFFFBE0300FFFFFFFFFFBE0300FFFFFFFFFF\
     03001C2000BE0400FFFFFFFFFFBE0400FFFFFFFFFFBE0400FFFFFFFFFFBE0400FFFFFFFFFF\
     04001C2000BE0500FFFFFFFFFFBE0500FFFFFFFFFFBE0500FFFFFFFFFFBE0500FFFFFFFFFF\
@@ -125,7 +125,7 @@ const COSTLY: &str = "02001C2000BE0300FFFFFFFFFFBE0300FFFFFFFFFFBE0300FFFFFFFFFF
     0A001C2000BE0B00FFFFFFFFFFBE0B00FFFFFFFFFFBE0B00FFFFFFFFFFBE0B00FFFFFFFFFF\
     0B001C0000";
 
-// Without the macro that costs most it is accepted.
+// The pool is accepted without the macro that costs most.
 const OVER_ITS_BUDGET: [Step; 12] = [
     CLAIMS,
     IS_MASTER,
@@ -149,7 +149,7 @@ const ACCEPTED: [Step; 5] = [
     Step::Screen("screen 80 mask 1000\ncontainer 100 10 5 50x20\n"),
 ];
 
-// Neither a node that is no master uploads a pool, nor a member.
+// A node without a set, and a member, cannot upload a pool.
 const NOT_HEARD: [Step; 9] = [
     CLAIMS,
     Step::Line("18EEFF81#0200000000800020", &[]),

@@ -1,14 +1,14 @@
-//! Calls that are refused memory: each leaves what was there, and made again it answers as if it had not been refused.
+//! Calls that are refused memory: each leaves the terminal unchanged, and repeated it answers as if memory had not been refused.
 
 use super::*;
 
 const LINES: [&[u8]; 26] = [
-    // A set of two registers.
+    // A set of two members registers.
     b"(1.000000) can0 18EEFF80#0100000000800020",
     b"(1.000000) can0 18FE0D80#02FFFFFFFFFFFFFF",
     b"(1.000000) can0 18EEFF82#0200000000800020",
     b"(1.000000) can0 18FE0C80#0200000000800020",
-    // It uploads its pool.
+    // The set uploads its pool.
     b"(1.000000) can0 14E72680#110000000001E803",
     b"(1.000000) can0 14E72680#11000000E8030100",
     b"(1.000000) can0 14E72680#11FFFF020064000A",
@@ -20,23 +20,23 @@ const LINES: [&[u8]; 26] = [
     b"(1.000000) can0 14E72680#1108202020202020",
     b"(1.000000) can0 14E72680#1120200100",
     b"(1.000000) can0 14E72680#12FFFFFFFFFFFFFF",
-    // A command, one in packets, and a request of the other protocol by another node.
+    // A command, a command in packets, and an RTS of the extended protocol from another node.
     b"(1.000000) can0 14E72680#A0640000FFFFFFFF",
     b"(1.000000) can0 1CEC2680#10090002FF00E700",
     b"(1.000000) can0 1CEB2680#01B4E8036400FFFF",
     b"(1.000000) can0 1CEB2680#020500FFFFFFFFFF",
     b"(1.000000) can0 1CC82682#140900000000E700",
-    // The operator's text goes out in packets, another one has to wait, and an input is selected.
+    // A text of the operator is sent in packets, a second text is refused as busy, and an input is selected.
     b"! text 301 ABCDEFGH",
     b"! text 301 ABCDEFGH",
     b"! select 301",
-    // An update.
+    // The set updates its pool.
     b"(1.000000) can0 14E72680#1164000332001400",
     b"(1.000000) can0 14E72680#11000000",
     b"(1.000000) can0 14E72680#12FFFFFFFFFFFFFF",
 ];
 
-// What is sent for all of them, and what is shown then.
+// The outputs for all lines.
 const SENT: [&str; 10] = [
     "14E68026#1200FFFFFFFF00FF",
     "14E6FF26#FE80E803FFFF00FF",
@@ -60,7 +60,7 @@ fn input_in(line: &[u8]) -> Result<Input<'_>, Fail> {
     }
 }
 
-// What a terminal tells of the set at 80: that it is registered, that it has a pool, and that it is shown.
+// Whether the set at 80 is registered, has a pool, and is shown.
 fn told_of_set(terminal: &Terminal) -> [bool; 3] {
     [
         terminal.registered(0x80),
@@ -69,7 +69,7 @@ fn told_of_set(terminal: &Terminal) -> [bool; 3] {
     ]
 }
 
-// Takes the lines by steps.
+// Takes the lines step by step.
 fn step_through(
     rt: &(impl Abort + AllocGlobal),
     terminal: &mut Terminal,
@@ -89,7 +89,7 @@ fn step_through(
     Ok(())
 }
 
-// Room for the inputs of all lines.
+// An empty vector with capacity for the inputs of all lines.
 fn room<'a>(alloc: Global) -> Result<Vec<Input<'a>>, OutOfMemory> {
     match Vec::with_capacity(alloc, LINES.len()) {
         Ok(room) => Ok(room),
@@ -97,7 +97,7 @@ fn room<'a>(alloc: Global) -> Result<Vec<Input<'a>>, OutOfMemory> {
     }
 }
 
-// Takes the lines by runs of two inputs.
+// Takes the lines in runs of two inputs.
 fn run_through(
     rt: &(impl Abort + AllocGlobal),
     terminal: &mut Terminal,
@@ -114,7 +114,7 @@ fn run_through(
     Ok(())
 }
 
-// Takes all lines, in runs or by steps.
+// Takes all lines, in runs or step by step.
 fn expect_lines(rt: &(impl Abort + AllocGlobal), in_runs: bool) -> Result<(), Fail> {
     let mut terminal = started(rt, None)?;
     take_lines(rt, &mut terminal, in_runs)
@@ -135,7 +135,7 @@ fn take_lines(
     script::expect_screen(rt, terminal, SCREEN)
 }
 
-// Preloads the pool at 80, in a new terminal.
+// Preloads the pool at 80 in a new terminal.
 fn expect_preloaded(rt: &(impl Abort + AllocGlobal)) -> Result<(), Fail> {
     let accepted = match accepted_pool(rt.alloc(), POOL) {
         Ok(accepted) => accepted,

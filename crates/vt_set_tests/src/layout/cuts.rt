@@ -1,4 +1,4 @@
-//! Screens with too many lines.
+//! Screens with more elements than lines.
 
 use super::{live_of, screen_of};
 use std::alloc::{AllocError, Global};
@@ -15,7 +15,7 @@ const KEYS: &[u8] = &[0xD0, 7, 4, 0, 1, 0, 10, 0, 10, 0, 5, 0, 1, 0, 0];
 /// A Line.
 const LINE: &[u8] = &[11, 0, 13, 0xFF, 0xFF, 1, 0, 1, 0, 0, 0];
 
-/// Appends so many entries of an object.
+/// Appends `count` entries of an object.
 fn put_entries(bytes: &mut Vec<u8>, id: u8, count: u8) -> Result<(), AllocError> {
     for _ in 0..count {
         bytes.extend_from_slice(&[id, 0, 0, 0, 0, 0])?;
@@ -23,7 +23,7 @@ fn put_entries(bytes: &mut Vec<u8>, id: u8, count: u8) -> Result<(), AllocError>
     Ok(())
 }
 
-/// A mask that shows a Container with 250 Lines seven times, so many Lines more, and a Key or none.
+/// A mask that shows a Container with 250 Lines seven times, `lines` Lines more, and a Key if `keys` is set.
 pub(super) fn pool(alloc: Global, lines: u8, keys: bool) -> Result<Vec<u8>, AllocError> {
     let mut bytes = Vec::from_slice(alloc, SET)?;
     let (low, high) = if keys { (0xD0, 7) } else { (0xFF, 0xFF) };
@@ -37,7 +37,7 @@ pub(super) fn pool(alloc: Global, lines: u8, keys: bool) -> Result<Vec<u8>, Allo
     Ok(bytes)
 }
 
-/// Containers from 101 to 115, of which each but the last shows the next one 255 times.
+/// Containers from 101 to 115: each but the last shows the next one 255 times.
 fn deep(alloc: Global) -> Result<Vec<u8>, AllocError> {
     let mut bytes = Vec::from_slice(alloc, SET)?;
     bytes.extend_from_slice(&[0xE8, 3, 1, 0, 0xFF, 0xFF, 1, 0])?;
@@ -50,7 +50,7 @@ fn deep(alloc: Global) -> Result<Vec<u8>, AllocError> {
     Ok(bytes)
 }
 
-/// How many lines a text has, and whether its last one says that there are more.
+/// The number of lines of a text, and whether its last line is `more`.
 fn ends(text: &[u8]) -> (usize, bool) {
     let mut lines = 0_usize;
     for byte in text {
@@ -61,8 +61,8 @@ fn ends(text: &[u8]) -> (usize, bool) {
     (lines, text.ends_with(b"\nmore\n"))
 }
 
-/// How many Lines a mask shows beside those in Containers, whether it has a Key, how many lines its screen has, and whether the
-/// last one says that there are more.
+/// The number of Lines that a mask shows outside Containers, whether it has a Key, the number of lines of its screen, and
+/// whether the last one is `more`.
 const ROWS: &[(u8, bool, usize, bool)] = &[
     (242, false, 2000, false),
     (243, false, 2001, false),
@@ -88,7 +88,7 @@ fn more_paths_than_can_be_walked(rt: HostRuntime) -> Result<(), Fail> {
     Ok(())
 }
 
-// What is not there is looked for in all that is shown, and each object is looked at once.
+// The search for a missing object looks at each shown object once.
 #[test]
 fn a_search_of_more_paths_than_can_be_walked(rt: HostRuntime) -> Result<(), Fail> {
     let mut live = live_of(rt.alloc(), &deep(rt.alloc())?)?;

@@ -3,7 +3,7 @@
 use super::screen_of;
 use std::test::Fail;
 
-/// One object of each kind that is drawn, and others where a variable or a pointer makes a difference.
+/// One object of each drawn kind, and others with variables and pointers.
 const KINDS: &[u8] = &[
     0, 0, 0, 1, 1, 0xE8, 3, 1, 0, 0, 13, 0, 10, 0, 0xEC, 0xFF, // Working Set
     0xE8, 3, 1, 0, 0xD0, 7, 22, 0, 0, 0, 1, 0, 2, 0, 3, 0, 0xFB, 0xFF, 44, 1, //
@@ -136,7 +136,7 @@ list 10 -32768 -32768 0
 line 30 -32768 -32768 1x1 0
 ";
 
-/// Sums past 16 bits, hidden containers, and pointers, in an Alarm Mask and below a Key.
+/// Sums beyond 16 bits, hidden containers, and pointers, in an Alarm Mask and below a Key.
 const PATHS: &[u8] = &[
     0, 0, 0, 1, 1, 0xE8, 3, 0, 0, 0, // Working Set
     0xE8, 3, 2, 0, 0xD0, 7, 1, 0, 5, 0, 10, 0, 0, 128, 0xFF, 127, 20, 0, 1, 0, //
@@ -165,7 +165,7 @@ container 11 -1 -2 2x2
 line 12 -32769 32765 0x0 0
 ";
 
-/// Output Numbers that are rounded away from zero, and to zero, and the longest one.
+/// Output Numbers rounded away from zero and to zero, and the longest one.
 const NUMBERS: &[u8] = &[
     0, 0, 0, 1, 1, 0xE8, 3, 0, 0, 0, // Working Set
     0xE8, 3, 1, 0, 0xFF, 0xFF, 4, 0, 10, 0, 0, 0, 0, 0, 11, 0, 0, 0, 0, 0, //
@@ -187,7 +187,7 @@ value 12 0 0 0.00
 value 13 0 0 -2147483648.0000000
 ";
 
-/// Texts with bytes that are escaped, and longer ones than are shown.
+/// Texts with escaped bytes, and texts longer than a line shows.
 const TEXTS: &[u8] = &[
     0, 0, 0, 1, 1, 0xE8, 3, 0, 0, 0, // Working Set
     0xE8, 3, 1, 0, 0xFF, 0xFF, 4, 0, 10, 0, 0, 0, 0, 0, 11, 0, 0, 0, 0, 0, //

@@ -1,4 +1,4 @@
-//! A drawing that is refused memory leaves what was there, and may be made again.
+//! A drawing that is refused memory leaves its output unchanged, and succeeds when repeated.
 
 use super::cuts::pool;
 use super::live_of;
@@ -9,7 +9,7 @@ use vt_layout::draw;
 use vt_machine::Live;
 use vt_objects::SortedStore;
 
-/// What a call answers, made again where it was refused.
+/// Makes a call, and repeats it if memory is refused.
 macro_rules! again {
     ($call:expr) => {
         match $call {
@@ -27,7 +27,7 @@ const CONTAINER: &[u8] = b"container 12 0 0 9x9\n";
 
 const LINE: &[u8] = b"line 11 0 0 1x1 0\n";
 
-/// Draws the screen behind what is there.
+/// Appends the screen to a text, and repeats the drawing if memory is refused.
 fn draw_again(
     rt: &(impl Abort + AllocGlobal),
     live: &Live<SortedStore>,
@@ -41,7 +41,7 @@ fn draw_again(
     draw(rt.alloc(), 0x80, live, out)
 }
 
-/// The rest of a text behind so many times a part.
+/// Removes `count` copies of a part from the front of a text; `None` if there are fewer.
 fn behind<'a>(text: &'a [u8], part: &[u8], count: u8) -> Option<&'a [u8]> {
     let mut rest = text;
     for _ in 0..count {
@@ -50,7 +50,7 @@ fn behind<'a>(text: &'a [u8], part: &[u8], count: u8) -> Option<&'a [u8]> {
     Some(rest)
 }
 
-/// Whether a Container with 250 Lines is drawn seven times.
+/// Whether a text has a Container with 250 Lines seven times.
 fn is_drawn(text: &[u8]) -> Option<bool> {
     let mut rest = behind(behind(text, BEFORE, 1)?, HEADING, 1)?;
     for _ in 0..7u8 {

@@ -1,4 +1,4 @@
-//! Change Attribute: what each attribute of each kind writes, and what it refuses.
+//! Change Attribute on each attribute of each kind: the written bytes, and the refusals.
 
 use super::records::*;
 use super::{Row, hold, holds};
@@ -6,15 +6,15 @@ use std::alloc::Global;
 use std::test::Fail;
 use vt_objects::Kind;
 
-/// A value of which each byte is another one, and the bytes of the scale 0.1.
+/// A value with four different bytes, and the bytes of the scale 0.1.
 const VALUE: [u8; 4] = [1, 2, 3, 4];
 
 const SCALE: [u8; 4] = [0xCD, 0xCC, 0xCC, 0x3D];
 
 const TWO: [u8; 4] = [2, 0xFF, 0xFF, 0xFF];
 
-/// An attribute: its number, the value written, where its field begins in the record, how many bytes it has, and of which kind
-/// the object is that the value names.
+/// An attribute: its number, the written value, the offset of its field in the record, the number of bytes of the field,
+/// and the kind of the object whose ID is the value.
 type Attribute = (u8, [u8; 4], usize, usize, Option<Kind>);
 
 const MASKS: &[(&[u8], &[Attribute])] = &[
@@ -272,7 +272,7 @@ const OTHERS: &[(&[u8], &[Attribute])] = &[
     (OBJECT_POINTER, &[(1, VALUE, 3, 2, Some(Kind::Macro))]),
 ];
 
-/// Whether each attribute of each of the objects is written.
+/// Whether Change Attribute writes each attribute of each of the objects.
 fn are_written(alloc: Global, objects: &[(&[u8], &[Attribute])]) -> Result<bool, Fail> {
     for (record, attributes) in objects {
         for (number, value, place, count, named) in *attributes {
@@ -302,12 +302,12 @@ fn each_attribute(rt: HostRuntime) -> Result<(), Fail> {
 }
 
 const REFUSED: &[Row<'static>] = &[
-    // no attribute of the kind
+    // numbers that are no attribute of the kind
     (CONTAINER, &[0xAF, 100, 0, 0, 0, 0, 0, 0], None, 2, &[]),
     (CONTAINER, &[0xAF, 100, 0, 3, 0, 0, 0, 0], None, 2, &[]),
     (INPUT_LIST, &[0xAF, 100, 0, 4, 0, 0, 0, 0], None, 2, &[]),
     (ALARM_MASK, &[0xAF, 100, 0, 255, 0, 0, 0, 0], None, 2, &[]),
-    // no kind with attributes
+    // a kind without attributes
     (
         NUMBER_VARIABLE,
         &[0xAF, 100, 0, 1, 0, 0, 0, 0],
@@ -323,7 +323,7 @@ const REFUSED: &[Row<'static>] = &[
         &[],
     ),
     (MACRO, &[0xAF, 100, 0, 1, 0, 0, 0, 0], None, 1, &[]),
-    // no value of the attribute
+    // values that the attribute does not accept
     (
         DATA_MASK,
         &[0xAF, 100, 0, 2, 7, 0, 0, 0],

@@ -1,4 +1,4 @@
-//! Change Child Location and Change Child Position.
+//! Tests of Change Child Location and Change Child Position.
 
 use super::records::*;
 use super::{Row, hold};
@@ -14,7 +14,7 @@ const PARENT: &[u8] = &[
 const LINE_CHILD: Option<Kind> = Some(Kind::Line);
 
 const CHILDREN: &[Row<'static>] = &[
-    // every entry of the child, by 7 and -127
+    // every entry of the child moves by 7 and -127
     (
         PARENT,
         &[0xA5, 100, 0, 7, 0, 134, 0, 0],
@@ -22,7 +22,7 @@ const CHILDREN: &[Row<'static>] = &[
         0,
         &[(12, 17), (14, 0x80), (24, 0xFF), (26, 0x81), (27, 0xFF)],
     ),
-    // one entry leaves the positions that there are, so none is moved
+    // one entry would leave the range of positions, so that none is moved
     (
         PARENT,
         &[0xA5, 100, 0, 7, 0, 135, 0, 0],
@@ -40,7 +40,7 @@ const CHILDREN: &[Row<'static>] = &[
         1,
         &[],
     ),
-    // to 1 and -2
+    // every entry of the child moves to 1 and -2
     (
         PARENT,
         &[0xB4, 100, 0, 7, 0, 1, 0, 0xFE, 0xFF],

@@ -1,4 +1,4 @@
-//! The index of the macros of a pool.
+//! Tests of the index of a pool's macros.
 
 use std::alloc::Global;
 use std::test::Fail;
@@ -12,8 +12,8 @@ const NO_MACROS: &[u8] = &[
     3, 50, 0, 20, 0, 0, 0, 0,
 ];
 
-/// The font 50 lists the macros 2, 1 and 2 at event 11, and macro 1 at 40, which is no event; the font 51 lists none.
-/// The Output String 60 is there for macro 2. Macro 256 cannot be named.
+/// The Font 50 lists the macros 2, 1 and 2 at event 11, and macro 1 at event 40, which does not exist; the Font 51 lists
+/// none. The Output String 60 is the object of macro 2. Macro 256 cannot be listed.
 const MACROS: &[u8] = &[
     50, 0, 23, 0, 0, 0, 0, 4, 11, 2, 11, 1, 40, 1, 11, 2, // Font
     51, 0, 23, 0, 0, 0, 0, 0, // Font
@@ -53,7 +53,7 @@ fn number(command: &Command<'_>) -> u8 {
     }
 }
 
-/// Whether a macro has commands of these numbers.
+/// Whether the commands of a macro have these numbers.
 fn has(index: &Index, id: u8, numbers: &[u8]) -> bool {
     let pieces = index.pieces(id);
     if pieces.len() != numbers.len() {

@@ -1,4 +1,4 @@
-//! Commands and events on the object pool of a working set.
+//! Commands and events on a running working set.
 
 use std::alloc::{AllocError, Global};
 use std::test::Fail;
@@ -12,7 +12,7 @@ const SET: &[u8] = &[
     0, 0, 0, 0, 1, 0xE8, 3, 0, 0, 0, 0xE8, 3, 1, 0, 0xFF, 0xFF, 1, 0, 100, 0, 10, 0, 5, 0,
 ];
 
-/// The Container 100, which runs macro 3 where it is shown and macro 4 where it is hidden. The macros 1 and 2 change the font 261,
+/// The Container 100, which runs macro 3 when shown and macro 4 when hidden. The macros 1 and 2 change the Font 261,
 /// which runs macro 3.
 const SHARED: &[u8] = &[
     100, 0, 3, 50, 0, 20, 0, 0, 0, 2, 3, 1, 4, 2, // Container
@@ -35,8 +35,8 @@ const TEXT: &[u8] = &[
     b'a', b'b', b'c', b'd', b'e', b'f', b'g', b'h', 0, //
 ];
 
-/// The Container 100, which runs macro 1 where it is shown and macro 2 twice where it is hidden. Macro 1 shows the Data Mask 1001
-/// twice; the mask runs macro 2 where it is shown. Macro 2 has two commands, and the first is refused.
+/// The Container 100, which runs macro 1 when shown and macro 2 twice when hidden. Macro 1 shows the Data Mask 1001
+/// twice; the mask runs macro 2 when shown. Macro 2 has two commands, and the first is refused.
 const MASKS: &[u8] = &[
     0xE9, 3, 1, 0, 0xFF, 0xFF, 0, 1, 3, 2, // Data Mask
     100, 0, 3, 50, 0, 20, 0, 0, 0, 3, 3, 1, 4, 2, 4, 2, // Container
@@ -60,17 +60,17 @@ fn live<S: Store>(alloc: Global, set: &[u8], more: &[u8]) -> Result<Live<S>, Fai
     Ok(live)
 }
 
-/// What is done to a working set: a command, or an event of an object.
+/// An act on a working set: a command, or an event of an object.
 #[derive(Clone, Copy)]
 enum Act {
     Command(&'static [u8]),
     Event(u16, u8),
 }
 
-/// An act, and what it comes to: so many steps, or an error byte.
+/// An act, and its result: a number of steps, or an error byte.
 type Row = (Act, u32, u8);
 
-/// Commands on the pool with the container that runs macros.
+/// Commands on the pool with the Container that runs macros.
 const SHARED_ROWS: &[Row] = &[
     (
         Act::Command(&[0xA0, 100, 0, 1, 0xFF, 0xFF, 0xFF, 0xFF]),
@@ -126,7 +126,7 @@ const MASKS_ROWS: &[Row] = &[
     (Act::Command(&[0xAD, 0, 0, 100, 0, 0xFF, 0xFF, 0xFF]), 0, 2),
 ];
 
-/// Commands that would make a circle of inclusions, and one that would not.
+/// Commands that would make a circle of inclusions, and one that does not.
 const CIRCLE_ROWS: &[Row] = &[
     (Act::Command(&[0xA8, 200, 0, 0xFF, 100, 0, 0, 0]), 0, 2),
     (Act::Command(&[0xAF, 200, 0, 1, 100, 0, 0, 0]), 0, 4),
@@ -147,7 +147,7 @@ const TEXT_ROWS: &[Row] = &[
     ),
 ];
 
-/// The working set runs macro 1 where its mask is changed, and the mask where it is shown and hidden.
+/// A Working Set that runs macro 1 when its mask changes, with a Data Mask that runs it when shown and when hidden.
 pub(super) const ONE_MASK: &[u8] = &[
     0, 0, 0, 0, 1, 0xE8, 3, 0, 1, 0, 7, 1, // Working Set
     0xE8, 3, 1, 0, 0xFF, 0xFF, 1, 2, 100, 0, 10, 0, 5, 0, 3, 1, 4, 1, // Data Mask
@@ -155,14 +155,14 @@ pub(super) const ONE_MASK: &[u8] = &[
     1, 0, 28, 8, 0, 0xA4, 50, 0xFF, 0xFF, 0xFF, 0xFF, 0xFF, 0xFF, // Macro
 ];
 
-/// The Working Set 1200, which runs macro 1 where it is activated and twice where it is deactivated, behind the Data Mask 1000.
+/// The Working Set 1200 after the Data Mask 1000. It runs macro 1 when activated and twice when deactivated.
 pub(super) const LATE_SET: &[u8] = &[
     0xE8, 3, 1, 0, 0xFF, 0xFF, 0, 0, // Data Mask
     0xB0, 4, 0, 0, 1, 0xE8, 3, 0, 3, 0, 1, 1, 2, 1, 2, 1, // Working Set
     1, 0, 28, 8, 0, 0xA4, 50, 0xFF, 0xFF, 0xFF, 0xFF, 0xFF, 0xFF, // Macro
 ];
 
-/// The mask of the working set that is one alone.
+/// Acts on the working set with one mask.
 const ONE_MASK_ROWS: &[Row] = &[
     (Act::Event(0, 7), 1, 0),
     (Act::Command(&[0xAD, 0, 0, 0xE8, 3, 0xFF, 0xFF, 0xFF]), 2, 0),
@@ -170,7 +170,7 @@ const ONE_MASK_ROWS: &[Row] = &[
 
 const LATE_SET_ROWS: &[Row] = &[(Act::Event(1200, 1), 1, 0), (Act::Event(1200, 2), 2, 0)];
 
-/// The first objects of a pool, the others, and what is done.
+/// The first objects of a pool, its other objects, and the acts on it.
 const LIVES: [(&[u8], &[u8], &[Row]); 6] = [
     (SET, SHARED, SHARED_ROWS),
     (SET, MASKS, MASKS_ROWS),
@@ -180,7 +180,7 @@ const LIVES: [(&[u8], &[u8], &[Row]); 6] = [
     (&[], LATE_SET, LATE_SET_ROWS),
 ];
 
-/// Whether each act comes to what its row says.
+/// Whether each act has the result of its row.
 fn come_to<S: Store>(live: &mut Live<S>, rows: &[Row]) -> bool {
     for (act, steps, bits) in rows {
         if answer(live, *act) != Some((*steps, *bits)) {
@@ -190,7 +190,7 @@ fn come_to<S: Store>(live: &mut Live<S>, rows: &[Row]) -> bool {
     true
 }
 
-/// What an act comes to; of a command there is no third way.
+/// The result of an act: its number of steps and its error byte.
 fn answer<S: Store>(live: &mut Live<S>, act: Act) -> Option<(u32, u8)> {
     match act {
         Act::Event(id, event) => Some((live.raise(ObjectId::from_raw(id), event), 0)),
@@ -201,7 +201,7 @@ fn answer<S: Store>(live: &mut Live<S>, act: Act) -> Option<(u32, u8)> {
     }
 }
 
-/// Whether a new working set does what the rows of its pool say.
+/// Whether a new working set gives the results of its rows.
 fn lives<S: Store>(alloc: Global, set: &[u8], more: &[u8], rows: &[Row]) -> Result<bool, Fail> {
     let mut live = live::<S>(alloc, set, more)?;
     Ok(come_to(&mut live, rows))
@@ -245,7 +245,7 @@ fn the_working_set_is_found_behind_its_mask(rt: HostRuntime) -> Result<(), Fail>
     Ok(())
 }
 
-/// Whether the pointer 200 has this value.
+/// Whether the Object Pointer 200 has this value.
 fn points_at(live: &Live<SortedStore>, value: u16) -> bool {
     match live.get(ObjectId::from_raw(200)) {
         Some(Object::ObjectPointer(pointer)) => pointer.value == ObjectId::from_raw(value),
@@ -261,8 +261,8 @@ fn circles_of_inclusions_are_refused(rt: HostRuntime) -> Result<(), Fail> {
     Ok(())
 }
 
-/// Fonts from 301 and as many macros: each font runs the macro of its place, which changes the next font twice; the last has no
-/// commands.
+/// Fonts from 301 on, and as many macros: each Font runs the macro with its index, which changes the next Font twice. The
+/// last macro has no commands.
 fn doubling(alloc: Global, count: u8) -> Result<Vec<u8>, Fail> {
     let mut bytes = Vec::from_slice(alloc, &[100, 0, 3, 50, 0, 20, 0, 0, 0, 0])?;
     for place in 1..count {
@@ -287,7 +287,7 @@ fn put_macro(bytes: &mut Vec<u8>, place: u8) -> Result<(), Fail> {
     Ok(())
 }
 
-/// How many steps event 11 of the first font takes.
+/// The number of steps of event 11 of the first Font.
 fn steps_of<S: Store>(alloc: Global, count: u8) -> Result<u32, Fail> {
     let bytes = doubling(alloc, count)?;
     let mut live = live::<S>(alloc, SET, &bytes)?;
@@ -313,7 +313,7 @@ fn updates_take_the_place_of_objects(rt: HostRuntime) -> Result<(), Fail> {
     Ok(())
 }
 
-/// A working set that takes its accepted pool over, and does what its rows say.
+/// A working set made of an accepted pool without copies, tested by the rows of the pool.
 fn taken_over(alloc: Global) -> Result<Live<SortedStore>, Fail> {
     let accepted = accepted(alloc, SET, POINTER)?;
     let mut live = Live::from_accepted(alloc, accepted)?;

@@ -1,4 +1,4 @@
-//! The operator's actions.
+//! Tests of the operator's actions.
 
 use std::alloc::{AllocGlobal, Global};
 use std::process::Abort;
@@ -6,9 +6,9 @@ use std::test::Fail;
 use vt_machine::{Acted, Live, OperatorRefusal, Outcome};
 use vt_objects::{Command, Object, ObjectId, SortedStore};
 
-/// A Working Set 0 that shows the Data Mask 1000 with the Soft Key Mask 400. The mask has the Button 501, which runs macro 1 where
-/// it is pressed, and the Input Booleans 601, which runs macro 1 where it is selected and twice where it is deselected, and 602,
-/// which is disabled. The Key 500 is on the soft key mask; the Key 502 is on none.
+/// A Working Set 0 that shows the Data Mask 1000 with the Soft Key Mask 400. The mask has the Button 501, which runs
+/// macro 1 when pressed, the Input Boolean 601, which runs macro 1 when selected and twice when deselected, and the
+/// disabled Input Boolean 602. The Key 500 is on the Soft Key Mask; the Key 502 is on no mask.
 const POOL: &[u8] = &[
     0, 0, 0, 0, 1, 0xE8, 3, 0, 0, 0, // Working Set
     0xE8, 3, 1, 0, 0x90, 1, 3, 0, // Data Mask
@@ -38,14 +38,14 @@ enum Act {
     Writes(u16, &'static [u8]),
 }
 
-/// What comes of it: a message that is sent, and so many steps; or a refusal.
+/// The result of an action: a message and a number of steps, or a refusal.
 #[derive(Clone, Copy, Debug)]
 enum Answer {
     Sent(&'static [u8], u32),
     Refused(OperatorRefusal),
 }
 
-/// An action and what comes of it, a command that is done, or what an object has then.
+/// An action and its result, a command that is done, or a value that an object has then.
 #[derive(Clone, Copy, Debug)]
 enum Step {
     Acts(Act, Answer),
@@ -101,7 +101,7 @@ fn does(live: &mut Live<SortedStore>, bytes: &[u8]) -> bool {
     }
 }
 
-/// The number of a refusal; there is no other one.
+/// The number of a refusal.
 fn number(refusal: OperatorRefusal) -> u8 {
     match refusal {
         OperatorRefusal::NotShown => 1,
@@ -118,9 +118,9 @@ fn id(number: u16) -> ObjectId {
     ObjectId::from_raw(number)
 }
 
-/// The Data Mask 1000 with the Input Number 600 of 0 to 10, which runs macro 1 where a number is entered and twice where that is a
-/// new one, the Input List 601 of two items, the Input Boolean 602, the Input String 603 of 8 bytes with the same macros, and the
-/// Input Number 604 and the Input String 605, which have variables; the string has these macros too.
+/// The Data Mask 1000 with the Input Number 600 of 0 to 10, which runs macro 1 when a number is entered and twice when
+/// the number is new, the Input List 601 of two items, the Input Boolean 602, and the Input String 603 of 8 bytes with
+/// the same macros. The Input Number 604 and the Input String 605 have variables; the string has these macros too.
 const INPUTS: &[u8] = &[
     0, 0, 0, 0, 1, 0xE8, 3, 0, 0, 0, // Working Set
     0xE8, 3, 1, 0, 0xFF, 0xFF, 6, 0, // Data Mask
@@ -182,7 +182,7 @@ const TEXTS: &[Step] = &[
     Acts(Writes(605, b"ABCD"), Refused(OperatorRefusal::TooLong)),
     Acts(Writes(603, b"C"), Sent(&[8, 0x5B, 2, 1, 67], 3)),
     HasText(603, b"C       "),
-    // The text of the object, with a space behind it; and that of the variable, which a new text is another one than.
+    // The stored text with one more space is not new in the object 603; another text in the variable of 605 is new.
     Acts(Writes(603, b"C "), Sent(&[8, 0x5B, 2, 2, 67, 32], 1)),
     Acts(Writes(605, b""), Sent(&[8, 0x5D, 2, 0], 3)),
     HasText(701, b"   "),
@@ -209,7 +209,7 @@ const KEYS: &[Step] = &[
     Acts(Releases(500), Sent(&[0, 0, 0xF4, 1, 0xE8, 3, 7, 0xFF], 0)),
     Acts(Releases(500), Refused(OperatorRefusal::NotPressed)),
     Acts(Presses(501), Sent(&[1, 1, 0xF5, 1, 0xE8, 3, 3, 0xFF], 1)),
-    // The key code is that at the release.
+    // The message has the key code at the release.
     Does(&[0xAF, 0xF5, 1, 5, 9, 0, 0, 0]),
     Acts(Releases(501), Sent(&[1, 0, 0xF5, 1, 0xE8, 3, 9, 0xFF], 0)),
 ];
@@ -220,13 +220,13 @@ const SELECTIONS: &[Step] = &[
     Acts(Selects(602), Refused(OperatorRefusal::Disabled)),
     Acts(Selects(601), Sent(&[], 1)),
     Acts(Selects(601), Sent(&[], 0)),
-    // What was selected is deselected, though it is disabled by then.
+    // The former input is deselected, even if it has been disabled.
     Does(&[0xA1, 0x5A, 2, 1, 0xFF, 0xFF, 0xFF, 0xFF]),
     Does(&[0xA1, 0x59, 2, 0, 0xFF, 0xFF, 0xFF, 0xFF]),
     Acts(Selects(602), Sent(&[], 2)),
 ];
 
-/// The pools, and what is done.
+/// The pools, and the steps on each.
 const SETS: [(&[u8], &[Step]); 4] = [
     (INPUTS, NUMBERS),
     (INPUTS, TEXTS),
@@ -248,7 +248,7 @@ fn actions(rt: HostRuntime) -> Result<(), Fail> {
     Ok(())
 }
 
-/// The same set with a Key 501 and a Line 601, which runs macro 1 where it is deselected.
+/// The same set with a Key 501, and with a Line 601 that runs macro 1 when deselected.
 const OTHER_KINDS: &[u8] = &[
     0, 0, 0, 0, 1, 0xE8, 3, 0, 0, 0, // Working Set
     0xE8, 3, 1, 0, 0x90, 1, 1, 0, 0x5A, 2, 0, 0, 0, 0, // Data Mask
@@ -260,7 +260,7 @@ const OTHER_KINDS: &[u8] = &[
     1, 0, 28, 8, 0, 0xA4, 50, 0xFF, 0xFF, 0xFF, 0xFF, 0xFF, 0xFF, // Macro
 ];
 
-/// The Button 501 is held, and the Input Boolean 601 selected.
+/// The steps that hold the Button 501 and select the Input Boolean 601.
 const HELD: &[Step] = &[
     Acts(Presses(501), Sent(&[1, 1, 0xF5, 1, 0xE8, 3, 3, 0xFF], 1)),
     Acts(Selects(601), Sent(&[], 1)),
@@ -276,7 +276,7 @@ const NOT_KEPT: &[Step] = &[
     Acts(Releases(501), Refused(OperatorRefusal::NotPressed)),
 ];
 
-/// The set after an update, with a button held and an input selected before it.
+/// The set after an update, with a held button and a selected input before it.
 fn renewed(rt: &(impl Abort + AllocGlobal), update: &[u8]) -> Result<Live<SortedStore>, Fail> {
     let mut live = live_of(rt.alloc(), POOL)?;
     expect_steps(rt, &mut live, HELD);
@@ -293,7 +293,7 @@ fn renewed_by(
     Ok(renewed)
 }
 
-// An update keeps the key and the input; one of other kinds keeps neither.
+// An update keeps the held key and the selected input; an update with objects of other kinds keeps neither.
 #[test]
 fn updates(rt: HostRuntime) -> Result<(), Fail> {
     for (update, steps) in [(POOL, KEPT), (OTHER_KINDS, NOT_KEPT)] {

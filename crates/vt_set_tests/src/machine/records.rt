@@ -1,4 +1,4 @@
-//! One object of each kind, as its record has it: ID 100, every number 0, no entries, and an empty text.
+//! The record of one object of each kind: ID 100, every number 0, no entries, and an empty text.
 
 pub(super) const WORKING_SET: &[u8] = &[100, 0, 0, 0, 0, 0, 0, 0, 0, 0];
 

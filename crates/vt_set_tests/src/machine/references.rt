@@ -1,11 +1,11 @@
-//! Change Fill Attributes, Change Active Mask and Change Soft Key Mask.
+//! Tests of Change Fill Attributes, Change Active Mask and Change Soft Key Mask.
 
 use super::records::*;
 use super::{Row, hold};
 use std::test::Fail;
 use vt_objects::Kind;
 
-/// The last two bytes of a record's fields name the object 7.
+/// The changed byte when the last two bytes of a record's fields become the ID 7.
 const SEVEN_AT_5: &[(usize, u8)] = &[(5, 7)];
 
 const REFERENCES: &[Row<'static>] = &[

@@ -1,4 +1,4 @@
-//! What a mask shows.
+//! Tests of the objects that a mask shows.
 
 ghost use Rattle.std.specs.Prelude.{IfOk};
 ghost use Rattle.vt_stores.specs.Stores.{map_of};
@@ -14,7 +14,7 @@ use vt_objects::{ObjectId, SortedStore, Store};
 use vt_shown::is_shown;
 use vt_testing::accepted_pool;
 
-/// The Data Masks 1000, with the Soft Key Mask 2000, and 1001, with none, and the lines that they show or not.
+/// The Data Mask 1000 with the Soft Key Mask 2000, the Data Mask 1001 with none, and Lines on these masks or on none.
 const POOL: &[u8] = &[
     0, 0, 0, 0, 1, 0xE8, 3, 0, 0, 0, // Working Set
     0xE8, 3, 1, 0, 0xD0, 7, 8, 0, // Data Mask
@@ -65,7 +65,7 @@ const ROWS: &[(u16, u16, bool)] = &[
     // through a pointer
     (1000, 13, true),
     (1000, 30, false),
-    // the item of a list's index, and another one
+    // the current item of a list, and another item
     (1000, 40, true),
     (1000, 15, true),
     (1000, 14, false),
@@ -73,7 +73,7 @@ const ROWS: &[(u16, u16, bool)] = &[
     (1000, 16, true),
     (1000, 17, false),
     (1000, 50, false),
-    // no item
+    // a list without a current item
     (1000, 42, true),
     (1000, 18, false),
     // an item through a pointer
@@ -90,13 +90,13 @@ const ROWS: &[(u16, u16, bool)] = &[
     (1000, 2000, false),
     (1000, 1001, false),
     (1000, 0, false),
-    // what nothing names, what another mask shows, and what is not there
+    // an object in no list, one that another mask shows, and a missing one
     (1000, 62, false),
     (1000, 24, false),
     (1000, 25, false),
     (1000, 999, false),
     (1000, 0xFFFF, false),
-    // the other mask, what is no mask, and none
+    // another mask, an object that is no mask, and a missing mask
     (1001, 25, true),
     (1001, 10, false),
     (1001, 60, false),
@@ -114,7 +114,7 @@ fn store(alloc: Global) -> Result<SortedStore, Fail>
     Ok(store)
 }
 
-/// Whether each mask shows what its row says.
+/// Whether each mask shows an object exactly if its row says so.
 fn hold(alloc: Global, rows: &[(u16, u16, bool)]) -> Result<bool, Fail> {
     let store = store(alloc)?;
     let levels = Levels::of_store(alloc, &store)?;

@@ -6,7 +6,7 @@ use std::test::Fail;
 
 const SIZE: &[u8] = &[0xA6, 100, 0, 1, 2, 3, 4, 0];
 
-/// Width and height from the first field on, and from others.
+/// The bytes of width and height at the first field, and at later fields.
 const AT_3: &[(usize, u8)] = &[(3, 1), (4, 2), (5, 3), (6, 4)];
 
 const AT_5: &[(usize, u8)] = &[(5, 1), (6, 2), (7, 3), (8, 4)];

@@ -1,4 +1,4 @@
-//! Hide/Show Object, Enable/Disable Object, Change Priority and Execute Macro.
+//! Tests of Hide/Show Object, Enable/Disable Object, Change Priority and Execute Macro.
 
 use super::records::*;
 use super::{Row, hold};
@@ -64,7 +64,7 @@ const STATES: &[Row<'static>] = &[
     (FONT, &[0xBE, 100, 0, 0, 0, 0, 0, 0], None, 2, &[]),
 ];
 
-/// Options whose lowest bit is one bit of eight.
+/// Options of eight bits: only the lowest bit changes.
 const OPTIONS: &[Row<'static>] = &[
     (
         &[9, 0, 10, 0, 0, 0, 0, 0, 0, 0, 0, 0xFE, 0],

@@ -1,4 +1,4 @@
-//! Commands on the objects of a store.
+//! Tests of commands on the objects of a store.
 
 use std::alloc::Global;
 use std::test::Fail;
@@ -12,7 +12,7 @@ const POOL: &[u8] = &[
     3, 50, 0, 20, 0, 0, 0, 0,
 ];
 
-/// A command's bytes, its error byte, and whether the container is hidden after it.
+/// The bytes of a command, its error byte, and the Container's hidden byte after it.
 const COMMANDS: &[(&[u8], u8, u8)] = &[
     (&[0xA0, 100, 0, 0, 0xFF, 0xFF, 0xFF, 0xFF], 0, 1),
     (&[0xA0, 101, 0, 1, 0xFF, 0xFF, 0xFF, 0xFF], 2, 1),
@@ -31,7 +31,7 @@ fn store(alloc: Global) -> Result<SortedStore, Fail> {
     Ok(store)
 }
 
-/// Whether the container 100 has this hidden byte.
+/// Whether the Container 100 has this hidden byte.
 fn is_hidden(store: &SortedStore, hidden: u8) -> bool {
     match store.get(ObjectId::from_raw(100)) {
         Some(Object::Container(container)) => container.hidden == hidden,
@@ -39,7 +39,7 @@ fn is_hidden(store: &SortedStore, hidden: u8) -> bool {
     }
 }
 
-/// Whether each command answers its error byte, and leaves the container as its row says.
+/// Whether each command returns its error byte, and leaves the Container as in its row.
 fn answer(store: &mut SortedStore, rows: &[(&[u8], u8, u8)]) -> bool {
     for (bytes, error, hidden) in rows {
         let Some(command) = Command::read(bytes) else {

@@ -1,9 +1,9 @@
-//! Change String Value.
+//! Tests of Change String Value.
 
 use super::{Row, hold};
 use std::test::Fail;
 
-/// Fields with the text `km/h`.
+/// Records with the text `km/h`.
 const INPUT: &[u8] = &[
     100, 0, 8, 0, 0, 0, 0, 0, 0, 0, 0, 0, 0, 0, 0, 0, 4, b'k', b'm', b'/', b'h', 0, 0,
 ];
@@ -52,7 +52,7 @@ const TEXTS: &[Row<'static>] = &[
         0,
         &[(5, b'1'), (6, b'2'), (7, b'3'), (8, b'4')],
     ),
-    // longer than the object's text, and than the bytes that follow
+    // a length beyond the object's text, or beyond the bytes of the command
     (
         VARIABLE,
         &[0xB3, 100, 0, 5, 0, b'1', b'2', b'3', b'4', b'5'],
@@ -74,7 +74,7 @@ const TEXTS: &[Row<'static>] = &[
         4,
         &[],
     ),
-    // no text that a command writes
+    // an object without a text that a command can write
     (&[100, 0, 26, 0, 1, b'k', 0], AB, None, 2, &[]),
 ];
 

@@ -1,17 +1,17 @@
-//! Change Numeric Value and Change List Item.
+//! Tests of Change Numeric Value and Change List Item.
 
 use super::records::*;
 use super::{Row, hold};
 use std::test::Fail;
 use vt_objects::Kind;
 
-/// An Input Number from 5 to 0x0201, of 7.
+/// An Input Number with the value 7, from 5 to 0x0201.
 const NUMBER: &[u8] = &[
     100, 0, 9, 0, 0, 0, 0, 0, 0, 0, 0, 0, 0, 7, 0, 0, 0, 5, 0, 0, 0, 1, 2, 0, 0, 0, 0, 0, 0, 0, 0,
     0x80, 0x3F, 0, 0, 0, 0, 0,
 ];
 
-/// An Input List of two items, of which the first is chosen.
+/// An Input List of two items, with the first chosen.
 const LIST: &[u8] = &[
     100, 0, 10, 0, 0, 0, 0, 0xFF, 0xFF, 0, 2, 0, 0, 7, 0, 0xFF, 0xFF,
 ];

@@ -1,4 +1,4 @@
-//! Working sets for which memory is refused: those that are there stay, and the call may be made again.
+//! Working sets that are refused memory: the present ones are unchanged, and the call succeeds when repeated.
 
 use super::lives::{LATE_SET, ONE_MASK};
 use std::alloc::{AllocError, Global};
@@ -8,7 +8,7 @@ use vt_objects::{ObjectId, SortedStore, Store};
 use vt_testing::accepted_pool;
 use vt_verify::Accepted;
 
-/// What a call answers, made again where it was refused.
+/// Makes a call, and repeats it if memory is refused.
 fn again<T, F: Fn() -> Result<T, AllocError>>(call: F) -> Result<T, AllocError>
     requires { F.IsAlwaysCallable call }
 {
@@ -18,7 +18,7 @@ fn again<T, F: Fn() -> Result<T, AllocError>>(call: F) -> Result<T, AllocError>
     }
 }
 
-/// A working set that takes its accepted pool over.
+/// A working set made of an accepted pool without copies.
 fn taken_over(alloc: Global, bytes: &[u8]) -> Result<Live<SortedStore>, AllocError> {
     Live::from_accepted(alloc, accepted_pool(alloc, bytes)?)
 }
@@ -31,35 +31,35 @@ fn renewed_from(
     live.renew_from(accepted_pool(alloc, bytes)?)
 }
 
-/// Whether this is the pool with one mask, whose working set runs its macro once where its mask is changed.
+/// Whether a working set has the pool with one mask: it runs its macro once when its mask changes.
 fn has_one_mask(live: &mut Live<SortedStore>) -> bool {
     live.store().count() == 4 && live.raise(ObjectId::from_raw(0), 7) == 1
 }
 
-/// Whether this is the pool whose working set runs its macro twice where it is deactivated.
+/// Whether a working set has the pool with the late set: it runs its macro twice when deactivated.
 fn is_late_set(live: &mut Live<SortedStore>) -> bool {
     live.store().count() == 3 && live.raise(ObjectId::from_raw(1200), 2) == 2
 }
 
-/// Makes a working set.
+/// Makes a working set, and returns whether it has the pool with the late set.
 fn is_made(alloc: Global, late_set: &Accepted) -> Result<bool, AllocError> {
     let mut live = again(|| Live::new(alloc, late_set))?;
     Ok(is_late_set(&mut live))
 }
 
-/// Renews a working set by one pool.
+/// Renews a working set by a pool, and returns whether it has that pool.
 fn is_renewed(live: &Live<SortedStore>, late_set: &Accepted) -> Result<bool, AllocError> {
     let mut renewed = again(|| live.renew(late_set))?;
     Ok(is_late_set(&mut renewed))
 }
 
-/// Renews it by another one, which it takes over.
+/// Renews a working set by a pool without copies, and returns whether it has that pool.
 fn is_renewed_from(alloc: Global, live: &Live<SortedStore>) -> Result<bool, AllocError> {
     let mut renewed = again(|| renewed_from(alloc, live, ONE_MASK))?;
     Ok(has_one_mask(&mut renewed))
 }
 
-/// Makes a working set that takes its pool over, and renews it both ways.
+/// Makes a working set of a pool without copies, renews it both ways, and returns whether all have their pools.
 fn is_taken_over(alloc: Global, late_set: &Accepted) -> Result<bool, AllocError> {
     let mut live = again(|| taken_over(alloc, ONE_MASK))?;
     let is_renewed = is_renewed(&live, late_set)? && is_renewed_from(alloc, &live)?;

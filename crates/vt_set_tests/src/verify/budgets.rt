@@ -1,4 +1,4 @@
-//! Budgets, up to the greatest.
+//! Budgets of events, up to the greatest.
 
 ghost use Rattle.std.specs.Prelude.{◌≤◌};
 
@@ -10,8 +10,8 @@ use vt_objects::ObjectId;
 use vt_testing::{CONTAINER, MASK, WORKING_SET, accepted_pool};
 use vt_verify::{Accepted, Listings};
 
-/// So many fonts 301, 302 and on, and macros 1, 2 and on: font 300 + k lists macro k at event 11, and each macro but
-/// the last changes the next font twice.
+/// The Fonts 301, 302 and on, and the macros 1, 2 and on: Font 300 + k lists macro k at event 11, and each macro but the
+/// last changes the next Font twice.
 fn doubling(alloc: Global, count: u8) -> Result<Vec<u8>, Fail>
     requires { count ≤ 20 }
 {
@@ -29,7 +29,7 @@ fn doubling(alloc: Global, count: u8) -> Result<Vec<u8>, Fail>
     Ok(bytes)
 }
 
-/// The budget at event 11 of font 301, where the last is font 300 + `count`.
+/// The budget at event 11 of the Font 301, if the last Font is 300 + `count`.
 fn budget(alloc: Global, count: u8) -> Result<u32, Fail>
     requires { count ≤ 20 }
 {
@@ -47,7 +47,7 @@ fn budgets_that_double(rt: HostRuntime) -> Result<(), Fail> {
     Ok(())
 }
 
-// Objects, events, and the budgets of these where the last font is 316.
+// Objects, events, and their budgets if the last Font is 316.
 const BUDGETS: [(u16, u8, u32); 10] = [
     (301, 11, 65_534),
     (316, 11, 0),

@@ -1,11 +1,11 @@
-//! Chains of inclusions, as long as they may be and longer.
+//! Chains of inclusions: the longest allowed ones and longer ones.
 
 ghost use Rattle.std.specs.Prelude.{◌<◌};
 
 use super::*;
 use std::alloc::AllocError;
 
-/// Writes a container that lists a child so many times.
+/// Appends a Container that lists a child `times` times.
 fn write_container(bytes: &mut Vec<u8>, id: u8, child: u8, times: u8) -> Result<(), AllocError> {
     bytes.extend_from_slice(&[id, 0, 3, 50, 0, 20, 0, 0, times, 0])?;
     for _ in 0..times {
@@ -14,7 +14,7 @@ fn write_container(bytes: &mut Vec<u8>, id: u8, child: u8, times: u8) -> Result<
     Ok(())
 }
 
-/// Containers from 100 on, of which each lists the next so many times, and the last one this ID.
+/// Containers from 100 on: each lists the next `times` times, and the last one lists the ID `last`.
 fn containers(alloc: Global, count: u8, times: u8, last: u8) -> Result<Vec<u8>, AllocError>
     requires { count < 100 }
 {
@@ -54,7 +54,7 @@ fn chain_too_long(rt: HostRuntime) -> Result<(), Fail> {
 /// The Data Mask 1000 with the child 101.
 const CHILD_101: &[u8] = &[0xE8, 3, 1, 0, 0xFF, 0xFF, 1, 0, 101, 0, 10, 0, 5, 0];
 
-/// Containers from 101 on, of which each lists the next, and the last one nothing.
+/// Containers from 101 on: each lists the next, and the last one nothing.
 fn nested(alloc: Global, count: u8) -> Result<Vec<u8>, AllocError>
     requires { count < 100 }
 {
@@ -128,7 +128,7 @@ fn list_and_pointer(rt: HostRuntime) -> Result<(), Fail> {
     Ok(())
 }
 
-/// The mask with the Soft Key Mask 200, which has the Key 201, in which the Container 100 is.
+/// The Data Mask 1000 with the Soft Key Mask 200, which has the Key 201 with the Container 100.
 const KEYS: &[u8] = &[
     0xE8, 3, 1, 0, 200, 0, 0, 0, // mask
     200, 0, 4, 0, 1, 0, 201, 0, // soft key mask

@@ -1,4 +1,4 @@
-//! One pool for each refusal.
+//! Pools that are refused: one for each refusal.
 
 use super::{Case, expect_reports};
 use std::test::Fail;
@@ -22,13 +22,13 @@ fn working_sets(rt: HostRuntime) -> Result<(), Fail> {
 /// The Data Mask 1000 with a NULL child.
 const NULL_CHILD: &[u8] = &[0xE8, 3, 1, 0, 0xFF, 0xFF, 1, 0, 0xFF, 0xFF, 10, 0, 5, 0];
 
-/// The Font 200, which may be no child.
+/// The Font 200, which is not allowed as a child.
 const FONT: &[u8] = &[200, 0, 23, 0, 0, 0, 0, 0];
 
 /// The Data Mask 1000 with the child 200.
 const CHILD_200: &[u8] = &[0xE8, 3, 1, 0, 0xFF, 0xFF, 1, 0, 200, 0, 10, 0, 5, 0];
 
-/// The Object Pointers 200, without a value, to the Font 201, and to itself.
+/// Object Pointers with ID 200: without a value, to the Font 201, and to itself.
 const POINTER: &[u8] = &[200, 0, 27, 0xFF, 0xFF];
 
 const TO_FONT: &[u8] = &[200, 0, 27, 201, 0];
@@ -60,8 +60,8 @@ fn references(rt: HostRuntime) -> Result<(), Fail> {
     expect_reports(&rt, &REFERENCES)
 }
 
-/// Macros 9: Set Audio Volume less its last byte, Delete Object Pool after Set Audio Volume, and what hides the
-/// container 100, the font 200, NULL, and what is not there.
+/// Macros with ID 9: Set Audio Volume without its last byte, Delete Object Pool after Set Audio Volume, and Hide/Show
+/// Object of the Container 100, of the Font 200, of a missing object and of NULL.
 const CUT: &[u8] = &[9, 0, 28, 7, 0, 0xA4, 50, 0xFF, 0xFF, 0xFF, 0xFF, 0xFF];
 
 const DELETES: &[u8] = &[
@@ -109,11 +109,11 @@ fn macros(rt: HostRuntime) -> Result<(), Fail> {
     expect_reports(&rt, &OF_MACROS)
 }
 
-/// The macro 300, which no entry can name, with a byte of no command.
+/// The macro 300, which no entry can list, with a byte that is no command.
 const UNNAMED: &[u8] = &[44, 1, 28, 1, 0, 0x92];
 
-/// Fonts 201 that list macro 9 at event 11, at event 27, which there is not, at event 21, which nothing raises, and at
-/// event 0, at which no entry fires.
+/// Fonts with ID 201 that list macro 9: at event 11, at event 27, which does not exist, at event 21, which nothing
+/// raises, and at event 0, at which no entry runs.
 const AT_11: &[u8] = &[201, 0, 23, 0, 0, 0, 0, 1, 11, 9];
 
 const AT_27: &[u8] = &[201, 0, 23, 0, 0, 0, 0, 1, 27, 9];
@@ -122,7 +122,7 @@ const AT_21: &[u8] = &[201, 0, 23, 0, 0, 0, 0, 1, 21, 9];
 
 const AT_0: &[u8] = &[201, 0, 23, 0, 0, 0, 0, 1, 0, 9];
 
-/// The Number Variable 9.
+/// The Number Variable 9, which is no macro.
 const NO_MACRO: &[u8] = &[9, 0, 21, 0, 0, 0, 0];
 
 const ENTRIES: [Case<'_>; 5] = [
@@ -153,8 +153,8 @@ fn entries(rt: HostRuntime) -> Result<(), Fail> {
     expect_reports(&rt, &ENTRIES)
 }
 
-/// Macros 9: Change Attribute 2 of the font 200, attribute 5, which it has not, and an attribute of the Number
-/// Variable 201, which has none.
+/// Macros with ID 9: Change Attribute of attribute 2 of the Font 200, of its missing attribute 5, and of the Number
+/// Variable 201, which has no attributes.
 const SIZE: &[u8] = &[9, 0, 28, 8, 0, 0xAF, 200, 0, 2, 1, 0, 0, 0];
 
 const FIFTH: &[u8] = &[9, 0, 28, 8, 0, 0xAF, 200, 0, 5, 1, 0, 0, 0];

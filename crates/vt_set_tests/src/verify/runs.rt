@@ -1,10 +1,10 @@
-//! Macros that are run by name, circles, and masks that are hidden.
+//! Macros that are run by name, circles of macros, and hidden masks.
 
 use super::{Case, expect_reports};
 use std::test::Fail;
 use vt_testing::{CONTAINER, MASK, WORKING_SET};
 
-/// Macros 1 that run macro 1, macro 2, the container 100, the macro 300, what is not there, and NULL.
+/// Macros with ID 1 that run macro 1, macro 2, the Container 100, the macro 300, a missing object, and NULL.
 const RUNS_1: &[u8] = &[1, 0, 28, 8, 0, 0xBE, 1, 0, 0xFF, 0xFF, 0xFF, 0xFF, 0xFF];
 
 const RUNS_2: &[u8] = &[1, 0, 28, 8, 0, 0xBE, 2, 0, 0xFF, 0xFF, 0xFF, 0xFF, 0xFF];
@@ -19,7 +19,7 @@ const RUNS_NULL: &[u8] = &[
     1, 0, 28, 8, 0, 0xBE, 0xFF, 0xFF, 0xFF, 0xFF, 0xFF, 0xFF, 0xFF,
 ];
 
-/// The macro 2, which sets the volume twice, the macro 2 that runs macro 1, and the macro 300.
+/// Macro 2, which sets the volume twice, another macro 2, which runs macro 1, and the macro 300.
 const VOLUMES: &[u8] = &[
     2, 0, 28, 16, 0, 0xA4, 50, 0xFF, 0xFF, 0xFF, 0xFF, 0xFF, 0xFF, 0xA4, 60, 0xFF, 0xFF, 0xFF,
     0xFF, 0xFF, 0xFF,
@@ -65,7 +65,7 @@ fn runs_by_name(rt: HostRuntime) -> Result<(), Fail> {
     expect_reports(&rt, &BY_NAME)
 }
 
-/// Fonts 5 and 6 that list macros 1 and 2 at event 11, and the macros, each of which changes the other's font.
+/// The Fonts 5 and 6, which list macros 1 and 2 at event 11, and the macros, each of which changes the other's Font.
 const FONTS: &[u8] = &[
     5, 0, 23, 0, 0, 0, 0, 1, 11, 1, 6, 0, 23, 0, 0, 0, 0, 1, 11, 2,
 ];
@@ -75,8 +75,8 @@ const CHANGES: &[u8] = &[
     2, 0, 28, 8, 0, 0xAA, 5, 0, 0, 0, 0, 0, 0xFF, // macro 2
 ];
 
-/// Data masks 1001 and 1002 that list macros 2 and 3 where they are hidden, macro 1, which shows the mask 1001, macro
-/// 2, which sets the volume, and macro 3, which does so twice.
+/// The Data Masks 1001 and 1002, which list macros 2 and 3 when hidden, macro 1, which shows the mask 1001, macro 2,
+/// which sets the volume, and macro 3, which sets it twice.
 const MASKS: &[u8] = &[
     0xE9, 3, 1, 0, 0xFF, 0xFF, 0, 1, 4, 2, // mask 1001
     0xEA, 3, 1, 0, 0xFF, 0xFF, 0, 1, 4, 3, // mask 1002
@@ -103,7 +103,7 @@ const LISTED: [Case<'_>; 2] = [
     ),
 ];
 
-// Two macros in a circle, and any mask that a macro may hide.
+// A circle of two macros, and a macro that may hide any mask.
 #[test]
 fn macros_that_events_run(rt: HostRuntime) -> Result<(), Fail> {
     expect_reports(&rt, &LISTED)

@@ -1,4 +1,4 @@
-//! Updates of a store.
+//! Tests of updates of a store.
 
 use super::{is_text_of, put};
 use std::alloc::Global;
@@ -9,7 +9,7 @@ use vt_pool::read_pool;
 use vt_testing::{CONTAINER, MASK, WORKING_SET, accepted_pool};
 use vt_verify::verify_update;
 
-/// A store of the pool with the working set, the mask and the container.
+/// A store of the pool with the Working Set, the mask and the Container.
 fn store<S: Store>(alloc: Global) -> Result<S, Fail> {
     let mut bytes = Vec::new(alloc);
     put(&mut bytes, &[WORKING_SET, MASK, CONTAINER])?;
@@ -18,7 +18,7 @@ fn store<S: Store>(alloc: Global) -> Result<S, Fail> {
     Ok(store)
 }
 
-/// Whether an update of a store by the pool of these bytes has this report.
+/// Whether an update of a store has this report.
 fn is_updated<S: Store>(
     alloc: Global,
     store: &S,
@@ -36,8 +36,8 @@ fn updates_to<S: Store>(alloc: Global, update: &[&[u8]], wanted: &str) -> Result
     is_updated(alloc, &store, &bytes, wanted)
 }
 
-/// The Font 200, the Data Masks 1000 with the child 200 and with the child 77, and the working sets that are none and
-/// another one.
+/// The Font 200, the Data Mask 1000 with the child 200 and with the child 77, an object 0 that is no Working Set, and a
+/// second Working Set.
 const FONT: &[u8] = &[200, 0, 23, 0, 0, 0, 0, 0];
 
 const CHILD_200: &[u8] = &[0xE8, 3, 1, 0, 0xFF, 0xFF, 1, 0, 200, 0, 10, 0, 5, 0];
@@ -48,7 +48,7 @@ const NO_WORKING_SET: &[u8] = &[0, 0, 21, 0, 0, 0, 0];
 
 const SECOND: &[u8] = &[1, 0, 0, 0, 1, 0xE8, 3, 0, 0, 0];
 
-/// The container 100 in itself, the macros 9, and the container 100 that lists macro 9 where it is shown.
+/// The Container 100 in itself, macros with ID 9, and the Container 100 that lists macro 9 when shown.
 const IN_ITSELF: &[u8] = &[100, 0, 3, 50, 0, 20, 0, 0, 1, 0, 100, 0, 0, 0, 0, 0];
 
 const CUT: &[u8] = &[9, 0, 28, 1, 0, 0xA4];
@@ -63,7 +63,7 @@ const NO_ATTRIBUTE: &[u8] = &[9, 0, 28, 8, 0, 0xAF, 100, 0, 9, 0, 0, 0, 0];
 
 pub(super) const RUNS_ITSELF: &[u8] = &[9, 0, 28, 8, 0, 0xBE, 9, 0, 0xFF, 0xFF, 0xFF, 0xFF, 0xFF];
 
-/// What an update adds, and the report of the store with it.
+/// The records of an update, and the report of the updated store.
 const UPDATES: [(&[&[u8]], &str); 15] = [
     (&[], "accepted 3 objects\n"),
     (&[FONT], "accepted 4 objects\n"),
@@ -103,7 +103,7 @@ fn updates(rt: HostRuntime) -> Result<(), Fail> {
     each_updates_to::<ListStore>(&rt, rt.alloc(), &UPDATES)
 }
 
-/// Fonts 201 and on that list the macro before, each of which changes the font before twice, so that costs double.
+/// The Fonts 201 and on: each after the first lists a macro that changes the Font before it twice, so that costs double.
 fn over_budget(alloc: Global) -> Result<Vec<u8>, Fail> {
     let mut bytes = Vec::new(alloc);
     for k in 1..21u8 {

@@ -1,4 +1,4 @@
-//! Verifications and reports that are refused memory change nothing, and may be made again.
+//! Verifications and reports that are refused memory change nothing, and succeed when repeated.
 
 use super::put;
 use super::updates::RUNS_ITSELF;
@@ -10,7 +10,7 @@ use vt_pool::{Pool, PoolFault, read_pool};
 use vt_testing::{CONTAINER, MASK, WORKING_SET};
 use vt_verify::{Accepted, Refusal, verify, verify_update};
 
-/// What a call answers, made again where it was refused.
+/// Makes a call, and repeats it if memory is refused.
 fn again<T, F: Fn() -> Result<T, AllocError>>(call: F) -> Result<T, AllocError>
     requires { F.IsAlwaysCallable call }
 {
@@ -30,7 +30,7 @@ accepted 4 objects
 object 3 event 0 budget 1
 ";
 
-/// The Container 100 that lists macro 3 where it is shown, and macro 3, which sets the volume.
+/// The Container 100, which lists macro 3 when shown, and macro 3, which sets the volume.
 const LISTING: &[u8] = &[100, 0, 3, 50, 0, 20, 0, 0, 0, 1, 3, 3];
 
 const MACRO: &[u8] = &[3, 0, 28, 8, 0, 0xA4, 50, 0xFF, 0xFF, 0xFF, 0xFF, 0xFF, 0xFF];
@@ -59,7 +59,7 @@ fn verify_again(alloc: Global, bytes: &[u8]) -> Result<Accepted, Refusal> {
     }
 }
 
-/// Verifies the update of a store by the pool of these bytes.
+/// Verifies an update of a store, and repeats the call if memory is refused.
 fn update_again(alloc: Global, store: &SortedStore, bytes: &[u8]) -> Result<Accepted, Refusal> {
     let Ok(update) = read_again(alloc, bytes) else {
         return Err(Refusal::OutOfMemory);
@@ -70,7 +70,7 @@ fn update_again(alloc: Global, store: &SortedStore, bytes: &[u8]) -> Result<Acce
     }
 }
 
-/// Appends the report.
+/// Appends the report, and repeats the call if memory is refused.
 fn report_again(rt: &impl Abort, accepted: &Accepted, out: &mut Vec<u8>) -> Result<(), AllocError> {
     let before = out.len();
     if accepted.report(out).is_ok() {
@@ -80,7 +80,7 @@ fn report_again(rt: &impl Abort, accepted: &Accepted, out: &mut Vec<u8>) -> Resu
     accepted.report(out)
 }
 
-/// Appends the report of the store whose container lists nothing.
+/// Appends the report of the updated store, whose Container lists nothing.
 fn report_updated(
     rt: &(impl Abort + AllocGlobal),
     store: &SortedStore,
@@ -96,7 +96,7 @@ fn names_circle(alloc: Global, store: &SortedStore) -> bool {
     matches!(refused, Err(Refusal::MacroCircle { .. }))
 }
 
-/// Reports an accepted pool, and an update of its store.
+/// Appends the reports of an accepted pool and of an update of its store, and expects their texts.
 fn expect_reports(
     rt: &(impl Abort + AllocGlobal),
     accepted: &Accepted,

@@ -1,4 +1,4 @@
-//! What the type of each kind says of the values of its record.
+//! For each kind: the field types of an object keep its values within the limits of its record.
 
 ghost use Rattle.std.specs.Prelude.{ℕ, List};
 ghost use Rattle.vt_kinds.specs.Layout.{FieldsFit, Proper, fields, values, no_counts};

@@ -1,4 +1,4 @@
-//! What the types of numbers, bytes and lists say of their values.
+//! Limits of numbers, bytes and lists that follow from their Rust types.
 
 ghost use Rattle.std.specs.Prelude.{◌≡◌, ◌<◌, List, length, map, FitsSigned};
 ghost use Rattle.std.specs.Int.{w16, w32};
@@ -42,7 +42,7 @@ pub fn bytes(bytes: &[u8])
     ensures { AllByRecursion (λ b. b < 256) bytes.now }
 {}
 
-/// An entry of a list, as a row of numbers.
+/// A list entry as a row of numbers that fit their sizes.
 pub trait Row: Drop {
     ghost sizes: { List Size };
 

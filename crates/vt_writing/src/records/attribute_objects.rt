@@ -1,4 +1,4 @@
-//! The records of the objects that say how others look.
+//! Writes the records of attribute objects: fonts, line, fill and input attributes.
 
 ghost use Rattle.std.specs.Prelude.{◌≡◌, ℕ, List, OnOk};
 ghost use Rattle.vt_kinds.specs.Layout.{fields, values};

@@ -1,4 +1,4 @@
-//! The records of output graphics.
+//! Writes the records of output graphics.
 
 ghost use Rattle.std.specs.Prelude.{◌≡◌, OnOk};
 ghost use Rattle.vt_kinds.specs.Layout.{fields, values};

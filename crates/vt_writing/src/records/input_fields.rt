@@ -1,4 +1,4 @@
-//! The records of input fields.
+//! Writes the records of input fields.
 
 ghost use Rattle.std.specs.Prelude.{◌≡◌, ℕ, List, OnOk};
 ghost use Rattle.vt_kinds.specs.Layout.{fields, values};

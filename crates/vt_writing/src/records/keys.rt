@@ -1,4 +1,4 @@
-//! The records of soft key masks, keys and buttons.
+//! Writes the records of soft key masks, keys and buttons.
 
 ghost use Rattle.std.specs.Prelude.{◌≡◌, OnOk};
 ghost use Rattle.vt_kinds.specs.Layout.{fields, values};

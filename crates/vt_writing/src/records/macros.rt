@@ -1,4 +1,4 @@
-//! The records of macros.
+//! Writes the records of macros.
 
 ghost use Rattle.std.specs.Prelude.{◌≡◌, ℕ, List, OnOk};
 ghost use Rattle.vt_kinds.specs.Layout.{fields, values};

@@ -1,4 +1,4 @@
-//! The records of the working set, masks and containers.
+//! Writes the records of the working set, masks and containers.
 
 ghost use Rattle.std.specs.Prelude.{◌≡◌, OnOk};
 ghost use Rattle.vt_kinds.specs.Layout.{fields, values};

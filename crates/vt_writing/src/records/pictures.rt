@@ -1,4 +1,4 @@
-//! The records of pictures.
+//! Writes the records of pictures.
 
 ghost use Rattle.std.specs.Prelude.{◌≡◌, ℕ, List, OnOk};
 ghost use Rattle.vt_kinds.specs.Layout.{fields, values};

@@ -1,4 +1,4 @@
-//! The records of variables and pointers.
+//! Writes the records of variables and pointers.
 
 ghost use Rattle.std.specs.Prelude.{◌≡◌, ℕ, List, OnOk};
 ghost use Rattle.vt_kinds.specs.Layout.{fields, values};

@@ -1,9 +1,9 @@
--- The bits of an identifier, put together by `|`, are a sum.
+-- The fields of an identifier, joined by `|`, are a sum.
 use Rattle.std.proofs.Common.{◌≡◌, ℕ, ◌+◌, ◌*◌, ◌/◌, ◌%◌, ◌^◌, ◌<◌, bit_or, ap, ◌∙◌, arith, rules}
 use Rattle.std.proofs.lemmas.Nat.{or_shifted}
 use Rattle.vt_can.specs.frames.Identifier.{Parts, IsParts, raw_of, parts_of, HasDestination, addressed}
 
--- what the code computes
+-- the number computed by `CanId::new`
 abbrev pub identifier_bits : ℕ → ℕ → ℕ → ℕ → ℕ
 identifier_bits p g d s = bit_or (bit_or (bit_or (p * 2 ^ 26 % 2 ^ 32) (g * 2 ^ 8 % 2 ^ 32)) (d * 2 ^ 8 % 2 ^ 32)) s
 

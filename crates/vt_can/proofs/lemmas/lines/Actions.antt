@@ -1,4 +1,4 @@
--- An operator line says one thing.
+-- The action of an operator line is unique.
 use Rattle.std.proofs.Common.{◌≡◌, ℕ, ◌+◌, ◌*◌, List, [], ◌∷◌, ◌++◌, get_or, Ok, sym, ap, ◌∙◌, arith, append_assoc}
 use Rattle.std.specs.Prelude.{codes}
 use Rattle.std.specs.Char.{is_ascii_digit}
@@ -9,7 +9,7 @@ use Rattle.vt_can.specs.lines.Actions.{ActionValue, Press, Release, Select, Numb
 use Rattle.vt_can.specs.lines.Fields.{IsCut, IsIdAnd, Lacks}
 use Rattle.vt_can.proofs.lemmas.lines.Cutting.{Lacks-from_pass, cut_missing, one_cut}
 
--- the first and the third byte, which tell the words apart
+-- the first and the third byte of a text, which differ from word to word
 abbrev text_mark : List ℕ → ℕ
 text_mark rest = get_or rest 0 0 * 256 + get_or rest 2 0
 
@@ -29,7 +29,7 @@ action_mark-is rest (Number id n) h = ap text_mark h.1.whole
 action_mark-is rest (Text id text) h = ap text_mark h.whole
 action_mark-is rest (Set address) h = ap text_mark h.1
 
--- ---- one number, one ID
+-- ---- numbers and IDs are unique
 
 number-one : {text : List ℕ} {m n a b : ℕ} → IsNumber text m a → IsNumber text n b → m ≡ n
 number-one p q = p.value ∙ sym q.value
@@ -48,7 +48,7 @@ id-one {word = word} {rest = rest} {i = i} p q = number-one (id-digits word rest
 id_and_spelled : (word digits more : List ℕ) → word ++ digits ++ codes " " ++ more ≡ word ++ (digits ++ 32 ∷ more)
 id_and_spelled word digits more = simp append_assoc
 
--- what follows the word, cut at the space
+-- the text after the word, split at the space
 id_and-cut : (word rest x more : List ℕ) (id : ℕ) → rest ≡ word ++ x → (h : HasIdAnd word rest id more) → IsCut 32 x h.digits more
 id_and-cut word rest x more id e h = record {
   front_lacks = number_lacks_space h.id_is;
@@ -86,7 +86,7 @@ action-one rest (Text i t) (Text j u) p q =
 action-one rest (Set a) (Set b) p q = ap Set (set-one rest a b p q)
 action-one rest d e p q = let a = action_mark-is rest d p in let b = action_mark-is rest e q in absurd (omega arith)
 
--- ---- what a line does not say
+-- ---- lines without an action
 
 id_and-from : (word rest x more : List ℕ) (id : ℕ) → rest ≡ word ++ x → HasIdAnd word rest id more → IsIdAnd x id more
 id_and-from word rest x more id e h = record { digits = h.digits; cut = id_and-cut word rest x more id e h; id_is = h.id_is }
@@ -105,7 +105,7 @@ no_set rest x e none (Set a) h =
     none a (sym (ap decode_of same) ∙ h.2)
 no_set rest x e none d h = let a = action_mark-is rest d h in let b = ap text_mark e in omega arith
 
--- ---- what a line says
+-- ---- lines with a number
 
 pub number-made : (rest x : List ℕ) → rest ≡ codes "number " ++ x → (id n : ℕ) (more : List ℕ) → IsIdAnd x id more → IsNumber more n 4294967295 → IsActionText rest (Number id n)
 number-made rest x e id n more i is =

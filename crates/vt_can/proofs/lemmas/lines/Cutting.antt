@@ -1,4 +1,4 @@
--- A text has one cut at a byte.
+-- The split of a text at a byte is unique.
 use Rattle.std.proofs.Common.{◌≡◌, ◌≢◌, ℕ, Bool, true, eqb, ◌⊎◌, inl, inr, List, [], ◌∷◌, ◌++◌, get_or, refl, sym, ap, ◌∙◌}
 use Rattle.std.specs.Prelude.{not}
 use Rattle.std.specs.List.{AllPass}
@@ -15,7 +15,7 @@ Lacks-head c x xs lacks e =
 pub Lacks-tail : (c x : ℕ) (xs : List ℕ) → Lacks c (x ∷ xs) → Lacks c xs
 Lacks-tail c x xs lacks = All-tail (λ y. not (eqb y c) ≡ true) x xs lacks
 
--- what passes a test that the byte fails is another byte
+-- a text that passes a test lacks each byte that fails it
 pub Lacks-from_pass : (test : ℕ → Bool) (c : ℕ) (xs : List ℕ) → (test c ≡ true → ⊥) → AllPass test xs → Lacks c xs
 Lacks-from_pass test c xs fails pass = λ k d lt.
     let x = get_or xs k d in
@@ -26,7 +26,7 @@ Lacks-not : (c : ℕ) (front back : List ℕ) → Lacks c (front ++ c ∷ back) 
 Lacks-not c [] back lacks = Lacks-head c c back lacks refl
 Lacks-not c (x ∷ front) back lacks = Lacks-not c front back (Lacks-tail c x (front ++ c ∷ back) lacks)
 
--- two cuts of one text are the same
+-- two splits of one text are equal
 pub one_cut : (c : ℕ) (a b x y : List ℕ) → Lacks c a → Lacks c b → a ++ c ∷ x ≡ b ++ c ∷ y → (a ≡ b) × (x ≡ y)
 one_cut c [] [] x y la lb e = (refl, cc)
 one_cut c [] (d ∷ b) x y la lb e =
@@ -61,7 +61,7 @@ pub Lacks-cons : (c x : ℕ) (a : List ℕ) → (x ≡ c → ⊥) → Lacks c a 
 Lacks-cons c x a other l =
     All-cons (λ y. not (eqb y c) ≡ true) x a (not_from_false (eqb x c) (ne_eqb x c other)) l
 
--- ---- a word, and what may end a frame line
+-- ---- the third word and the suffix of a frame line
 
 suffix_begins : (x : List ℕ) → IsSuffix x → (x ≡ []) ⊎ ((more : List ℕ) × (x ≡ 32 ∷ more))
 suffix_begins x (inl none) = inl none
@@ -82,7 +82,7 @@ pub third_word-one : {text a b : List ℕ} → IsThirdWord text a → IsThirdWor
 third_word-one {a = a} {b = b} v w =
     word_one a b v.suffix w.suffix v.no_space w.no_space (suffix_begins v.suffix v.suffix_is) (suffix_begins w.suffix w.suffix_is) (sym v.whole ∙ w.whole)
 
--- a text that is cut before anything but a suffix has no such word
+-- a text has no third word if its first space is not followed by a suffix
 pub third_word-none : (text front back : List ℕ) → IsCut 32 text front back → (back ≡ 82 ∷ [] → ⊥) → (back ≡ 84 ∷ [] → ⊥) → (word : List ℕ) → IsThirdWord text word → ⊥
 third_word-none text front back cut no_r no_t word w =
     elim w.suffix_is [

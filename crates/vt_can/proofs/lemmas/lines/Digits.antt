@@ -1,4 +1,4 @@
--- What digits say.
+-- Values of decimal and hex digits.
 use Rattle.std.proofs.Common.{◌≡◌, ℕ, ◌+◌, ◌/◌, ◌%◌, ◌^◌, ◌<◌, ◌≤◌, true, false, ltb, List, [], ◌∷◌, length, get_or, take, Some, Result, Ok, Err, refl, sym, ap, ◌∙◌, inl, inr, arith}
 use Rattle.std.specs.Result.{result_ok}
 use Rattle.std.specs.Char.{digit_value, is_ascii_digit}
@@ -44,7 +44,7 @@ decode_sized-from text bytes n e len =
 
 -- ---- a fraction of nine digits
 
--- its last three digits are dropped by a division
+-- a division by 1000 drops the last three of nine digits
 pub micros-nine : (text : List ℕ) → AllPass is_ascii_digit text → length text ≡ 9 → digits_value 10 text / 1000 ≡ digits_value 10 (take 6 text)
 micros-nine text pass len =
     let l6 : 6 < length text = omega arith in
@@ -71,7 +71,7 @@ micros-small text (inr nine) =
     let same = micros-nine text nine.digits (omega arith) in
     omega arith
 
--- ---- what data in hex digits says
+-- ---- the reading of data in hex digits
 
 data_err : (text : List ℕ) (time id : ℕ) (r : Result (List ℕ) FromHexError) → decode_of text ≡ r → list_all is_hex_digit text ≡ false → data_reading time id r ≡ Err Hex
 data_err text time id (Err e) is bad = refl

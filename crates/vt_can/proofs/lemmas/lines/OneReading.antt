@@ -1,4 +1,4 @@
--- No line has two readings.
+-- Proof that the reading of a line is unique.
 use Rattle.std.proofs.Common.{◌≡◌, ℕ, List, [], ◌∷◌, ◌++◌, length, slice_index, subst, Result, Ok, Err, refl, sym, ap, ◌∙◌, arith, inl, inr}
 use Rattle.std.specs.Prelude.{codes}
 use Rattle.std.proofs.lemmas.List.{append_cancel_left, append_cancel_right}
@@ -16,7 +16,7 @@ content-one line a b (inl e) (inr f) = absurd (f.1 a e)
 content-one line a b (inr e) (inl f) = absurd (e.1 b f)
 content-one line a b (inr e) (inr f) = sym e.0 ∙ f.0
 
--- ---- a line begins in one way
+-- ---- the kind of a line is unique
 
 first_none : (x : ℕ) (rest : List ℕ) → x ∷ rest ≡ [] → ⊥
 first_none x rest e = let lengths = ap length e in omega arith
@@ -42,7 +42,7 @@ time_no_operator {rest = rest} {more = more} h o =
 operator-one : {content a b : List ℕ} → IsOperatorLine content a → IsOperatorLine content b → a ≡ b
 operator-one {a = a} {b = b} p q = append_cancel_left (codes "! ") a b (sym p ∙ q)
 
--- ---- what else a line of each kind says
+-- ---- the reading of each kind of line is unique
 
 comment-only : (content : List ℕ) (b : Result ParsedLine LineFault) → IsComment content → IsRead content b → b ≡ Ok CommentLine
 comment-only content b c (comment d) = refl

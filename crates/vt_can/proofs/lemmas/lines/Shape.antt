@@ -1,4 +1,4 @@
--- A line has one time, and what follows it one shape.
+-- The time of a line and the shape of the rest are unique.
 use Rattle.std.proofs.Common.{◌≡◌, ℕ, ◌+◌, ◌*◌, ◌^◌, ◌≤◌, ◌⊎◌, inl, inr, List, ◌∷◌, ◌++◌, length, take, refl, sym, ap, ◌∙◌, append_assoc}
 use Rattle.std.specs.Prelude.{codes}
 use Rattle.std.specs.Char.{is_ascii_digit}
@@ -10,7 +10,7 @@ use Rattle.vt_can.proofs.lemmas.lines.Cutting.{Lacks-append, Lacks-cons, Lacks-f
 
 -- ---- the time
 
--- where a line is cut around its time
+-- the splits of a line around its time
 pub record TimeCut (content seconds fraction rest : List ℕ) : Type 0 where
   pub is : content ≡ 40 ∷ (seconds ++ 46 ∷ (fraction ++ 41 ∷ rest))
   pub seconds_lack : Lacks 46 seconds
@@ -47,7 +47,7 @@ time-one a b =
     let fraction = same.1 in
     (a.time_is ∙ ap (λ (x : List ℕ). digits_value 10 x * 10 ^ 6 + digits_value 10 (take 6 a.fraction)) seconds ∙ ap (λ (x : List ℕ). digits_value 10 b.seconds * 10 ^ 6 + digits_value 10 (take 6 x)) fraction ∙ sym b.time_is, same.2)
 
--- what the code cuts
+-- the splits made by `time_of`
 pub time_cut-made : {content a s b f r : List ℕ} → content ≡ 40 ∷ a → IsCut 46 a s b → IsCut 41 b f r → TimeCut content s f r
 time_cut-made {s = s} opens first second = record {
   is = opens ∙ ap (λ (x : List ℕ). 40 ∷ x) (first.whole ∙ ap (λ (x : List ℕ). s ++ 46 ∷ x) second.whole);
@@ -69,7 +69,7 @@ no_close content a s b opens cut lacks time rest h =
 
 -- ---- the shape
 
--- where what follows the time is cut
+-- the splits of a line after its time
 pub record ShapeCut (rest interface id text : List ℕ) : Type 0 where
   pub last : List ℕ
   pub is : rest ≡ 32 ∷ (interface ++ 32 ∷ last)
@@ -107,7 +107,7 @@ shape-one p q =
     let same = shape_cut-one (shape-cut p) (shape-cut q) in
     (same.1, same.2)
 
--- what the code cuts
+-- the splits made by `shape_of`
 pub shape_cut-made : {rest a i last word id text : List ℕ} → rest ≡ 32 ∷ a → IsCut 32 a i last → IsThirdWord last word → IsCut 35 word id text → ShapeCut rest i id text
 shape_cut-made {last = last} opens first third second = record {
   last = last;

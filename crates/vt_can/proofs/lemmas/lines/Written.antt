@@ -1,4 +1,4 @@
--- A frame that is written as a line is read again.
+-- The line written for a frame reads back as the frame.
 use Rattle.std.proofs.Common.{◌≡◌, ℕ, ◌+◌, ◌*◌, ◌/◌, ◌%◌, ◌^◌, ◌<◌, ◌≤◌, Bool, true, false, eqb, ltb, List, [], ◌∷◌, ◌++◌, length, zero, suc, Result, Ok, refl, sym, ap, ◌∙◌, subst, inl, inr, arith, append_assoc, lit<, lit≤}
 use Rattle.std.proofs.lemmas.List.{append-nil}
 use Rattle.std.specs.Prelude.{codes, not}
@@ -107,7 +107,7 @@ shape_read id text len good fine = record {
   suffix_is = inl refl;
 }
 
--- ---- what the parts say
+-- ---- the values of the fields
 
 begins-other : (test : ℕ → Bool) (byte : ℕ) (text : List ℕ) → (test byte ≡ true → ⊥) → AllPass test text → begins_with byte text ≡ false
 begins-other test byte [] fails pass = refl

@@ -1,4 +1,4 @@
--- Tests that hold together, one by one.
+-- The members of a true conjunction.
 use Rattle.std.proofs.Common.{◌≡◌, Bool, true, false, ◌&&◌}
 
 pub record Both (a b : Bool) : Type 0 where

@@ -1,4 +1,4 @@
--- What a map by address answers after a change at one address.
+-- Lookups in a map by address after a change at one address.
 use Rattle.std.proofs.Common.{◌≡◌, ◌≢◌, ℕ, cond, Some, None, ap, sym, ◌∙◌, refl, eq-eqb, ne_eqb}
 use Rattle.std.specs.Ordering.{nat_cmp}
 use Rattle.std.specs.Cmp.{unsigned_tied, nat_cmp_total}
@@ -25,7 +25,7 @@ module _ {X : Type 0} where
       finite.get-remove nat_cmp_total m a q
       ∙ ap (λ b. cond b None (finite.get m q)) (unsigned_tied q a ∙ ne_eqb q a other)
 
-  -- what stands at the others, where one is put, is removed, or is removed and put again
+  -- lookups at other addresses after an insertion, a removal, or both
 
   pub put_others : (old new : finite.FinMap nat_cmp X) (address : ℕ) (x : X) (m : finite.FinMap nat_cmp X) → old ≡ m → new ≡ finite.insert m address x
       → (other : ℕ) → (other ≡ address → ⊥) → finite.get new other ≡ finite.get old other

@@ -1,4 +1,4 @@
--- Bytes that are cut at a size again.
+-- Bytes truncated to the same size twice.
 use Rattle.std.proofs.Common.{◌≡◌, ℕ, zero, suc, List, [], ◌∷◌, ◌++◌, take, ap, refl}
 
 pub take_again : (n : ℕ) (xs ys : List ℕ) → take n (take n xs ++ ys) ≡ take n (xs ++ ys)

@@ -1,4 +1,4 @@
--- The sessions on a bus are those of histories with marks, and so the messages are whole there.
+-- The sessions on a bus equal those of histories with marks, so each message handed out is whole in a history.
 use Rattle.std.proofs.Common.{◌≡◌, ℕ, Bool, true, false, cond, Option, Some, None, List, [], ◌∷◌, refl, sym, ap, subst, ◌∙◌, eq-eqb, eqb-true}
 use Rattle.std.specs.Prelude.{◌↔◌}
 use Rattle.vt_can.specs.declared.transport.sessions.Timed.{Timed}
@@ -44,7 +44,7 @@ module _ {S F R : Type 0} (protocol : Protocol S F R) where
   sessions_same source [] = refl
   sessions_same source (i ∷ inputs) = session_with source i inputs (is_from source i) (before source i.time inputs (sessions_same source inputs))
 
-  -- what an input of a run hands out
+  -- the message handed out at an input of a run
 
   handed_out_at : (sessions : ByAddress S) (x : Input F × Heard) (run : List (Input F × Heard)) (source : ℕ) → IsRun protocol sessions (x ∷ run)
       → handed_out source x.1 ≡ message_at protocol source x.0 (inputs_of run)

@@ -1,4 +1,4 @@
--- The session of a source, and so its messages, come from its frames and their times alone.
+-- The session and the messages of a source depend on its own frames and their times alone.
 use Rattle.std.proofs.Common.{◌≡◌, ◌≤◌, ℕ, Bool, true, false, cond, Option, Some, None, List, [], ◌∷◌, ◌++◌, filter, ap, sym, ◌∙◌, refl, arith, lt-ltb}
 use Rattle.std.proofs.lemmas.Bool.{ltb-true}
 use Rattle.std.specs.Option.{option_to_list}
@@ -8,7 +8,7 @@ use Rattle.vt_can.specs.transport.Sessions.{alive, is_overdue}
 use Rattle.vt_can.specs.transport.Protocols.{Protocol}
 use Rattle.vt_can.specs.transport.Bus.{session_after_frame, message_of_frame, Input, IsInOrder, is_from, session_of, message_at, messages_of, MessagesDependOnTheirSource}
 
--- what is overdue stays so
+-- an overdue session stays overdue
 module _ {T : Type 0} where
   alive_at : (earlier now : ℕ) (timed : Timed T) (overdue : Bool) → is_overdue earlier (Some timed) ≡ overdue → earlier ≤ now
       → alive now (alive earlier (Some timed)) ≡ alive now (Some timed)

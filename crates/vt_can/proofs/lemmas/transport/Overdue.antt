@@ -1,4 +1,4 @@
--- The list of the sessions that are overdue, and one that is removed from it.
+-- The list of overdue sessions after the removal of one.
 use Rattle.std.proofs.Common.{◌≡◌, ◌≢◌, ℕ, zero, suc, ◌-◌, ◌<◌, Bool, true, false, cond, List, [], ◌∷◌, ◌++◌, is_some, refl, sym, ap, ap₂, ◌∙◌, arith, inl, inr}
 use Rattle.std.proofs.lemmas.Bool.{cases_lt}
 use Rattle.std.specs.Cmp.{nat_cmp_total}
@@ -17,7 +17,7 @@ module _ {X : Type 0} (what : X) where
   each-none passes (suc n) none =
       ap₂ (λ (xs : List (ℕ × X)) (b : Bool). xs ++ chosen n b) (each-none passes n (λ q h. none q (omega arith))) (none n (omega arith))
 
-  -- without the first
+  -- the list of numbers that pass a test, without the first of them
   pub each-tail : (passes left : ℕ → Bool) (a n : ℕ) → passes a ≡ true → ((q : ℕ) → q < a → passes q ≡ false) → left a ≡ false
       → ((q : ℕ) → q ≢ a → left q ≡ passes q) → a < n → each_below passes what n ≡ (a, what) ∷ each_below left what n
   unfolding each_below

@@ -1,4 +1,4 @@
--- Places as a map from addresses.
+-- The list of entries as a map from addresses.
 use Rattle.std.proofs.Common.{◌≡◌, ℕ, zero, suc, ◌+◌, ◌<◌, ◌≤◌, Bool, true, false, cond, eqb, List, [], ◌∷◌, length, get_or, set, Option, Some, None, refl, sym, ap, subst, ◌∙◌, arith, min, length-set, get_or-set_same, get_or-set_other, eq-eqb, ne_eqb, inl, inr, below_more, le-ltb, ◌-◌}
 use Rattle.std.proofs.lemmas.Bool.{eqb-true, false≢true}
 use Rattle.std.proofs.Math.ListN.{get_or-eq_default}
@@ -72,7 +72,7 @@ len-map_of_places n (Some x ∷ places) =
     subst (λ (k : ℕ). k ≤ suc (length places)) (sym (finite.len-insert nat_cmp_total (map_of_places (suc n) places) n x))
     (one_more places (map_of_places (suc n) places) n x (finite.contains_key (map_of_places (suc n) places) n) (len-map_of_places (suc n) places))
 
--- what the calls leave, over plain places
+-- results of the calls of `Sessions`, over lists of entries
 
 pub empty_places : {X : Type 0} (places : List (Option X)) → length places ≡ 256 → ((q : ℕ) → q < 256 → get_or places q None ≡ None)
     → (q : ℕ) → get_or places q None ≡ None
@@ -142,7 +142,7 @@ module _ {T : Type 0} where
     at_most = let all = placed.all in let few = len-map_of_places 0 places in omega arith;
   })
 
-  -- no session in the first n places had its last frame earlier
+  -- no session in the first n entries had its last frame before `earliest`
   abbrev pub IsBound : List (Option (Timed T)) → ℕ → ℕ → Type 0
   IsBound places n earliest = (q : ℕ) (timed : Timed T) → q < n → get_or places q None ≡ Some timed → earliest ≤ timed.last
 

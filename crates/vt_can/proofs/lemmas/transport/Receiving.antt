@@ -1,4 +1,4 @@
--- A call of a receiver that puts a session or removes one is a step on it.
+-- A receiver's call that inserts or removes a session is a step on it.
 use Rattle.std.proofs.Common.{◌≡◌, ℕ, max, Option, Some, None, ap, sym, subst, ◌∙◌}
 use Rattle.std.specs.FinMap as finite
 use Rattle.vt_can.specs.declared.transport.sessions.Timed.{Timed}
@@ -29,7 +29,7 @@ module _ {S F R : Type 0} (protocol : Protocol S F R) where
     answers = answers;
   }
 
-  -- what a call answers, and what it makes of the session, in other terms
+  -- the answer and the step of a call, carried over equalities
 
   pub replied : (own_address own_address' source : ℕ) (reply reply' : R) (result : Heard) → result ≡ heard.Reply (protocol.reply_frame own_address source reply) → own_address ≡ own_address'
       → reply ≡ reply' → AnswersWith protocol own_address' source (Some reply') None result
@@ -41,7 +41,7 @@ module _ {S F R : Type 0} (protocol : Protocol S F R) where
       → MakesStep protocol old new source out' result
   makes_step_as old new source out out' result is makes_step = subst (λ (o : SessionOutcome S R). MakesStep protocol old new source o result) is makes_step
 
--- the step of a frame, from the session that was removed
+-- the step of a frame, from the removed session
 module _ {S R : Type 0} (after : ℕ → Option (Timed S) → SessionOutcome S R) where
   pub session_removed : (old : ByAddress S) (now source last : ℕ) (m : ByAddress S) (removed : Option (Timed S)) (timed : Timed S)
       (received : Received S R) (out : SessionOutcome S R) → old ≡ m → removed ≡ finite.get m source → removed ≡ Some timed → timed.last ≡ last

@@ -1,4 +1,4 @@
--- Sessions that are overdue, after their aborts; and a receiver that is served an input.
+-- Overdue sessions after their aborts, and a receiver that serves an input.
 use Rattle.std.proofs.Common.{◌≡◌, ℕ, ◌-◌, ◌<◌, Bool, true, false, cond, eqb, Option, Some, None, is_some, ap, ap₂, sym, subst, ◌∙◌, refl, arith, eq-eqb}
 use Rattle.std.proofs.lemmas.Bool.{eqb-true, false≢true}
 use Rattle.std.specs.Ordering.{nat_cmp}
@@ -30,7 +30,7 @@ module _ {T : Type 0} where
       ap (λ (m : ByAddress T). alive now (finite.get m q)) expired.removed
       ∙ ap (alive now) (get-removed_other old address q (λ same. false≢true (sym is ∙ eq-eqb _ _ same)))
 
-  -- the sessions that aren't overdue stay, and the others count as ended already
+  -- an expiry changes no session but overdue ones, which count as ended already
   pub expired_same : (old new : ByAddress T) (now address : ℕ) (session : T) → Expires old new now address session
       → (q : ℕ) → alive now (finite.get new q) ≡ alive now (finite.get old q)
   expired_same old new now address session expired q = expired_at old new now address q session _ refl expired
@@ -39,7 +39,7 @@ module _ {T : Type 0} where
   not_empty m address timed found none =
       let empty = ap (λ (n : ByAddress T). finite.get n address) (finite.empty_of_len m none) ∙ finite.get-empty nat_cmp address in cc
 
-  -- each abort leaves one session less
+  -- each expiry removes one session
   pub expired_fewer : (old new : ByAddress T) (now address : ℕ) (session : T) → Expires old new now address session
       → finite.len new < finite.len old
   expired_fewer old new now address session expired =
@@ -54,7 +54,7 @@ none_chosen : (b : Bool) → ◌≡◌ {A = Option Message} None (cond b None No
 none_chosen true = refl
 none_chosen false = refl
 
--- preparing, the timeouts and hearing as one input of a run
+-- preparation, timeouts and the frame as one input of a run
 module _ {S F R : Type 0} (protocol : Protocol S F R) where
   handed_out_is : (own_address from source : ℕ) (reply : Option R) (message : Option Message) (result : Heard) → AnswersWith protocol own_address from reply message result
       → handed_out source result ≡ cond (eqb from source) message None
@@ -63,7 +63,7 @@ module _ {S F R : Type 0} (protocol : Protocol S F R) where
   handed_out_is own_address from source (Some reply) None result answers = ap (handed_out source) answers ∙ none_chosen (eqb from source)
   handed_out_is own_address from source (Some reply) (Some message) result answers = ap (handed_out source) answers
 
-  -- the sessions after the aborts, where none is overdue any more
+  -- the sessions after all aborts, when none is overdue
   session_now : (old loop : ReceiverState S) (now q : ℕ) → alive now (finite.get loop.sessions q) ≡ alive now (finite.get old.sessions q)
       → is_overdue now (finite.get loop.sessions q) ≡ false → finite.get loop.sessions q ≡ alive now (finite.get old.sessions q)
   session_now old loop now q same none =
@@ -81,7 +81,7 @@ module _ {S F R : Type 0} (protocol : Protocol S F R) where
         ∙ ap₂ (λ (k : Option (Timed S)) (o : ℕ). cond (eqb (source_of frame) source) (stepped protocol now k (protocol.frame_in o frame)).message None) (alive_is (source_of frame)) address_is;
   }
 
-  -- the receiver at first, prepared, after the aborts, and after the frame
+  -- the receiver before the input, prepared, after the aborts, and after the frame
   pub serves_as : (old prepared loop mid new : ReceiverState S) (now : ℕ) (frame : Frame) (result : Heard)
       → prepared.own_address ≡ old.own_address → prepared.sessions ≡ old.sessions → loop.own_address ≡ prepared.own_address
       → ((q : ℕ) → alive now (finite.get loop.sessions q) ≡ alive now (finite.get prepared.sessions q)) → mid ≡ loop

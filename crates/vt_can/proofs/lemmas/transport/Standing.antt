@@ -1,4 +1,4 @@
--- Histories of a source, the latest event first, and the sessions that stand in them.
+-- Histories of a source, the latest session event first, and the sessions open in them.
 use Rattle.std.proofs.Common.{◌≡◌, ◌<◌, Bool, true, false, cond, List, [], ◌∷◌, ◌++◌, Option, Some, None, ap, sym, subst, ◌∙◌, refl}
 use Rattle.vt_can.specs.declared.transport.sessions.Timed.{Timed}
 use Rattle.vt_can.specs.transport.Histories.{SessionEvent, Came, Spelling, AreQuiet, Sent, IsOpen}
@@ -19,7 +19,7 @@ module _ {F O P : Type 0} (s : Spelling F O P) where
   pub sent_first : (hs : List (SessionEvent F)) (o : O) (packets : P) → s.opens o ≡ true → s.Brings o [] packets → Sent s (Came (s.request o) ∷ hs) o packets
   sent_first hs o packets opened brought = record { earlier = hs; later = []; split = refl; opened = opened; quiet = tt; brought = brought }
 
-  -- one more event, after which the packets are these
+  -- one more quiet session event, and the packets after it
   pub sent_more : (hs : List (SessionEvent F)) (x : SessionEvent F) (o : O) (packets packets' : P) → s.IsQuiet x
       → ((later : List (SessionEvent F)) → s.Brings o later packets → s.Brings o (x ∷ later) packets') → Sent s hs o packets → Sent s (x ∷ hs) o packets'
   sent_more hs x o packets packets' quiet brings sent = record {
@@ -31,7 +31,7 @@ module _ {F O P : Type 0} (s : Spelling F O P) where
     brought = brings sent.later sent.brought;
   }
 
-  -- the same history without its latest event, which is the request or came after it
+  -- a history without its latest session event, which is the request or a later one
   pub data Last (x : SessionEvent F) (hs : List (SessionEvent F)) (o : O) (packets : P) : Type 0 where
     AtRequest : x ≡ Came (s.request o) → s.opens o ≡ true → s.Brings o [] packets → Last x hs o packets
     Later : (later earlier : List (SessionEvent F)) → hs ≡ later ++ Came (s.request o) ∷ earlier → s.opens o ≡ true → s.IsQuiet x → AreQuiet s later
@@ -48,14 +48,14 @@ module _ {F O P : Type 0} (s : Spelling F O P) where
   pub last_of : (x : SessionEvent F) (hs : List (SessionEvent F)) (o : O) (packets : P) → Sent s (x ∷ hs) o packets → Last x hs o packets
   last_of x hs o packets sent = split_last x hs sent.later sent.earlier o packets sent.split sent.opened sent.quiet sent.brought
 
-  -- an event that is no request and brings no packet
+  -- a quiet session event without a request or a packet
   pub record IsBystander (x : SessionEvent F) : Type 0 where
     pub quiet : s.IsQuiet x
     pub other : (o : O) → x ≡ Came (s.request o) → ⊥
     pub more : (o : O) (later : List (SessionEvent F)) (packets : P) → s.Brings o later packets → s.Brings o (x ∷ later) packets
     pub less : (o : O) (later : List (SessionEvent F)) (packets : P) → s.Brings o (x ∷ later) packets → s.Brings o later packets
 
-  -- an event that ends each session
+  -- a session event that ends any session
   pub record IsEnd (x : SessionEvent F) : Type 0 where
     pub loud : s.IsQuiet x → ⊥
     pub other : (o : O) → x ≡ Came (s.request o) → ⊥
@@ -98,7 +98,7 @@ module _ {F O P : Type 0} (s : Spelling F O P) where
       only = λ current is. absurd cc;
     }
 
-    -- A request, the session that it opens, and the packets of that: none.
+    -- Over a request, the session opened by it, and its packets, of which there are none yet.
     module _ (o : O) (first : Timed S) (none : P) (opening_is : opening first.session ≡ o)
         (loud : s.IsQuiet (Came (s.request o)) → ⊥) (same : (o' : O) → Came (s.request o) ≡ Came (s.request o') → o ≡ o')
         (begun : s.Brings o [] none) (more : s.opens o ≡ true → s.count none < s.total o)

@@ -1,4 +1,4 @@
--- Outcomes without times, and frames of other groups.
+-- Outcomes without times, and frames of other parameter groups.
 use Rattle.std.proofs.Common.{◌≡◌, ℕ, Bool, true, false, cond, eqb, List, Option, Some, None, refl, ap, ◌∙◌, ne_eqb}
 use Rattle.vt_can.specs.declared.frames.frame.Frame.{Frame}
 use Rattle.vt_can.specs.frames.Identifier.{parts_of, pgn_of}

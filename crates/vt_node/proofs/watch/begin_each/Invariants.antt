@@ -2,7 +2,7 @@ use Rattle.std.proofs.Common.{◌≡◌, ◌<◌, ◌≤◌, ℕ, List, Bool, fa
 use Rattle.vt_node.specs.Watches.{heard_in}
 use Rattle.vt_node.proofs.watch.begin_each.Given as goal
 
--- those before a place have a time, and the others are as they were
+-- the addresses below an index have a time, and the others are unchanged
 pub record HasBegun (old_last : List ℕ) (old_awaited : List Bool) (last : List ℕ) (awaited : List Bool) (now place : ℕ) : Type 0 where
   pub heard : (q : ℕ) → q < place → heard_in last awaited q ≡ Some (unwrap_or (heard_in old_last old_awaited q) now)
   pub none : (q : ℕ) → q < place → get_or awaited q false ≡ false

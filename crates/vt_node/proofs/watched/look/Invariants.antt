@@ -6,7 +6,7 @@ use Rattle.vt_node.specs.Watches.{heard_of}
 use Rattle.vt_node.specs.declared.watched.Found.{Found}
 use Rattle.vt_node.proofs.watched.look.Given as goal
 
--- what was found of the sets from a place on
+-- the result of the search of the sets from an index on
 pub record IsFoundFrom (now : ℕ) (heard : ℕ → Option ℕ) (sets : List Set) (found : Found) (place : ℕ) : Type 0 where
   pub within : place ≤ length sets
   pub silent : found.silent ≡ first_silent_of now heard (drop place sets)

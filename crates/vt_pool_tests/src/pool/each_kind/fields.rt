@@ -1,4 +1,4 @@
-//! What the fields of those records are.
+//! The expected fields of the records of each kind.
 
 use vt_objects::*;
 
@@ -19,7 +19,7 @@ fn point(x: u16, y: u16) -> Point {
     Point { x, y }
 }
 
-/// Whether an object has the fields that the record of its kind spells.
+/// Whether an object has the fields in the record of its kind.
 pub(super) fn is_as_written(object: &Object<&[u8]>) -> bool {
     match object {
         Object::WorkingSet(o) => is_working_set(o),

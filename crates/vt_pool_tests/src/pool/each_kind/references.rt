@@ -1,4 +1,4 @@
-//! The references of those objects: what stands where in the record, and what each place allows.
+//! Tests of the references in the records of each kind: their bytes, and the kinds that they allow.
 
 use super::RECORDS;
 use std::alloc::AllocGlobal;
@@ -7,7 +7,7 @@ use std::test::Fail;
 use vt_objects::{Kind, Kinds, ObjectId, Place, Slot, slots};
 use vt_pool::read_pool;
 
-// Each place of a kind, in which byte of the record its ID begins, whether NULL may stand there, and what may.
+// The references of each kind: the index of the ID's first byte, whether NULL is allowed, and the allowed kinds.
 const SLOTS: [(Kind, &[(Place, usize, bool, Kinds)]); 29] = [
     (
         Kind::WorkingSet,

@@ -4,7 +4,7 @@ use Rattle.vt_server.specs.Outputs.{frames_of}
 use Rattle.vt_server.specs.declared.output.Output.{Output}
 use Rattle.vt_server.proofs.output.send_all.Given as goal
 
--- The frames that are left complete what is to be sent, and there is room for them.
+-- The frames still to send complete the outputs, and there is spare capacity for them.
 pub record IsSending (before now : List Output) (frames left : List Frame) (sent_before sent free_before free : ℕ) : Type 0 where
   pub items : now ++ frames_of left ≡ before ++ frames_of frames
   pub count : sent + length left ≡ sent_before + length frames

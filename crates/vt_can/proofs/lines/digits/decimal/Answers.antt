@@ -7,11 +7,11 @@ use Rattle.vt_can.proofs.lemmas.lines.Digits.{digit_value-is}
 use Rattle.vt_can.proofs.lines.digits.decimal.Goals as goal
 use Rattle.vt_can.proofs.lines.digits.decimal.Goals.{Else-not-is_ascii_digit}
 
--- the byte at this place is a digit
+-- the byte at this index is a digit
 digit : (c : Else-not-is_ascii_digit) → is_ascii_digit (get_or c.args.text.now c.loop-byte.byte-index 0) ≡ true
 digit c = sym c.is_ascii_digit.ensures.value ∙ c.if-not-is_ascii_digit.false
 
--- what was read so far is above the most, and the whole is no less
+-- the value read so far is above `most`, and the whole number is no smaller
 pub returns-then-value-from : goal.returns-then-value-from
 returns-then-value-from c = λ n is.
     let text = c.args.text.now in

@@ -7,7 +7,7 @@ use Rattle.vt_can.proofs.lemmas.lines.Digits.{digit_value-is, digits_value-small
 use Rattle.vt_can.proofs.lines.digits.number.Goals as goal
 use Rattle.vt_can.proofs.lines.digits.number.Goals.{Else-not-is_ascii_digit}
 
--- up to 18 digits were read
+-- up to 18 digits have been read
 small : (c : Else-not-is_ascii_digit) → c.loop-byte.value < 10 ^ 18
 small c =
     let text = c.args.text.now in
@@ -16,7 +16,7 @@ small c =
     let below = digits_value-small front 18 c.loop-byte.invariant.digits (omega arith) in
     omega (arith, c.loop-byte.invariant.value_is)
 
--- the byte at this place is a digit
+-- the byte at this index is a digit
 digit : (c : Else-not-is_ascii_digit) → is_ascii_digit (get_or c.args.text.now c.loop-byte.byte-index 0) ≡ true
 digit c = sym c.is_ascii_digit.ensures.value ∙ c.if-not-is_ascii_digit.false
 

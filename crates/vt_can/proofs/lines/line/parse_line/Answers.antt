@@ -10,7 +10,7 @@ use Rattle.vt_can.specs.lines.Line.{IsRead, comment, operator_action, no_action,
 use Rattle.vt_can.proofs.lines.line.parse_line.Goals as goal
 use Rattle.vt_can.proofs.lines.line.parse_line.Goals.{In-Some}
 
--- what stands behind `! `
+-- the text of an operator line after `! `
 operator_rest : (c : In-Some) → c.content_of-content.result.now ≡ codes "! " ++ c.in-Some.rest.now
 operator_rest c = strip_prefix_is Decides-eqb c.content_of-content.result.now (codes "! ") (Some c.in-Some.rest) c.in-Some.ensures.cases
 

@@ -6,7 +6,7 @@ use Rattle.vt_server.specs.Terminals.{after_acts}
 use Rattle.vt_server.specs.declared.terminal.Terminal.{Terminal}
 use Rattle.vt_server.proofs.terminal.Terminal.close_silent.Given as goal
 
--- what is still to close comes to what was to be closed
+-- The closings still due lead to the same state as all closings due at first.
 pub record IsClosing (old now : Terminal) : Type 0 where
   pub state : after_acts (state_of now) (silences (state_of now)) ≡ after_acts (state_of old) (silences (state_of old))
   pub closes : ClosesSets old now

@@ -27,7 +27,7 @@ grouped out x y z =
     ∙ append_assoc out (outputs_of x) (outputs_of y ++ outputs_of z)
     ∙ ap (λ l. out ++ l) (sym (outputs-append x (y ++ z) ∙ ap (λ l. outputs_of x ++ l) (outputs-append y z)))
 
--- each by the state that the one before it leaves
+-- the state after each group of timeouts in turn
 module _ (s s0 s1 s2 s3 : State) (zeroth : s0 ≡ s) (first : s1 ≡ after_tp_timeouts s0) (second : s2 ≡ after_acts s1 (etp_due s1))
     (third : s3 ≡ after_acts s2 (sending_due s2)) where
   after_tp : s1 ≡ after_tp_timeouts s

@@ -16,7 +16,7 @@ true_test : (b : Bool) → IsTrue b → T b
 true_test true is = tt
 true_test false is = absurd cc
 
--- the map of objects by rising ID
+-- the map of a store made of objects by rising ID
 made_of : (m : ObjectMap) (objects given : Objects) → AreStored objects → given ≡ objects → m ≡ finite.from_entries given → m ≡ map_of objects
 made_of m objects given stored same is =
     is ∙ ap (λ (es : Objects). finite.from_entries {R = nat_cmp} es) same
