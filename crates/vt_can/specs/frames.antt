@@ -1,3 +1,3 @@
 -- Definitions of identifiers and frames.
-pub mod Identifier
 pub mod Frame
+pub mod Identifier

@@ -1,6 +1,6 @@
 -- Definitions of log lines, by subject.
 pub mod Actions
-pub mod Readings
-pub mod Line
-pub mod Writing
 pub mod Fields
+pub mod Line
+pub mod Readings
+pub mod WrittenForms

@@ -3,7 +3,7 @@
 ghost use Rattle.std.specs.Prelude.{ℕ};
 ghost use Rattle.vt_can.specs.frames.Identifier.{PartsAreIdentifiers};
 ghost use Rattle.vt_can.specs.lines.Line.{HasReading, ReadingsAreOne};
-ghost use Rattle.vt_can.specs.lines.Writing.{WrittenLinesAreRead};
+ghost use Rattle.vt_can.specs.lines.WrittenForms.{WrittenLinesAreRead};
 ghost use Rattle.vt_can.specs.transport.Sessions.{ByAddress, IsRemoved, TheFirstExpires};
 
 use crate::parse_line;

@@ -1,7 +1,7 @@
+pub mod DepthSearch
 pub mod Elements
-pub mod Falling
-mod Greatest
-pub mod Including
-pub mod Places
-mod Settling
+pub mod FallingLevels
+pub mod IdIndices
+pub mod InclusionsInStore
+pub mod Maximum
 pub mod Slots

@@ -9,7 +9,7 @@ use Rattle.vt_kinds.specs.References.{slots_of}
 use Rattle.vt_stores.specs.Stores.{ObjectMap}
 use Rattle.vt_chains.specs.Inclusions.{includes, included_by}
 use Rattle.vt_chains.specs.Depths.{inclusions_of}
-use Rattle.vt_stores.proofs.Shapes.{seen_slots}
+use Rattle.vt_stores.proofs.ObjectShapes.{seen_slots}
 use Rattle.vt_chains.proofs.Elements.{Contains-head, Contains-tail, cons_case}
 
 filter_case : (P : Type 0) (b : Bool) (s : Slot) (rest : List Slot) (next : ℕ) → Contains (map (λ (q : Slot). q.id) (cond b (s ∷ rest) rest)) next

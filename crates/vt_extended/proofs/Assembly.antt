@@ -18,8 +18,8 @@ use Rattle.vt_extended.specs.SessionState.{SessionState}
 use Rattle.vt_extended.specs.Steps.{SessionOutcome, is_open, after_offset, is_next, after_packet, after_part, HasGroups, HasPackets}
 use Rattle.vt_extended.specs.Protocol.{protocol, StepsAssembleMessages}
 use Rattle.vt_extended.proofs.Histories.{sent_packet, IsNext, packet_last}
-use Rattle.vt_extended.proofs.Stepping.{offset_right, offset_wrong, grown_reply, packet_more, packet_whole, packet_wrong, is_open_as, is_next_as, is_next_true, grown_bytes}
-use Rattle.vt_extended.proofs.Matching.{Matches, matches, IsStanding, Next, InGroup, next_in}
+use Rattle.vt_extended.proofs.DpoAndDtSteps.{offset_right, offset_wrong, grown_reply, packet_more, packet_whole, packet_wrong, is_open_as, is_next_as, is_next_true, grown_bytes}
+use Rattle.vt_extended.proofs.SessionOfHistory.{Matches, matches, IsStanding, Next, InGroup, next_in}
 
 -- the message of a step is whole in the history
 

@@ -1,6 +1,6 @@
-pub mod Openings
-pub mod Histories
-pub mod Stepping
-pub mod Matching
 pub mod Assembly
-pub mod Timeless
+pub mod DpoAndDtSteps
+pub mod Histories
+pub mod Openings
+pub mod SessionOfHistory
+pub mod StepsWithoutTimes

@@ -1,5 +1,5 @@
 pub mod Messages
-pub mod Wire
+pub mod Protocol
 pub mod SessionState
 pub mod Steps
-pub mod Protocol
+pub mod Wire

@@ -2,9 +2,9 @@
 pub mod Attributes
 pub mod Kinds
 pub mod Layout
-pub mod Listing
 pub mod Records
 pub mod References
+pub mod RemainingSlots
 pub mod Scales
 pub mod Tables
 pub mod Texts

@@ -2,7 +2,7 @@
 
 ghost use Rattle.std.specs.Prelude.{◌≡◌, ◌≤◌, Some, []};
 ghost use Rattle.vt_kinds.specs.References.{slot, slots_of};
-ghost use Rattle.vt_kinds.specs.Listing.{before, listed_from, entries_left};
+ghost use Rattle.vt_kinds.specs.RemainingSlots.{before, listed_from, entries_left};
 
 use crate::id::ObjectId;
 use crate::kind::Kind;

@@ -2,7 +2,7 @@
 
 ghost use Rattle.std.specs.Prelude.{◌≡◌, ◌≤◌};
 ghost use Rattle.vt_kinds.specs.References.{slot};
-ghost use Rattle.vt_kinds.specs.Listing.{before, listed_from, entries_left};
+ghost use Rattle.vt_kinds.specs.RemainingSlots.{before, listed_from, entries_left};
 
 use crate::entries::Child;
 use crate::id::ObjectId;
@@ -60,7 +60,7 @@ pub struct Slots<'a> {
 impl<'a> Model for Slots<'a> {
     ghost use Rattle.std.specs.Prelude.{List, ◌+◌, ◌≤◌};
     ghost use Rattle.vt_kinds.specs.declared.slot.Slot.{Slot};
-    ghost use Rattle.vt_kinds.specs.Listing.{before, listed_from, entries_left};
+    ghost use Rattle.vt_kinds.specs.RemainingSlots.{before, listed_from, entries_left};
 
     ghost Value = { List Slot };
 

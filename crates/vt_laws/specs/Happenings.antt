@@ -10,16 +10,16 @@ use Rattle.vt_names.specs.Claims.{Claimed, holder_of}
 use Rattle.vt_names.specs.Registry.{Set, set_at}
 use Rattle.vt_stores.specs.Stores.{ObjectMap}
 use Rattle.vt_node.specs.Bus.{notice_of, frame_notice}
-use Rattle.vt_server.specs.Choosing.{shown_now, ACTIVATE, DEACTIVATE}
+use Rattle.vt_server.specs.shown.ShownSet.{shown_now, ACTIVATE, DEACTIVATE}
 use Rattle.vt_server.specs.Findings.{AreFound}
-use Rattle.vt_server.specs.Lapses.{at_time, lapsed}
+use Rattle.vt_server.specs.frame.TimeoutActs.{at_time, lapsed}
 use Rattle.vt_node.specs.Watches.{is_silent}
-use Rattle.vt_server.specs.Orderly.{IsOrderly, IsOther}
-use Rattle.vt_server.specs.Parts.{AddressView, Act, Hears, Rebinds, Preloads, TpExpires, EtpExpires, SendingExpires, FallsSilent, Operates, Raises, outcome, untimed_part}
+use Rattle.vt_server.specs.state.StateInvariants.{IsOrderly, IsOther}
+use Rattle.vt_server.specs.state.AddressViews.{AddressView, Act, Hears, Rebinds, Preloads, TpExpires, EtpExpires, SendingExpires, FallsSilent, Operates, Raises, outcome, untimed_part}
 use Rattle.vt_laws.specs.Responses.{Response, without_effect, response_of, frames_to}
 use Rattle.vt_server.specs.Steps.{JudgedInput, FrameAt, ActionAt, step, after_all, sent_by_all, acted, selecting, at_shown, hear_claim, answer_to, is_lost_by, preloading}
 use Rattle.vt_server.specs.Terminals.{State, holder, part, after_acts}
-use Rattle.vt_server.specs.Transfers.{Verdict}
+use Rattle.vt_server.specs.message.Verdicts.{Verdict}
 
 -- The happenings at an address. A receiving session by either protocol times out, or the sending session does. Its set falls
 -- silent. The terminal loses its own address. The address has another holder. A frame comes from it, with the verdict on the

@@ -17,26 +17,26 @@ use Rattle.vt_stores.specs.Stores.{ObjectMap, Objects, map_of}
 use Rattle.vt_verify.specs.Rules.{IsVerified}
 use Rattle.vt_stores.specs.Shapes.{shape_of}
 use Rattle.vt_effects.specs.Effects.{effect}
-use Rattle.vt_machine.specs.Lives.{SetState, working_set_in}
+use Rattle.vt_machine.specs.SetStates.{SetState, working_set_in}
 use Rattle.vt_macros.specs.Machines.{total_budget, events_of, run_of}
-use Rattle.vt_machine.specs.Operating as operating
+use Rattle.vt_machine.specs.OperatorActions as operating
 use Rattle.vt_macros.specs.Runs.{EndInTurn, Ends, IsReady}
-use Rattle.vt_shown.specs.Showing.{soft_key_mask_of}
+use Rattle.vt_shown.specs.ShownElements.{soft_key_mask_of}
 use Rattle.vt_layout.specs.Drawings.{IsChained, Sticks, at_path, key_entries, mask_entries, origin, passed}
 use Rattle.vt_layout.specs.LookUps.{FindsAll}
 use Rattle.vt_node.specs.Bus.{notice_of}
-use Rattle.vt_server.specs.Choosing.{choosing, shown_now, events_of_change}
+use Rattle.vt_server.specs.shown.ShownSet.{choosing, shown_now, events_of_change}
 use Rattle.vt_server.specs.Findings.{AreFound, ends_transfer}
-use Rattle.vt_server.specs.Lapses.{at_time, lapsed}
-use Rattle.vt_server.specs.Operators.{action_on, is_busy}
-use Rattle.vt_server.specs.Parts.{AddressView, Act, Hears, Preloads, Operates, Raises}
-use Rattle.vt_server.specs.Places.{empty}
-use Rattle.vt_server.specs.Sessions.{came}
+use Rattle.vt_server.specs.frame.TimeoutActs.{at_time, lapsed}
+use Rattle.vt_server.specs.operator.ActionEffects.{action_on, is_busy}
+use Rattle.vt_server.specs.state.AddressViews.{AddressView, Act, Hears, Preloads, Operates, Raises}
+use Rattle.vt_server.specs.state.AddressStates.{empty}
+use Rattle.vt_server.specs.frame.SessionEffects.{came}
 use Rattle.vt_server.specs.States.{TakesInputs}
 use Rattle.vt_server.specs.Steps.{JudgedInput, FrameAt, ActionAt, step, after_all, before, acts, acted, answer_to, is_lost_by, selecting, at_shown, preloading}
 use Rattle.vt_server.specs.Terminals.{State, pool_of, part, after_act, after_acts}
-use Rattle.vt_node.specs.ByAddress.{with_at}
-use Rattle.vt_server.specs.Transfers.{Verdict, Accepts}
+use Rattle.vt_node.specs.AddressFunctions.{with_at}
+use Rattle.vt_server.specs.message.Verdicts.{Verdict, Accepts}
 use Rattle.vt_node.specs.declared.bus.FrameMeaning.{FrameMeaning}
 use Rattle.vt_server.specs.declared.input.Input.{Input}
 use Rattle.vt_server.specs.declared.output.Output.{Output}

@@ -1,11 +1,11 @@
 -- Definitions cited by the laws of vt_laws.
-pub mod Certain
-pub mod ClaimsHeard
 pub mod Costs
+pub mod Destinations
 pub mod Happenings
 pub mod Headline
+pub mod ReceivedClaims
 pub mod Responses
 pub mod RunsOfSteps
-pub mod Sending
 pub mod SetLists
 pub mod ShownSets
+pub mod UniqueSteps

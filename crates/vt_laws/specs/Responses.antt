@@ -1,7 +1,7 @@
 -- The response of an address to a happening: the view of the address after it, without times, and the frames to the address.
 use Rattle.std.specs.Prelude.{ℕ, ◌==◌, if◌then◌else◌, List, [], ◌∷◌, ◌++◌}
 use Rattle.vt_can.specs.declared.frames.frame.Frame.{Frame}
-use Rattle.vt_server.specs.Parts.{AddressView, AddressOutcome, untimed_part}
+use Rattle.vt_server.specs.state.AddressViews.{AddressView, AddressOutcome, untimed_part}
 use Rattle.vt_server.specs.Terminals.{Sent, ToOne, ToAll, Refused}
 
 -- the view after a happening, without times, and the frames to the address

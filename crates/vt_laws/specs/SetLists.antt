@@ -5,9 +5,9 @@ use Rattle.vt_names.specs.Registry.{Set, set_at, registering, joining}
 use Rattle.vt_stores.specs.Stores.{ObjectMap}
 use Rattle.vt_node.specs.Bus.{notice_of}
 use Rattle.vt_laws.specs.Happenings.{loses, SetsAreHeld}
-use Rattle.vt_server.specs.Orderly.{IsOrderly}
-use Rattle.vt_server.specs.Lapses.{at_time, silent}
-use Rattle.vt_server.specs.Parts.{stays_under, with_holder_name}
+use Rattle.vt_server.specs.state.StateInvariants.{IsOrderly}
+use Rattle.vt_server.specs.frame.TimeoutActs.{at_time, silent}
+use Rattle.vt_server.specs.state.AddressViews.{stays_under, with_holder_name}
 use Rattle.vt_server.specs.Steps.{JudgedInput, FrameAt, ActionAt, step, preloading}
 use Rattle.vt_server.specs.Terminals.{State, holder}
 use Rattle.vt_node.specs.declared.bus.FrameMeaning.{FrameMeaning}

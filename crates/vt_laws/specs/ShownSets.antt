@@ -3,13 +3,13 @@ use Rattle.std.specs.Prelude.{◌≡◌, ◌≤◌, ◌<◌, ◌⊎◌, ◌↔�
 use Rattle.std.specs.FinMap as finite
 use Rattle.vt_kinds.specs.declared.masks.AlarmMask.{AlarmMask}
 use Rattle.vt_kinds.specs.declared.object.Object.TheVariants as objects
-use Rattle.vt_machine.specs.Lives.{SetState, active_in}
+use Rattle.vt_machine.specs.SetStates.{SetState, active_in}
 use Rattle.vt_names.specs.Registry.{Set, set_at}
 use Rattle.vt_stores.specs.Stores.{ObjectMap}
-use Rattle.vt_server.specs.Choosing.{selected_now, shown_now}
-use Rattle.vt_server.specs.Orderly.{IsOrderly}
-use Rattle.vt_server.specs.Places.{empty}
-use Rattle.vt_server.specs.Parts.{Preloads}
+use Rattle.vt_server.specs.shown.ShownSet.{selected_now, shown_now}
+use Rattle.vt_server.specs.state.StateInvariants.{IsOrderly}
+use Rattle.vt_server.specs.state.AddressStates.{empty}
+use Rattle.vt_server.specs.state.AddressViews.{Preloads}
 use Rattle.vt_server.specs.Steps.{JudgedInput, step, settled, preloading}
 use Rattle.vt_server.specs.Terminals.{State, pool_of, after_act}
 

@@ -5,12 +5,12 @@
 //! each law.
 #![tactic(auto)]
 
-ghost use Rattle.vt_laws.specs.Certain.{StepsAreOne};
+ghost use Rattle.vt_laws.specs.UniqueSteps.{StepsAreOne};
 ghost use Rattle.vt_laws.specs.Costs.{CostsAreWithin};
-ghost use Rattle.vt_laws.specs.ClaimsHeard.{HoldersOfRuns};
-ghost use Rattle.vt_laws.specs.Sending.{SentAreAddressed};
+ghost use Rattle.vt_laws.specs.ReceivedClaims.{HoldersOfRuns};
+ghost use Rattle.vt_laws.specs.Destinations.{SentAreAddressed};
 ghost use Rattle.vt_laws.specs.Happenings.{EachTakesItsOwn, OwnHappeningsDecide, SetsHoldTheirAddress};
-ghost use Rattle.vt_server.specs.Orderly.{IsOrderly};
+ghost use Rattle.vt_server.specs.state.StateInvariants.{IsOrderly};
 ghost use Rattle.vt_laws.specs.Headline.{NeverSticks};
 ghost use Rattle.vt_laws.specs.RunsOfSteps.{RunsAreOfSteps};
 ghost use Rattle.vt_laws.specs.SetLists.{SetsAfterSteps};

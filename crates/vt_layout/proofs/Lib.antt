@@ -1,7 +1,7 @@
-pub mod Walking
-pub mod Writing
-pub mod Ordering
-pub mod Reaching
-pub mod Chaining
-pub mod Filling
-mod Finding
+pub mod EntriesOnPage
+pub mod EntryWalk
+pub mod LookUpsSucceed
+pub mod PageLines
+pub mod PathsAreChains
+pub mod ShownAreDrawn
+pub mod SortedPaths

@@ -15,7 +15,7 @@ use Rattle.vt_chains.specs.Limits.{terminal}
 use Rattle.vt_layout.specs.declared.element.Element.{Element}
 use Rattle.vt_layout.specs.declared.element.Position.{Position}
 use Rattle.vt_effects.specs.Effects.{kind_in}
-use Rattle.vt_shown.specs.Showing.{stands_for, is_element, number_shown, item_of, soft_key_mask_of, soft_keys, drawn_in, IsShown}
+use Rattle.vt_shown.specs.ShownElements.{stands_for, is_element, number_shown, item_of, soft_key_mask_of, soft_keys, drawn_in, IsShown}
 use Rattle.vt_effects.specs.Soundness.{IsSound, is_in_order}
 
 -- ---- lists of entries

@@ -9,8 +9,8 @@ use Rattle.vt_objects.specs.Decimals.{shown_text}
 use Rattle.vt_kinds.specs.Records.{Seen}
 use Rattle.vt_kinds.specs.Scales.{scale_places}
 use Rattle.vt_stores.specs.Stores.{ObjectMap}
-use Rattle.vt_machine.specs.Operating.{is_enabled}
-use Rattle.vt_shown.specs.Showing.{number_shown}
+use Rattle.vt_machine.specs.OperatorActions.{is_enabled}
+use Rattle.vt_shown.specs.ShownElements.{number_shown}
 use Rattle.vt_layout.specs.declared.element.Element.{Element}
 
 -- ---- parts of lines

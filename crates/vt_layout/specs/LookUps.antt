@@ -14,8 +14,8 @@ use Rattle.vt_stores.specs.Stores.{ObjectMap}
 use Rattle.vt_effects.specs.Changes.{is_one_of}
 use Rattle.vt_effects.specs.Effects.{kind_in, pointer_value}
 use Rattle.vt_effects.specs.Soundness.{IsSound}
-use Rattle.vt_machine.specs.Lives.{IsActive}
-use Rattle.vt_shown.specs.Showing.{stands_for, number_shown, soft_key_mask_of, IsShown}
+use Rattle.vt_machine.specs.SetStates.{IsActive}
+use Rattle.vt_shown.specs.ShownElements.{stands_for, number_shown, soft_key_mask_of, IsShown}
 use Rattle.vt_layout.specs.Drawings.{entries_in, key_entries}
 use Rattle.vt_layout.specs.Lines.{text_shown}
 

@@ -6,7 +6,7 @@ use Rattle.std.specs.FinMap as finite
 use Rattle.hex.specs.Hex.{encode_upper}
 use Rattle.vt_stores.specs.Stores.{ObjectMap}
 use Rattle.vt_verify.specs.Rules.{working_sets}
-use Rattle.vt_machine.specs.Lives.{IsActive}
+use Rattle.vt_machine.specs.SetStates.{IsActive}
 use Rattle.vt_effects.specs.Soundness.{shape_in}
 use Rattle.vt_effects.specs.Soundness.{IsSound}
 use Rattle.vt_layout.specs.Drawings.{Placed, IsDrawing}

@@ -4,7 +4,7 @@ use Rattle.std.specs.FinMap as finite
 use Rattle.vt_kinds.specs.declared.entries.Child.{Child}
 use Rattle.vt_stores.specs.Stores.{ObjectMap}
 use Rattle.vt_chains.specs.Limits.{terminal}
-use Rattle.vt_shown.specs.Showing.{stands_for}
+use Rattle.vt_shown.specs.ShownElements.{stands_for}
 use Rattle.vt_layout.specs.declared.element.Element.{Element}
 use Rattle.vt_layout.specs.declared.element.Position.{Position}
 use Rattle.vt_layout.specs.Drawings.{origin, shifted, element, entries_in, mask_entries, key_entries}

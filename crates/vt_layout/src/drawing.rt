@@ -6,9 +6,9 @@ ghost use Rattle.std.specs.Option.{option_map, option_to_list};
 ghost use Rattle.std.specs.FinMap as finite;
 ghost use Rattle.vt_kinds.specs.declared.object.Object.TheVariants as objects;
 ghost use Rattle.vt_kinds.specs.Records.{seen};
-ghost use Rattle.vt_shown.specs.Showing.{stands_for, is_element, item_of, number_shown, soft_key_mask_of, keys_of};
+ghost use Rattle.vt_shown.specs.ShownElements.{stands_for, is_element, item_of, number_shown, soft_key_mask_of, keys_of};
 ghost use Rattle.vt_layout.specs.Drawings.{element, entries_in, unmoved, origin};
-ghost use Rattle.vt_layout.specs.Sheets.{with_elements, IsNear};
+ghost use Rattle.vt_layout.specs.PageTexts.{with_elements, IsNear};
 ghost use Rattle.vt_layout.specs.Walks.{elements, with_drawn, each_from, drawing};
 
 use crate::element::{Element, Position};

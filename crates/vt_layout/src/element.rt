@@ -2,7 +2,7 @@
 
 ghost use Rattle.std.specs.Prelude.{◌≡◌, ◌≤◌, ◌+ℤ◌, nat_abs, ℕ, ◌+◌, ◌^◌};
 ghost use Rattle.vt_layout.specs.Drawings.{shifted};
-ghost use Rattle.vt_layout.specs.Sheets.{IsNear};
+ghost use Rattle.vt_layout.specs.PageTexts.{IsNear};
 
 use vt_objects::{Child, ObjectId};
 

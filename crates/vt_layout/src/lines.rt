@@ -5,7 +5,7 @@ ghost use Rattle.std.specs.Fmt.{decimal};
 ghost use Rattle.vt_kinds.specs.declared.object.Object.TheVariants as objects;
 ghost use Rattle.vt_kinds.specs.Records.{seen};
 ghost use Rattle.vt_layout.specs.Lines.{line_of, described, switched, standing, sized, numbered, coded};
-ghost use Rattle.vt_machine.specs.Operating.{is_enabled};
+ghost use Rattle.vt_machine.specs.OperatorActions.{is_enabled};
 
 use crate::element::Element;
 use crate::texts::{

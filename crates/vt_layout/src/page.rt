@@ -5,7 +5,7 @@ ghost use Rattle.std.specs.FinMap as finite;
 ghost use Rattle.vt_kinds.specs.Records.{seen};
 ghost use Rattle.vt_layout.specs.Lines.{line_of};
 ghost use Rattle.vt_layout.specs.Screens.{most_lines};
-ghost use Rattle.vt_layout.specs.Sheets.{with_line, finished};
+ghost use Rattle.vt_layout.specs.PageTexts.{with_line, finished};
 
 use crate::element::Element;
 use crate::lines::write_line;
@@ -25,7 +25,7 @@ pub(crate) struct Page {
 
 impl Model for Page {
     ghost use Rattle.std.specs.Prelude.{◌≤◌, string_bytes};
-    ghost use Rattle.vt_layout.specs.Sheets.{Sheet};
+    ghost use Rattle.vt_layout.specs.PageTexts.{Sheet};
 
     ghost Value = { Sheet };
 

@@ -2,7 +2,7 @@
 
 ghost use Rattle.std.specs.Prelude.{◌≡◌};
 ghost use Rattle.std.specs.Option.{option_map};
-ghost use Rattle.vt_shown.specs.Showing.{number_shown};
+ghost use Rattle.vt_shown.specs.ShownElements.{number_shown};
 ghost use Rattle.vt_layout.specs.Lines.{text_shown};
 
 use vt_objects::{Object, ObjectId, Store};

@@ -15,7 +15,7 @@ use Rattle.vt_logs.proofs.Begun.{stops_none, later_bytes}
 use Rattle.vt_logs.proofs.LongLines.{begun}
 use Rattle.vt_logs.proofs.Midway.{IsUnderWay}
 use Rattle.vt_logs.proofs.Taking.{length-zip, takes-lines, takes_more}
-use Rattle.vt_server.specs.Screens.{IsScreenOf}
+use Rattle.vt_server.specs.shown.Screens.{IsScreenOf}
 use Rattle.vt_server.specs.Terminals.{State}
 
 -- ---- before the first screen stands

@@ -12,7 +12,7 @@ use Rattle.vt_logs.specs.Taken.{TakesReadings}
 use Rattle.vt_logs.specs.Texts.{no_counts}
 use Rattle.vt_logs.proofs.Taking.{no_newline, no_later, HasNoNewline-append, takes_none, takes_more}
 use Rattle.vt_logs.proofs.Midway.{IsMidway, IsUnderWay}
-use Rattle.vt_server.specs.Screens.{IsScreenOf}
+use Rattle.vt_server.specs.shown.Screens.{IsScreenOf}
 use Rattle.vt_server.specs.Terminals.{State}
 
 -- the first line begins with the bytes before the first newline

@@ -13,7 +13,7 @@ use Rattle.vt_logs.specs.Texts.{no_counts, with_lines, counts_text}
 use Rattle.vt_logs.specs.Replays.{IsReplay}
 use Rattle.vt_logs.specs.Progress.{AtMost, ReplayPoint, Takes, HasNoNewline, TakesBytes}
 use Rattle.vt_logs.proofs.Taking.{bytes_none, bytes_kept, bytes_line, bytes_more, bytes-AtMost, lines_of-last, HasNoNewline-append, AtMost-more, takes_drawn, takes_more}
-use Rattle.vt_server.specs.Screens.{IsScreenOf}
+use Rattle.vt_server.specs.shown.Screens.{IsScreenOf}
 
 -- ---- between two lines of a chunk
 

@@ -14,7 +14,7 @@ use Rattle.vt_logs.specs.Texts.{fault_text, new_screen, output_text}
 use Rattle.vt_logs.proofs.Begun.{begins_later, begins_more}
 use Rattle.vt_server.specs.Findings.{IsEventOf}
 use Rattle.vt_server.specs.Outputs.{outputs_of}
-use Rattle.vt_server.specs.Screens.{IsScreenOf}
+use Rattle.vt_server.specs.shown.Screens.{IsScreenOf}
 use Rattle.vt_server.specs.States.{TakesInput}
 use Rattle.vt_server.specs.Steps as steps
 use Rattle.vt_server.specs.Steps.{JudgedInput, step}

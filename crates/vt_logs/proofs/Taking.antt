@@ -12,7 +12,7 @@ use Rattle.vt_logs.specs.Lines.{lines_of}
 use Rattle.vt_logs.specs.Taken.{ReplayState, TakesReading, TakesReadings}
 use Rattle.vt_logs.specs.Texts.{LineReading, with_line, with_lines}
 use Rattle.vt_logs.specs.Progress.{AtMost, ReplayPoint, Takes, TakesOne, HasNoNewline, TakesBytes}
-use Rattle.vt_server.specs.Screens.{IsScreenOf}
+use Rattle.vt_server.specs.shown.Screens.{IsScreenOf}
 
 -- ---- readings, one list after another
 

@@ -8,7 +8,7 @@ use Rattle.vt_logs.specs.Progress.{ReplayPoint, Takes}
 use Rattle.vt_logs.specs.Replays.{HasLong, HasLongLine}
 use Rattle.vt_logs.specs.Taken.{ReplayState, Follows, TakesReading, TakesReadings}
 use Rattle.vt_logs.specs.Texts.{LineReading, with_lines, no_counts, counts_text}
-use Rattle.vt_server.specs.Screens.{IsScreenOf}
+use Rattle.vt_server.specs.shown.Screens.{IsScreenOf}
 use Rattle.vt_server.specs.Terminals.{State}
 
 -- The first bytes of a text are written, none, some or all.

@@ -6,7 +6,7 @@ use Rattle.vt_logs.specs.declared.counts.Counts.{Counts}
 use Rattle.vt_logs.specs.Lines.{lines_of}
 use Rattle.vt_logs.specs.Taken.{ReplayState, TakesReadings}
 use Rattle.vt_logs.specs.Texts.{LineReading, with_lines, no_counts, counts_text}
-use Rattle.vt_server.specs.Screens.{IsScreenOf}
+use Rattle.vt_server.specs.shown.Screens.{IsScreenOf}
 use Rattle.vt_server.specs.Terminals.{State}
 
 -- The text and the counts of a replay of these bytes by a terminal, and the terminal after it: first its screen, then what each

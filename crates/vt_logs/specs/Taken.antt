@@ -6,7 +6,7 @@ use Rattle.vt_can.specs.lines.Readings.{ParsedLine, FrameAt, OperatorAction, Ski
 use Rattle.vt_logs.specs.Texts.{LineReading, output_text, fault_text, new_screen}
 use Rattle.vt_server.specs.Findings.{IsFound}
 use Rattle.vt_server.specs.Outputs.{outputs_of}
-use Rattle.vt_server.specs.Screens.{IsScreenOf}
+use Rattle.vt_server.specs.shown.Screens.{IsScreenOf}
 use Rattle.vt_server.specs.Steps as steps
 use Rattle.vt_server.specs.Steps.{JudgedInput, step}
 use Rattle.vt_server.specs.Terminals.{State}

@@ -4,7 +4,7 @@ use Rattle.std.specs.Str.{bytes_eq}
 use Rattle.std.specs.Fmt.{decimal}
 use Rattle.vt_can.specs.declared.lines.line.LineFault.{LineFault}
 use Rattle.vt_can.specs.declared.lines.line.LineFault.TheVariants.{Time, Shape, Hex, Length, Operator}
-use Rattle.vt_can.specs.lines.Writing.{frame_text}
+use Rattle.vt_can.specs.lines.WrittenForms.{frame_text}
 use Rattle.vt_can.specs.lines.Readings.{ParsedLine, FrameAt, OperatorAction, SkippedFrame, CommentLine}
 use Rattle.vt_logs.specs.declared.counts.Counts.{Counts}
 use Rattle.vt_server.specs.declared.output.OperatorFault.{OperatorFault}

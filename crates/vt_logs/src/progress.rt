@@ -8,7 +8,7 @@ ghost use Rattle.vt_logs.specs.Begun.{BreaksOff, MayBegin, Stops, StopsAtLong};
 ghost use Rattle.vt_logs.specs.Taken.{Follows, FollowsInput, TakesInputLine, TakesReading, input_line};
 ghost use Rattle.vt_logs.specs.Texts.{with_line, no_counts, new_screen};
 ghost use Rattle.vt_logs.specs.Progress.{AtMost, HasNoNewline, IsLineFault, IsStepFault, Takes, TakesBytes, TakesOne, Writes, scene, stand};
-ghost use Rattle.vt_server.specs.Screens.{IsScreenOf, redraws};
+ghost use Rattle.vt_server.specs.shown.Screens.{IsScreenOf, redraws};
 ghost use Rattle.vt_server.specs.States.{state_of};
 
 use crate::counts::Counts;

@@ -1,5 +1,5 @@
-mod Filling
-mod Living
-mod NullFree
+pub mod LongerText
+pub mod MacrosUnaffected
+pub mod NullIsNoObject
 pub mod OneSet
-mod Plain
+pub mod StateBeforeAndAfter

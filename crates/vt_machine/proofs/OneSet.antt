@@ -11,9 +11,9 @@ use Rattle.vt_kinds.specs.Records.{Seen, kind_of}
 use Rattle.vt_stores.specs.Stores.{ObjectMap, Objects, object_at}
 use Rattle.vt_stores.specs.Shapes.{fixed, shape_of}
 use Rattle.vt_verify.specs.Rules.{is_working_set, working_sets}
-use Rattle.vt_chains.proofs.Places.{get_placed}
+use Rattle.vt_chains.proofs.IdIndices.{get_placed}
 use Rattle.vt_effects.specs.Effects.{kind_in}
-use Rattle.vt_machine.specs.Lives.{ActiveMasksAreOne, IsActive, first_set, working_set_in, active_in}
+use Rattle.vt_machine.specs.SetStates.{ActiveMasksAreOne, IsActive, first_set, working_set_in, active_in}
 use Rattle.vt_macros.specs.Machines.{mask_of}
 use Rattle.vt_effects.specs.Soundness.{shape_in}
 

@@ -1,4 +1,4 @@
 -- The definitions used in the contracts of vt_machine.
-pub mod Entering
-pub mod Lives
-pub mod Operating
+pub mod OperatorActions
+pub mod OperatorEntries
+pub mod SetStates

@@ -5,9 +5,9 @@ ghost use Rattle.std.specs.Option.{option_map};
 ghost use Rattle.std.specs.List.{list_all};
 ghost use Rattle.std.specs.FinMap as finite;
 ghost use Rattle.vt_kinds.specs.Records.{seen};
-ghost use Rattle.vt_machine.specs.Entering as entering;
-ghost use Rattle.vt_machine.specs.Entering.{text_of, text_at, text_fits};
-ghost use Rattle.vt_machine.specs.Operating.{ComesTo, ComesToShown, WouldRefuse};
+ghost use Rattle.vt_machine.specs.OperatorEntries as entering;
+ghost use Rattle.vt_machine.specs.OperatorEntries.{text_of, text_at, text_fits};
+ghost use Rattle.vt_machine.specs.OperatorActions.{ComesTo, ComesToShown, WouldRefuse};
 
 use crate::live::Live;
 use crate::operator::{Acted, OperatorRefusal, message, raised};

@@ -1,7 +1,7 @@
 //! Theorems about the definitions of vt_machine: each is the contract of a function with an empty body.
 
-ghost use Rattle.vt_machine.specs.Entering.{EntriesKeepOrder, EntriesKeepShapes};
-ghost use Rattle.vt_machine.specs.Lives.{ActiveMasksAreOne};
+ghost use Rattle.vt_machine.specs.OperatorEntries.{EntriesKeepOrder, EntriesKeepShapes};
+ghost use Rattle.vt_machine.specs.SetStates.{ActiveMasksAreOne};
 ghost use Rattle.vt_macros.specs.Runs.{NullIsNoObject};
 
 pub use vt_effects::laws::{

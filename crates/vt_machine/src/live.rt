@@ -12,11 +12,11 @@ ghost use Rattle.vt_verify.specs.Triggers.{listing};
 ghost use Rattle.vt_effects.specs.Effects.{kind_in};
 ghost use Rattle.vt_macros.specs.Machines.{joined};
 ghost use Rattle.vt_effects.specs.Soundness.{shape_in};
-ghost use Rattle.vt_macros.specs.Nested.{CanRun};
-ghost use Rattle.vt_machine.specs.Operating.{HasActed};
-ghost use Rattle.vt_shown.specs.Showing.{IsShown, soft_key_mask_of};
+ghost use Rattle.vt_macros.specs.NestedRuns.{CanRun};
+ghost use Rattle.vt_machine.specs.OperatorActions.{HasActed};
+ghost use Rattle.vt_shown.specs.ShownElements.{IsShown, soft_key_mask_of};
 ghost use Rattle.vt_effects.specs.Soundness.{IsSound};
-ghost use Rattle.vt_machine.specs.Lives.{HasRun, Applied, IsActive, working_set_in, active_in, is_kept, kept_key, kept_input, with_objects, renewed};
+ghost use Rattle.vt_machine.specs.SetStates.{HasRun, Applied, IsActive, working_set_in, active_in, is_kept, kept_key, kept_input, with_objects, renewed};
 
 use crate::working_set::working_set;
 use std::alloc::{AllocError, Global};
@@ -81,8 +81,8 @@ impl<S: Store> Model for Live<S> {
     ghost use Rattle.vt_chains.specs.Depths.{ids_of};
     ghost use Rattle.vt_kinds.specs.declared.kind.Kind.TheVariants as kinds;
     ghost use Rattle.vt_effects.specs.Effects.{kind_in};
-    ghost use Rattle.vt_machine.specs.Lives.{SetState, state_code, holds_key};
-    ghost use Rattle.vt_macros.specs.Nested.{CanRun};
+    ghost use Rattle.vt_machine.specs.SetStates.{SetState, state_code, holds_key};
+    ghost use Rattle.vt_macros.specs.NestedRuns.{CanRun};
 
     ghost Value = { SetState };
 

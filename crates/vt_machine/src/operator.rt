@@ -4,8 +4,8 @@ ghost use Rattle.std.specs.Prelude.{◌≡◌, ◌≤◌, IfOk, length};
 ghost use Rattle.std.specs.Option.{option_map};
 ghost use Rattle.std.specs.FinMap as finite;
 ghost use Rattle.vt_commands.specs.Events.{raise};
-ghost use Rattle.vt_machine.specs.Operating as operating;
-ghost use Rattle.vt_machine.specs.Operating.{ComesTo, ComesToShown};
+ghost use Rattle.vt_machine.specs.OperatorActions as operating;
+ghost use Rattle.vt_machine.specs.OperatorActions.{ComesTo, ComesToShown};
 
 use crate::live::{HeldKey, Live};
 use arrayvec::ArrayVec;

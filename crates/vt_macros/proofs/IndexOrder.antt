@@ -14,7 +14,7 @@ use Rattle.vt_stores.specs.Shapes.{Shape, Fixed, fixed_at}
 use Rattle.vt_verify.specs.Macros.{may_be_named, commands_of, commands_in, commands}
 use Rattle.vt_verify.specs.Triggers.{run_by_name}
 use Rattle.vt_verify.specs.Orders.{named_macros, IsByRank}
-use Rattle.vt_verify.proofs.ListedEvents.{tied_same}
+use Rattle.vt_verify.proofs.lemmas.graphs.EventGroups.{tied_same}
 
 -- the commands of a macro in a list of macros; none for other macros
 abbrev pub among : Shape → List ℕ → ℕ → List Command

@@ -1,7 +1,7 @@
-pub mod Faultless
-mod InTurn
+pub mod EventByEvent
+pub mod IndexGrowth
 mod IndexOrder
-mod Indexing
-pub mod Nesting
-pub mod Ready
-pub mod Running
+pub mod MacroTargetsExist
+pub mod RunsEnd
+pub mod StoreInOrder
+pub mod StoreOfNestedRuns

@@ -1,5 +1,5 @@
 -- The definitions used in the contracts of vt_macros.
 pub mod Indexes
 pub mod Machines
-pub mod Nested
+pub mod NestedRuns
 pub mod Runs

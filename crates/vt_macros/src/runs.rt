@@ -7,7 +7,7 @@ ghost use Rattle.vt_verify.specs.Macros.{commands};
 ghost use Rattle.vt_verify.specs.Triggers.{listing};
 ghost use Rattle.vt_macros.specs.Machines.{fault, joined, joined_all, total_budget};
 ghost use Rattle.vt_effects.specs.Soundness.{shape_in};
-ghost use Rattle.vt_macros.specs.Nested.{CanRun, HaveRun, commands_at, cost_of};
+ghost use Rattle.vt_macros.specs.NestedRuns.{CanRun, HaveRun, commands_at, cost_of};
 
 use crate::index::{Index, Span};
 use crate::raising::events_of;

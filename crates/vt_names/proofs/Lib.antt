@@ -1,6 +1,6 @@
-pub mod Filing
-pub mod Hearing
-mod Histories
-pub mod Holding
-mod Lasting
-mod Registering
+pub mod AddressesAfterClaim
+pub mod HoldersAfterClaims
+pub mod IndexAfterClaim
+pub mod LastRegistration
+pub mod RegistryAfterChanges
+pub mod SetsByAddress

@@ -4,8 +4,8 @@ use Rattle.std.proofs.lemmas.Bool.{cases_lt}
 use Rattle.std.proofs.Math.ListN.{get_or-eq_default}
 use Rattle.std.proofs.lemmas.List.{get_or-set_same, get_or-set_other}
 use Rattle.std.specs.Prelude.{slice_set}
-use Rattle.vt_node.specs.ByAddress.{with_at}
-use Rattle.vt_names.proofs.Holding.{by_eq}
+use Rattle.vt_node.specs.AddressFunctions.{with_at}
+use Rattle.vt_names.proofs.AddressesAfterClaim.{by_eq}
 
 -- A value by address is a function from addresses, or a list with an entry for each of the 256 addresses.
 

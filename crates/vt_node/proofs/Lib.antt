@@ -1,4 +1,4 @@
 pub mod ByAddress
-pub mod Ordered
+pub mod EarliestTimes
+pub mod RestOfList
 pub mod Sets
-mod Watching

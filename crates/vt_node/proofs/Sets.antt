@@ -1,8 +1,8 @@
 -- The sets in order of registration: the set of an address, and the effect of a write.
 use Rattle.std.proofs.Common.{◌≡◌, ◌≢◌, ℕ, List, [], ◌∷◌, None, sym, ap, ◌∙◌, refl}
 use Rattle.vt_names.specs.Registry.{Set, set_at, with_set, without}
-use Rattle.vt_names.proofs.Filing.{set_at-first, set_at-later, with_set-first, with_set-later, without-later}
-use Rattle.vt_names.proofs.Holding.{by_eq, none-some}
+use Rattle.vt_names.proofs.SetsByAddress.{set_at-first, set_at-later, with_set-first, with_set-later, without-later}
+use Rattle.vt_names.proofs.AddressesAfterClaim.{by_eq, none-some}
 
 pub none-same : (a : ℕ) (sets : List Set) → set_at a sets ≡ None → without a sets ≡ sets
 none-same a [] none = refl

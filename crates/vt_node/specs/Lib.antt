@@ -1,8 +1,8 @@
 -- Definitions cited by the contracts of vt_node.
+pub mod AddressFunctions
 pub mod Bus
-pub mod ByAddress
 pub mod Messages
 pub mod Nodes
-pub mod Receiving
+pub mod ReceiverResults
 pub mod Registries
 pub mod Watches

@@ -17,7 +17,7 @@ use Rattle.vt_transport.specs.SessionState as tp_session
 use Rattle.vt_transport.specs.Wire.{tp_frame}
 use Rattle.vt_extended.specs.Protocol as etp
 use Rattle.vt_extended.specs.SessionState as etp_session
-use Rattle.vt_node.specs.Receiving.{Taken, taken, frames_in, message_in}
+use Rattle.vt_node.specs.ReceiverResults.{Taken, taken, frames_in, message_in}
 
 -- the claims received, the sessions of both receivers by source and of the sender by destination, and the number of bytes
 -- reserved by each receiver

@@ -2,7 +2,7 @@
 
 ghost use Rattle.std.specs.Prelude.{◌≡◌, ◌<◌, ◌-◌, ℕ, Some, None, false, unwrap_or, length, get_or};
 ghost use Rattle.vt_node.specs.Watches.{is_silent};
-ghost use Rattle.vt_node.specs.ByAddress.{with_at};
+ghost use Rattle.vt_node.specs.AddressFunctions.{with_at};
 ghost use Rattle.vt_node.specs.Watches.{heard_of, heard_in};
 
 use std::marker::Model;

@@ -6,7 +6,7 @@ ghost use Rattle.vt_names.specs.Registry.{set_at, with_set, without, registering
 ghost use Rattle.vt_names.specs.declared.registry.RegistryFault.TheVariants as declared;
 ghost use Rattle.vt_node.specs.Watches.{first_silent_of, is_silent};
 ghost use Rattle.vt_node.specs.Registries.{AreHeardSince, sooner};
-ghost use Rattle.vt_node.specs.ByAddress.{with_at};
+ghost use Rattle.vt_node.specs.AddressFunctions.{with_at};
 ghost use Rattle.vt_node.specs.Watches.{heard_of};
 
 use crate::OutOfMemory;

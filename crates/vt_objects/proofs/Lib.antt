@@ -1,3 +1,3 @@
+pub mod OneFieldPerAttribute
 mod OneRounding
 mod Rounding
-mod Writing

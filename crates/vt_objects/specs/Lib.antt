@@ -1,3 +1,3 @@
 -- The specifications that the contracts of vt_objects use.
+pub mod AttributeFields
 pub mod Decimals
-pub mod Writing

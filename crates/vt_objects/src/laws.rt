@@ -1,7 +1,7 @@
 //! Theorems about objects and commands. Each is the contract of a function with an empty body.
 
 ghost use Rattle.vt_objects.specs.Decimals.{ShownIsOne};
-ghost use Rattle.vt_objects.specs.Writing.{AttributesAreFields};
+ghost use Rattle.vt_objects.specs.AttributeFields.{AttributesAreFields};
 
 pub use vt_commands::laws::cut_is_one;
 pub use vt_writing::laws::objects_have_records;

@@ -1,12 +1,12 @@
-mod Again
-mod Force
-mod Fronts
-mod InPlace
-mod Joins
-mod Lasting
-mod NoFaultYet
+pub mod EntryIndices
+pub mod FieldSkips
+pub mod FrontBytes
+pub mod JoinedRecords
+pub mod LastingFaults
+pub mod NoFaultInCutRecord
+pub mod ObjectsInForce
 mod OneReading
-mod PartsPassed
 mod Progress
-mod ReadTo
-mod RecordsPassed
+pub mod ReadPosition
+pub mod RecordSkips
+pub mod RoundTrip

@@ -11,10 +11,10 @@ use Rattle.vt_records.specs.declared.fault.PoolFault.{PoolFault}
 use Rattle.vt_records.specs.declared.fault.PoolFault.TheVariants as faults
 use Rattle.vt_pool.specs.Pools.{Entry, joined, AreRecords, first_occurrences, ids, IsInForce, IsFaultAt, IsFault, IsWantOfMemory, ReadingsAreOne, is_of_type}
 use Rattle.vt_records.specs.Faults.{NoRecordBegins, HasNullId, HasOtherType, IsTruncated, IsImproper}
-use Rattle.vt_pool.proofs.InPlace.{get-contents}
-use Rattle.vt_records.proofs.Taken.{same_record}
+use Rattle.vt_pool.proofs.EntryIndices.{get-contents}
+use Rattle.vt_records.proofs.ReadInvertsWrite.{same_record}
 use Rattle.vt_records.proofs.Causes.{truncated_none, null_none, other_none}
-use Rattle.vt_pool.proofs.Again.{joined_one, same_entries}
+use Rattle.vt_pool.proofs.RoundTrip.{joined_one, same_entries}
 
 -- ---- first occurrences are unique
 

@@ -1,12 +1,12 @@
 -- Progress of reading a pool: the records so far, and the objects in force after them.
 use Rattle.std.proofs.Common.{◌≡◌, ℕ, ◌-◌, ◌<◌, List, [], ◌∷◌, ◌++◌, length, sym, subst}
 use Rattle.vt_kinds.specs.Records.{Seen, record_of, HasRecord}
-use Rattle.vt_records.specs.declared.stop.RecordFault.{RecordFault}
+use Rattle.vt_records.specs.declared.record_fault.RecordFault.{RecordFault}
 use Rattle.vt_pool.specs.Pools.{Entry, joined, AreRecords, IsInForce, IsFault}
-use Rattle.vt_records.specs.Stops.{IsStop, fault_at}
-use Rattle.vt_pool.specs.Places.{with_entry}
-use Rattle.vt_pool.proofs.Force.{in_force_push}
-use Rattle.vt_pool.proofs.Joins.{joined_push, records_push, is_fault}
+use Rattle.vt_records.specs.RecordFaults.{IsStop, fault_at}
+use Rattle.vt_pool.specs.EntryWrites.{with_entry}
+use Rattle.vt_pool.proofs.ObjectsInForce.{in_force_push}
+use Rattle.vt_pool.proofs.JoinedRecords.{joined_push, records_push, is_fault}
 
 pub record IsReadUpTo (bytes rest : List ℕ) (pool : List Entry) : Type 0 where
   pub records : List Entry

@@ -1,5 +1,5 @@
 -- The specifications that the contracts of vt_pool use.
-pub mod Arriving
+pub mod EntryWrites
 pub mod Parts
-pub mod Places
 pub mod Pools
+pub mod PoolUploads

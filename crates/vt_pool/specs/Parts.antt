@@ -10,14 +10,14 @@ use Rattle.vt_pool.specs.declared.parts.Counted.TheVariants as counted
 use Rattle.vt_pool.specs.declared.parts.EntryCounts.{EntryCounts}
 use Rattle.vt_pool.specs.declared.parts.FieldLayout.{FieldLayout}
 use Rattle.vt_pool.specs.declared.parts.FieldLayout.TheVariants as parts
-use Rattle.vt_records.specs.declared.stop.RecordFault.{RecordFault}
+use Rattle.vt_records.specs.declared.record_fault.RecordFault.{RecordFault}
 use Rattle.vt_records.specs.declared.fault.PoolFault.{PoolFault}
 use Rattle.vt_records.specs.declared.fault.PoolFault.TheVariants as faults
 use Rattle.vt_kinds.specs.declared.kind.Kind.{Kind}
 use Rattle.vt_kinds.specs.Records.{fields_of}
 use Rattle.vt_records.specs.Heads.{ReadRecord, ◌>>=◌, fields_at, record_at}
-use Rattle.vt_records.specs.Reading.{row_size}
-use Rattle.vt_records.specs.Stops.{fault_at}
+use Rattle.vt_records.specs.TableReads.{row_size}
+use Rattle.vt_records.specs.RecordFaults.{fault_at}
 
 -- ---- the fields of a record
 

@@ -1,7 +1,7 @@
 //! Pool uploads, read while their pieces arrive.
 
 ghost use Rattle.std.specs.Prelude.{◌≡◌, ◌≤◌, ◌+◌, ◌-◌, [], ◌++◌, length, drop, List, vec_len, vec_capacity, IfOk, IfErr, OnOk, OnErr, IsOk, IfSome, IfNone};
-ghost use Rattle.vt_pool.specs.Arriving.{IsLasting, HasNoFaultYet, IsReadTo, WereReadTo};
+ghost use Rattle.vt_pool.specs.PoolUploads.{IsLasting, HasNoFaultYet, IsReadTo, WereReadTo};
 ghost use Rattle.vt_pool.specs.Pools.{Entry, AreRecords, joined, IsInForce, IsFault, IsWantOfMemory};
 
 use crate::OutOfMemory;
@@ -38,7 +38,7 @@ impl Drop for Reading {
 
 impl Model for Reading {
     ghost use Rattle.std.specs.Prelude.{◌≤◌, ◌-◌, drop, vec_len, vec_capacity};
-    ghost use Rattle.vt_pool.specs.Arriving.{Arrived, arrived_code, IsReadTo};
+    ghost use Rattle.vt_pool.specs.PoolUploads.{Arrived, arrived_code, IsReadTo};
 
     ghost Value = { Arrived };
 

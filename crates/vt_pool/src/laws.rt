@@ -1,6 +1,6 @@
 //! Theorems about pools. Each is the contract of a function with an empty body.
 
-ghost use Rattle.vt_pool.specs.Arriving.{FaultsLast};
+ghost use Rattle.vt_pool.specs.PoolUploads.{FaultsLast};
 ghost use Rattle.vt_pool.specs.Pools.{ReadingsAreOne, WrittenIsRead};
 
 pub use vt_records::laws::records_are_whole;

@@ -3,7 +3,7 @@
 ghost use Rattle.std.specs.Prelude.{◌≡◌, ◌<◌, ◌≤◌, ◌+◌, ◌^◌, length, drop, IfOk};
 ghost use Rattle.vt_kinds.specs.Records.{fields_of};
 ghost use Rattle.vt_records.specs.Heads.{fields_at, record_at};
-ghost use Rattle.vt_pool.specs.Arriving.{AreWholeTo, IsReadTo, lasting_of};
+ghost use Rattle.vt_pool.specs.PoolUploads.{AreWholeTo, IsReadTo, lasting_of};
 ghost use Rattle.vt_pool.specs.Parts.{HeadGives, PassesFields, PassesRecord};
 
 use crate::layouts::parts;

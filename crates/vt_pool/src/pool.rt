@@ -6,8 +6,8 @@ ghost use Rattle.std.specs.FinMap as finite;
 ghost use Rattle.vt_kinds.specs.Records.{seen, HasRecord};
 ghost use Rattle.vt_stores.specs.Stores.{shown};
 ghost use Rattle.vt_pool.specs.Pools.{Entry, AreObjects, AreRecords, joined, contents, IsInForce, IsFault, IsWantOfMemory};
-ghost use Rattle.vt_records.specs.declared.stop.RecordFault.TheVariants as stops;
-ghost use Rattle.vt_pool.specs.Places.{with_entry};
+ghost use Rattle.vt_records.specs.declared.record_fault.RecordFault.TheVariants as stops;
+ghost use Rattle.vt_pool.specs.EntryWrites.{with_entry};
 
 use indexmap::IndexSet;
 use std::alloc::Global;

@@ -3,7 +3,7 @@ use Rattle.std.proofs.Common.{◌≡◌, ◌∙◌, ◌+◌, ◌⊎◌, inl, inr
 use Rattle.std.specs.FinMap as finite
 use Rattle.vt_can.specs.lines.Readings.{FrameAt, OperatorAction, SkippedFrame, CommentLine}
 use Rattle.vt_stores.specs.Stores.{ObjectMap, map_of}
-use Rattle.vt_node.specs.ByAddress.{with_at}
+use Rattle.vt_node.specs.AddressFunctions.{with_at}
 use Rattle.vt_server.specs.Findings.{AreFound}
 use Rattle.vt_server.specs.Steps.{JudgedInput, after_all, preloading, step}
 use Rattle.vt_server.specs.Terminals.{State}

@@ -9,7 +9,7 @@ use Rattle.vt_can.specs.declared.lines.line.Action.{Action}
 use Rattle.vt_can.specs.declared.lines.line.Action.TheVariants as actions
 use Rattle.vt_can.specs.lines.Line.{Reads, ReadingsAreOne}
 use Rattle.vt_can.specs.lines.Readings.{ParsedLine, FrameAt, OperatorAction, SkippedFrame, CommentLine}
-use Rattle.vt_laws.specs.Certain.{StepsAreOne}
+use Rattle.vt_laws.specs.UniqueSteps.{StepsAreOne}
 use Rattle.vt_laws.specs.Headline.{Pools, AreInForce, IsInForce, NeverSticks, accepted_after}
 use Rattle.vt_layout.specs.Screens.{ScreensAreOne}
 use Rattle.vt_logs.specs.declared.counts.Counts.{Counts}
@@ -17,7 +17,7 @@ use Rattle.vt_logs.specs.Lines.{lines_of}
 use Rattle.vt_logs.specs.Replays.{IsReplay}
 use Rattle.vt_logs.specs.Taken.{ReplayState, IsInputOfLine, TakesInputLine, TakesReading, TakesReadings}
 use Rattle.vt_logs.specs.Texts.{LineReading, counts_text, new_screen, no_counts, output_text, with_lines}
-use Rattle.vt_machine.specs.Lives.{SetState}
+use Rattle.vt_machine.specs.SetStates.{SetState}
 use Rattle.vt_kinds.specs.Records.{Seen}
 use Rattle.vt_pool.specs.Pools.{Entry, AreRecords, contents, joined}
 use Rattle.vt_program.specs.declared.options.Options.{Options}
@@ -26,10 +26,10 @@ use Rattle.vt_program.specs.Certain.{AppendSame, IsKnown, IsPoolKnown, ReplaysAr
 use Rattle.vt_program.specs.Promises.{given_pools}
 use Rattle.vt_program.specs.Runs.{Files, HasReplayed, IsPoolOf, IsPreloaded, IsStart, WritesReplay, new_state}
 use Rattle.vt_program.proofs.Keeping.{start-in-force}
-use Rattle.vt_records.proofs.Taken.{same_record}
+use Rattle.vt_records.proofs.ReadInvertsWrite.{same_record}
 use Rattle.vt_server.specs.Findings.{IsEventOf, IsFound}
 use Rattle.vt_server.specs.Outputs.{outputs_of}
-use Rattle.vt_server.specs.Screens.{IsScreenAt, IsScreenOf, IsScreenOfShown}
+use Rattle.vt_server.specs.shown.Screens.{IsScreenAt, IsScreenOf, IsScreenOfShown}
 use Rattle.vt_server.specs.Steps as steps
 use Rattle.vt_server.specs.Steps.{JudgedInput, Step, preloading, step}
 use Rattle.vt_server.specs.Terminals.{State, pool_of}

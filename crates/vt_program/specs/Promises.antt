@@ -10,7 +10,7 @@ use Rattle.vt_logs.specs.Replays.{IsReplay}
 use Rattle.vt_logs.specs.Taken.{IsInputOfLine, ReplayState}
 use Rattle.vt_logs.specs.Texts.{LineReading}
 use Rattle.vt_program.specs.declared.options.Options.{Options}
-use Rattle.vt_node.specs.ByAddress.{with_at}
+use Rattle.vt_node.specs.AddressFunctions.{with_at}
 use Rattle.vt_program.specs.declared.options.Preload.{Preload}
 use Rattle.vt_program.specs.Runs.{Files, IsPreloaded, IsStart, new_state}
 use Rattle.vt_server.specs.Findings.{AreFound}

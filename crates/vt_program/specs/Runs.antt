@@ -31,7 +31,7 @@ use Rattle.vt_logs.specs.Begun.{HasStopped, HasStoppedAtLong}
 use Rattle.vt_logs.specs.Replays.{IsReplay, HasLongLine}
 use Rattle.vt_logs.specs.Texts.{newline}
 use Rattle.vt_program.specs.Words.{IsRefusalOf, WordsGive}
-use Rattle.vt_server.specs.Places.{empty}
+use Rattle.vt_server.specs.state.AddressStates.{empty}
 use Rattle.vt_server.specs.Steps.{preloading}
 use Rattle.vt_server.specs.Terminals.{State}
 

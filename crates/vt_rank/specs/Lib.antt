@@ -1,6 +1,6 @@
+pub mod Costs
 pub mod Graphs
+pub mod NodeSets
 pub mod Paths
 pub mod Searches
-pub mod Costs
 pub mod Tables
-pub mod NodeSets

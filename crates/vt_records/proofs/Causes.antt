@@ -7,17 +7,17 @@ use Rattle.vt_kinds.specs.declared.kind.Kind.{Kind}
 use Rattle.vt_kinds.specs.Layout.{Value, no_counts}
 use Rattle.vt_kinds.specs.Kinds.{kind_at}
 use Rattle.vt_kinds.specs.Records.{Seen, fields_of, kind_of, values_of, record_of}
-use Rattle.vt_records.specs.declared.stop.RecordFault.{RecordFault}
-use Rattle.vt_records.specs.declared.stop.RecordFault.TheVariants as stops
+use Rattle.vt_records.specs.declared.record_fault.RecordFault.{RecordFault}
+use Rattle.vt_records.specs.declared.record_fault.RecordFault.TheVariants as stops
 use Rattle.vt_records.specs.Heads.{ReadRecord, other_type, fitting, fields_at, record_at}
-use Rattle.vt_records.specs.Reading.{values_at}
+use Rattle.vt_records.specs.TableReads.{values_at}
 use Rattle.vt_records.specs.Faults.{NoRecordBegins, HasNullId, HasOtherType, IsTruncated, HasValues, id_at, type_at}
-use Rattle.vt_records.specs.Stops.{IsStop}
+use Rattle.vt_records.specs.RecordFaults.{IsStop}
 use Rattle.vt_records.proofs.Numbers.{IsBytes, IsBytes-rest}
 use Rattle.vt_records.proofs.Tables.{values_take, values_again}
 use Rattle.vt_records.proofs.Misfits.{IsMisfit, misfit_is, fitting_err}
-use Rattle.vt_records.proofs.Heads.{kind_at-kind_number, of_values, of_kind, record_at-short, record_at-long}
-use Rattle.vt_records.proofs.Taken.{record_again}
+use Rattle.vt_records.proofs.RecordHeads.{kind_at-kind_number, of_values, of_kind, record_at-short, record_at-long}
+use Rattle.vt_records.proofs.ReadInvertsWrite.{record_again}
 
 -- an error of `record_at` means that no record begins there
 none_begins : (all : List ℕ) (stop : RecordFault) → record_at all ≡ Err stop → NoRecordBegins all

@@ -10,7 +10,7 @@ use Rattle.vt_kinds.specs.Layout.{Counted, Objects, Macros, Others, Unsigned, Si
 use Rattle.vt_kinds.specs.Scales.{scale_number}
 use Rattle.vt_kinds.specs.Tables.{child_sizes, macro_sizes, language_sizes, id_sizes, point_sizes}
 use Rattle.vt_kinds.specs.Records.{Seen, fields_of, kind_of, values_of}
-use Rattle.vt_records.specs.Reading.{◌>>=◌}
+use Rattle.vt_records.specs.TableReads.{◌>>=◌}
 use Rattle.vt_records.proofs.Numbers.{some_is}
 use Rattle.vt_records.proofs.Entries.{entries_of, list_back, list_again, scale_from, scale_back, scale_again}
 

@@ -7,8 +7,8 @@ use Rattle.vt_kinds.specs.declared.scale.Scale.{Scale}
 use Rattle.vt_kinds.specs.declared.scale.Scale.TheVariants as scale
 use Rattle.vt_kinds.specs.Scales.{scale_number, scale_at, scale_among, scales, IsScale}
 use Rattle.vt_kinds.specs.Layout.{Unsigned, Signed, natural, integer, bytes_in, RecordField, Number, Count, Rows, Bytes, ScaleBytes, DecimalPlaces, Value, number, rows, bytes, Counts, counted, rows_spelling, field_spelling, IsProper, Proper, FieldsFit}
-use Rattle.vt_records.specs.declared.stop.RecordFault.{RecordFault}
-use Rattle.vt_records.specs.declared.stop.RecordFault.TheVariants as stops
+use Rattle.vt_records.specs.declared.record_fault.RecordFault.{RecordFault}
+use Rattle.vt_records.specs.declared.record_fault.RecordFault.TheVariants as stops
 use Rattle.vt_records.specs.Heads.{if_none, misfit, or_misfit, fitting}
 use Rattle.vt_records.specs.Faults.{IsFirstImproper}
 

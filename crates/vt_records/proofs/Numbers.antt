@@ -11,7 +11,7 @@ use mir.ValLaws.{of_z_fits, to_z-Fits, to_z-of_z, of_z-to_z}
 use Rattle.std.specs.Int.{Width, w8, w16, w32, w64, w128, cast_signed, cast_unsigned}
 use Rattle.std.specs.Prelude.{ℤ, FitsSigned}
 use Rattle.vt_kinds.specs.Layout.{bytes_in}
-use Rattle.vt_records.specs.Reading.{◌>>=◌, bytes_at, number_at, signed_at}
+use Rattle.vt_records.specs.TableReads.{◌>>=◌, bytes_at, number_at, signed_at}
 
 abbrev pub IsBytes : List ℕ → Type 0
 IsBytes bytes = (i : ℕ) → get_or bytes i 0 < 256

@@ -2,11 +2,11 @@
 use Rattle.std.proofs.Common.{◌≡◌, ◌⊎◌, ℕ, suc, ◌-◌, ◌+◌, ◌≤◌, ◌<◌, List, [], ◌∷◌, ◌++◌, length, Option, Some, None, refl, sym, ap, ◌∙◌, append_assoc, inr, arith}
 use Rattle.std.proofs.lemmas.List.{append-nil}
 use Rattle.vt_kinds.specs.Layout.{Size, Unsigned, Signed, Numeral, natural, integer}
-use Rattle.vt_records.specs.declared.stop.RecordFault.{RecordFault}
-use Rattle.vt_records.specs.declared.stop.RecordFault.TheVariants as stops
+use Rattle.vt_records.specs.declared.record_fault.RecordFault.{RecordFault}
+use Rattle.vt_records.specs.declared.record_fault.RecordFault.TheVariants as stops
 use Rattle.vt_records.proofs.Numbers.{number_then_short, signed_then_short}
-use Rattle.vt_records.specs.Reading.{◌>>=◌, row_at, rows_at}
-use Rattle.vt_records.specs.Reading.{row_size}
+use Rattle.vt_records.specs.TableReads.{◌>>=◌, row_at, rows_at}
+use Rattle.vt_records.specs.TableReads.{row_size}
 
 -- the rows read so far, followed by the rows of a later read
 abbrev pub with_front : List (List Numeral) → Option (List (List Numeral) × List ℕ) → Option (List (List Numeral) × List ℕ)

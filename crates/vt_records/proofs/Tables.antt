@@ -5,9 +5,9 @@ use Rattle.std.proofs.lemmas.List.Elements.{recursion_from_All, All-from_get_or}
 use Rattle.byteorder.specs.Endian.{little_bytes}
 use Rattle.std.specs.Int.{cast_unsigned}
 use Rattle.vt_kinds.specs.Layout.{Size, Unsigned, Signed, Numeral, natural, integer, bytes_in, RecordField, Number, Count, Rows, Bytes, ScaleBytes, DecimalPlaces, Value, number, rows, bytes, Counts, counted, count_of, row_spelling, rows_spelling, spelling, RowFits, FieldsFit, no_counts}
-use Rattle.vt_records.specs.declared.stop.RecordFault.TheVariants as stops
+use Rattle.vt_records.specs.declared.record_fault.RecordFault.TheVariants as stops
 use Rattle.vt_records.specs.Heads.{fitting, fields_at}
-use Rattle.vt_records.specs.Reading.{◌>>=◌, bytes_at, number_at, signed_at, row_at, rows_at, values_at, head_size}
+use Rattle.vt_records.specs.TableReads.{◌>>=◌, bytes_at, number_at, signed_at, row_at, rows_at, values_at, head_size}
 use Rattle.vt_records.proofs.Numbers.{IsBytes, bind_some, some_is, Takes, Takes-nothing, Takes-then, bytes_take, bytes_again, number_takes, number_again, signed_takes, signed_again, number_then_short, signed_then_short}
 
 -- ---- rows of a list

@@ -6,9 +6,9 @@ use Rattle.vt_kinds.specs.Scales.{scale_at}
 use Rattle.vt_kinds.specs.Layout.{Unsigned, Signed, natural, bytes_in, RecordField, Number, Count, ScaleBytes, DecimalPlaces, Value, number, field_spelling, no_counts}
 use Rattle.vt_kinds.specs.Kinds.{kind_at}
 use Rattle.vt_kinds.specs.Records.{fields_of}
-use Rattle.vt_records.specs.declared.stop.RecordFault.{RecordFault}
-use Rattle.vt_records.specs.declared.stop.RecordFault.TheVariants as stops
-use Rattle.vt_records.specs.Reading.{number_at, values_at}
+use Rattle.vt_records.specs.declared.record_fault.RecordFault.{RecordFault}
+use Rattle.vt_records.specs.declared.record_fault.RecordFault.TheVariants as stops
+use Rattle.vt_records.specs.TableReads.{number_at, values_at}
 
 -- a record's ID, kind and values, and the remaining bytes
 pub record ReadRecord : Type 0 where

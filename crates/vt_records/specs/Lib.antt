@@ -2,6 +2,6 @@
 pub mod Faults
 pub mod FaultTexts
 pub mod Heads
-pub mod Reading
-pub mod Stops
-pub mod Whole
+pub mod NoProperPrefix
+pub mod RecordFaults
+pub mod TableReads

@@ -3,10 +3,10 @@
 ghost use Rattle.std.specs.Prelude.{◌≡◌, List, length, map, IfOk};
 ghost use Rattle.vt_kinds.specs.Layout.{Size, Numeral};
 ghost use Rattle.vt_kinds.specs.Tables.{child_sizes, child_numbers, macro_sizes, macro_numbers, language_sizes, language_numbers, id_sizes, id_numbers, point_sizes, point_numbers};
-ghost use Rattle.vt_records.specs.Reading.{Finds, Gives, row_at, rows_at};
+ghost use Rattle.vt_records.specs.TableReads.{Finds, Gives, row_at, rows_at};
 
 use crate::reader::Reader;
-use crate::stop::RecordFault;
+use crate::record_fault::RecordFault;
 use std::alloc::Global;
 use vt_kinds::{Child, Entries, Language, MacroEntry, ObjectId, Point};
 

@@ -12,13 +12,13 @@ mod fault;
 pub mod laws;
 mod reader;
 mod record;
+mod record_fault;
 mod records;
-mod stop;
 
 pub use fault::PoolFault;
 pub use reader::Reader;
 pub use record::{Record, kind_with, read_record};
-pub use stop::RecordFault;
+pub use record_fault::RecordFault;
 
 /// The error of a failed allocation.
 pub use std::alloc::AllocError as OutOfMemory;

@@ -3,10 +3,10 @@
 ghost use Rattle.std.specs.Prelude.{◌≡◌, ◌<◌, ◌≤◌, ◌+◌, length, Some, IfOk, IfErr};
 ghost use Rattle.std.specs.Int.{w16, w32};
 ghost use Rattle.byteorder.specs.Endian.{little_number};
-ghost use Rattle.vt_records.specs.Reading.{Finds, number_at, signed_at, bytes_at};
-ghost use Rattle.vt_records.specs.declared.stop.RecordFault.TheVariants as stops;
+ghost use Rattle.vt_records.specs.TableReads.{Finds, number_at, signed_at, bytes_at};
+ghost use Rattle.vt_records.specs.declared.record_fault.RecordFault.TheVariants as stops;
 
-use crate::stop::RecordFault;
+use crate::record_fault::RecordFault;
 use byteorder::{ByteOrder, LittleEndian};
 use std::marker::Model;
 use vt_kinds::{LongText, MacroBytes, ObjectId, PictureBytes, ShortText};

@@ -4,11 +4,11 @@ ghost use Rattle.std.specs.Prelude.{◌≡◌, ◌<◌, ◌++◌, length, IfOk, 
 ghost use Rattle.vt_kinds.specs.Kinds.{kind_at};
 ghost use Rattle.vt_kinds.specs.Records.{kind_of, values_of, seen, record_of, HasRecord};
 ghost use Rattle.vt_records.specs.Heads.{Reads, record_at, or_stop, other_type};
-ghost use Rattle.vt_records.specs.Stops.{IsStop};
+ghost use Rattle.vt_records.specs.RecordFaults.{IsStop};
 
 use crate::reader::Reader;
+use crate::record_fault::RecordFault;
 use crate::records::read_fields;
-use crate::stop::RecordFault;
 use std::alloc::Global;
 use vt_kinds::{Kind, Object, ObjectId};
 

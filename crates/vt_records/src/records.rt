@@ -3,7 +3,7 @@
 ghost use Rattle.std.specs.Prelude.{◌≡◌, IfOk};
 ghost use Rattle.vt_kinds.specs.Records.{fields_of, values_of, kind_of};
 ghost use Rattle.vt_records.specs.Heads.{Reads, fields_at};
-ghost use Rattle.vt_records.specs.Reading.{head_size};
+ghost use Rattle.vt_records.specs.TableReads.{head_size};
 
 mod attribute_objects;
 mod graphs;
@@ -17,7 +17,7 @@ mod shapes;
 mod variables;
 
 use crate::reader::Reader;
-use crate::stop::RecordFault;
+use crate::record_fault::RecordFault;
 use attribute_objects::{
     read_fill_attributes, read_font, read_input_attributes, read_line_attributes,
 };

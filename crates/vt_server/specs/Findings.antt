@@ -6,17 +6,17 @@ use Rattle.vt_can.specs.declared.frames.frame.Frame.{Frame}
 use Rattle.vt_can.specs.frames.Frame.{source_of}
 use Rattle.vt_can.specs.lines.Actions.{action_value}
 use Rattle.vt_names.specs.Registry.{Set}
-use Rattle.vt_machine.specs.Lives.{active_in}
-use Rattle.vt_shown.specs.Showing.{IsShown}
+use Rattle.vt_machine.specs.SetStates.{active_in}
+use Rattle.vt_shown.specs.ShownElements.{IsShown}
 use Rattle.vt_node.specs.Bus.{notice_of}
-use Rattle.vt_server.specs.Handling.{ends_pool}
-use Rattle.vt_server.specs.Lapses.{at_time, lapsed}
-use Rattle.vt_server.specs.Operators.{object_of}
-use Rattle.vt_server.specs.Parts.{AddressView}
-use Rattle.vt_server.specs.Sessions.{came}
+use Rattle.vt_server.specs.message.MessageEffects.{ends_pool}
+use Rattle.vt_server.specs.frame.TimeoutActs.{at_time, lapsed}
+use Rattle.vt_server.specs.operator.ActionEffects.{object_of}
+use Rattle.vt_server.specs.state.AddressViews.{AddressView}
+use Rattle.vt_server.specs.frame.SessionEffects.{came}
 use Rattle.vt_server.specs.Steps.{JudgedInput, FrameAt, ActionAt, step}
 use Rattle.vt_server.specs.Terminals.{State, part, pool_at}
-use Rattle.vt_server.specs.Transfers.{Verdict, IsVerdict}
+use Rattle.vt_server.specs.message.Verdicts.{Verdict, IsVerdict}
 use Rattle.vt_node.specs.declared.bus.FrameMeaning.{FrameMeaning}
 use Rattle.vt_server.specs.declared.input.Input.{Input}
 use Rattle.vt_server.specs.declared.input.Input.TheVariants as inputs

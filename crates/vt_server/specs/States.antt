@@ -4,10 +4,10 @@ use Rattle.std.specs.FinMap as finite
 use Rattle.vt_server.specs.Findings.{IsEventOf, AreEventsOf, IsFound, AreFound}
 use Rattle.vt_node.specs.Nodes.{NodeState}
 use Rattle.vt_server.specs.Outputs.{outputs_of}
-use Rattle.vt_server.specs.Places.{SetPool, AddressState}
+use Rattle.vt_server.specs.state.AddressStates.{SetPool, AddressState}
 use Rattle.vt_server.specs.Steps.{JudgedInput, step, after_all, sent_by_all}
 use Rattle.vt_server.specs.Terminals.{State}
-use Rattle.vt_server.specs.Uploads.{content_of}
+use Rattle.vt_server.specs.state.PoolTables.{content_of}
 use Rattle.vt_node.specs.Watches.{heard_of}
 use Rattle.vt_server.specs.declared.input.Input.{Input}
 use Rattle.vt_server.specs.declared.output.Output.{Output}

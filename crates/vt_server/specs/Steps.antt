@@ -9,13 +9,13 @@ use Rattle.vt_names.specs.Claims.{Claimed, heard, address_of, answer}
 use Rattle.vt_names.specs.declared.claims.ClaimMeaning.{ClaimMeaning}
 use Rattle.vt_names.specs.declared.claims.ClaimMeaning.TheVariants as claims
 use Rattle.vt_node.specs.Bus.{notice_of}
-use Rattle.vt_server.specs.Choosing.{choosing, shown_now, events_of_change, display, status}
-use Rattle.vt_server.specs.Lapses.{at_time, lapsed, sent_by_lapses}
+use Rattle.vt_server.specs.shown.ShownSet.{choosing, shown_now, events_of_change, display, status}
+use Rattle.vt_server.specs.frame.TimeoutActs.{at_time, lapsed, sent_by_lapses}
 use Rattle.vt_node.specs.Messages.{claim_from}
 use Rattle.vt_stores.specs.Stores.{ObjectMap}
-use Rattle.vt_server.specs.Parts.{Act, Hears, Rebinds, Operates, Preloads}
+use Rattle.vt_server.specs.state.AddressViews.{Act, Hears, Rebinds, Operates, Preloads}
 use Rattle.vt_server.specs.Terminals.{State, Sent, ToAll, Refused, holder, pool_of, pool_at, after_act, after_acts, sent_by_acts}
-use Rattle.vt_server.specs.Transfers.{Verdict}
+use Rattle.vt_server.specs.message.Verdicts.{Verdict}
 use Rattle.vt_node.specs.declared.bus.FrameMeaning.{FrameMeaning}
 use Rattle.vt_node.specs.declared.bus.FrameMeaning.TheVariants.{Claim, ClaimRequest}
 use Rattle.vt_server.specs.declared.output.OperatorFault.TheVariants.{NoSet}

@@ -3,10 +3,10 @@ use Rattle.std.specs.Prelude.{ℕ, Bool, List, [], ◌∷◌, ◌++◌, map, Opt
 use Rattle.vt_can.specs.declared.frames.frame.Frame.{Frame}
 use Rattle.vt_names.specs.Claims.{Claimed, holder_of}
 use Rattle.vt_names.specs.Registry.{Set, set_at, with_set, without}
-use Rattle.vt_machine.specs.Lives.{SetState}
-use Rattle.vt_node.specs.ByAddress.{with_at}
-use Rattle.vt_server.specs.Places.{AddressState}
-use Rattle.vt_server.specs.Parts.{AddressView, AddressOutcome, Act, outcome}
+use Rattle.vt_machine.specs.SetStates.{SetState}
+use Rattle.vt_node.specs.AddressFunctions.{with_at}
+use Rattle.vt_server.specs.state.AddressStates.{AddressState}
+use Rattle.vt_server.specs.state.AddressViews.{AddressView, AddressOutcome, Act, outcome}
 use Rattle.vt_server.specs.declared.output.OperatorFault.{OperatorFault}
 
 -- the address claims received, the sets in order of registration, the state of each address, the addresses of the selected set

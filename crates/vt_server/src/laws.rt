@@ -1,7 +1,7 @@
 //! Laws on the states of a terminal. Each is the contract of a function that changes nothing. The laws on its steps are in
 //! vt_laws.
 
-ghost use Rattle.vt_server.specs.Orderly.{IsOrderly};
+ghost use Rattle.vt_server.specs.state.StateInvariants.{IsOrderly};
 ghost use Rattle.vt_server.specs.States.{state_of};
 
 use crate::terminal::Terminal;

@@ -7,22 +7,15 @@
 //! docs/PROFILE.md, "The step", has the rules.
 #![tactic(auto)]
 
-mod choosing;
-mod claiming;
-mod commands;
-mod contents;
-mod ending;
-mod hearing;
+mod frame;
 mod input;
-mod lapsing;
 pub mod laws;
-mod operating;
+mod message;
 mod operator;
 mod output;
-mod receiving;
-mod status;
+mod pools;
+mod shown;
 mod terminal;
-mod uploading;
 
 pub use input::Input;
 pub use output::{OperatorFault, Output};

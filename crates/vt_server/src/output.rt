@@ -83,7 +83,7 @@ pub(crate) fn send_all(outputs: &mut Vec<Output>, frames: ArrayVec<Frame, 255>)
 }
 
 impl From<OperatorRefusal> for OperatorFault {
-    ghost use Rattle.vt_server.specs.Operators.{fault_of};
+    ghost use Rattle.vt_server.specs.operator.ActionEffects.{fault_of};
 
     ghost from_gives = { λ refusal fault. fault ≡ fault_of refusal };
 

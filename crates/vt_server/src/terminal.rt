@@ -4,15 +4,15 @@ ghost use Rattle.std.specs.Prelude.{◌≡◌, ◌≢◌, ◌≤◌, ◌++◌, �
 ghost use Rattle.std.specs.Option.{option_map};
 ghost use Rattle.vt_names.specs.Registry.{set_at};
 ghost use Rattle.vt_stores.specs.Stores.{map_of};
-ghost use Rattle.vt_server.specs.Places.{empty};
-ghost use Rattle.vt_server.specs.Screens.{GainsScreenOf, KeepsScreen, redraws};
+ghost use Rattle.vt_server.specs.state.AddressStates.{empty};
+ghost use Rattle.vt_server.specs.shown.Screens.{GainsScreenOf, KeepsScreen, redraws};
 ghost use Rattle.vt_server.specs.States.{state_of, TakesInput, TakesInputs};
 ghost use Rattle.vt_server.specs.Steps.{preloading};
 
 use crate::OutOfMemory;
-use crate::contents::PoolTable;
 use crate::input::Input;
 use crate::output::Output;
+use crate::pools::PoolTable;
 use std::alloc::Global;
 use thiserror::Error;
 use vt_layout::draw;

@@ -4,7 +4,7 @@ use Rattle.std.proofs.lemmas.Bool.{and_parts, and_from, eqb-true, eq-eqb}
 use Rattle.std.specs.Prelude.{Decides}
 use Rattle.std.specs.List.{list_all}
 use Rattle.vt_kinds.specs.Texts.{filled_up}
-use Rattle.vt_machine.specs.Entering.{is_filled}
+use Rattle.vt_machine.specs.OperatorEntries.{is_filled}
 
 -- two lists are equal exactly if their first elements and their rests are
 both : (x y : ℕ) (xs ys : List ℕ) (b : Bool) → Decides b (xs ≡ ys) → Decides (y == x && b) (x ∷ xs ≡ y ∷ ys)

@@ -1,9 +1,9 @@
-mod AttributeWrites
+pub mod AllowedPointersAndItems
+pub mod ChainTestPasses
+pub mod DoneIfInOrder
+pub mod EventsOfEntries
 mod FilledTexts
 mod KindsOfChanges
-mod MacrosBefore
-mod NamedPointers
-mod NewValues
 mod OneFault
-mod OrderDecided
-mod ShortByShallow
+pub mod OneFieldPerWrite
+pub mod TriggeredMacrosFirst

@@ -7,16 +7,16 @@ use Rattle.vt_kinds.specs.Layout.{RecordField, Value, ScaleBytes, DecimalPlaces,
 use Rattle.vt_kinds.specs.Records.{fields_of, record_of}
 use Rattle.vt_records.specs.declared.fault.PoolFault.{PoolFault}
 use Rattle.vt_records.specs.declared.fault.PoolFault.TheVariants as faults
-use Rattle.vt_records.specs.declared.stop.RecordFault.{RecordFault}
-use Rattle.vt_records.specs.declared.stop.RecordFault.TheVariants as stops
+use Rattle.vt_records.specs.declared.record_fault.RecordFault.{RecordFault}
+use Rattle.vt_records.specs.declared.record_fault.RecordFault.TheVariants as stops
 use Rattle.vt_records.specs.Faults.{NoRecordBegins, HasNullId, HasOtherType, HasValues, IsTruncated, IsImproper, IsFirstImproper}
-use Rattle.vt_records.specs.Reading.{values_at}
-use Rattle.vt_records.specs.Stops.{IsStop, fault_at}
+use Rattle.vt_records.specs.TableReads.{values_at}
+use Rattle.vt_records.specs.RecordFaults.{IsStop, fault_at}
 use Rattle.vt_pool.specs.Pools.{Entry, joined, AreRecords, IsFaultAt, AtFirst, IsFault, IsWantOfMemory}
 use Rattle.vt_set_laws.specs.PoolFaults.{FaultsAreOne}
 use Rattle.vt_records.proofs.Causes.{truncated_none, null_none, other_none}
 use Rattle.vt_records.proofs.Tables.{values_again}
-use Rattle.vt_records.proofs.Taken.{same_record}
+use Rattle.vt_records.proofs.ReadInvertsWrite.{same_record}
 
 -- ---- the end of the whole records is unique
 

@@ -4,7 +4,7 @@ use Rattle.vt_kinds.specs.declared.kind.Kind.{Kind}
 use Rattle.vt_kinds.specs.declared.fields.Attribute.{Attribute}
 use Rattle.vt_kinds.specs.Attributes.{attribute_at}
 use Rattle.vt_kinds.specs.Records.{Seen, kind_of, values_of}
-use Rattle.vt_objects.specs.Writing.{IsField, written}
+use Rattle.vt_objects.specs.AttributeFields.{IsField, written}
 use Rattle.vt_effects.specs.Changes.{change_attribute}
 
 -- The record has the value in the field of the attribute, and its former value in every other field.

@@ -8,9 +8,9 @@ use Rattle.vt_commands.specs.declared.raising.Raised.{Raised}
 use Rattle.vt_commands.specs.Events.{raise}
 use Rattle.vt_kinds.specs.Records.{Seen}
 use Rattle.vt_effects.specs.Soundness.{IsSound}
-use Rattle.vt_machine.specs.Entering.{enter_number, enter_text}
-use Rattle.vt_machine.specs.Lives.{SetState}
-use Rattle.vt_machine.specs.Operating.{Acts}
+use Rattle.vt_machine.specs.OperatorEntries.{enter_number, enter_text}
+use Rattle.vt_machine.specs.SetStates.{SetState}
+use Rattle.vt_machine.specs.OperatorActions.{Acts}
 
 -- a list has at most as many items as its record can count
 abbrev pub IsCounted : Option Seen → Type 0

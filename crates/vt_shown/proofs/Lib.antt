@@ -1,2 +1,2 @@
-pub mod Marking
-mod Named
+pub mod MarksByLevel
+pub mod MarksOfListedIds

@@ -3,7 +3,7 @@ use Rattle.std.specs.Prelude.{◌≡◌, ◌≤◌, ◌⊎◌, ℕ, Bool, true, 
 use Rattle.std.specs.FinMap as finite
 use Rattle.vt_stores.specs.Stores.{ObjectMap}
 use Rattle.vt_chains.specs.Depths.{ids_of, IsAt}
-use Rattle.vt_shown.specs.Showing.{drawn_in, soft_keys, IsNamed, IsShown}
+use Rattle.vt_shown.specs.ShownElements.{drawn_in, soft_keys, IsNamed, IsShown}
 
 -- the object of an ID is marked
 pub record IsMarked (store : ObjectMap) (marks : List Bool) (id : ℕ) : Type 0 where

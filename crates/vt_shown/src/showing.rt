@@ -8,8 +8,8 @@ ghost use Rattle.vt_stores.specs.Stores.{IsPlace};
 ghost use Rattle.vt_chains.specs.Depths.{ids_of, inclusions_of, IsAt};
 ghost use Rattle.vt_chains.specs.Certificates.{IsCertificate};
 ghost use Rattle.vt_shown.specs.Marks.{Marks, AreDone, AreMarked};
-ghost use Rattle.vt_shown.specs.Showing as showing;
-ghost use Rattle.vt_shown.specs.Showing.{IsShown};
+ghost use Rattle.vt_shown.specs.ShownElements as showing;
+ghost use Rattle.vt_shown.specs.ShownElements.{IsShown};
 
 use crate::soft_keys::soft_key_mask;
 use vt_kinds::{Child, Entries, InputList, Object, ObjectId};

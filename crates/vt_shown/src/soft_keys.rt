@@ -2,7 +2,7 @@
 
 ghost use Rattle.std.specs.Prelude.{◌≡◌};
 ghost use Rattle.std.specs.FinMap as finite;
-ghost use Rattle.vt_shown.specs.Showing as showing;
+ghost use Rattle.vt_shown.specs.ShownElements as showing;
 
 use vt_kinds::{Object, ObjectId};
 use vt_stores::Store;

@@ -1,5 +1,5 @@
-mod FromFront
-pub mod Rising
-pub mod Searching
-pub mod Shapes
-pub mod Stored
+pub mod BinarySearch
+pub mod LinearSearch
+pub mod ObjectShapes
+pub mod SortedEntries
+pub mod StoreMethods

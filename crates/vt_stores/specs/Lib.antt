@@ -1,4 +1,4 @@
 -- The specifications that the contracts of vt_stores use.
-pub mod Rows
+pub mod LentObjects
 pub mod Shapes
 pub mod Stores

@@ -5,7 +5,7 @@ ghost use Rattle.std.specs.Option.{option_map};
 ghost use Rattle.std.specs.FinMap as finite;
 ghost use Rattle.std.specs.Borrow.{sem, LendsSo};
 ghost use Rattle.vt_kinds.specs.Records.{seen};
-ghost use Rattle.vt_stores.specs.Rows.{object_row};
+ghost use Rattle.vt_stores.specs.LentObjects.{object_row};
 ghost use Rattle.vt_stores.specs.Stores.{AreNamed, AreStored, IsPlace, shown, by_rising_id, object_at, map_of};
 
 use crate::sorting::{copies, sort};

@@ -7,7 +7,7 @@ ghost use Rattle.std.specs.FinMap as finite;
 ghost use Rattle.std.specs.Borrow.{sem, LendsSo};
 ghost use Rattle.vt_kinds.specs.Records.{seen};
 ghost use Rattle.vt_stores.specs.Stores.{ObjectMap, AreNamed, IsPlace, ids, shown, contents_of, with_object};
-ghost use Rattle.vt_stores.specs.Rows.{object_row};
+ghost use Rattle.vt_stores.specs.LentObjects.{object_row};
 
 use std::alloc::{AllocError, Global};
 use vt_kinds::{Object, ObjectId};

@@ -1,7 +1,7 @@
-pub mod Answering
-pub mod Packets
-pub mod Openings
-pub mod Assembly
 pub mod Agreement
-pub mod BothEnds
-pub mod Timeless
+pub mod Assembly
+pub mod Openings
+pub mod Packets
+pub mod SenderAnswers
+pub mod SentMessageIsWhole
+pub mod StepsWithoutTimes

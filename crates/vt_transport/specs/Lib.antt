@@ -1,7 +1,7 @@
+pub mod BothEnds
 pub mod Messages
-pub mod Wire
-pub mod SessionState
-pub mod Steps
 pub mod Protocol
 pub mod Senders
-pub mod BothEnds
+pub mod SessionState
+pub mod Steps
+pub mod Wire

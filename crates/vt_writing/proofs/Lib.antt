@@ -1,1 +1,1 @@
-mod Writing
+pub mod TableEncoding

@@ -2,7 +2,7 @@
 
 ghost use Rattle.std.specs.Prelude.{◌≡◌, OnOk};
 ghost use Rattle.vt_kinds.specs.Records.{fields_of, values_of, kind_of};
-ghost use Rattle.vt_writing.specs.Writing.{written};
+ghost use Rattle.vt_writing.specs.FieldWrites.{written};
 
 mod attribute_objects;
 mod graphs;

@@ -5,7 +5,7 @@ ghost use Rattle.std.specs.Int.{w16, w32, cast_unsigned};
 ghost use Rattle.byteorder.specs.Endian.{little_bytes};
 ghost use Rattle.vt_kinds.specs.Records.{HasRecord, record_of, seen};
 ghost use Rattle.vt_kinds.specs.Scales.{scale_number};
-ghost use Rattle.vt_writing.specs.Writing.{each_written};
+ghost use Rattle.vt_writing.specs.FieldWrites.{each_written};
 
 use crate::has_record::objects_have_records;
 use crate::records::write_fields;

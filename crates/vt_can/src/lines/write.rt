@@ -4,7 +4,7 @@ ghost use Rattle.std.specs.Prelude.{◌≡◌, ◌<◌, ◌≤◌, ◌+◌, ◌*
 ghost use Rattle.std.specs.Fmt.{decimal};
 ghost use Rattle.arrayvec.specs.ArrayVec.{array_vec_len};
 ghost use Rattle.hex.specs.Hex.{encode_upper};
-ghost use Rattle.vt_can.specs.lines.Writing.{frame_text, lowest_digits, line_text};
+ghost use Rattle.vt_can.specs.lines.WrittenForms.{frame_text, lowest_digits, line_text};
 
 use crate::frames::Frame;
 use arrayvec::ArrayVec;

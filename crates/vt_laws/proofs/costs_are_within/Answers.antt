@@ -1,4 +1,4 @@
-use Rattle.vt_laws.proofs.Spending.{costs-within}
+use Rattle.vt_laws.proofs.lemmas.runs.CostWithinBudgets.{costs-within}
 use Rattle.vt_laws.proofs.costs_are_within.Goals as goal
 
 pub returns : goal.returns

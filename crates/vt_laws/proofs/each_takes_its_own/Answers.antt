@@ -1,4 +1,4 @@
-use Rattle.vt_laws.proofs.Stepping.{each}
+use Rattle.vt_laws.proofs.lemmas.views.ViewsAfterSteps.{each}
 use Rattle.vt_laws.proofs.each_takes_its_own.Goals as goal
 
 pub returns : goal.returns

@@ -1,4 +1,4 @@
-use Rattle.vt_laws.proofs.ClaimsHeard.{holders}
+use Rattle.vt_laws.proofs.lemmas.sets.ClaimsOfRun.{holders}
 use Rattle.vt_laws.proofs.holders_are_of_runs.Goals as goal
 
 pub returns : goal.returns

@@ -1,4 +1,4 @@
-use Rattle.vt_laws.proofs.Deciding.{decide}
+use Rattle.vt_laws.proofs.lemmas.views.HappeningsDecideView.{decide}
 use Rattle.vt_laws.proofs.own_happenings_decide.Goals as goal
 
 pub returns : goal.returns

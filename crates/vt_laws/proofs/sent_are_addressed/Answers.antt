@@ -1,5 +1,5 @@
-use Rattle.vt_laws.proofs.Counting.{step-few}
-use Rattle.vt_laws.proofs.Sending.{step-sends}
+use Rattle.vt_laws.proofs.lemmas.outputs.OutputCount.{step-few}
+use Rattle.vt_laws.proofs.lemmas.outputs.FrameDestinations.{step-sends}
 use Rattle.vt_laws.proofs.sent_are_addressed.Goals as goal
 
 pub returns : goal.returns

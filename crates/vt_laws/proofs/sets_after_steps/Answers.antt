@@ -1,4 +1,4 @@
-use Rattle.vt_laws.proofs.Settling.{after-steps}
+use Rattle.vt_laws.proofs.lemmas.sets.SetsAfterStep.{after-steps}
 use Rattle.vt_laws.proofs.sets_after_steps.Goals as goal
 
 pub returns : goal.returns

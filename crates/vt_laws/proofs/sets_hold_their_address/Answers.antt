@@ -1,4 +1,4 @@
-use Rattle.vt_laws.proofs.Held.{held}
+use Rattle.vt_laws.proofs.lemmas.sets.NamesOfHolders.{held}
 use Rattle.vt_laws.proofs.sets_hold_their_address.Goals as goal
 
 pub returns : goal.returns

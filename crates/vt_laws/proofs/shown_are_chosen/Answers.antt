@@ -1,4 +1,4 @@
-use Rattle.vt_laws.proofs.PoolsOfSets.{are-chosen}
+use Rattle.vt_laws.proofs.lemmas.pools.PoolsOfSets.{are-chosen}
 use Rattle.vt_laws.proofs.shown_are_chosen.Goals as goal
 
 pub returns : goal.returns

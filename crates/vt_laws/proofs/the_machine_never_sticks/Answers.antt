@@ -1,4 +1,4 @@
-use Rattle.vt_laws.proofs.InForce.{never-sticks}
+use Rattle.vt_laws.proofs.lemmas.pools.PoolsInForce.{never-sticks}
 use Rattle.vt_laws.proofs.the_machine_never_sticks.Goals as goal
 
 pub returns : goal.returns

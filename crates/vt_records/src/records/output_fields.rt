@@ -4,11 +4,11 @@ ghost use Rattle.std.specs.Prelude.{◌≡◌, ◌≤◌, length, IfOk};
 ghost use Rattle.vt_kinds.specs.Records.{fields_of, values_of, kind_of};
 ghost use Rattle.vt_kinds.specs.declared.kind.Kind.TheVariants as kinds;
 ghost use Rattle.vt_records.specs.Heads.{Reads, fields_at};
-ghost use Rattle.vt_records.specs.Reading.{head_size};
+ghost use Rattle.vt_records.specs.TableReads.{head_size};
 
 use crate::entry::entries;
 use crate::reader::Reader;
-use crate::stop::RecordFault;
+use crate::record_fault::RecordFault;
 use std::alloc::Global;
 use vt_kinds::{Decimals, Object, OutputNumber, OutputString, Scale};
 

@@ -1,4 +1,4 @@
-use Rattle.vt_set_laws.proofs.AttributeWrites.{attributes_written}
+use Rattle.vt_set_laws.proofs.OneFieldPerWrite.{attributes_written}
 use Rattle.vt_set_laws.proofs.attributes_are_written.Goals as goal
 
 pub returns : goal.returns

@@ -1,4 +1,4 @@
-use Rattle.vt_set_laws.proofs.OrderDecided.{decided}
+use Rattle.vt_set_laws.proofs.DoneIfInOrder.{decided}
 use Rattle.vt_set_laws.proofs.order_decides.Goals as goal
 
 pub returns : goal.returns

@@ -1,4 +1,4 @@
-use Rattle.vt_set_laws.proofs.MacrosBefore.{stand-before}
+use Rattle.vt_set_laws.proofs.TriggeredMacrosFirst.{stand-before}
 use Rattle.vt_set_laws.proofs.triggered_stand_before.Goals as goal
 
 pub returns : goal.returns

@@ -3,7 +3,7 @@
 ghost use Rattle.std.specs.Prelude.{◌≡◌, ℕ, List, OnOk};
 ghost use Rattle.vt_kinds.specs.Layout.{fields, values};
 ghost use Rattle.vt_kinds.specs.Tables.{font, line_attributes, fill_attributes, input_attributes};
-ghost use Rattle.vt_writing.specs.Writing.{written};
+ghost use Rattle.vt_writing.specs.FieldWrites.{written};
 
 use crate::entry::put_counted;
 use crate::write::{put_bytes, put_id, put_u8, put_u8s, put_u16};

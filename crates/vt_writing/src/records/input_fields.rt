@@ -3,7 +3,7 @@
 ghost use Rattle.std.specs.Prelude.{◌≡◌, ℕ, List, OnOk};
 ghost use Rattle.vt_kinds.specs.Layout.{fields, values};
 ghost use Rattle.vt_kinds.specs.Tables.{input_boolean, input_string, input_number, input_list};
-ghost use Rattle.vt_writing.specs.Writing.{written};
+ghost use Rattle.vt_writing.specs.FieldWrites.{written};
 
 use crate::entry::{put_counted, put_entries};
 use crate::write::{put_bytes, put_i32, put_id, put_scale, put_u8, put_u8s, put_u16s, put_u32};

@@ -3,7 +3,7 @@
 ghost use Rattle.std.specs.Prelude.{◌≡◌, OnOk};
 ghost use Rattle.vt_kinds.specs.Layout.{fields, values};
 ghost use Rattle.vt_kinds.specs.Tables.{soft_key_mask, key, button};
-ghost use Rattle.vt_writing.specs.Writing.{written};
+ghost use Rattle.vt_writing.specs.FieldWrites.{written};
 
 use crate::entry::put_entries;
 use crate::write::{put_u8s, put_u16s};

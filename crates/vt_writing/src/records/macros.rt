@@ -3,7 +3,7 @@
 ghost use Rattle.std.specs.Prelude.{◌≡◌, ℕ, List, OnOk};
 ghost use Rattle.vt_kinds.specs.Layout.{fields, values};
 ghost use Rattle.vt_kinds.specs.Tables.{macro_object};
-ghost use Rattle.vt_writing.specs.Writing.{written};
+ghost use Rattle.vt_writing.specs.FieldWrites.{written};
 
 use crate::write::{put_bytes, put_u16};
 use std::alloc::AllocError;

@@ -3,7 +3,7 @@
 ghost use Rattle.std.specs.Prelude.{◌≡◌, ℕ, List, OnOk};
 ghost use Rattle.vt_kinds.specs.Layout.{fields, values};
 ghost use Rattle.vt_kinds.specs.Tables.{output_string, output_number};
-ghost use Rattle.vt_writing.specs.Writing.{written};
+ghost use Rattle.vt_writing.specs.FieldWrites.{written};
 
 use crate::entry::put_counted;
 use crate::write::{

@@ -3,7 +3,7 @@
 ghost use Rattle.std.specs.Prelude.{◌≡◌, ℕ, List, OnOk};
 ghost use Rattle.vt_kinds.specs.Layout.{fields, values};
 ghost use Rattle.vt_kinds.specs.Tables.{number_variable, string_variable, object_pointer};
-ghost use Rattle.vt_writing.specs.Writing.{written};
+ghost use Rattle.vt_writing.specs.FieldWrites.{written};
 
 use crate::write::{put_bytes, put_id, put_u16, put_u32};
 use std::alloc::AllocError;

@@ -22,7 +22,7 @@ use Rattle.vt_can.specs.declared.lines.line.LineFault.{LineFault}
 use Rattle.vt_can.specs.lines.Readings.{ParsedLine, FrameAt}
 use Rattle.vt_can.specs.lines.Line.{AreDigits, HasShape, HasTime, IsRead, begins_with, data_reading, id_of, frame_line, frame_line_reading}
 use Rattle.vt_can.specs.lines.Fields.{Lacks}
-use Rattle.vt_can.specs.lines.Writing.{WrittenLinesAreRead, line_text, lowest_digits}
+use Rattle.vt_can.specs.lines.WrittenForms.{WrittenLinesAreRead, line_text, lowest_digits}
 use Rattle.vt_can.proofs.lemmas.lines.Cutting.{Lacks-append, Lacks-from_pass, Lacks-head, cut_missing}
 use Rattle.vt_can.proofs.lemmas.lines.Digits.{data-short}
 use Rattle.vt_can.proofs.lemmas.lines.Writing.{seconds-short}

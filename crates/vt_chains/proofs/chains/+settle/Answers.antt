@@ -2,10 +2,10 @@ use Rattle.std.proofs.Common.{ℕ, ◌+◌, List, sym, ap, subst, ◌∙◌, ari
 use Rattle.vt_kinds.specs.declared.slot.Slot.{Slot}
 use Rattle.std.specs.Prelude.{Contains}
 use Rattle.vt_chains.specs.Depths.{ids_of, inclusions_of}
-use Rattle.vt_chains.proofs.Places.{once}
+use Rattle.vt_chains.proofs.IdIndices.{once}
 use Rattle.vt_chains.proofs.Slots.{included_in, inclusions_are, in_first}
-use Rattle.vt_chains.proofs.Greatest.{max_is}
-use Rattle.vt_chains.proofs.Settling.{IsSearch, search_begins, search_goes_on, put_depth, put_keeps, Keeps-trans}
+use Rattle.vt_chains.proofs.Maximum.{max_is}
+use Rattle.vt_chains.proofs.DepthSearch.{IsSearch, search_begins, search_goes_on, put_depth, put_keeps, Keeps-trans}
 use Rattle.vt_chains.proofs.chains.+settle.Goals as goal
 
 pub deepest-loop-slot-init : goal.deepest-loop-slot-init

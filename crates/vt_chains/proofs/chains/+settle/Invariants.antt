@@ -1,6 +1,6 @@
 use Rattle.std.proofs.Common.{◌+◌, ◌*◌}
 use Rattle.vt_chains.specs.Depths.{ids_of, inclusions_of}
-use Rattle.vt_chains.proofs.Settling.{IsSearch}
+use Rattle.vt_chains.proofs.DepthSearch.{IsSearch}
 use Rattle.vt_chains.proofs.chains.+settle.Given as goal
 
 abbrev pub decreases-settle : goal.decreases-settle

@@ -1,5 +1,5 @@
 use Rattle.vt_chains.specs.Depths.{ids_of, inclusions_of}
-use Rattle.vt_chains.proofs.Settling.{IsGrowing}
+use Rattle.vt_chains.proofs.DepthSearch.{IsGrowing}
 use Rattle.vt_chains.proofs.chains.chain_from.Given as goal
 
 abbrev pub invariant-loop-step : goal.invariant-loop-step

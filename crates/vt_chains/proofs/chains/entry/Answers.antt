@@ -1,6 +1,6 @@
 use Rattle.std.proofs.Common.{sym}
 use Rattle.vt_kinds.specs.Records.{seen}
-use Rattle.vt_chains.proofs.Places.{get_placed}
+use Rattle.vt_chains.proofs.IdIndices.{get_placed}
 use Rattle.vt_chains.proofs.chains.entry.Goals as goal
 
 pub returns-clause-object : goal.returns-clause-object

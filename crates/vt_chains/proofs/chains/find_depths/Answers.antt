@@ -1,8 +1,8 @@
 use Rattle.std.proofs.Common.{arith}
 use Rattle.std.specs.FinMap as finite
 use Rattle.vt_chains.specs.Depths.{ids_of, inclusions_of}
-use Rattle.vt_chains.proofs.Including.{sourced}
-use Rattle.vt_chains.proofs.Settling.{all_found, show_shallow}
+use Rattle.vt_chains.proofs.InclusionsInStore.{sourced}
+use Rattle.vt_chains.proofs.DepthSearch.{all_found, show_shallow}
 use Rattle.vt_chains.proofs.chains.find_depths.Goals as goal
 
 pub returns-clause-ok : goal.returns-clause-ok

@@ -3,9 +3,9 @@ use Rattle.std.specs.Prelude.{Contains}
 use Rattle.vt_kinds.specs.declared.slot.Slot.{Slot}
 use Rattle.vt_chains.specs.Depths.{ids_of, inclusions_of, IsAt}
 use Rattle.vt_chains.proofs.Elements.{Contains-nil}
-use Rattle.vt_chains.proofs.Places.{once, same_id, someone, within}
+use Rattle.vt_chains.proofs.IdIndices.{once, same_id, someone, within}
 use Rattle.vt_chains.proofs.Slots.{included_in, inclusions_are, in_first, in_more, slot_case}
-use Rattle.vt_chains.proofs.Settling.{IsDeep, deep_next, next_is_found}
+use Rattle.vt_chains.proofs.DepthSearch.{IsDeep, deep_next, next_is_found}
 use Rattle.vt_chains.proofs.chains.next.Goals as goal
 
 pub loop-slot-init : goal.loop-slot-init

@@ -2,7 +2,7 @@ use Rattle.std.proofs.Common.{ℕ}
 use Rattle.std.specs.Prelude.{Contains}
 use Rattle.vt_chains.specs.Depths.{ids_of, inclusions_of, IsAt}
 use Rattle.vt_chains.proofs.Slots.{included_in}
-use Rattle.vt_chains.proofs.Settling.{IsDeep}
+use Rattle.vt_chains.proofs.DepthSearch.{IsDeep}
 use Rattle.vt_chains.proofs.chains.next.Given as goal
 
 abbrev pub invariant-loop-slot : goal.invariant-loop-slot

@@ -1,5 +1,5 @@
 use Rattle.std.specs.FinMap as finite
-use Rattle.vt_chains.proofs.Places.{stands_of, missing_nowhere}
+use Rattle.vt_chains.proofs.IdIndices.{stands_of, missing_nowhere}
 use Rattle.vt_chains.proofs.chains.place_of.Goals as goal
 
 pub unreachable-requires : goal.unreachable-requires

@@ -1,4 +1,4 @@
-use Rattle.vt_commands.proofs.Cutting.{cut_is_one}
+use Rattle.vt_commands.proofs.OneSplit.{cut_is_one}
 use Rattle.vt_commands.proofs.laws.cut_is_one.Goals as goal
 
 pub returns : goal.returns

@@ -1,5 +1,5 @@
 use Rattle.vt_kinds.specs.Records.{seen}
-use Rattle.vt_effects.proofs.Puts.{put_answers, put_left}
+use Rattle.vt_effects.proofs.lemmas.stores.StoreAfterCommand.{put_answers, put_left}
 use Rattle.vt_effects.proofs.effects.change_object.Goals as goal
 
 pub returns-in-Some-clause-result : goal.returns-in-Some-clause-result

@@ -4,7 +4,7 @@ use Rattle.vt_stores.specs.Stores.{ObjectMap}
 use Rattle.vt_effects.specs.Changes.{HasResult, left, other_id}
 use Rattle.vt_effects.specs.Effects.{changed_by, other_kind}
 use Rattle.vt_chains.specs.Certificates.{AreLevels}
-use Rattle.vt_effects.proofs.Executing.{effect_plain, levels_plain}
+use Rattle.vt_effects.proofs.lemmas.stores.CommandExecution.{effect_plain, levels_plain}
 use Rattle.vt_effects.proofs.execution.execute.Goals as goal
 
 pub returns-in-None-clause-result : goal.returns-in-None-clause-result

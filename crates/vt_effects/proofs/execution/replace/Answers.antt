@@ -1,7 +1,7 @@
 use Rattle.std.proofs.Common.{◌∙◌, refl, sym, subst}
 use Rattle.vt_stores.specs.Stores.{ObjectMap}
 use Rattle.vt_chains.specs.Certificates.{AreLevels}
-use Rattle.vt_effects.proofs.Executing.{effect_replacing, effect_refused, replaces, levels_replacing, levels_back, put_back_is, done, refused, made_is, failed_is, answers_done, answers_failed, after_done, after_failed, unchanged, unfit, answers_error}
+use Rattle.vt_effects.proofs.lemmas.stores.CommandExecution.{effect_replacing, effect_refused, replaces, levels_replacing, levels_back, put_back_is, done, refused, made_is, failed_is, answers_done, answers_failed, after_done, after_failed, unchanged, unfit, answers_error}
 use Rattle.vt_effects.proofs.execution.replace.Goals as goal
 
 pub is_in_order-requires : goal.is_in_order-requires

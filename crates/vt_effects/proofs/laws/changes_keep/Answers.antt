@@ -1,4 +1,4 @@
-use Rattle.vt_effects.proofs.Changing.{changes_keep}
+use Rattle.vt_effects.proofs.lemmas.objects.KindAndReferences.{changes_keep}
 use Rattle.vt_effects.proofs.laws.changes_keep.Goals as goal
 
 pub returns : goal.returns

@@ -1,4 +1,4 @@
-use Rattle.vt_effects.proofs.KeepingOrder.{commands_keep_order}
+use Rattle.vt_effects.proofs.lemmas.order.OrderAfterCommand.{commands_keep_order}
 use Rattle.vt_effects.proofs.laws.commands_keep_order.Goals as goal
 
 pub returns : goal.returns

@@ -1,4 +1,4 @@
-use Rattle.vt_effects.proofs.Changing.{references_written}
+use Rattle.vt_effects.proofs.lemmas.objects.KindAndReferences.{references_written}
 use Rattle.vt_effects.proofs.laws.references_may_stand.Goals as goal
 
 pub returns : goal.returns

@@ -1,6 +1,6 @@
 use Rattle.std.proofs.Common.{sym, ◌∙◌, arith}
 use Rattle.std.specs.FinMap as finite
-use Rattle.vt_effects.proofs.Walking.{entry_passed, entry_failed, none_left}
+use Rattle.vt_effects.proofs.lemmas.order.SlotTests.{entry_passed, entry_failed, none_left}
 use Rattle.vt_effects.specs.Replacements.{slot_allows}
 use Rattle.vt_effects.proofs.pointers.all_allow.Goals as goal
 

@@ -1,7 +1,7 @@
 use Rattle.std.proofs.Common.{true, sym, ◌∙◌}
 use Rattle.vt_effects.specs.declared.pointers.Pointed.{Pointed}
-use Rattle.vt_effects.proofs.Walking.{allow_is}
-use Rattle.vt_effects.proofs.Pointing.{same_kind_allowed}
+use Rattle.vt_effects.proofs.lemmas.order.SlotTests.{allow_is}
+use Rattle.vt_effects.proofs.lemmas.order.PointerKinds.{same_kind_allowed}
 use Rattle.vt_effects.proofs.pointers.places_allow.Goals as goal
 
 pub returns-then-has_that_kind : goal.returns-then-has_that_kind

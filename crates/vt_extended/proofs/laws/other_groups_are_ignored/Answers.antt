@@ -1,4 +1,4 @@
-use Rattle.vt_extended.proofs.Timeless.{ignored}
+use Rattle.vt_extended.proofs.StepsWithoutTimes.{ignored}
 use Rattle.vt_extended.proofs.laws.other_groups_are_ignored.Goals as goal
 
 pub returns : goal.returns

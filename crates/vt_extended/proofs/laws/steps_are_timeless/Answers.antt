@@ -1,4 +1,4 @@
-use Rattle.vt_extended.proofs.Timeless.{timeless}
+use Rattle.vt_extended.proofs.StepsWithoutTimes.{timeless}
 use Rattle.vt_extended.proofs.laws.steps_are_timeless.Goals as goal
 
 pub returns : goal.returns

@@ -1,9 +1,9 @@
 use Rattle.std.proofs.Common.{◌∙◌, refl, sym, ap, ◌+◌, ◌-◌, ◌≡◌, subst, map, arith}
 use Rattle.vt_layout.specs.Drawings.{element, unmoved}
-use Rattle.vt_layout.specs.Sheets.{with_elements, IsNear}
+use Rattle.vt_layout.specs.PageTexts.{with_elements, IsNear}
 use Rattle.vt_layout.specs.Walks.{elements, with_drawn}
-use Rattle.vt_shown.specs.Showing.{stands_for}
-use Rattle.vt_layout.proofs.Writing.{becomes_next, level, no_level, full_page, none_drawn, none_within}
+use Rattle.vt_shown.specs.ShownElements.{stands_for}
+use Rattle.vt_layout.proofs.EntriesOnPage.{becomes_next, level, no_level, full_page, none_drawn, none_within}
 use Rattle.vt_layout.proofs.drawing.+drawing.Goals as goal
 
 pub draw_entries-returns-then-depth-eq0 : goal.draw_entries-returns-then-depth-eq0

@@ -1,7 +1,7 @@
 use Rattle.std.proofs.Common.{◌+◌, ◌*◌, ◌-◌}
 use Rattle.vt_layout.specs.Walks.{elements}
-use Rattle.vt_layout.specs.Sheets.{with_elements}
-use Rattle.vt_layout.proofs.Writing.{Becomes}
+use Rattle.vt_layout.specs.PageTexts.{with_elements}
+use Rattle.vt_layout.proofs.EntriesOnPage.{Becomes}
 use Rattle.vt_layout.proofs.drawing.+drawing.Given as goal
 
 abbrev pub decreases-draw_entries : goal.decreases-draw_entries

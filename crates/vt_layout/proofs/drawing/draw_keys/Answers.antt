@@ -1,8 +1,8 @@
 use Rattle.std.proofs.Common.{sym, ap, map, refl}
 use Rattle.vt_layout.specs.Drawings.{origin, unmoved}
-use Rattle.vt_layout.specs.Sheets.{with_elements}
+use Rattle.vt_layout.specs.PageTexts.{with_elements}
 use Rattle.vt_layout.specs.Walks.{elements}
-use Rattle.vt_layout.proofs.Writing.{level, keys_next}
+use Rattle.vt_layout.proofs.EntriesOnPage.{level, keys_next}
 use Rattle.vt_layout.proofs.drawing.draw_keys.Goals as goal
 
 pub loop-place-init : goal.loop-place-init

@@ -1,8 +1,8 @@
 use Rattle.std.proofs.Common.{map}
 use Rattle.vt_layout.specs.Drawings.{origin, unmoved}
-use Rattle.vt_layout.specs.Sheets.{with_elements}
+use Rattle.vt_layout.specs.PageTexts.{with_elements}
 use Rattle.vt_layout.specs.Walks.{elements}
-use Rattle.vt_layout.proofs.Writing.{Becomes}
+use Rattle.vt_layout.proofs.EntriesOnPage.{Becomes}
 use Rattle.vt_layout.proofs.drawing.draw_keys.Given as goal
 
 abbrev pub invariant-loop-place : goal.invariant-loop-place

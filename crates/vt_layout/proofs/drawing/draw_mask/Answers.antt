@@ -1,6 +1,6 @@
 use Rattle.std.proofs.lemmas.Result.{on_ok_weaker}
 use Rattle.vt_kinds.specs.Records.{seen}
-use Rattle.vt_layout.proofs.Writing.{no_mask, mask_drawn}
+use Rattle.vt_layout.proofs.EntriesOnPage.{no_mask, mask_drawn}
 use Rattle.vt_layout.proofs.drawing.draw_mask.Goals as goal
 
 pub returns-in_default-clause-drawn : goal.returns-in_default-clause-drawn

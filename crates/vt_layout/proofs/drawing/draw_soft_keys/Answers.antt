@@ -1,4 +1,4 @@
-use Rattle.vt_layout.proofs.Writing.{no_keys}
+use Rattle.vt_layout.proofs.EntriesOnPage.{no_keys}
 use Rattle.vt_layout.proofs.drawing.draw_soft_keys.Goals as goal
 
 pub returns-in-None : goal.returns-in-None

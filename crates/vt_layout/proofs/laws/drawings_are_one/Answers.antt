@@ -1,4 +1,4 @@
-use Rattle.vt_layout.proofs.Filling.{one_drawing}
+use Rattle.vt_layout.proofs.PageLines.{one_drawing}
 use Rattle.vt_layout.proofs.laws.drawings_are_one.Goals as goal
 
 pub returns : goal.returns

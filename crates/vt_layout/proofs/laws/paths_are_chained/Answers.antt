@@ -1,4 +1,4 @@
-use Rattle.vt_layout.proofs.Chaining.{paths_chained}
+use Rattle.vt_layout.proofs.PathsAreChains.{paths_chained}
 use Rattle.vt_layout.proofs.laws.paths_are_chained.Goals as goal
 
 pub returns : goal.returns

@@ -1,4 +1,4 @@
-use Rattle.vt_layout.proofs.Filling.{one_screen}
+use Rattle.vt_layout.proofs.PageLines.{one_screen}
 use Rattle.vt_layout.proofs.laws.screens_are_one.Goals as goal
 
 pub returns : goal.returns

@@ -1,4 +1,4 @@
-use Rattle.vt_layout.proofs.Reaching.{shown_drawn, drawn_shown}
+use Rattle.vt_layout.proofs.ShownAreDrawn.{shown_drawn, drawn_shown}
 use Rattle.vt_layout.proofs.laws.shown_are_drawn.Goals as goal
 
 pub returns : goal.returns

@@ -4,7 +4,7 @@ use Rattle.vt_stores.specs.Stores.{ObjectMap}
 use Rattle.vt_layout.specs.Lines.{line}
 use Rattle.vt_layout.specs.Screens.{heading, cut}
 use Rattle.vt_layout.specs.Walks.{drawing}
-use Rattle.vt_layout.proofs.Writing.{gains, when_ok}
+use Rattle.vt_layout.proofs.EntriesOnPage.{gains, when_ok}
 use Rattle.vt_layout.proofs.screen.draw.Goals as goal
 
 pub returns-clause-drawn : goal.returns-clause-drawn

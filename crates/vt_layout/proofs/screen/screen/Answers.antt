@@ -1,6 +1,6 @@
 use Rattle.std.proofs.Common.{string_bytes}
 use Rattle.std.proofs.lemmas.Result.{IfOk-weaker}
-use Rattle.vt_layout.proofs.Writing.{screen_text}
+use Rattle.vt_layout.proofs.EntriesOnPage.{screen_text}
 use Rattle.vt_layout.proofs.screen.screen.Goals as goal
 
 pub returns-clause-text : goal.returns-clause-text

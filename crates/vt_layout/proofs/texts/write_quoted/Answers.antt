@@ -1,7 +1,7 @@
 use Rattle.std.proofs.Common.{◌∙◌, ◌++◌, sym, ap, string_bytes}
 use Rattle.std.specs.Option.{option_map}
 use Rattle.vt_layout.specs.Lines.{quoted}
-use Rattle.vt_layout.proofs.Writing.{quoted_whole, when_ok}
+use Rattle.vt_layout.proofs.EntriesOnPage.{quoted_whole, when_ok}
 use Rattle.vt_layout.proofs.texts.write_quoted.Goals as goal
 
 pub returns : goal.returns

@@ -1,7 +1,7 @@
 use Rattle.std.proofs.Common.{[], ◌∷◌, ◌++◌, codes}
 use Rattle.std.proofs.KnownBytes.{Appends-trans}
 use Rattle.std.proofs.lemmas.Result.{on_err_weaker}
-use Rattle.vt_can.specs.lines.Writing.{frame_text}
+use Rattle.vt_can.specs.lines.WrittenForms.{frame_text}
 use Rattle.vt_logs.specs.Texts.{refusal_name, newline}
 use Rattle.vt_logs.proofs.Appending.{begun_first, begun_after}
 use Rattle.vt_logs.proofs.Begun.{begins_later, begins_more, on_any_err}

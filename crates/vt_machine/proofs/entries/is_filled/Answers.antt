@@ -1,4 +1,4 @@
-use Rattle.vt_machine.proofs.Filling.{nothing_left}
+use Rattle.vt_machine.proofs.LongerText.{nothing_left}
 use Rattle.vt_machine.proofs.entries.is_filled.Goals as goal
 
 pub returns-in_default : goal.returns-in_default

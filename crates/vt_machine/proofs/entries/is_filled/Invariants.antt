@@ -1,5 +1,5 @@
 use Rattle.std.proofs.Common.{◌≡◌, drop}
-use Rattle.vt_machine.specs.Entering.{is_filled}
+use Rattle.vt_machine.specs.OperatorEntries.{is_filled}
 use Rattle.vt_machine.proofs.entries.is_filled.Given as goal
 
 abbrev pub invariant-loop-byte : goal.invariant-loop-byte

@@ -1,6 +1,6 @@
 use Rattle.vt_kinds.specs.Records.{seen}
-use Rattle.vt_machine.specs.Entering.{with_number}
-use Rattle.vt_machine.proofs.Plain.{put_changed}
+use Rattle.vt_machine.specs.OperatorEntries.{with_number}
+use Rattle.vt_machine.proofs.MacrosUnaffected.{put_changed}
 use Rattle.vt_machine.proofs.entries.put_number.Goals as goal
 
 pub returns-in-Some : goal.returns-in-Some

@@ -1,5 +1,5 @@
-use Rattle.vt_machine.specs.Entering.{with_number, with_text}
-use Rattle.vt_machine.proofs.Plain.{numbers_plain, texts_plain, plain_sound}
+use Rattle.vt_machine.specs.OperatorEntries.{with_number, with_text}
+use Rattle.vt_machine.proofs.MacrosUnaffected.{numbers_plain, texts_plain, plain_sound}
 use Rattle.vt_machine.proofs.laws.entries_keep_order.Goals as goal
 
 pub returns : goal.returns

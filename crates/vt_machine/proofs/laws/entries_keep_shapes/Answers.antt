@@ -1,6 +1,6 @@
 use Rattle.std.proofs.Common.{refl}
-use Rattle.vt_machine.specs.Entering.{with_number, with_text}
-use Rattle.vt_machine.proofs.Plain.{numbers_plain, texts_plain, plain_shape}
+use Rattle.vt_machine.specs.OperatorEntries.{with_number, with_text}
+use Rattle.vt_machine.proofs.MacrosUnaffected.{numbers_plain, texts_plain, plain_shape}
 use Rattle.vt_machine.proofs.laws.entries_keep_shapes.Goals as goal
 
 pub returns : goal.returns

@@ -1,6 +1,6 @@
 use Rattle.std.proofs.Common.{refl}
 use Rattle.vt_stores.specs.Stores.{map_of}
-use Rattle.vt_machine.proofs.Living.{stored_set}
+use Rattle.vt_machine.proofs.StateBeforeAndAfter.{stored_set}
 use Rattle.vt_machine.proofs.live.working_set_of.Goals as goal
 
 pub returns : goal.returns

@@ -1,5 +1,5 @@
 use Rattle.std.proofs.Common.{sym}
-use Rattle.vt_machine.proofs.Living.{set_found}
+use Rattle.vt_machine.proofs.StateBeforeAndAfter.{set_found}
 use Rattle.vt_machine.proofs.working_set.working_set.Goals as goal
 
 pub returns-then-is_working_set-clause-some : goal.returns-then-is_working_set-clause-some

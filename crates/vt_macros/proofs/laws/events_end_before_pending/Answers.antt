@@ -1,4 +1,4 @@
-use Rattle.vt_macros.proofs.InTurn.{events_end_before_pending}
+use Rattle.vt_macros.proofs.EventByEvent.{events_end_before_pending}
 use Rattle.vt_macros.proofs.laws.events_end_before_pending.Goals as goal
 
 pub returns : goal.returns

@@ -1,4 +1,4 @@
-use Rattle.vt_macros.proofs.Ready.{pools_are_ready}
+use Rattle.vt_macros.proofs.StoreInOrder.{pools_are_ready}
 use Rattle.vt_macros.proofs.laws.pools_are_ready.Goals as goal
 
 pub returns : goal.returns

@@ -1,7 +1,7 @@
 use Rattle.std.proofs.Common.{arith, ◌∙◌}
 use Rattle.vt_macros.specs.Indexes.{no_span}
 use Rattle.vt_effects.specs.Soundness.{shape_in}
-use Rattle.vt_macros.proofs.Nesting.{macro_within, macros_end, macro_ran, item_ran, piece_within, piece_faultless, pieces_end, piece_ran, events_within, can_raise, command_ran, command_refused}
+use Rattle.vt_macros.proofs.StoreOfNestedRuns.{macro_within, macros_end, macro_ran, item_ran, piece_within, piece_faultless, pieces_end, piece_ran, events_within, can_raise, command_ran, command_refused}
 use Rattle.vt_macros.proofs.runs.+run.Goals as goal
 
 pub raise-run_macro-steps-requires : goal.raise-run_macro-steps-requires

@@ -3,8 +3,8 @@ use Rattle.vt_verify.specs.Budgets.{budget, cost}
 use Rattle.vt_verify.specs.Macros.{commands}
 use Rattle.vt_macros.specs.Machines.{total_budget}
 use Rattle.vt_effects.specs.Soundness.{shape_in}
-use Rattle.vt_macros.specs.Nested.{AreRunning, commands_at, cost_of}
-use Rattle.vt_macros.proofs.Nesting.{event_front, event_most}
+use Rattle.vt_macros.specs.NestedRuns.{AreRunning, commands_at, cost_of}
+use Rattle.vt_macros.proofs.StoreOfNestedRuns.{event_front, event_most}
 use Rattle.vt_macros.proofs.runs.+run.Given as goal
 
 abbrev pub decreases-raise_all : goal.decreases-raise_all

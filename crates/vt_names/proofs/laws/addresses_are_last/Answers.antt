@@ -1,4 +1,4 @@
-use Rattle.vt_names.proofs.Histories.{last}
+use Rattle.vt_names.proofs.HoldersAfterClaims.{last}
 use Rattle.vt_names.proofs.laws.addresses_are_last.Goals as goal
 
 pub returns : goal.returns

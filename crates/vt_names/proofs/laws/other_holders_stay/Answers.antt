@@ -1,4 +1,4 @@
-use Rattle.vt_names.proofs.Histories.{stay}
+use Rattle.vt_names.proofs.HoldersAfterClaims.{stay}
 use Rattle.vt_names.proofs.laws.other_holders_stay.Goals as goal
 
 pub returns : goal.returns

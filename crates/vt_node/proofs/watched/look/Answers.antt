@@ -3,9 +3,9 @@ use Rattle.vt_names.specs.Registry.{Set}
 use Rattle.vt_node.specs.Watches.{first_silent_of}
 use Rattle.vt_node.specs.Registries.{AreHeardSince}
 use Rattle.vt_node.specs.Watches.{heard_of}
-use Rattle.vt_node.proofs.Ordered.{beyond}
-use Rattle.vt_node.proofs.Watching.{looked-silent, looked-since}
-use Rattle.vt_node.proofs.Ordered.{all-dropped}
+use Rattle.vt_node.proofs.RestOfList.{beyond}
+use Rattle.vt_node.proofs.EarliestTimes.{looked-silent, looked-since}
+use Rattle.vt_node.proofs.RestOfList.{all-dropped}
 use Rattle.vt_node.proofs.watched.look.Goals as goal
 
 pub loop-place-init : goal.loop-place-init

@@ -1,4 +1,4 @@
-use Rattle.vt_pool.proofs.ReadTo.{were_faulty}
+use Rattle.vt_pool.proofs.ReadPosition.{were_faulty}
 use Rattle.vt_pool.proofs.arriving.read_on.Goals as goal
 
 pub returns-in-Some : goal.returns-in-Some

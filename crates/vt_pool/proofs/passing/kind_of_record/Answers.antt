@@ -1,7 +1,7 @@
 use Rattle.std.proofs.Common.{◌<◌, ◌≤◌, length, sym, ◌∙◌}
 use Rattle.std.proofs.lemmas.Result.{err_from_is_err_and}
-use Rattle.vt_records.proofs.Heads.{record_at-short}
-use Rattle.vt_pool.proofs.RecordsPassed.{null_head, kind_head}
+use Rattle.vt_records.proofs.RecordHeads.{record_at-short}
+use Rattle.vt_pool.proofs.RecordSkips.{null_head, kind_head}
 use Rattle.vt_pool.proofs.passing.kind_of_record.Goals as goal
 
 pub returns-in_err-need-clause-head : goal.returns-in_err-need-clause-head

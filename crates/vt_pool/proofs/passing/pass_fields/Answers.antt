@@ -1,7 +1,7 @@
 use Rattle.std.proofs.Common.{ℕ, List, Bor, arith}
 use Rattle.std.proofs.lemmas.List.{take_rest}
 use Rattle.vt_kinds.specs.Records.{fields_of}
-use Rattle.vt_pool.proofs.PartsPassed.{begins, next_part, returns_short, returns_fault, returns_rest}
+use Rattle.vt_pool.proofs.FieldSkips.{begins, next_part, returns_short, returns_fault, returns_rest}
 use Rattle.vt_pool.proofs.passing.pass_fields.Goals as goal
 
 pub loop-part-init : goal.loop-part-init

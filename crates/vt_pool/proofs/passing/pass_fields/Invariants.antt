@@ -1,5 +1,5 @@
 use Rattle.vt_kinds.specs.Records.{fields_of}
-use Rattle.vt_pool.proofs.PartsPassed.{IsPassed}
+use Rattle.vt_pool.proofs.FieldSkips.{IsPassed}
 use Rattle.vt_pool.proofs.passing.pass_fields.Given as goal
 
 abbrev pub invariant-loop-part : goal.invariant-loop-part

@@ -1,5 +1,5 @@
 use Rattle.std.proofs.Common.{arith}
-use Rattle.vt_pool.proofs.ReadTo.{next_whole, all_whole, stops_there}
+use Rattle.vt_pool.proofs.ReadPosition.{next_whole, all_whole, stops_there}
 use Rattle.vt_pool.proofs.passing.pass_records.Goals as goal
 
 pub loop-at-preserved : goal.loop-at-preserved

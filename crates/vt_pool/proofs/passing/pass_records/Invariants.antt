@@ -1,5 +1,5 @@
 use Rattle.std.proofs.Common.{◌-◌, length}
-use Rattle.vt_pool.specs.Arriving.{AreWholeTo}
+use Rattle.vt_pool.specs.PoolUploads.{AreWholeTo}
 use Rattle.vt_pool.proofs.passing.pass_records.Given as goal
 
 abbrev pub invariant-loop-at : goal.invariant-loop-at

@@ -1,7 +1,7 @@
 use Rattle.std.proofs.Common.{ℕ, List, ◌≤◌, length, drop, Bor, arith}
 use Rattle.std.proofs.lemmas.Result.{err_from_is_err_and}
 use Rattle.std.proofs.lemmas.List.{length-drop, take_rest}
-use Rattle.vt_pool.proofs.RecordsPassed.{ends_behind, stops_behind}
+use Rattle.vt_pool.proofs.RecordSkips.{ends_behind, stops_behind}
 use Rattle.vt_pool.proofs.passing.record_end.Goals as goal
 
 pub returns-in_err-rest-in-Ok-clause-passes : goal.returns-in_err-rest-in-Ok-clause-passes

@@ -1,4 +1,4 @@
-use Rattle.vt_pool.proofs.Joins.{only_want}
+use Rattle.vt_pool.proofs.JoinedRecords.{only_want}
 use Rattle.vt_pool.proofs.pool.read_pool.Goals as goal
 
 pub returns-clause-only : goal.returns-clause-only

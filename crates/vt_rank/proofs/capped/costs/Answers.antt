@@ -1,7 +1,7 @@
 use Rattle.std.proofs.Common.{◌≡◌, ℕ, ◌+◌, ◌<◌, ◌^◌, length, subst, arith, rules}
 use Rattle.vt_rank.specs.Tables.{IsFilled}
 use Rattle.vt_rank.proofs.Totals.{costs_are_totals}
-use Rattle.vt_rank.proofs.Filling.{full, first_group, costs_are, within_cap}
+use Rattle.vt_rank.proofs.CostTable.{full, first_group, costs_are, within_cap}
 use Rattle.vt_rank.proofs.capped.costs.Goals as goal
 
 pub returns-in-Err-clause-totals : goal.returns-in-Err-clause-totals

@@ -1,7 +1,7 @@
 use Rattle.std.proofs.Common.{◌≡◌, ◌≤◌, length, inl, inr, arith, slice_index}
 use Rattle.std.proofs.lemmas.Bool.{cases_lt}
 use Rattle.vt_rank.specs.Costs.{group_total}
-use Rattle.vt_rank.proofs.Filling.{group_past}
+use Rattle.vt_rank.proofs.CostTable.{group_past}
 use Rattle.vt_rank.proofs.capped.group_over.Goals as goal
 
 pub returns-clause-none : goal.returns-clause-none

@@ -2,8 +2,8 @@ use Rattle.std.proofs.Common.{◌≡◌, ◌<◌, ℕ, Option, None, IfNone, Lis
 use Rattle.vt_rank.specs.Graphs.{triggered}
 use Rattle.vt_rank.specs.Paths.{Triggers}
 use Rattle.vt_rank.specs.NodeSets.{IsIn, row}
-use Rattle.vt_rank.proofs.Searching.{target_is, targets_in}
-use Rattle.vt_rank.proofs.Quests.{IsQuest, quest_begins, quest_ends, next_pushed, next_room, next_smaller, next_found, last_popped, last_smaller, back_room}
+use Rattle.vt_rank.proofs.RankSearch.{target_is, targets_in}
+use Rattle.vt_rank.proofs.CircleSearch.{IsQuest, quest_begins, quest_ends, next_pushed, next_room, next_smaller, next_found, last_popped, last_smaller, back_room}
 use Rattle.vt_rank.proofs.circle.circle_through.Goals as goal
 
 pub search-init : goal.search-init

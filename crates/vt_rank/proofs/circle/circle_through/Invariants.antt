@@ -1,4 +1,4 @@
-use Rattle.vt_rank.proofs.Quests.{IsQuest, work}
+use Rattle.vt_rank.proofs.CircleSearch.{IsQuest, work}
 use Rattle.vt_rank.proofs.circle.circle_through.Given as goal
 
 abbrev pub invariant-search : goal.invariant-search

@@ -1,6 +1,6 @@
 use Rattle.std.proofs.Common.{◌≡◌, ℕ, sym, subst, slice_index}
 use Rattle.vt_rank.specs.Paths.{IsLeastOnCircles}
-use Rattle.vt_rank.proofs.Paths.{least_on_circles}
+use Rattle.vt_rank.proofs.PathsAndCircles.{least_on_circles}
 use Rattle.vt_rank.proofs.circle.least_circle.Goals as goal
 use Rattle.vt_rank.specs.Graphs.{triggered}
 

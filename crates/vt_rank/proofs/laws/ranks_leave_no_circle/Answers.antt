@@ -1,4 +1,4 @@
-use Rattle.vt_rank.proofs.Paths.{no_circle}
+use Rattle.vt_rank.proofs.PathsAndCircles.{no_circle}
 use Rattle.vt_rank.proofs.laws.ranks_leave_no_circle.Goals as goal
 
 pub returns : goal.returns

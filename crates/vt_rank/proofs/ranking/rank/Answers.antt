@@ -1,6 +1,6 @@
 use Rattle.std.proofs.Common.{arith}
-use Rattle.vt_rank.proofs.Paths.{no_circle}
-use Rattle.vt_rank.proofs.Searching.{all_ranked}
+use Rattle.vt_rank.proofs.PathsAndCircles.{no_circle}
+use Rattle.vt_rank.proofs.RankSearch.{all_ranked}
 use Rattle.vt_rank.proofs.ranking.rank.Goals as goal
 
 pub loop-node-init : goal.loop-node-init

@@ -1,5 +1,5 @@
 use Rattle.std.proofs.Common.{arith}
-use Rattle.vt_rank.proofs.Reaching.{closing_begins, closing_more, closed}
+use Rattle.vt_rank.proofs.ReachableRows.{closing_begins, closing_more, closed}
 use Rattle.vt_rank.proofs.reach.close.Goals as goal
 
 pub loop-via-init : goal.loop-via-init

@@ -1,4 +1,4 @@
-use Rattle.vt_rank.proofs.Reaching.{IsClosing}
+use Rattle.vt_rank.proofs.ReachableRows.{IsClosing}
 use Rattle.vt_rank.proofs.reach.close.Given as goal
 
 abbrev pub invariant-loop-via : goal.invariant-loop-via

@@ -2,7 +2,7 @@ use Rattle.std.proofs.Common.{sym, subst}
 use Rattle.vt_rank.specs.declared.graph.Item.{Item}
 use Rattle.vt_rank.specs.Graphs.{nodes_of}
 use Rattle.vt_rank.specs.NodeSets.{Adds}
-use Rattle.vt_rank.proofs.NodeSets.{adds_set}
+use Rattle.vt_rank.proofs.SetsAfterInsertions.{adds_set}
 use Rattle.vt_rank.proofs.reach.insert_targets.Goals as goal
 
 pub returns-in-Most : goal.returns-in-Most

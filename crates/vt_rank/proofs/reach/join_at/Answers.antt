@@ -1,5 +1,5 @@
 use Rattle.std.proofs.Common.{◌≡◌, length, arith, rules}
-use Rattle.vt_rank.proofs.Reaching.{rows_joined}
+use Rattle.vt_rank.proofs.ReachableRows.{rows_joined}
 use Rattle.vt_rank.proofs.reach.join_at.Goals as goal
 
 pub returns : goal.returns

@@ -1,4 +1,4 @@
-use Rattle.vt_rank.proofs.Reaching.{IsJoining}
+use Rattle.vt_rank.proofs.ReachableRows.{IsJoining}
 use Rattle.vt_rank.proofs.reach.join_at.Given as goal
 
 abbrev pub invariant-loop-node : goal.invariant-loop-node

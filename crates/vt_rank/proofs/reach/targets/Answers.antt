@@ -4,7 +4,7 @@ use Rattle.vt_rank.specs.declared.graph.Item.{Item}
 use Rattle.vt_rank.specs.declared.graph.Item.TheVariants.{Step}
 use Rattle.vt_rank.specs.Graphs.{nodes_of}
 use Rattle.vt_rank.specs.NodeSets.{IsSetOf}
-use Rattle.vt_rank.proofs.NodeSets.{adding_more, adding_done, set_of}
+use Rattle.vt_rank.proofs.SetsAfterInsertions.{adding_more, adding_done, set_of}
 use Rattle.vt_rank.proofs.reach.targets.Goals as goal
 
 pub loop-item-preserved : goal.loop-item-preserved

@@ -1,5 +1,5 @@
 use Rattle.vt_rank.specs.Graphs.{nodes_of}
-use Rattle.vt_rank.proofs.NodeSets.{IsAdding}
+use Rattle.vt_rank.proofs.SetsAfterInsertions.{IsAdding}
 use Rattle.vt_rank.proofs.reach.targets.Given as goal
 
 abbrev pub invariant-loop-item : goal.invariant-loop-item

@@ -2,7 +2,7 @@ use Rattle.std.proofs.Common.{List, ℕ, subst}
 use Rattle.std.specs.List.{flat_map}
 use Rattle.vt_rank.specs.NodeSets.{Adds, IsSetOf}
 use Rattle.vt_rank.specs.Graphs.{group_of}
-use Rattle.vt_rank.proofs.NodeSets.{adding_more, adding_done, set_of}
+use Rattle.vt_rank.proofs.SetsAfterInsertions.{adding_more, adding_done, set_of}
 use Rattle.vt_rank.proofs.reach.targets_of_most.Goals as goal
 
 pub loop-group-preserved : goal.loop-group-preserved

@@ -1,5 +1,5 @@
 use Rattle.vt_rank.specs.Graphs.{group_of}
-use Rattle.vt_rank.proofs.NodeSets.{IsAdding}
+use Rattle.vt_rank.proofs.SetsAfterInsertions.{IsAdding}
 use Rattle.vt_rank.proofs.reach.targets_of_most.Given as goal
 
 abbrev pub invariant-loop-group : goal.invariant-loop-group

@@ -1,5 +1,5 @@
 use Rattle.std.proofs.Common.{arith}
-use Rattle.vt_rank.proofs.Reaching.{row_written, rows_written}
+use Rattle.vt_rank.proofs.ReachableRows.{row_written, rows_written}
 use Rattle.vt_rank.proofs.reach.write_targets.Goals as goal
 
 pub loop-node-preserved : goal.loop-node-preserved

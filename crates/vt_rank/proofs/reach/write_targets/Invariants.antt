@@ -1,4 +1,4 @@
-use Rattle.vt_rank.proofs.Reaching.{IsWriting}
+use Rattle.vt_rank.proofs.ReachableRows.{IsWriting}
 use Rattle.vt_rank.proofs.reach.write_targets.Given as goal
 
 abbrev pub invariant-loop-node : goal.invariant-loop-node

@@ -1,6 +1,6 @@
 use Rattle.std.proofs.Common.{List, ℕ, Option, ◌+◌, ◌≡◌, ◌<◌, sym, ◌∙◌, subst, slice_index, arith}
 use Rattle.vt_rank.specs.Tables.{IsMost}
-use Rattle.vt_rank.proofs.Filling.{IsFilling, filled_here, passed_here, settled_here}
+use Rattle.vt_rank.proofs.CostTable.{IsFilling, filled_here, passed_here, settled_here}
 use Rattle.vt_rank.proofs.table.fill.Goals as goal
 use Rattle.vt_rank.proofs.table.fill.Goals.{then-of-rank, else-of-rank}
 

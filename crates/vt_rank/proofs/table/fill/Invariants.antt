@@ -1,5 +1,5 @@
 use Rattle.vt_rank.specs.Tables.{IsMost}
-use Rattle.vt_rank.proofs.Filling.{IsFilling}
+use Rattle.vt_rank.proofs.CostTable.{IsFilling}
 use Rattle.vt_rank.proofs.table.fill.Given as goal
 
 abbrev pub invariant-loop-node : goal.invariant-loop-node

@@ -1,7 +1,7 @@
 use Rattle.std.proofs.Common.{◌≡◌, ◌++◌, ◌∷◌, [], map, refl, ap, ◌∙◌, arith}
 use Rattle.std.proofs.lemmas.Result.{err_from_is_err_and}
 use Rattle.std.proofs.lemmas.List.{map_push}
-use Rattle.vt_records.specs.Reading.{rows_at}
+use Rattle.vt_records.specs.TableReads.{rows_at}
 use Rattle.vt_records.proofs.Rows.{goes_on, ends, is_done}
 use Rattle.vt_records.proofs.entry.entries.Goals as goal
 

@@ -1,5 +1,5 @@
 use Rattle.std.proofs.Common.{◌≡◌, ◌-◌, map, vec_len}
-use Rattle.vt_records.specs.Reading.{rows_at}
+use Rattle.vt_records.specs.TableReads.{rows_at}
 use Rattle.vt_records.proofs.Rows.{with_front}
 use Rattle.vt_records.proofs.entry.entries.Given as goal
 

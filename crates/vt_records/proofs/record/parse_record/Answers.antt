@@ -1,6 +1,6 @@
 use Rattle.std.proofs.Common.{◌<◌, length}
 use Rattle.std.proofs.lemmas.Result.{err_from_is_err_and}
-use Rattle.vt_records.proofs.Heads.{record_at-short}
+use Rattle.vt_records.proofs.RecordHeads.{record_at-short}
 use Rattle.vt_records.proofs.record.parse_record.Goals as goal
 
 pub returns-in_err-need : goal.returns-in_err-need

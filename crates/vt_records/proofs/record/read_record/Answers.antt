@@ -1,5 +1,5 @@
 use Rattle.std.proofs.Common.{arith}
-use Rattle.vt_records.proofs.Returned.{has_record, has_parts, is_shorter, is_stop}
+use Rattle.vt_records.proofs.ResultsOfReadRecord.{has_record, has_parts, is_shorter, is_stop}
 use Rattle.vt_records.proofs.record.read_record.Goals as goal
 
 pub returns-clause-record : goal.returns-clause-record

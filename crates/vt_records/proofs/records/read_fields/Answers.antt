@@ -1,7 +1,7 @@
 use Rattle.std.proofs.Common.{◌<◌, length}
 use Rattle.std.proofs.lemmas.Result.{err_from_is_err_and}
 use Rattle.vt_kinds.specs.Records.{fields_of}
-use Rattle.vt_records.specs.Reading.{head_size}
+use Rattle.vt_records.specs.TableReads.{head_size}
 use Rattle.vt_records.proofs.Tables.{fields_short}
 use Rattle.vt_records.proofs.records.read_fields.Goals as goal
 

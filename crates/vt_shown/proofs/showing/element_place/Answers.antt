@@ -1,5 +1,5 @@
 use Rattle.std.proofs.Common.{◌∙◌, sym}
-use Rattle.vt_shown.proofs.Marking.{stands_itself}
+use Rattle.vt_shown.proofs.MarksByLevel.{stands_itself}
 use Rattle.vt_shown.proofs.showing.element_place.Goals as goal
 
 pub returns-then-is_element_at : goal.returns-then-is_element_at

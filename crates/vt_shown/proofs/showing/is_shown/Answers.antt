@@ -1,9 +1,9 @@
 use Rattle.std.proofs.Common.{arith}
 use Rattle.std.specs.FinMap as finite
 use Rattle.vt_chains.specs.Depths.{ids_of}
-use Rattle.vt_chains.proofs.Places.{stands_of, within}
-use Rattle.vt_shown.proofs.Marking.{shown_by_mark, hidden_by_mark}
-use Rattle.vt_shown.proofs.Named.{none_seen}
+use Rattle.vt_chains.proofs.IdIndices.{stands_of, within}
+use Rattle.vt_shown.proofs.MarksByLevel.{shown_by_mark, hidden_by_mark}
+use Rattle.vt_shown.proofs.MarksOfListedIds.{none_seen}
 use Rattle.vt_shown.proofs.showing.is_shown.Goals as goal
 
 pub returns-clause-shown : goal.returns-clause-shown

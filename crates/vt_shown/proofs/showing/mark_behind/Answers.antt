@@ -1,5 +1,5 @@
 use Rattle.std.proofs.Common.{sym}
-use Rattle.vt_shown.proofs.Marking.{marks_one}
+use Rattle.vt_shown.proofs.MarksByLevel.{marks_one}
 use Rattle.vt_shown.proofs.showing.mark_behind.Goals as goal
 
 pub returns-in-Some-place : goal.returns-in-Some-place

@@ -3,9 +3,9 @@ use Rattle.std.proofs.lemmas.List.{get_or-map, length-map}
 use Rattle.std.specs.Prelude.{slice_index_or}
 use Rattle.vt_kinds.specs.declared.entries.Child.{Child}
 use Rattle.vt_shown.specs.Marks.{Marks, AreDone}
-use Rattle.vt_shown.specs.Showing.{ids_in}
-use Rattle.vt_shown.proofs.Marking.{marks_next}
-use Rattle.vt_shown.proofs.Named.{marks_done, done_more}
+use Rattle.vt_shown.specs.ShownElements.{ids_in}
+use Rattle.vt_shown.proofs.MarksByLevel.{marks_next}
+use Rattle.vt_shown.proofs.MarksOfListedIds.{marks_done, done_more}
 use Rattle.vt_shown.proofs.showing.mark_children.Goals as goal
 use Rattle.vt_shown.proofs.showing.mark_children.Goals.{then-not-named-name, else-not-named-name}
 

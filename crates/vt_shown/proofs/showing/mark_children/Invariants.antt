@@ -1,6 +1,6 @@
 use Rattle.std.proofs.Common.{◌≡◌, length, take}
 use Rattle.vt_shown.specs.Marks.{Marks, AreDone}
-use Rattle.vt_shown.specs.Showing.{ids_in}
+use Rattle.vt_shown.specs.ShownElements.{ids_in}
 use Rattle.vt_shown.proofs.showing.mark_children.Given as goal
 
 abbrev pub invariant-loop-child : goal.invariant-loop-child

@@ -1,8 +1,8 @@
 use Rattle.std.proofs.Common.{Option, sym, subst}
 use Rattle.vt_kinds.specs.Records.{Seen, seen}
 use Rattle.vt_shown.specs.Marks.{Marks}
-use Rattle.vt_shown.specs.Showing.{drawn_in}
-use Rattle.vt_shown.proofs.Marking.{placed_is, never_past}
+use Rattle.vt_shown.specs.ShownElements.{drawn_in}
+use Rattle.vt_shown.proofs.MarksByLevel.{placed_is, never_past}
 use Rattle.vt_shown.proofs.showing.mark_drawing_at.Goals as goal
 
 pub returns-in-Some-clause-marks : goal.returns-in-Some-clause-marks

@@ -1,4 +1,4 @@
-use Rattle.vt_shown.proofs.Named.{done_kept}
+use Rattle.vt_shown.proofs.MarksOfListedIds.{done_kept}
 use Rattle.vt_shown.proofs.showing.mark_drawn.Goals as goal
 
 pub returns-in-InputList-clause-named : goal.returns-in-InputList-clause-named

@@ -1,6 +1,6 @@
 use Rattle.std.proofs.Common.{ℕ, List, length, get_or, ap, subst, ◌<◌, ◌∙◌}
 use Rattle.std.proofs.lemmas.Grind.{get_or_default_zero}
-use Rattle.vt_shown.proofs.Marking.{marks_next}
+use Rattle.vt_shown.proofs.MarksByLevel.{marks_next}
 use Rattle.vt_shown.proofs.showing.mark_keys.Goals as goal
 
 pub loop-key-preserved : goal.loop-key-preserved

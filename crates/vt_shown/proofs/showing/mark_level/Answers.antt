@@ -2,8 +2,8 @@ use Rattle.std.proofs.Common.{◌≡◌, ◌+◌, Bool, false, List, length, ◌
 use Rattle.std.specs.Prelude.{slice_index_or}
 use Rattle.vt_chains.specs.Depths.{ids_of}
 use Rattle.vt_shown.specs.Marks.{AreDone}
-use Rattle.vt_chains.proofs.Places.{count_is, someone}
-use Rattle.vt_shown.proofs.Marking.{ArePassed, pass_begins, pass_on, pass_more, pass_ends, null_nowhere, no_mark}
+use Rattle.vt_chains.proofs.IdIndices.{count_is, someone}
+use Rattle.vt_shown.proofs.MarksByLevel.{ArePassed, pass_begins, pass_on, pass_more, pass_ends, null_nowhere, no_mark}
 use Rattle.vt_shown.proofs.showing.mark_level.Goals as goal
 use Rattle.vt_shown.proofs.showing.mark_level.Goals.{then-marks-place+then-levels-place, else-marks-place, else-marks-place-via-then-marks-place+else-levels-place, else-marks-place-via-else-marks-place}
 

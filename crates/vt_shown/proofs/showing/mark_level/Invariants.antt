@@ -1,6 +1,6 @@
 use Rattle.std.proofs.Common.{◌≡◌, length}
 use Rattle.vt_shown.specs.Marks.{AreDone}
-use Rattle.vt_shown.proofs.Marking.{ArePassed}
+use Rattle.vt_shown.proofs.MarksByLevel.{ArePassed}
 use Rattle.vt_shown.proofs.showing.mark_level.Given as goal
 
 abbrev pub invariant-loop-place : goal.invariant-loop-place

@@ -1,7 +1,7 @@
 use Rattle.std.proofs.Common.{◌∙◌}
-use Rattle.vt_shown.proofs.Marking.{marking_begins, cleared}
-use Rattle.vt_shown.proofs.Named.{done_kept}
-use Rattle.vt_shown.specs.Showing.{soft_keys}
+use Rattle.vt_shown.proofs.MarksByLevel.{marking_begins, cleared}
+use Rattle.vt_shown.proofs.MarksOfListedIds.{done_kept}
+use Rattle.vt_shown.specs.ShownElements.{soft_keys}
 use Rattle.vt_shown.proofs.showing.mark_mask.Goals as goal
 
 pub returns-clause-marks : goal.returns-clause-marks

@@ -1,4 +1,4 @@
-use Rattle.vt_shown.proofs.Marking.{marks_one}
+use Rattle.vt_shown.proofs.MarksByLevel.{marks_one}
 use Rattle.vt_shown.proofs.showing.mark_named.Goals as goal
 
 pub returns-in-Some : goal.returns-in-Some

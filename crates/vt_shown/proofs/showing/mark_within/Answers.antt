@@ -1,4 +1,4 @@
-use Rattle.vt_shown.proofs.Marking.{none_above}
+use Rattle.vt_shown.proofs.MarksByLevel.{none_above}
 use Rattle.vt_shown.proofs.showing.mark_within.Goals as goal
 
 pub loop-level-init : goal.loop-level-init

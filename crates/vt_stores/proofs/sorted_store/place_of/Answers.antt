@@ -1,6 +1,6 @@
 use Rattle.std.proofs.Common.{◌≡◌, refl, rules}
 use Rattle.std.proofs.lemmas.Fn.{always_returns_same}
-use Rattle.vt_stores.proofs.Searching.{found_in, missed_in}
+use Rattle.vt_stores.proofs.BinarySearch.{found_in, missed_in}
 use Rattle.vt_stores.proofs.sorted_store.place_of.Goals as goal
 
 pub returns-in-None-clause-some : goal.returns-in-None-clause-some

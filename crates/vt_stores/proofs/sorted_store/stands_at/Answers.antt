@@ -1,8 +1,8 @@
 use Rattle.std.proofs.Common.{◌<◌, ◌∙◌, length, sym, ap}
 use Rattle.std.proofs.lemmas.Bool.{eqb-true, ltb-true}
 use Rattle.std.specs.Ordering.{nat_cmp}
-use Rattle.vt_stores.proofs.Rising.{equal}
-use Rattle.vt_stores.proofs.Searching.{place_at}
+use Rattle.vt_stores.proofs.SortedEntries.{equal}
+use Rattle.vt_stores.proofs.BinarySearch.{place_at}
 use Rattle.vt_stores.proofs.sorted_store.stands_at.Goals as goal
 
 pub returns-then-eq : goal.returns-then-eq

@@ -1,7 +1,7 @@
 use Rattle.std.proofs.Common.{◌≡◌, length, rules}
 use Rattle.std.proofs.lemmas.Fn.{always_returns_same}
-use Rattle.vt_stores.proofs.Rising.{sorted_rises, sorted_is}
-use Rattle.vt_stores.proofs.Stored.{still_named, distinct_in}
+use Rattle.vt_stores.proofs.SortedEntries.{sorted_rises, sorted_is}
+use Rattle.vt_stores.proofs.StoreMethods.{still_named, distinct_in}
 use Rattle.vt_stores.proofs.sorting.sort.Goals as goal
 
 pub returns : goal.returns

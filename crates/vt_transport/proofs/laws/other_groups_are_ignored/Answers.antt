@@ -1,4 +1,4 @@
-use Rattle.vt_transport.proofs.Timeless.{ignored, unanswered_groups}
+use Rattle.vt_transport.proofs.StepsWithoutTimes.{ignored, unanswered_groups}
 use Rattle.vt_transport.proofs.laws.other_groups_are_ignored.Goals as goal
 
 pub returns-clause-receiver : goal.returns-clause-receiver

@@ -1,4 +1,4 @@
-use Rattle.vt_transport.proofs.BothEnds.{received}
+use Rattle.vt_transport.proofs.SentMessageIsWhole.{received}
 use Rattle.vt_transport.proofs.laws.sent_is_received.Goals as goal
 
 pub returns : goal.returns

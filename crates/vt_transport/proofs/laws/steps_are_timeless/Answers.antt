@@ -1,4 +1,4 @@
-use Rattle.vt_transport.proofs.Timeless.{timeless}
+use Rattle.vt_transport.proofs.StepsWithoutTimes.{timeless}
 use Rattle.vt_transport.proofs.laws.steps_are_timeless.Goals as goal
 
 pub returns : goal.returns

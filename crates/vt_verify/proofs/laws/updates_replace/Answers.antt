@@ -1,4 +1,4 @@
-use Rattle.vt_verify.proofs.Updating.{replaces}
+use Rattle.vt_verify.proofs.lemmas.stores.UpdatedStore.{replaces}
 use Rattle.vt_verify.proofs.laws.updates_replace.Goals as goal
 
 pub returns : goal.returns

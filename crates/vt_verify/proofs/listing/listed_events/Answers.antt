@@ -6,7 +6,7 @@ use Rattle.vt_verify.specs.declared.listing.Listing.{Listing}
 use Rattle.vt_stores.specs.Shapes.{shape_of}
 use Rattle.vt_verify.specs.Triggers.{listing}
 use Rattle.vt_verify.specs.TriggerGraphs.{has}
-use Rattle.vt_verify.proofs.ListedEvents.{events_of, groups_of_events, not_yet, one_more, events_listed, groups_listed}
+use Rattle.vt_verify.proofs.lemmas.graphs.EventGroups.{events_of, groups_of_events, not_yet, one_more, events_listed, groups_listed}
 use Rattle.vt_verify.proofs.listing.listed_events.Goals as goal
 
 pub put_listings-requires : goal.put_listings-requires

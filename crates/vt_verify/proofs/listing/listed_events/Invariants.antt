@@ -3,7 +3,7 @@ use Rattle.std.specs.List.{flat_map}
 use Rattle.vt_stores.specs.Stores.{shown}
 use Rattle.vt_rank.specs.Graphs.{lists}
 use Rattle.vt_stores.specs.Shapes.{shape_of}
-use Rattle.vt_verify.proofs.ListedEvents.{events_of, groups_of_events}
+use Rattle.vt_verify.proofs.lemmas.graphs.EventGroups.{events_of, groups_of_events}
 use Rattle.vt_verify.proofs.listing.listed_events.Given as goal
 
 abbrev pub invariant-loop-id : goal.invariant-loop-id

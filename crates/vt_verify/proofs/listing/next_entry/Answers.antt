@@ -1,6 +1,6 @@
 use Rattle.std.proofs.Common.{◌≡◌, ◌≢◌, ℕ, ◌+◌, drop, get_or, arith, ◌∙◌}
 use Rattle.vt_verify.specs.Triggers.{macros_at}
-use Rattle.vt_verify.proofs.ListedEvents.{not_listed}
+use Rattle.vt_verify.proofs.lemmas.graphs.EventGroups.{not_listed}
 use Rattle.vt_verify.proofs.listing.next_entry.Goals as goal
 use Rattle.vt_verify.proofs.listing.next_entry.Goals.{then-from-entry+then-entry-next, else-from-entry, else-from-entry-via-then-from-entry+else-entry-next, else-from-entry-via-else-from-entry}
 

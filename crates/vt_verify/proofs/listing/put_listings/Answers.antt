@@ -6,7 +6,7 @@ use Rattle.vt_verify.specs.declared.listing.Listing.{Listing}
 use Rattle.vt_stores.specs.Shapes.{fixed}
 use Rattle.vt_verify.specs.Triggers.{listing, listed_in}
 use Rattle.vt_verify.specs.TriggerGraphs.{has, if_any, non_empty, event_numbers, events_in, groups_in}
-use Rattle.vt_verify.proofs.ListedEvents.{moved, next_event, none_between, still_new}
+use Rattle.vt_verify.proofs.lemmas.graphs.EventGroups.{moved, next_event, none_between, still_new}
 use Rattle.vt_verify.proofs.listing.put_listings.Goals as goal
 
 pub loop-event-init : goal.loop-event-init

@@ -5,7 +5,7 @@ use Rattle.vt_verify.specs.Lists.{first_failing}
 use Rattle.vt_stores.specs.Shapes.{fixed}
 use Rattle.vt_stores.specs.Stores.{Objects}
 use Rattle.vt_verify.specs.Macros.{named_macro, is_whole}
-use Rattle.vt_verify.proofs.Passes.{over_objects}
+use Rattle.vt_verify.proofs.lemmas.rules.FirstFailure.{over_objects}
 use Rattle.vt_verify.proofs.macros.cut_short.Goals as goal
 
 pub loop-id-init : goal.loop-id-init

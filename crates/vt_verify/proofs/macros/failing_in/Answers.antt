@@ -4,8 +4,8 @@ use Rattle.vt_verify.specs.Lists.{first_failing}
 use Rattle.vt_stores.specs.Shapes.{shape_of}
 use Rattle.vt_verify.specs.Macros.{Piece, placed, cut_or_none}
 use Rattle.vt_verify.specs.Targets.{piece_passes}
-use Rattle.vt_verify.proofs.Cuts.{next_piece, no_piece, rest_is_whole}
-use Rattle.vt_verify.proofs.Pieces.{fails_here, passes_here, next_at, shorter}
+use Rattle.vt_verify.proofs.lemmas.macros.MacroBytes.{next_piece, no_piece, rest_is_whole}
+use Rattle.vt_verify.proofs.lemmas.macros.CommandTests.{fails_here, passes_here, next_at, shorter}
 use Rattle.vt_verify.proofs.macros.failing_in.Goals as goal
 
 pub returns-then-not-passes : goal.returns-then-not-passes

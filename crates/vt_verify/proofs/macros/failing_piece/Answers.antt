@@ -6,7 +6,7 @@ use Rattle.vt_stores.specs.Shapes.{Fixed, fixed, shape_of}
 use Rattle.vt_stores.specs.Stores.{Objects}
 use Rattle.vt_verify.specs.Macros.{Piece, named_macro, is_whole, pieces_of}
 use Rattle.vt_verify.specs.Targets.{piece_passes}
-use Rattle.vt_verify.proofs.Passes.{over_objects, each_of_each, all_pass_at, told_fails, told_passes}
+use Rattle.vt_verify.proofs.lemmas.rules.FirstFailure.{over_objects, each_of_each, all_pass_at, told_fails, told_passes}
 use Rattle.vt_verify.proofs.macros.failing_piece.Goals as goal
 
 pub loop-id-init : goal.loop-id-init

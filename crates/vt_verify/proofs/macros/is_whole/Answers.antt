@@ -1,5 +1,5 @@
 use Rattle.std.proofs.Common.{sym, ◌∙◌}
-use Rattle.vt_verify.proofs.Cuts.{whole_rest, whole_end}
+use Rattle.vt_verify.proofs.lemmas.macros.MacroBytes.{whole_rest, whole_end}
 use Rattle.vt_verify.proofs.macros.is_whole.Goals as goal
 
 pub loop-next-preserved : goal.loop-next-preserved

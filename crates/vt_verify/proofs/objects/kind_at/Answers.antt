@@ -1,7 +1,7 @@
 use Rattle.std.proofs.Common.{sym, ap, ◌∙◌, Some}
 use Rattle.std.specs.Option.{option_map}
 use Rattle.vt_kinds.specs.Records.{kind_of}
-use Rattle.vt_stores.proofs.Shapes.{kind_found, seen_kind}
+use Rattle.vt_stores.proofs.ObjectShapes.{kind_found, seen_kind}
 use Rattle.vt_verify.proofs.objects.kind_at.Goals as goal
 
 pub returns-in-None : goal.returns-in-None

@@ -1,6 +1,6 @@
 use Rattle.std.proofs.Common.{ap, ◌∙◌}
 use Rattle.vt_stores.specs.Stores.{by_rising_id}
-use Rattle.vt_verify.proofs.Copies.{named_of}
+use Rattle.vt_verify.proofs.lemmas.stores.DistinctIds.{named_of}
 use Rattle.vt_verify.proofs.objects.sorted.Goals as goal
 
 pub from_vec-requires : goal.from_vec-requires

@@ -2,9 +2,9 @@ use Rattle.std.proofs.Common.{◌≡◌, IfOk, map, sym, subst, arith}
 use Rattle.std.specs.FinMap as finite
 use Rattle.vt_kinds.specs.Records.{seen}
 use Rattle.vt_stores.specs.Stores.{Objects, shown}
-use Rattle.vt_verify.proofs.Copies.{named_of}
-use Rattle.vt_chains.proofs.Places.{count_is}
-use Rattle.vt_verify.proofs.Updating.{IsUpdating, updating_begins, updating_step, updating_ends}
+use Rattle.vt_verify.proofs.lemmas.stores.DistinctIds.{named_of}
+use Rattle.vt_chains.proofs.IdIndices.{count_is}
+use Rattle.vt_verify.proofs.lemmas.stores.UpdatedStore.{IsUpdating, updating_begins, updating_step, updating_ends}
 use Rattle.vt_verify.proofs.objects.updated.Goals as goal
 
 pub loop-place-init : goal.loop-place-init

@@ -1,6 +1,6 @@
 use Rattle.std.proofs.Common.{map}
 use Rattle.vt_stores.specs.Stores.{shown}
-use Rattle.vt_verify.proofs.Updating.{IsUpdating}
+use Rattle.vt_verify.proofs.lemmas.stores.UpdatedStore.{IsUpdating}
 use Rattle.vt_verify.proofs.objects.updated.Given as goal
 
 abbrev pub invariant-loop-place : goal.invariant-loop-place

@@ -2,7 +2,7 @@ use Rattle.std.proofs.Common.{ℕ, rules}
 use Rattle.std.specs.Prelude.{slice_index}
 use Rattle.std.proofs.lemmas.List.Sorted.{IsNonDecreasingBy-from_sort_by_key}
 use Rattle.vt_stores.specs.Shapes.{shape_of}
-use Rattle.vt_verify.proofs.Ranking.{ranked}
+use Rattle.vt_verify.proofs.lemmas.graphs.OrderByRank.{ranked}
 use Rattle.vt_verify.proofs.order.by_rank.Goals as goal
 
 pub returns : goal.returns

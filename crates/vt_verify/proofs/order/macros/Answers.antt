@@ -5,7 +5,7 @@ use Rattle.vt_stores.specs.Stores.{shown, Objects}
 use Rattle.vt_stores.specs.Shapes.{Fixed, fixed, shape_of}
 use Rattle.vt_verify.specs.Triggers.{run_by_name}
 use Rattle.vt_verify.specs.Orders.{named_macros}
-use Rattle.vt_verify.proofs.ListedEvents.{one_more}
+use Rattle.vt_verify.proofs.lemmas.graphs.EventGroups.{one_more}
 use Rattle.vt_verify.proofs.order.macros.Goals as goal
 
 pub loop-id-preserved : goal.loop-id-preserved

@@ -1,7 +1,7 @@
 use Rattle.std.proofs.Common.{None, refl, sym}
 use Rattle.vt_stores.specs.Shapes.{shape_of}
 use Rattle.vt_verify.specs.References.{is_there, fits, slot_references, values_of}
-use Rattle.vt_verify.proofs.Passes.{passes_at}
+use Rattle.vt_verify.proofs.lemmas.rules.FirstFailure.{passes_at}
 use Rattle.vt_verify.proofs.references.all_stand.Goals as goal
 
 pub loop-id-preserved : goal.loop-id-preserved

@@ -5,8 +5,8 @@ use Rattle.vt_verify.specs.declared.reference.Reference.{Reference}
 use Rattle.vt_verify.specs.Lists.{first_failing}
 use Rattle.vt_stores.specs.Shapes.{shape_of}
 use Rattle.vt_verify.specs.References.{is_there, fits, of_slot, with_value}
-use Rattle.vt_verify.proofs.Passes.{passes_in}
-use Rattle.vt_verify.proofs.Standing.{passed}
+use Rattle.vt_verify.proofs.lemmas.rules.FirstFailure.{passes_in}
+use Rattle.vt_verify.proofs.lemmas.references.ReferenceTests.{passed}
 use Rattle.vt_verify.proofs.references.all_stand_in.Goals as goal
 
 pub loop-slot-preserved : goal.loop-slot-preserved

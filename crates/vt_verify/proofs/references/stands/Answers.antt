@@ -1,6 +1,6 @@
 use Rattle.std.proofs.Common.{◌≡◌, true, false, sym, ap, ◌∙◌}
 use Rattle.vt_verify.specs.References.{may_stand}
-use Rattle.vt_verify.proofs.Standing.{null_fits, found_there, found_fits}
+use Rattle.vt_verify.proofs.lemmas.references.ReferenceTests.{null_fits, found_there, found_fits}
 use Rattle.vt_verify.proofs.references.stands.Goals as goal
 
 pub returns-then-is_null-clause-fit : goal.returns-then-is_null-clause-fit

@@ -1,7 +1,7 @@
 use Rattle.std.proofs.Common.{sym}
 use Rattle.vt_stores.specs.Shapes.{shape_of}
 use Rattle.vt_verify.specs.References.{fits, values_of}
-use Rattle.vt_verify.proofs.Passes.{fails_at, passes_at}
+use Rattle.vt_verify.proofs.lemmas.rules.FirstFailure.{fails_at, passes_at}
 use Rattle.vt_verify.proofs.references.wrong_kind.Goals as goal
 
 pub returns-in-Some : goal.returns-in-Some

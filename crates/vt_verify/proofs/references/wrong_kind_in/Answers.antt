@@ -5,7 +5,7 @@ use Rattle.vt_verify.specs.declared.reference.Reference.{Reference}
 use Rattle.vt_verify.specs.Lists.{first_failing}
 use Rattle.vt_stores.specs.Shapes.{shape_of}
 use Rattle.vt_verify.specs.References.{fits, of_slot, with_value}
-use Rattle.vt_verify.proofs.Passes.{fails_in, passes_in}
+use Rattle.vt_verify.proofs.lemmas.rules.FirstFailure.{fails_in, passes_in}
 use Rattle.vt_verify.proofs.references.wrong_kind_in.Goals as goal
 
 pub returns-in-Some-wrong_or_points_wrong : goal.returns-in-Some-wrong_or_points_wrong

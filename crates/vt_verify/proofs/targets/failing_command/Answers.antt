@@ -8,8 +8,8 @@ use Rattle.vt_stores.specs.Shapes.{shape_of}
 use Rattle.vt_verify.specs.References.{passes}
 use Rattle.vt_verify.specs.Macros.{macro_command, commands_of}
 use Rattle.vt_verify.specs.Targets.{target_references}
-use Rattle.vt_verify.proofs.Passes.{fails_in, passes_in}
-use Rattle.vt_verify.proofs.Cuts.{next_command, no_command, rest_is_whole}
+use Rattle.vt_verify.proofs.lemmas.rules.FirstFailure.{fails_in, passes_in}
+use Rattle.vt_verify.proofs.lemmas.macros.MacroBytes.{next_command, no_command, rest_is_whole}
 use Rattle.vt_verify.proofs.targets.failing_command.Goals as goal
 
 pub returns-in-Some-failing_in : goal.returns-in-Some-failing_in

@@ -9,7 +9,7 @@ use Rattle.vt_verify.specs.Lists.{first_failing}
 use Rattle.vt_stores.specs.Shapes.{shape_of}
 use Rattle.vt_verify.specs.References.{passes}
 use Rattle.vt_verify.specs.Targets.{of_target, target_references}
-use Rattle.vt_verify.proofs.Passes.{fails_in, passes_in}
+use Rattle.vt_verify.proofs.lemmas.rules.FirstFailure.{fails_in, passes_in}
 use Rattle.vt_verify.proofs.targets.failing_in.Goals as goal
 
 pub returns-in-Some : goal.returns-in-Some

@@ -6,7 +6,7 @@ use Rattle.vt_stores.specs.Stores.{Objects}
 use Rattle.vt_verify.specs.References.{passes}
 use Rattle.vt_verify.specs.Macros.{named_macro, is_whole}
 use Rattle.vt_verify.specs.Targets.{own_references}
-use Rattle.vt_verify.proofs.Passes.{over_objects, all_pass_at, fails_at, passes_at}
+use Rattle.vt_verify.proofs.lemmas.rules.FirstFailure.{over_objects, all_pass_at, fails_at, passes_at}
 use Rattle.vt_verify.proofs.targets.failing_target.Goals as goal
 
 pub loop-id-init : goal.loop-id-init

@@ -1,5 +1,5 @@
 use Rattle.std.proofs.Common.{◌∙◌}
-use Rattle.vt_verify.proofs.ListedEvents.{group_is}
+use Rattle.vt_verify.proofs.lemmas.graphs.EventGroups.{group_is}
 use Rattle.vt_verify.proofs.triggers.group_of.Goals as goal
 
 pub returns : goal.returns

@@ -6,7 +6,7 @@ use Rattle.vt_commands.specs.declared.command.Command.{Command}
 use Rattle.vt_stores.specs.Shapes.{shape_of}
 use Rattle.vt_verify.specs.Macros.{commands_of}
 use Rattle.vt_verify.specs.TriggerGraphs.{command_items}
-use Rattle.vt_verify.proofs.ListedEvents.{whole_bytes, commands_found}
+use Rattle.vt_verify.proofs.lemmas.graphs.EventGroups.{whole_bytes, commands_found}
 use Rattle.vt_verify.proofs.triggers.items.Goals as goal
 
 pub items_of-requires : goal.items_of-requires

@@ -7,8 +7,8 @@ use Rattle.vt_rank.specs.declared.graph.Item.{Item}
 use Rattle.vt_commands.specs.declared.command.Command.{Command}
 use Rattle.vt_verify.specs.Macros.{macro_command, commands_of}
 use Rattle.vt_verify.specs.TriggerGraphs.{command_items}
-use Rattle.vt_verify.proofs.Cuts.{next_command, no_command, rest_is_whole}
-use Rattle.vt_verify.proofs.ListedEvents.{moved}
+use Rattle.vt_verify.proofs.lemmas.macros.MacroBytes.{next_command, no_command, rest_is_whole}
+use Rattle.vt_verify.proofs.lemmas.graphs.EventGroups.{moved}
 use Rattle.vt_verify.proofs.triggers.items_of.Goals as goal
 
 pub loop-piece-preserved : goal.loop-piece-preserved

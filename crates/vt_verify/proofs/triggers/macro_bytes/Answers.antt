@@ -5,7 +5,7 @@ use Rattle.std.specs.Option.{option_map, option_to_list}
 use Rattle.vt_kinds.specs.Records.{seen}
 use Rattle.vt_stores.specs.Shapes.{Fixed, fixed}
 use Rattle.vt_verify.specs.Macros.{bytes_in}
-use Rattle.vt_stores.proofs.Shapes.{fixed_found}
+use Rattle.vt_stores.proofs.ObjectShapes.{fixed_found}
 use Rattle.vt_verify.proofs.triggers.macro_bytes.Goals as goal
 
 pub returns-in-Some : goal.returns-in-Some

@@ -1,7 +1,7 @@
 use Rattle.vt_stores.specs.Shapes.{shape_of}
-use Rattle.vt_verify.proofs.Acceptance.{before_budgets}
+use Rattle.vt_verify.proofs.lemmas.rules.Acceptance.{before_budgets}
 use Rattle.vt_chains.specs.Limits.{terminal}
-use Rattle.vt_verify.proofs.Graphs.{no_circle, least_circle}
+use Rattle.vt_verify.proofs.lemmas.graphs.SameTriggers.{no_circle, least_circle}
 use Rattle.vt_verify.proofs.verification.check_circles.Goals as goal
 
 pub returns-in-Ok-clause-ok : goal.returns-in-Ok-clause-ok

@@ -2,9 +2,9 @@ use Rattle.std.proofs.Common.{◌≡◌, ◌<◌, ◌∙◌, length, sym, subst,
 use Rattle.vt_rank.specs.Costs.{IsFirstOver}
 use Rattle.vt_stores.specs.Shapes.{shape_of}
 use Rattle.vt_verify.specs.Rules as pools
-use Rattle.vt_verify.proofs.Acceptance.{acceptable}
-use Rattle.vt_verify.proofs.Costs.{costs_are_totals, is_within}
-use Rattle.vt_verify.proofs.FirstOver.{over_is_inside, first_macro, first_over}
+use Rattle.vt_verify.proofs.lemmas.rules.Acceptance.{acceptable}
+use Rattle.vt_verify.proofs.lemmas.graphs.SameCosts.{costs_are_totals, is_within}
+use Rattle.vt_verify.proofs.lemmas.budgets.FirstOverBudget.{over_is_inside, first_macro, first_over}
 use Rattle.vt_verify.proofs.verification.check_costs.Goals as goal
 
 pub index-requires : goal.index-requires

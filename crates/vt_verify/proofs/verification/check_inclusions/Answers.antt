@@ -3,9 +3,9 @@ use Rattle.std.proofs.lemmas.List.{with_items_is}
 use Rattle.vt_stores.specs.Stores.{map_of}
 use Rattle.vt_chains.specs.Depths.{AreDepths, ids_of, inclusions_of}
 use Rattle.vt_chains.specs.Inclusions.{IsShallow, IsTooDeep}
-use Rattle.vt_verify.proofs.Closing.{closed_store}
-use Rattle.vt_chains.proofs.Including.{same_inclusions}
-use Rattle.vt_chains.proofs.Places.{count_is}
+use Rattle.vt_verify.proofs.lemmas.references.IncludedObjectsExist.{closed_store}
+use Rattle.vt_chains.proofs.InclusionsInStore.{same_inclusions}
+use Rattle.vt_chains.proofs.IdIndices.{count_is}
 use Rattle.vt_verify.proofs.verification.check_inclusions.Goals as goal
 
 pub find_depths-requires-clause-each : goal.find_depths-requires-clause-each

@@ -3,8 +3,8 @@ use Rattle.vt_stores.specs.Shapes.{shape_of}
 use Rattle.vt_verify.specs.References.{is_there, fits}
 use Rattle.vt_chains.specs.Limits.{terminal}
 use Rattle.vt_verify.specs.Targets.{macro_references}
-use Rattle.vt_verify.proofs.Acceptance.{before_attributes}
-use Rattle.vt_verify.proofs.Standing.{both_pass}
+use Rattle.vt_verify.proofs.lemmas.rules.Acceptance.{before_attributes}
+use Rattle.vt_verify.proofs.lemmas.references.ReferenceTests.{both_pass}
 use Rattle.vt_verify.proofs.verification.check_named.Goals as goal
 
 pub returns-in-None-clause-ok : goal.returns-in-None-clause-ok

@@ -1,7 +1,7 @@
 use Rattle.std.proofs.Common.{get_or, take, ap}
 use Rattle.std.proofs.lemmas.List.{take_more}
-use Rattle.vt_writing.specs.Writing.{each_written}
-use Rattle.vt_writing.proofs.Writing.{each_written-push}
+use Rattle.vt_writing.specs.FieldWrites.{each_written}
+use Rattle.vt_writing.proofs.TableEncoding.{each_written-push}
 use Rattle.vt_writing.proofs.write.put_u8s.Goals as goal
 
 pub loop-n-preserved : goal.loop-n-preserved

@@ -1,5 +1,5 @@
 use Rattle.std.proofs.Common.{◌≡◌, take}
-use Rattle.vt_writing.specs.Writing.{each_written}
+use Rattle.vt_writing.specs.FieldWrites.{each_written}
 use Rattle.vt_writing.proofs.write.put_u8s.Given as goal
 
 abbrev pub invariant-loop-n : goal.invariant-loop-n

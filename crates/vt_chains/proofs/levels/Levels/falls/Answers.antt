@@ -1,5 +1,5 @@
 use Rattle.std.proofs.Common.{arith, ltb-true}
-use Rattle.vt_chains.proofs.Falling.{falling_there, falling_nowhere, falling_from_nowhere, place_within, level_is}
+use Rattle.vt_chains.proofs.FallingLevels.{falling_there, falling_nowhere, falling_from_nowhere, place_within, level_is}
 use Rattle.vt_chains.proofs.levels.Levels.falls.Goals as goal
 
 pub returns-in_default : goal.returns-in_default

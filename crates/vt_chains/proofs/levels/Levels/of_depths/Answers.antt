@@ -1,6 +1,6 @@
 use Rattle.std.proofs.Common.{◌≡◌, length, rules, ◌∙◌}
 use Rattle.vt_chains.specs.Depths.{ids_of, inclusions_of}
-use Rattle.vt_chains.proofs.Falling.{depths_fall}
+use Rattle.vt_chains.proofs.FallingLevels.{depths_fall}
 use Rattle.vt_chains.proofs.levels.Levels.of_depths.Goals as goal
 
 pub returns : goal.returns

@@ -1,9 +1,9 @@
 use Rattle.std.proofs.Common.{◌≡◌, length, rules, ◌∙◌, subst, sym}
 use Rattle.std.proofs.lemmas.List.{with_items_is}
 use Rattle.vt_chains.specs.Depths.{ids_of, inclusions_of}
-use Rattle.vt_chains.proofs.Places.{count_is}
+use Rattle.vt_chains.proofs.IdIndices.{count_is}
 use Rattle.vt_chains.specs.Certificates.{IsCertificate}
-use Rattle.vt_chains.proofs.Falling.{depths_fall}
+use Rattle.vt_chains.proofs.FallingLevels.{depths_fall}
 use Rattle.vt_chains.proofs.levels.Levels.of_store.Goals as goal
 
 pub find_depths-requires-clause-each : goal.find_depths-requires-clause-each

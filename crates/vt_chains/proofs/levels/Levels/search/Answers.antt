@@ -2,7 +2,7 @@ use Rattle.std.proofs.Common.{◌≡◌, length, ◌∙◌, subst, sym, ap}
 use Rattle.std.proofs.lemmas.List.{with_items_is}
 use Rattle.vt_chains.specs.Depths.{ids_of, inclusions_of}
 use Rattle.vt_chains.specs.Certificates.{IsCertificate}
-use Rattle.vt_chains.proofs.Falling.{depths_fall}
+use Rattle.vt_chains.proofs.FallingLevels.{depths_fall}
 use Rattle.vt_chains.proofs.levels.Levels.search.Goals as goal
 
 pub returns-in-Ok-clause-short : goal.returns-in-Ok-clause-short

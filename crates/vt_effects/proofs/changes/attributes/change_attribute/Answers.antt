@@ -1,9 +1,9 @@
 use Rattle.std.proofs.Common.{ℕ, Result, Ok, Err, refl, sym, ap, subst, ◌∙◌}
 use Rattle.vt_kinds.specs.Records.{Seen, seen}
 use Rattle.vt_effects.specs.Changes.{HasResult, left}
-use Rattle.vt_effects.proofs.AttributeChanges.{attribute_put}
+use Rattle.vt_effects.proofs.lemmas.objects.AttributeChanges.{attribute_put}
 use Rattle.vt_effects.proofs.changes.attributes.change_attribute.Goals as goal
-use Rattle.vt_stores.proofs.Shapes.{seen_kind}
+use Rattle.vt_stores.proofs.ObjectShapes.{seen_kind}
 
 pub returns-then-not-takes-clause-result : goal.returns-then-not-takes-clause-result
 returns-then-not-takes-clause-result c = let o = seen c.args.object.now in

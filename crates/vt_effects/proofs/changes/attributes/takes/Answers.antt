@@ -1,5 +1,5 @@
 use Rattle.std.proofs.Common.{arith}
-use Rattle.vt_effects.proofs.Taking.{takes_is}
+use Rattle.vt_effects.proofs.lemmas.objects.FieldTests.{takes_is}
 use Rattle.vt_effects.proofs.changes.attributes.takes.Goals as goal
 
 pub returns : goal.returns

@@ -1,7 +1,7 @@
 use Rattle.std.proofs.Common.{not, set, sym, ap, ap₂, ◌∙◌, arith}
 use Rattle.std.specs.Prelude.{slice_index_or}
-use Rattle.vt_effects.proofs.Moving.{up_to_next}
-use Rattle.vt_effects.proofs.Children.{placed_all}
+use Rattle.vt_effects.proofs.lemmas.objects.EntryChanges.{up_to_next}
+use Rattle.vt_effects.proofs.lemmas.objects.ChildMoves.{placed_all}
 use Rattle.vt_effects.proofs.changes.children.place.Goals as goal
 
 pub loop-index-preserved : goal.loop-index-preserved

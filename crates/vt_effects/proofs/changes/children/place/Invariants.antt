@@ -1,6 +1,6 @@
 use Rattle.std.proofs.Common.{◌≡◌}
 use Rattle.vt_effects.specs.Changes.{placed, child_at}
-use Rattle.vt_effects.proofs.Moving.{up_to}
+use Rattle.vt_effects.proofs.lemmas.objects.EntryChanges.{up_to}
 use Rattle.vt_effects.proofs.changes.children.place.Given as goal
 
 abbrev pub invariant-loop-index : goal.invariant-loop-index

@@ -2,8 +2,8 @@ use Rattle.std.proofs.Common.{not, ◌&&◌, set, sym, ap, ap₂, ◌∙◌, ari
 use Rattle.std.specs.Prelude.{slice_index_or, ◌==◌}
 use Rattle.vt_kinds.specs.declared.entries.Child.{Child}
 use Rattle.vt_effects.specs.Changes.{shifted, fits_record}
-use Rattle.vt_effects.proofs.Moving.{up_to_next, up_to_fails}
-use Rattle.vt_effects.proofs.Children.{shifted_all}
+use Rattle.vt_effects.proofs.lemmas.objects.EntryChanges.{up_to_next, up_to_fails}
+use Rattle.vt_effects.proofs.lemmas.objects.ChildMoves.{shifted_all}
 use Rattle.vt_effects.proofs.changes.children.shift.Goals as goal
 
 pub shifted_child-requires : goal.shifted_child-requires

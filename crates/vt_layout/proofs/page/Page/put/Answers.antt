@@ -2,7 +2,7 @@ use Rattle.std.proofs.Common.{Some, string_bytes, sym, arith}
 use Rattle.std.proofs.lemmas.Result.{on_ok_weaker}
 use Rattle.vt_kinds.specs.Records.{seen}
 use Rattle.vt_layout.specs.Lines.{line_of}
-use Rattle.vt_layout.proofs.Writing.{one_too_many, one_more}
+use Rattle.vt_layout.proofs.EntriesOnPage.{one_too_many, one_more}
 use Rattle.vt_layout.proofs.page.Page.put.Goals as goal
 
 pub returns-then-self-gt-MOST_LINES : goal.returns-then-self-gt-MOST_LINES

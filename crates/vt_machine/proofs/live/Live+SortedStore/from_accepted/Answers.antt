@@ -4,7 +4,7 @@ use Rattle.vt_chains.specs.Depths.{HasDepths}
 use Rattle.vt_chains.specs.Limits.{terminal}
 use Rattle.vt_stores.specs.Shapes.{shape_of}
 use Rattle.vt_macros.specs.Indexes.{IsIndexOf}
-use Rattle.vt_machine.proofs.Living.{stored_runs}
+use Rattle.vt_machine.proofs.StateBeforeAndAfter.{stored_runs}
 use Rattle.vt_machine.proofs.live.Live+SortedStore.from_accepted.Goals as goal
 
 pub of_parts-requires-clause-runs : goal.of_parts-requires-clause-runs

@@ -1,6 +1,6 @@
 use Rattle.std.proofs.Common.{◌≡◌, ap, subst, sym}
 use Rattle.vt_stores.specs.Stores.{ObjectMap}
-use Rattle.vt_machine.specs.Lives.{IsActive, active_in}
+use Rattle.vt_machine.specs.SetStates.{IsActive, active_in}
 use Rattle.vt_machine.proofs.OneSet.{active_is}
 use Rattle.vt_machine.proofs.live.Live.active_mask.Goals as goal
 

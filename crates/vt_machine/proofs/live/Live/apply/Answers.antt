@@ -1,8 +1,8 @@
 use Rattle.std.proofs.Common.{◌∙◌, ◌+◌, ap, subst}
 use Rattle.vt_stores.specs.Stores.{ObjectMap}
-use Rattle.vt_machine.specs.Lives.{IsDone}
-use Rattle.vt_machine.proofs.Living.{key_stays, after_shape, events_small, is_done, kind_stays, marks_stay}
-use Rattle.vt_macros.proofs.Nesting.{after_can}
+use Rattle.vt_machine.specs.SetStates.{IsDone}
+use Rattle.vt_machine.proofs.StateBeforeAndAfter.{key_stays, after_shape, events_small, is_done, kind_stays, marks_stay}
+use Rattle.vt_macros.proofs.StoreOfNestedRuns.{after_can}
 use Rattle.vt_machine.proofs.live.Live.apply.Goals as goal
 
 pub raise_all-steps-requires-clause-can : goal.raise_all-steps-requires-clause-can

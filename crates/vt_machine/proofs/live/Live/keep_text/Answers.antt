@@ -1,7 +1,7 @@
 use Rattle.std.proofs.Common.{◌∙◌}
-use Rattle.vt_machine.specs.Entering.{with_text}
-use Rattle.vt_machine.proofs.Living.{key_stays, kind_stays, marks_stay}
-use Rattle.vt_machine.proofs.Plain.{texts_plain, plain_runs, plain_shape}
+use Rattle.vt_machine.specs.OperatorEntries.{with_text}
+use Rattle.vt_machine.proofs.StateBeforeAndAfter.{key_stays, kind_stays, marks_stay}
+use Rattle.vt_machine.proofs.MacrosUnaffected.{texts_plain, plain_runs, plain_shape}
 use Rattle.vt_machine.proofs.live.Live.keep_text.Goals as goal
 
 pub invariant_of-self : goal.invariant_of-self

@@ -1,6 +1,6 @@
 use Rattle.std.proofs.Common.{ap, ◌∙◌}
-use Rattle.vt_machine.specs.Lives.{holds_key}
-use Rattle.vt_machine.proofs.Living.{key_kept}
+use Rattle.vt_machine.specs.SetStates.{holds_key}
+use Rattle.vt_machine.proofs.StateBeforeAndAfter.{key_kept}
 use Rattle.vt_machine.proofs.live.Live.keeping.Goals as goal
 
 pub invariant_of-self : goal.invariant_of-self

@@ -1,8 +1,8 @@
 use Rattle.std.proofs.Common.{◌≡◌, None, IfOk, ap, subst, ◌∙◌}
 use Rattle.vt_stores.specs.Stores.{ObjectMap}
 use Rattle.vt_effects.specs.Effects.{kind_in}
-use Rattle.vt_machine.specs.Lives.{SetState}
-use Rattle.vt_machine.proofs.Living.{stored_is, stored_closed, stored_shallow, stored_runs}
+use Rattle.vt_machine.specs.SetStates.{SetState}
+use Rattle.vt_machine.proofs.StateBeforeAndAfter.{stored_is, stored_closed, stored_shallow, stored_runs}
 use Rattle.vt_machine.proofs.live.Live.new.Goals as goal
 
 pub of_store-requires-clause-closed : goal.of_store-requires-clause-closed

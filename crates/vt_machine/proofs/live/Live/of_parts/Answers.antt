@@ -1,5 +1,5 @@
 use Rattle.std.proofs.Common.{◌≡◌, length, rules, refl, ◌∙◌}
-use Rattle.vt_chains.proofs.Places.{count_is}
+use Rattle.vt_chains.proofs.IdIndices.{count_is}
 use Rattle.vt_machine.proofs.live.Live.of_parts.Goals as goal
 
 pub invariant_of-result : goal.invariant_of-result

@@ -4,8 +4,8 @@ use Rattle.vt_verify.specs.Budgets.{budget}
 use Rattle.vt_verify.specs.Triggers.{listing}
 use Rattle.vt_macros.specs.Machines.{joined}
 use Rattle.vt_effects.specs.Soundness.{shape_in}
-use Rattle.vt_machine.specs.Lives.{HasRun}
-use Rattle.vt_machine.proofs.Living.{key_stays, has_run, kind_stays, marks_stay}
+use Rattle.vt_machine.specs.SetStates.{HasRun}
+use Rattle.vt_machine.proofs.StateBeforeAndAfter.{key_stays, has_run, kind_stays, marks_stay}
 use Rattle.vt_machine.proofs.live.Live.raise.Goals as goal
 
 pub returns-clause-run : goal.returns-clause-run

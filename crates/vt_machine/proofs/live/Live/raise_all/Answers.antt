@@ -1,5 +1,5 @@
 use Rattle.std.proofs.Common.{ap, refl, ◌∙◌}
-use Rattle.vt_machine.proofs.Living.{key_stays, events_small, has_acted, kind_stays, marks_stay}
+use Rattle.vt_machine.proofs.StateBeforeAndAfter.{key_stays, events_small, has_acted, kind_stays, marks_stay}
 use Rattle.vt_machine.proofs.live.Live.raise_all.Goals as goal
 
 pub raise_all-requires-clause-small : goal.raise_all-requires-clause-small

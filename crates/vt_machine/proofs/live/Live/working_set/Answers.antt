@@ -1,6 +1,6 @@
 use Rattle.std.proofs.Common.{◌≡◌, ap, subst}
 use Rattle.vt_stores.specs.Stores.{ObjectMap}
-use Rattle.vt_machine.specs.Lives.{working_set_in}
+use Rattle.vt_machine.specs.SetStates.{working_set_in}
 use Rattle.vt_machine.proofs.OneSet.{set_is}
 use Rattle.vt_machine.proofs.live.Live.working_set.Goals as goal
 

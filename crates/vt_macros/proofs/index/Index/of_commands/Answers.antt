@@ -6,7 +6,7 @@ use Rattle.vt_commands.specs.Commands.{command_at}
 use Rattle.vt_stores.specs.Shapes.{shape_of}
 use Rattle.vt_verify.specs.Macros.{cut_or_none}
 use Rattle.vt_macros.specs.Indexes.{command_in, pieces_in, no_span}
-use Rattle.vt_macros.proofs.Indexing.{no_part}
+use Rattle.vt_macros.proofs.IndexGrowth.{no_part}
 use Rattle.vt_macros.proofs.IndexOrder.{among, one_more, all_among}
 use Rattle.vt_macros.proofs.index.Index.of_commands.Goals as goal
 

@@ -2,10 +2,10 @@ use Rattle.std.proofs.Common.{◌≡◌, ◌<◌, ℕ, List, map, length, set, r
 use Rattle.std.specs.Vec.{with_item}
 use Rattle.vt_commands.specs.Commands.{command_at}
 use Rattle.vt_verify.specs.Macros.{cut_or_none}
-use Rattle.vt_verify.proofs.Cuts.{next_piece, no_piece, rest_is_whole}
+use Rattle.vt_verify.proofs.lemmas.macros.MacroBytes.{next_piece, no_piece, rest_is_whole}
 use Rattle.vt_macros.specs.declared.index.Index.{Index}
 use Rattle.vt_macros.specs.declared.index.Span.{Span}
-use Rattle.vt_macros.proofs.Indexing.{IsGrown, grown_first, grown_more, put_within, put_read}
+use Rattle.vt_macros.proofs.IndexGrowth.{IsGrown, grown_first, grown_more, put_within, put_read}
 use Rattle.vt_macros.proofs.index.Index.put_macro.Goals as goal
 
 abbrev span_of : ℕ → ℕ → Span

@@ -3,7 +3,7 @@ use Rattle.std.specs.Prelude.{is_some, IsTrue}
 use Rattle.vt_commands.specs.Commands.{command_at}
 use Rattle.vt_commands.specs.Pieces.{cut}
 use Rattle.vt_verify.specs.Macros.{cut_or_none}
-use Rattle.vt_macros.proofs.Indexing.{IsGrown}
+use Rattle.vt_macros.proofs.IndexGrowth.{IsGrown}
 use Rattle.vt_macros.proofs.index.Index.put_macro.Given as goal
 
 abbrev pub invariant-loop-piece : goal.invariant-loop-piece

@@ -1,5 +1,5 @@
 use Rattle.vt_macros.specs.declared.index.Index.{Index}
-use Rattle.vt_macros.proofs.Indexing.{none_within}
+use Rattle.vt_macros.proofs.IndexGrowth.{none_within}
 use Rattle.vt_macros.proofs.index.Index.without_commands.Goals as goal
 
 pub returns-clause-within : goal.returns-clause-within

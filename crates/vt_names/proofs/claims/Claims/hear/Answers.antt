@@ -1,6 +1,6 @@
 use Rattle.std.proofs.Common.{rules, eqb, sym, ap, ◌∙◌, true≢false}
 use Rattle.std.specs.Option.{option_eq}
-use Rattle.vt_names.proofs.Hearing.{same_option, option_same, with-same, goes}
+use Rattle.vt_names.proofs.IndexAfterClaim.{same_option, option_same, with-same, goes}
 use Rattle.vt_names.proofs.claims.Claims.hear.Goals as goal
 
 pub returns-then-eq-clause-ok : goal.returns-then-eq-clause-ok

@@ -1,6 +1,6 @@
 use Rattle.std.proofs.lemmas.Bool.{false≢true}
 use Rattle.std.proofs.Common.{rules}
-use Rattle.vt_names.proofs.Hearing.{holder-none, holder-some}
+use Rattle.vt_names.proofs.IndexAfterClaim.{holder-none, holder-some}
 use Rattle.vt_names.proofs.holders.Holders.get.Goals as goal
 
 pub returns-in_err-raw : goal.returns-in_err-raw

@@ -1,5 +1,5 @@
 use Rattle.std.proofs.Common.{rules, []}
-use Rattle.vt_names.proofs.Hearing.{no-holders}
+use Rattle.vt_names.proofs.IndexAfterClaim.{no-holders}
 use Rattle.vt_names.proofs.holders.Holders.new.Goals as goal
 
 pub returns : goal.returns

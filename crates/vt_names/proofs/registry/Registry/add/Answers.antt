@@ -2,7 +2,7 @@ use Rattle.std.proofs.Common.{◌≡◌, ◌∙◌, [], OnOk, ap, sym, subst, na
 use Rattle.std.specs.Map.{values_of}
 use Rattle.indexmap.specs.IndexMap.{insert_entry}
 use Rattle.vt_names.specs.Registry.{Set, Registered, AreFiled, counted, with_set}
-use Rattle.vt_names.proofs.Filing.{filed-inserted, values-inserted}
+use Rattle.vt_names.proofs.SetsByAddress.{filed-inserted, values-inserted}
 use Rattle.vt_names.proofs.registry.Registry.add.Goals as goal
 
 pub invariant_of-self : goal.invariant_of-self

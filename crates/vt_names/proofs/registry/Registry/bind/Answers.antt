@@ -1,7 +1,7 @@
 use Rattle.std.proofs.Common.{sym, ap, subst, ◌∙◌}
 use Rattle.std.specs.Map.{values_of}
 use Rattle.vt_names.specs.Registry.{Set, Registered, AreFiled, binding}
-use Rattle.vt_names.proofs.Filing.{set-absent, written-filed, bound-sets}
+use Rattle.vt_names.proofs.SetsByAddress.{set-absent, written-filed, bound-sets}
 use Rattle.vt_names.specs.declared.registry.Registry.TheInside.{Inside}
 use Rattle.vt_names.proofs.registry.Registry.bind.Goals.{in-Some, in_default}
 use Rattle.vt_names.proofs.registry.Registry.bind.Goals as goal

@@ -1,7 +1,7 @@
 use Rattle.std.proofs.Common.{◌∙◌, ap, sym, subst, is_some}
 use Rattle.std.specs.Map.{values_of}
 use Rattle.vt_names.specs.Registry.{Registered, AreFiled, set_at, without}
-use Rattle.vt_names.proofs.Filing.{filed-removed, values-removed, found-set}
+use Rattle.vt_names.proofs.SetsByAddress.{filed-removed, values-removed, found-set}
 use Rattle.vt_names.proofs.registry.Registry.close.Goals as goal
 
 pub invariant_of-self : goal.invariant_of-self

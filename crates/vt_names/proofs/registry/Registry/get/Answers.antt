@@ -1,6 +1,6 @@
 use Rattle.std.proofs.Common.{◌∙◌, ap}
 use Rattle.vt_names.specs.Registry.{Registered, set_at}
-use Rattle.vt_names.proofs.Filing.{found-set}
+use Rattle.vt_names.proofs.SetsByAddress.{found-set}
 use Rattle.vt_names.proofs.registry.Registry.get.Goals as goal
 
 pub returns : goal.returns

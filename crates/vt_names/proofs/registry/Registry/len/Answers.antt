@@ -1,6 +1,6 @@
 use Rattle.std.proofs.Common.{subst}
 use Rattle.vt_names.specs.Registry.{Registered, AreApart}
-use Rattle.vt_names.proofs.Filing.{apart-values}
+use Rattle.vt_names.proofs.SetsByAddress.{apart-values}
 use Rattle.vt_names.proofs.registry.Registry.len.Goals as goal
 
 pub returns-clause-apart : goal.returns-clause-apart

@@ -1,8 +1,8 @@
 use Rattle.std.proofs.Common.{◌∙◌, ap, sym, subst, ℕ}
 use Rattle.std.specs.Map.{values_of}
 use Rattle.vt_names.specs.Registry.{Set, Registered, AreFiled, set_at, mastered, registering, with_set}
-use Rattle.vt_names.proofs.Holding.{if-none, if-each}
-use Rattle.vt_names.proofs.Filing.{set-there, set-absent, set_at-address, written-filed, written-sets}
+use Rattle.vt_names.proofs.AddressesAfterClaim.{if-none, if-each}
+use Rattle.vt_names.proofs.SetsByAddress.{set-there, set-absent, set_at-address, written-filed, written-sets}
 use Rattle.vt_names.proofs.registry.Registry.master.Goals as goal
 
 pub invariant_of-self : goal.invariant_of-self

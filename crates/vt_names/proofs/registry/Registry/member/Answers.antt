@@ -2,8 +2,8 @@ use Rattle.std.proofs.Common.{◌≡◌, Ok, Err, IfSome, cond, sym, ap, subst, 
 use Rattle.std.specs.Map.{values_of}
 use Rattle.vt_names.specs.Registry.{Set, Registered, AreFiled, joining, has_place}
 use Rattle.vt_names.specs.declared.registry.RegistryFault.TheVariants as declared
-use Rattle.vt_names.proofs.Holding.{none-some}
-use Rattle.vt_names.proofs.Filing.{set-there, set-absent, written-filed, joined-address, joined-sets}
+use Rattle.vt_names.proofs.AddressesAfterClaim.{none-some}
+use Rattle.vt_names.proofs.SetsByAddress.{set-there, set-absent, written-filed, joined-address, joined-sets}
 use Rattle.vt_names.proofs.registry.Registry.member.Goals as goal
 
 pub returns-in_default-clause-set : goal.returns-in_default-clause-set

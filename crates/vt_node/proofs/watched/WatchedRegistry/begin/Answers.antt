@@ -1,5 +1,5 @@
 use Rattle.vt_node.specs.Watches.{heard_of}
-use Rattle.vt_node.proofs.Watching.{since-begun}
+use Rattle.vt_node.proofs.EarliestTimes.{since-begun}
 use Rattle.vt_node.proofs.watched.WatchedRegistry.begin.Goals as goal
 
 pub invariant_of-self : goal.invariant_of-self

@@ -2,7 +2,7 @@ use Rattle.std.proofs.Common.{sym, ap, ◌∙◌, arith}
 use Rattle.vt_node.specs.Watches.{first_silent_of}
 use Rattle.vt_node.specs.Registries.{Watched}
 use Rattle.vt_node.specs.Watches.{heard_of}
-use Rattle.vt_node.proofs.Watching.{none-silent_of}
+use Rattle.vt_node.proofs.EarliestTimes.{none-silent_of}
 use Rattle.vt_node.proofs.watched.WatchedRegistry.first_silent.Goals as goal
 
 pub returns-then-saturating_sub-le-SILENCE-clause-found : goal.returns-then-saturating_sub-le-SILENCE-clause-found

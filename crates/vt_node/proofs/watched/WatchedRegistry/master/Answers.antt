@@ -1,7 +1,7 @@
 use Rattle.std.proofs.Common.{sym, subst}
 use Rattle.vt_node.specs.Registries.{AreHeardSince}
 use Rattle.vt_node.specs.Watches.{heard_of}
-use Rattle.vt_node.proofs.Watching.{since-mastered}
+use Rattle.vt_node.proofs.EarliestTimes.{since-mastered}
 use Rattle.vt_node.proofs.watched.WatchedRegistry.master.Goals as goal
 
 pub invariant_of-self : goal.invariant_of-self

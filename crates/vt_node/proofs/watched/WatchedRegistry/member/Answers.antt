@@ -2,7 +2,7 @@ use Rattle.std.proofs.Common.{refl, sym, subst}
 use Rattle.vt_names.specs.Registry.{set_at}
 use Rattle.vt_node.specs.Registries.{AreHeardSince}
 use Rattle.vt_node.specs.Watches.{heard_of}
-use Rattle.vt_node.proofs.Watching.{since-joining}
+use Rattle.vt_node.proofs.EarliestTimes.{since-joining}
 use Rattle.vt_node.proofs.watched.WatchedRegistry.member.Goals as goal
 
 pub invariant_of-self : goal.invariant_of-self

@@ -1,7 +1,7 @@
 use Rattle.std.proofs.Common.{ℕ, List, drop, ap, subst}
 use Rattle.std.specs.Prelude.{IfNone}
-use Rattle.vt_pool.specs.Arriving.{Arrived, HasNoFaultYet}
-use Rattle.vt_pool.proofs.NoFaultYet.{none_lasts}
+use Rattle.vt_pool.specs.PoolUploads.{Arrived, HasNoFaultYet}
+use Rattle.vt_pool.proofs.NoFaultInCutRecord.{none_lasts}
 use Rattle.vt_pool.proofs.arriving.Reading.fault.Goals as goal
 
 pub returns-clause-none : goal.returns-clause-none

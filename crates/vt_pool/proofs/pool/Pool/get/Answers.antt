@@ -1,7 +1,7 @@
 use Rattle.std.proofs.Common.{List, sym, ◌∙◌, ap}
 use Rattle.std.specs.FinMap as finite
 use Rattle.vt_pool.specs.Pools.{Entry, contents}
-use Rattle.vt_pool.proofs.InPlace.{got_none, got_some}
+use Rattle.vt_pool.proofs.EntryIndices.{got_none, got_some}
 use Rattle.vt_pool.proofs.pool.Pool.get.Goals as goal
 
 pub returns-in-None : goal.returns-in-None

@@ -3,9 +3,9 @@ use Rattle.std.specs.List.{list_any}
 use Rattle.vt_kinds.specs.Records.{seen}
 use Rattle.vt_stores.specs.Stores.{shown}
 use Rattle.vt_pool.specs.Pools.{Entry}
-use Rattle.vt_pool.specs.Places.{with_entry}
-use Rattle.vt_pool.proofs.InPlace.{shown_set, shown_push, same_ids}
-use Rattle.vt_pool.proofs.Again.{objects_with}
+use Rattle.vt_pool.specs.EntryWrites.{with_entry}
+use Rattle.vt_pool.proofs.EntryIndices.{shown_set, shown_push, same_ids}
+use Rattle.vt_pool.proofs.RoundTrip.{objects_with}
 use Rattle.vt_pool.proofs.pool.Pool.put.Goals as goal
 
 not_is : (b t : Bool) → b ≡ not t → t ≡ not b

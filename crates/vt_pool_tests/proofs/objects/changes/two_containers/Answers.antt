@@ -1,6 +1,6 @@
 use Rattle.std.proofs.Common.{arith}
 use Rattle.std.proofs.lemmas.Bool.{ne_eqb}
-use Rattle.vt_stores.proofs.Stored.{named_none, named_more}
+use Rattle.vt_stores.proofs.StoreMethods.{named_none, named_more}
 use Rattle.vt_pool_tests.proofs.objects.changes.two_containers.Goals as goal
 
 pub returns : goal.returns

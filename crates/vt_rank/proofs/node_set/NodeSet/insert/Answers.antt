@@ -1,5 +1,5 @@
 use Rattle.std.proofs.Common.{◌<◌, length, rules}
-use Rattle.vt_rank.proofs.NodeSets.{inserted}
+use Rattle.vt_rank.proofs.SetsAfterInsertions.{inserted}
 use Rattle.vt_rank.proofs.node_set.NodeSet.insert.Goals as goal
 
 pub returns : goal.returns

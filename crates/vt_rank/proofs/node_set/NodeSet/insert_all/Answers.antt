@@ -1,7 +1,7 @@
 use Rattle.std.proofs.Common.{◌≡◌, ◌<◌, length, arith, rules, refl}
 use Rattle.std.proofs.lemmas.Nat.Bits.{bit_at-lt}
 use Rattle.vt_rank.specs.NodeSets.{bit_of}
-use Rattle.vt_rank.proofs.NodeSets.{merging_more, merged, bit_merged, merged_only}
+use Rattle.vt_rank.proofs.SetsAfterInsertions.{merging_more, merged, bit_merged, merged_only}
 use Rattle.vt_rank.proofs.node_set.NodeSet.insert_all.Goals as goal
 
 pub loop-place-init : goal.loop-place-init

@@ -1,4 +1,4 @@
-use Rattle.vt_rank.proofs.NodeSets.{IsMerging}
+use Rattle.vt_rank.proofs.SetsAfterInsertions.{IsMerging}
 use Rattle.vt_rank.proofs.node_set.NodeSet.insert_all.Given as goal
 
 abbrev pub invariant-loop-place : goal.invariant-loop-place

@@ -1,6 +1,6 @@
 use Rattle.std.proofs.Common.{subst}
 use Rattle.vt_rank.specs.NodeSets.{Adds}
-use Rattle.vt_rank.proofs.NodeSets.{adding_more, adding_done, one_by_one}
+use Rattle.vt_rank.proofs.SetsAfterInsertions.{adding_more, adding_done, one_by_one}
 use Rattle.vt_rank.proofs.node_set.NodeSet.insert_nodes.Goals as goal
 
 pub loop-node-preserved : goal.loop-node-preserved

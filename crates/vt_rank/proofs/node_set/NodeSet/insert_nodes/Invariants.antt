@@ -1,5 +1,5 @@
 use Rattle.std.proofs.Common.{ℕ, [], ◌∷◌}
-use Rattle.vt_rank.proofs.NodeSets.{IsAdding}
+use Rattle.vt_rank.proofs.SetsAfterInsertions.{IsAdding}
 use Rattle.vt_rank.proofs.node_set.NodeSet.insert_nodes.Given as goal
 
 abbrev pub invariant-loop-node : goal.invariant-loop-node

@@ -1,7 +1,7 @@
 use Rattle.std.proofs.Common.{◌≡◌, ◌<◌, ◌/◌, ◌^◌, inl, inr, length, get_or, arith, rules}
 use Rattle.std.proofs.lemmas.Bool.{cases_lt}
 use Rattle.vt_rank.specs.NodeSets.{IsIn}
-use Rattle.vt_rank.proofs.NodeSets.{outside_found, outside_none, outside_past}
+use Rattle.vt_rank.proofs.SetsAfterInsertions.{outside_found, outside_none, outside_past}
 use Rattle.vt_rank.proofs.node_set.NodeSet.outside.Goals as goal
 
 pub returns-then-left-ne0-clause-found : goal.returns-then-left-ne0-clause-found

@@ -1,5 +1,5 @@
 use Rattle.std.proofs.Common.{◌≡◌, ℕ, List, length, replicate, refl, rules}
-use Rattle.vt_rank.proofs.Searching.{search_begins}
+use Rattle.vt_rank.proofs.RankSearch.{search_begins}
 use Rattle.vt_rank.proofs.search.Search.new.Goals as goal
 
 pub returns : goal.returns

@@ -1,9 +1,9 @@
 use Rattle.std.proofs.Common.{ℕ, ◌<◌, length, arith, rules, lit<}
 use Rattle.vt_rank.specs.Graphs.{triggered}
 use Rattle.vt_rank.specs.Paths.{Triggers}
-use Rattle.vt_rank.proofs.MarkedNodes.{marked_is, unmarked_is}
-use Rattle.vt_rank.proofs.Quests.{next_smaller}
-use Rattle.vt_rank.proofs.Searching.{target_is, targets_in, visit_begins, visit_pushed, visit_room, visit_ranked, visit_circle}
+use Rattle.vt_rank.proofs.NodeInsertion.{marked_is, unmarked_is}
+use Rattle.vt_rank.proofs.CircleSearch.{next_smaller}
+use Rattle.vt_rank.proofs.RankSearch.{target_is, targets_in, visit_begins, visit_pushed, visit_room, visit_ranked, visit_circle}
 use Rattle.vt_rank.proofs.search.Search.visit.Goals as goal
 
 pub search-init : goal.search-init

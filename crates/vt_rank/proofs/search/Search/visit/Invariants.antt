@@ -1,5 +1,5 @@
-use Rattle.vt_rank.proofs.Quests.{work}
-use Rattle.vt_rank.proofs.Searching.{IsVisit}
+use Rattle.vt_rank.proofs.CircleSearch.{work}
+use Rattle.vt_rank.proofs.RankSearch.{IsVisit}
 use Rattle.vt_rank.proofs.search.Search.visit.Given as goal
 
 abbrev pub invariant-search : goal.invariant-search

@@ -3,20 +3,20 @@ use Rattle.std.specs.Prelude.{◌==◌, Result}
 use Rattle.vt_can.specs.lines.Actions.{action_value}
 use Rattle.vt_machine.specs.declared.operator.Acted.{Acted}
 use Rattle.vt_machine.specs.declared.operator.OperatorRefusal.{OperatorRefusal}
-use Rattle.vt_server.specs.Acting.{PerformsAt}
+use Rattle.vt_server.specs.operator.ActionContracts.{PerformsAt}
 use Rattle.vt_node.specs.Messages.{message_to}
-use Rattle.vt_server.specs.Operators.{filled}
-use Rattle.vt_server.specs.Places.{SetPool}
+use Rattle.vt_server.specs.operator.ActionEffects.{filled}
+use Rattle.vt_server.specs.state.AddressStates.{SetPool}
 use Rattle.vt_server.specs.States.{state_of}
 use Rattle.vt_server.specs.Terminals.{pool_of}
-use Rattle.vt_server.specs.Uploads.{content_of}
+use Rattle.vt_server.specs.state.PoolTables.{content_of}
 use Rattle.vt_node.specs.Watches.{heard_of}
 use Rattle.vt_server.specs.declared.output.OperatorFault.{OperatorFault}
 use Rattle.vt_server.specs.declared.output.Output.TheVariants as declared
 use Rattle.vt_can.specs.declared.frames.frame.Frame.{Frame}
-use Rattle.vt_server.proofs.Performed.{shown-at, short-selects, takes-none, takes-act-refused, takes-act-done}
-use Rattle.vt_server.proofs.Messaged.{one-frame, no-frame}
-use Rattle.vt_server.proofs.Undrawn.{refused-pool, same-pool}
+use Rattle.vt_server.proofs.lemmas.operator.ActionStep.{shown-at, short-selects, takes-none, takes-act-refused, takes-act-done}
+use Rattle.vt_server.proofs.lemmas.operator.ActionMessages.{one-frame, no-frame}
+use Rattle.vt_server.proofs.lemmas.shown.SameScreen.{refused-pool, same-pool}
 use Rattle.vt_server.proofs.terminal.Terminal.act.Goals as goal
 
 pub returns-in_default-clause-takes : goal.returns-in_default-clause-takes

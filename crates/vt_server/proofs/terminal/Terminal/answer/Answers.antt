@@ -1,20 +1,20 @@
 use lib.Pointwise.{pointwise}
 use Rattle.std.proofs.Common.{◌≡◌, ℕ, List, drop, Option, Some, None, nat_eq, true≢false, refl, sym, ap, subst, ◌∙◌}
 use Rattle.vt_can.specs.declared.frames.frame.Frame.{Frame}
-use Rattle.vt_server.specs.Hearings.{HandlesMessage, FitsOneFrame}
+use Rattle.vt_server.specs.frame.FrameContracts.{HandlesMessage, FitsOneFrame}
 use Rattle.vt_node.specs.Messages.{message_to}
-use Rattle.vt_server.specs.Places.{SetPool, with_piece}
+use Rattle.vt_server.specs.state.AddressStates.{SetPool, with_piece}
 use Rattle.vt_server.specs.States.{state_of}
-use Rattle.vt_node.specs.ByAddress.{with_at}
-use Rattle.vt_server.specs.Transfers.{ended, end_of_pool}
-use Rattle.vt_server.specs.Uploads.{content_of, room_of}
-use Rattle.vt_server.proofs.Answered.{answers-none}
-use Rattle.vt_server.proofs.Framed.{any_verdict}
-use Rattle.vt_server.proofs.Undrawn.{end-same, same-elsewhere, same-pool}
-use Rattle.vt_server.proofs.Uploaded.{contents-state, piece-answered, end-answered, other-answered}
+use Rattle.vt_node.specs.AddressFunctions.{with_at}
+use Rattle.vt_server.specs.message.Verdicts.{ended, end_of_pool}
+use Rattle.vt_server.specs.state.PoolTables.{content_of, room_of}
+use Rattle.vt_server.proofs.lemmas.message.EffectsAndReplies.{answers-none}
+use Rattle.vt_server.proofs.lemmas.frame.FrameEffect.{any_verdict}
+use Rattle.vt_server.proofs.lemmas.shown.SameScreen.{end-same, same-elsewhere, same-pool}
+use Rattle.vt_server.proofs.lemmas.message.MessageCalls.{contents-state, piece-answered, end-answered, other-answered}
 use Rattle.vt_server.proofs.terminal.Terminal.answer.Goals as goal
 use Rattle.vt_server.proofs.terminal.Terminal.answer.Goals.{then-eq, else-eq}
-use Rattle.vt_effects.proofs.Moving.{either_false}
+use Rattle.vt_effects.proofs.lemmas.objects.EntryChanges.{either_false}
 
 pub returns-then-not-registered-clause-answers : goal.returns-then-not-registered-clause-answers
 returns-then-not-registered-clause-answers c = answers-none (state_of c.args.self.now) c.args.source c.args.bytes.now any_verdict c.if-not-registered.ensures

@@ -1,18 +1,18 @@
 use Rattle.std.proofs.Common.{◌≡◌, [], ◌∷◌, ◌++◌, sym, ap, subst, ◌∙◌}
 use Rattle.vt_can.specs.declared.frames.frame.Frame.{Frame}
 use Rattle.vt_can.specs.frames.Frame.{source_of}
-use Rattle.vt_server.specs.Hearings.{TakesFrame}
+use Rattle.vt_server.specs.frame.FrameContracts.{TakesFrame}
 use Rattle.vt_server.specs.Outputs.{outputs_of}
-use Rattle.vt_server.specs.Places.{heard_at}
+use Rattle.vt_server.specs.state.AddressStates.{heard_at}
 use Rattle.vt_server.specs.States.{state_of}
 use Rattle.vt_server.specs.Steps.{defence}
 use Rattle.vt_server.specs.Terminals.{State, part}
-use Rattle.vt_server.specs.Transfers.{IsVerdict}
+use Rattle.vt_server.specs.message.Verdicts.{IsVerdict}
 use Rattle.vt_node.specs.declared.bus.FrameMeaning.TheVariants as notices
 use Rattle.vt_server.specs.declared.output.Output.TheVariants as declared
-use Rattle.vt_server.proofs.Framed.{any_verdict, with_place_at, takes-echo, takes-heard}
-use Rattle.vt_server.proofs.Heard.{none-ends, takes-nothing, request-unclaimed, heard-state}
-use Rattle.vt_server.proofs.Accepted.{accepted}
+use Rattle.vt_server.proofs.lemmas.frame.FrameEffect.{any_verdict, with_place_at, takes-echo, takes-heard}
+use Rattle.vt_server.proofs.lemmas.frame.FrameStep.{none-ends, takes-nothing, request-unclaimed, heard-state}
+use Rattle.vt_server.proofs.lemmas.frame.NoRefusalByFrame.{accepted}
 use Rattle.vt_server.proofs.terminal.Terminal.answer_request.Goals as goal
 
 pub returns-then-source-own-clause-takes : goal.returns-then-source-own-clause-takes

@@ -1,7 +1,7 @@
 use Rattle.std.proofs.Common.{sym, ◌∙◌}
 use Rattle.vt_server.specs.States.{state_of}
-use Rattle.vt_server.proofs.Claimed.{some-name, no-name, bind-none, bind-named, bind-unheld, bind-held}
-use Rattle.vt_server.proofs.Watched.{registry-state}
+use Rattle.vt_server.proofs.lemmas.frame.ClaimEffect.{some-name, no-name, bind-none, bind-named, bind-unheld, bind-held}
+use Rattle.vt_server.proofs.lemmas.timeouts.FirstSilentSet.{registry-state}
 use Rattle.vt_server.proofs.terminal.Terminal.bind.Goals as goal
 
 pub returns-in_default : goal.returns-in_default

@@ -1,6 +1,6 @@
 use Rattle.std.proofs.Common.{refl}
 use Rattle.vt_server.specs.States.{state_of}
-use Rattle.vt_server.proofs.Chosen.{chosen-none}
+use Rattle.vt_server.proofs.lemmas.shown.EventsOfChange.{chosen-none}
 use Rattle.vt_server.proofs.terminal.Terminal.choose.Goals as goal
 
 pub returns-then-not-may_have_pools-clause-state : goal.returns-then-not-may_have_pools-clause-state

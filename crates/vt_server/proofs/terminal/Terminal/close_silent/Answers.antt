@@ -1,12 +1,12 @@
 use Rattle.std.proofs.Common.{◌≡◌, ◌≤◌, List, Some, None, length, refl, sym, ap, subst, ◌∙◌, ◌<◌, arith, inr}
 use Rattle.vt_names.specs.Registry.{Set, without}
-use Rattle.vt_server.specs.Lapses.{first_silent, silences}
+use Rattle.vt_server.specs.frame.TimeoutActs.{first_silent, silences}
 use Rattle.vt_node.specs.Registries.{Watched}
-use Rattle.vt_server.specs.Rooms.{ClosesSets}
+use Rattle.vt_server.specs.frame.TimeoutContracts.{ClosesSets}
 use Rattle.vt_server.specs.States.{state_of}
 use Rattle.vt_server.specs.Terminals.{State, after_acts}
-use Rattle.vt_server.proofs.Silencing.{closing-is, closes, fewer, none-silent, next-silent}
-use Rattle.vt_server.proofs.Watched.{silent_of}
+use Rattle.vt_server.proofs.lemmas.timeouts.SilentSets.{closing-is, closes, fewer, none-silent, next-silent}
+use Rattle.vt_server.proofs.lemmas.timeouts.FirstSilentSet.{silent_of}
 use Rattle.vt_server.proofs.terminal.Terminal.close_silent.Goals as goal
 
 pub loop-address-init : goal.loop-address-init

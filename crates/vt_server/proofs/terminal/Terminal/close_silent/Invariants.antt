@@ -1,6 +1,6 @@
 use Rattle.std.proofs.Common.{◌≡◌, length}
-use Rattle.vt_server.specs.Lapses.{silences}
-use Rattle.vt_server.specs.Rooms.{ClosesSets}
+use Rattle.vt_server.specs.frame.TimeoutActs.{silences}
+use Rattle.vt_server.specs.frame.TimeoutContracts.{ClosesSets}
 use Rattle.vt_server.specs.States.{state_of}
 use Rattle.vt_server.specs.Terminals.{after_acts}
 use Rattle.vt_server.specs.declared.terminal.Terminal.{Terminal}

@@ -1,8 +1,8 @@
 use Rattle.std.proofs.Common.{sym, ◌∙◌}
-use Rattle.vt_server.specs.Choosing.{display}
+use Rattle.vt_server.specs.shown.ShownSet.{display}
 use Rattle.vt_server.specs.States.{state_of}
 use Rattle.vt_server.specs.Terminals.{pool_of}
-use Rattle.vt_server.proofs.Chosen.{shown-none, shown-some}
+use Rattle.vt_server.proofs.lemmas.shown.EventsOfChange.{shown-none, shown-some}
 use Rattle.vt_server.proofs.terminal.Terminal.display.Goals as goal
 
 pub returns-in-None : goal.returns-in-None

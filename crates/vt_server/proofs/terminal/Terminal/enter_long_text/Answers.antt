@@ -2,18 +2,18 @@ use Rattle.std.proofs.Common.{◌≡◌, ◌++◌, ℕ, List, [], ◌∷◌, len
 use Rattle.std.specs.FinMap as finite
 use Rattle.vt_can.specs.Assigned.{VT_TO_ECU}
 use Rattle.vt_can.specs.lines.Actions as actions
-use Rattle.vt_machine.specs.Lives.{SetState}
+use Rattle.vt_machine.specs.SetStates.{SetState}
 use Rattle.vt_transport.specs.Wire.{rts_frame}
-use Rattle.vt_server.specs.Acting.{PerformsAt}
+use Rattle.vt_server.specs.operator.ActionContracts.{PerformsAt}
 use Rattle.vt_node.specs.Nodes.{NodeState}
-use Rattle.vt_server.specs.Places.{SetPool, AddressState}
+use Rattle.vt_server.specs.state.AddressStates.{SetPool, AddressState}
 use Rattle.vt_server.specs.States.{state_of, places_by}
 use Rattle.vt_server.specs.Terminals.{pool_of}
-use Rattle.vt_server.specs.Uploads.{content_of}
+use Rattle.vt_server.specs.state.PoolTables.{content_of}
 use Rattle.vt_node.specs.Watches.{heard_of}
 use Rattle.vt_server.specs.declared.output.OperatorFault.{OperatorFault}
 use Rattle.vt_server.specs.declared.output.Output.TheVariants as declared
-use Rattle.vt_server.proofs.Performed.{shown-at, takes-none, takes-fault, takes-busy, takes-long, started-places}
+use Rattle.vt_server.proofs.lemmas.operator.ActionStep.{shown-at, takes-none, takes-fault, takes-busy, takes-long, started-places}
 use Rattle.vt_server.proofs.terminal.Terminal.enter_long_text.Goals as goal
 
 pub returns-in_default-clause-takes : goal.returns-in_default-clause-takes

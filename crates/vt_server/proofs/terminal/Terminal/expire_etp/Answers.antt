@@ -1,5 +1,5 @@
 use Rattle.std.proofs.Common.{arith}
-use Rattle.vt_server.proofs.Expiring.{one-less, goes-on, state-ends, sent-ends}
+use Rattle.vt_server.proofs.lemmas.timeouts.SessionTimeouts.{one-less, goes-on, state-ends, sent-ends}
 use Rattle.vt_server.proofs.terminal.Terminal.expire_etp.Goals as goal
 
 pub loop-abort-preserved : goal.loop-abort-preserved

@@ -1,7 +1,7 @@
 use Rattle.std.proofs.Common.{◌-◌, vec_len, vec_capacity}
 use Rattle.std.specs.FinMap as finite
-use Rattle.vt_server.proofs.Expiring.{IsExpiring}
-use Rattle.vt_server.proofs.Lanes.{etp_lane}
+use Rattle.vt_server.proofs.lemmas.timeouts.SessionTimeouts.{IsExpiring}
+use Rattle.vt_server.proofs.lemmas.timeouts.SessionLanes.{etp_lane}
 use Rattle.vt_server.proofs.terminal.Terminal.expire_etp.Given as goal
 
 abbrev pub invariant-loop-abort : goal.invariant-loop-abort

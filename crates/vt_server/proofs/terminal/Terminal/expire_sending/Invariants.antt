@@ -1,7 +1,7 @@
 use Rattle.std.proofs.Common.{◌-◌, vec_len, vec_capacity}
 use Rattle.std.specs.FinMap as finite
-use Rattle.vt_server.proofs.Expiring.{IsExpiring}
-use Rattle.vt_server.proofs.Lanes.{sending_lane}
+use Rattle.vt_server.proofs.lemmas.timeouts.SessionTimeouts.{IsExpiring}
+use Rattle.vt_server.proofs.lemmas.timeouts.SessionLanes.{sending_lane}
 use Rattle.vt_server.proofs.terminal.Terminal.expire_sending.Given as goal
 
 abbrev pub invariant-loop-abort : goal.invariant-loop-abort

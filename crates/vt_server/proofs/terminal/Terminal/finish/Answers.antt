@@ -1,12 +1,12 @@
 use Rattle.std.proofs.Common.{◌++◌, ap, subst, ◌∙◌}
-use Rattle.vt_server.specs.Hearings.{FitsAfterTimeouts}
+use Rattle.vt_server.specs.frame.FrameContracts.{FitsAfterTimeouts}
 use Rattle.vt_server.specs.Outputs.{outputs_of}
 use Rattle.vt_server.specs.States.{state_of}
 use Rattle.vt_server.specs.Steps.{losing}
 use Rattle.vt_server.specs.Terminals.{State}
-use Rattle.vt_server.specs.declared.hearing.PreparedFrame.{PreparedFrame}
-use Rattle.vt_server.proofs.Heard.{hears-loss, hears-claim, hears-other, claim-takes}
-use Rattle.vt_server.proofs.Undrawn.{claimed-left, left-same, shows-then}
+use Rattle.vt_server.specs.declared.frame.step.PreparedFrame.{PreparedFrame}
+use Rattle.vt_server.proofs.lemmas.frame.FrameStep.{hears-loss, hears-claim, hears-other, claim-takes}
+use Rattle.vt_server.proofs.lemmas.shown.SameScreen.{claimed-left, left-same, shows-then}
 use Rattle.vt_server.proofs.terminal.Terminal.finish.Goals as goal
 
 pub take-requires-clause-no_claim : goal.take-requires-clause-no_claim

@@ -1,12 +1,12 @@
 use Rattle.std.proofs.Common.{◌≡◌, ℕ, ◌≤◌, true, false, drop, length, Option, Some, is_some, sym, ap, ◌∙◌, add-one, arith}
-use Rattle.vt_machine.specs.Lives.{SetState}
+use Rattle.vt_machine.specs.SetStates.{SetState}
 use Rattle.vt_names.specs.Registry.{Set}
-use Rattle.vt_server.specs.Choosing.{first_with_pool}
+use Rattle.vt_server.specs.shown.ShownSet.{first_with_pool}
 use Rattle.vt_server.specs.States.{state_of}
 use Rattle.vt_server.specs.Terminals.{pool_of}
-use Rattle.vt_server.proofs.Chosen.{some-mapped}
-use Rattle.vt_server.proofs.Registered.{first-passed, first-found}
-use Rattle.vt_node.proofs.Ordered.{beyond}
+use Rattle.vt_server.proofs.lemmas.shown.EventsOfChange.{some-mapped}
+use Rattle.vt_server.proofs.lemmas.shown.LoopsOverSets.{first-passed, first-found}
+use Rattle.vt_node.proofs.RestOfList.{beyond}
 use Rattle.vt_server.proofs.terminal.Terminal.first_with_pool.Goals as goal
 use Rattle.vt_server.proofs.terminal.Terminal.first_with_pool.Goals.{in-Some+else-is_some, in_default}
 

@@ -1,5 +1,5 @@
 use Rattle.std.proofs.Common.{◌≡◌, drop}
-use Rattle.vt_server.specs.Choosing.{first_with_pool}
+use Rattle.vt_server.specs.shown.ShownSet.{first_with_pool}
 use Rattle.vt_server.specs.States.{state_of}
 use Rattle.vt_server.specs.Terminals.{pool_of}
 use Rattle.vt_server.proofs.terminal.Terminal.first_with_pool.Given as goal

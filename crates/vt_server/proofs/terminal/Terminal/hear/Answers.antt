@@ -1,13 +1,13 @@
 use Rattle.std.proofs.Common.{◌++◌, sym, subst, ◌∙◌}
 use Rattle.vt_can.specs.frames.Frame.{source_of}
 use Rattle.vt_node.specs.Bus.{notice_of}
-use Rattle.vt_server.specs.Lapses.{at_time, lapsed}
+use Rattle.vt_server.specs.frame.TimeoutActs.{at_time, lapsed}
 use Rattle.vt_server.specs.Outputs.{outputs_of}
 use Rattle.vt_server.specs.States.{state_of}
-use Rattle.vt_server.proofs.Heard.{takes-line, takes-lost}
-use Rattle.vt_server.proofs.Prepared.{ready-then, prepared-display, prepared-sent}
-use Rattle.vt_server.proofs.Pooled.{ShownHasPool, hearing-pooled}
-use Rattle.vt_server.proofs.Undrawn.{line-kept, prepared-shows}
+use Rattle.vt_server.proofs.lemmas.frame.FrameStep.{takes-line, takes-lost}
+use Rattle.vt_server.proofs.lemmas.frame.PreparationAfterTimeouts.{ready-then, prepared-display, prepared-sent}
+use Rattle.vt_server.proofs.lemmas.shown.ShownSetHasPool.{ShownHasPool, hearing-pooled}
+use Rattle.vt_server.proofs.lemmas.shown.SameScreen.{line-kept, prepared-shows}
 use Rattle.vt_server.proofs.terminal.Terminal.hear.Goals as goal
 
 pub returns-then-self-clause-ok : goal.returns-then-self-clause-ok

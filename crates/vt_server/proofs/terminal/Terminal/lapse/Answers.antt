@@ -1,14 +1,14 @@
 use Rattle.std.proofs.Common.{◌≡◌, ◌≤◌, ◌++◌, ℕ, max, List, Some, unwrap_or, sym, ap, ◌∙◌, append_assoc, arith}
-use Rattle.vt_server.specs.Lapses.{at_time, tp_due, etp_due, sending_due, silences, after_tp_timeouts, after_etp_timeouts, after_timeouts, lapsed, sent_by_lapses}
+use Rattle.vt_server.specs.frame.TimeoutActs.{at_time, tp_due, etp_due, sending_due, silences, after_tp_timeouts, after_etp_timeouts, after_timeouts, lapsed, sent_by_lapses}
 use Rattle.vt_server.specs.Outputs.{outputs_of}
-use Rattle.vt_server.specs.Places.{watched}
+use Rattle.vt_server.specs.state.AddressStates.{watched}
 use Rattle.vt_server.specs.States.{state_of}
 use Rattle.vt_server.specs.Terminals.{State, Sent, after_acts, sent_by_acts}
 use Rattle.vt_node.specs.Registries.{Watched}
 use Rattle.vt_node.specs.Watches.{heard_of}
 use Rattle.vt_server.specs.declared.output.Output.{Output}
 use Rattle.vt_server.specs.declared.terminal.Terminal.{Terminal}
-use Rattle.vt_server.proofs.Framed.{outputs-append}
+use Rattle.vt_server.proofs.lemmas.frame.FrameEffect.{outputs-append}
 use Rattle.vt_server.proofs.terminal.Terminal.lapse.Goals as goal
 
 -- the state at the frame line's time

@@ -1,11 +1,11 @@
 use Rattle.std.proofs.Common.{◌≡◌, ℕ, suc, ◌≤◌, ◌-◌, drop, length, Option, sym, ◌∙◌, arith}
-use Rattle.vt_machine.specs.Lives.{SetState}
+use Rattle.vt_machine.specs.SetStates.{SetState}
 use Rattle.vt_names.specs.Registry.{Set}
-use Rattle.vt_server.specs.Choosing.{loudest, louder, alarm_in}
+use Rattle.vt_server.specs.shown.ShownSet.{loudest, louder, alarm_in}
 use Rattle.vt_server.specs.States.{state_of}
 use Rattle.vt_server.specs.Terminals.{pool_of}
-use Rattle.vt_server.proofs.Registered.{louder-next}
-use Rattle.vt_node.proofs.Ordered.{beyond}
+use Rattle.vt_server.proofs.lemmas.shown.LoopsOverSets.{louder-next}
+use Rattle.vt_node.proofs.RestOfList.{beyond}
 use Rattle.vt_server.proofs.terminal.Terminal.loudest.Goals as goal
 
 pub loop-place-preserved-in-Some : goal.loop-place-preserved-in-Some

@@ -1,8 +1,8 @@
 use Rattle.std.proofs.Common.{◌≡◌, ◌≤◌, ℕ, Option, drop, length}
-use Rattle.vt_server.specs.Choosing.{loudest}
+use Rattle.vt_server.specs.shown.ShownSet.{loudest}
 use Rattle.vt_server.specs.States.{state_of}
 use Rattle.vt_server.specs.Terminals.{State, pool_of}
-use Rattle.vt_server.specs.declared.choosing.Alarm.{Alarm}
+use Rattle.vt_server.specs.declared.shown.Alarm.{Alarm}
 use Rattle.vt_server.proofs.terminal.Terminal.loudest.Given as goal
 
 pub record IsLoudest (s : State) (found : Option Alarm) (place : ℕ) : Type 0 where

@@ -1,12 +1,12 @@
 use Rattle.std.proofs.Common.{false, refl, sym, ap}
 use Rattle.vt_can.specs.lines.Actions.{action_value}
 use Rattle.vt_can.specs.lines.Actions as actions
-use Rattle.vt_server.specs.Acting.{TakesAction}
-use Rattle.vt_server.specs.Screens.{ShowsSame}
+use Rattle.vt_server.specs.operator.ActionContracts.{TakesAction}
+use Rattle.vt_server.specs.shown.Screens.{ShowsSame}
 use Rattle.vt_server.specs.States.{state_of}
 use Rattle.vt_server.specs.declared.terminal.Terminal.{Terminal}
-use Rattle.vt_server.proofs.Performed.{takes-lost, takes-input, takes-same}
-use Rattle.vt_server.proofs.Undrawn.{same-text, shows-then, told-through}
+use Rattle.vt_server.proofs.lemmas.operator.ActionStep.{takes-lost, takes-input, takes-same}
+use Rattle.vt_server.proofs.lemmas.shown.SameScreen.{same-text, shows-then, told-through}
 use Rattle.vt_server.proofs.terminal.Terminal.operate.Goals as goal
 use Rattle.vt_server.proofs.terminal.Terminal.operate.Goals.{in-Set, in-Text+in_default-enter_long_text, in_default}
 

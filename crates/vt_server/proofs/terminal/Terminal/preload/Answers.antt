@@ -1,11 +1,11 @@
 use Rattle.std.proofs.Common.{ℕ, refl, ap, ◌∙◌}
 use Rattle.vt_stores.specs.Stores.{map_of}
-use Rattle.vt_server.specs.Choosing.{choosing}
-use Rattle.vt_server.specs.Places.{AddressState}
+use Rattle.vt_server.specs.shown.ShownSet.{choosing}
+use Rattle.vt_server.specs.state.AddressStates.{AddressState}
 use Rattle.vt_server.specs.States.{state_of, places_by}
-use Rattle.vt_server.specs.Uploads.{content_of}
+use Rattle.vt_server.specs.state.PoolTables.{content_of}
 use Rattle.vt_node.specs.Watches.{heard_of}
-use Rattle.vt_server.proofs.Preloaded.{preloaded-state}
+use Rattle.vt_server.proofs.lemmas.state.StateAfterPreload.{preloaded-state}
 use Rattle.vt_server.proofs.terminal.Terminal.preload.Goals as goal
 
 pub returns-clause-ok : goal.returns-clause-ok

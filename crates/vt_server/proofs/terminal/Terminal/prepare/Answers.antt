@@ -1,4 +1,4 @@
-use Rattle.vt_server.proofs.Prepared.{prepared-tp, prepared-etp}
+use Rattle.vt_server.proofs.lemmas.frame.PreparationAfterTimeouts.{prepared-tp, prepared-etp}
 use Rattle.vt_server.proofs.terminal.Terminal.prepare.Goals as goal
 
 pub returns-in_ok-upload-in-Tp-clause-ok : goal.returns-in_ok-upload-in-Tp-clause-ok

@@ -1,14 +1,14 @@
 use Rattle.std.proofs.Common.{ℕ, sym, ap, ◌∙◌}
 use Rattle.std.specs.Option.{option_map}
-use Rattle.vt_server.specs.Choosing.{raised_at}
-use Rattle.vt_server.specs.Parts.{raised_on}
-use Rattle.vt_server.specs.Places.{SetPool}
+use Rattle.vt_server.specs.shown.ShownSet.{raised_at}
+use Rattle.vt_server.specs.state.AddressViews.{raised_on}
+use Rattle.vt_server.specs.state.AddressStates.{SetPool}
 use Rattle.vt_server.specs.States.{state_of, places_by}
 use Rattle.vt_server.specs.Terminals.{after_acts}
-use Rattle.vt_server.specs.Uploads.{content_of}
+use Rattle.vt_server.specs.state.PoolTables.{content_of}
 use Rattle.vt_node.specs.Watches.{heard_of}
-use Rattle.vt_server.proofs.Chosen.{raised-place}
-use Rattle.vt_server.proofs.Writes.{content-placed}
+use Rattle.vt_server.proofs.lemmas.shown.EventsOfChange.{raised-place}
+use Rattle.vt_server.proofs.lemmas.state.WritesByAddress.{content-placed}
 use Rattle.vt_server.proofs.terminal.Terminal.raise_at.Goals as goal
 
 pub returns-in-Some : goal.returns-in-Some

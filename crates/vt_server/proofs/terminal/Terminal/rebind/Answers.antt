@@ -1,12 +1,12 @@
 use Rattle.std.proofs.Common.{sym, ap, ◌∙◌, nat_eq}
 use Rattle.std.specs.Option.{option_eq}
-use Rattle.vt_server.specs.Parts.{stays_under}
-use Rattle.vt_server.specs.Places.{no_content}
+use Rattle.vt_server.specs.state.AddressViews.{stays_under}
+use Rattle.vt_server.specs.state.AddressStates.{no_content}
 use Rattle.vt_server.specs.States.{state_of, places_by}
-use Rattle.vt_server.specs.Uploads.{content_of}
+use Rattle.vt_server.specs.state.PoolTables.{content_of}
 use Rattle.vt_node.specs.Watches.{heard_of}
-use Rattle.vt_server.proofs.Claimed.{rebind-none, rebind-kept, rebind-closed}
-use Rattle.vt_server.proofs.Writes.{content-placed}
+use Rattle.vt_server.proofs.lemmas.frame.ClaimEffect.{rebind-none, rebind-kept, rebind-closed}
+use Rattle.vt_server.proofs.lemmas.state.WritesByAddress.{content-placed}
 use Rattle.vt_server.proofs.terminal.Terminal.rebind.Goals as goal
 
 pub returns-in_default : goal.returns-in_default

@@ -1,10 +1,10 @@
 use Rattle.std.proofs.Common.{◌++◌, Bool, cond, Some, None, sym, ap, ◌∙◌, append-nil, ne_eqb}
 use Rattle.vt_can.specs.declared.transport.heard.Heard.{Heard}
 use Rattle.vt_server.specs.Outputs.{frames_of}
-use Rattle.vt_node.specs.Receiving.{frames_in, message_in}
-use Rattle.vt_server.specs.Sessions.{message_to_terminal}
+use Rattle.vt_node.specs.ReceiverResults.{frames_in, message_in}
+use Rattle.vt_server.specs.frame.SessionEffects.{message_to_terminal}
 use Rattle.vt_server.specs.States.{state_of}
-use Rattle.vt_server.proofs.Uploaded.{none-taken}
+use Rattle.vt_server.proofs.lemmas.message.MessageCalls.{none-taken}
 use Rattle.vt_server.proofs.terminal.Terminal.receive_alone.Goals as goal
 
 pub returns-in-Nothing-clause-takes : goal.returns-in-Nothing-clause-takes

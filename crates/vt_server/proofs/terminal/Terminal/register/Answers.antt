@@ -1,8 +1,8 @@
 use Rattle.std.proofs.Common.{◌∙◌}
 use Rattle.vt_server.specs.States.{state_of}
 use Rattle.vt_server.specs.Terminals.{holder}
-use Rattle.vt_server.proofs.Heard.{master-state}
-use Rattle.vt_server.proofs.Watched.{registry-state}
+use Rattle.vt_server.proofs.lemmas.frame.FrameStep.{master-state}
+use Rattle.vt_server.proofs.lemmas.timeouts.FirstSilentSet.{registry-state}
 use Rattle.vt_server.proofs.terminal.Terminal.register.Goals as goal
 
 pub returns-clause-state : goal.returns-clause-state

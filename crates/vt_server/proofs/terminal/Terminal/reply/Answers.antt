@@ -1,18 +1,18 @@
 use Rattle.std.proofs.Common.{◌≡◌, ℕ, List, Option, Some, None, sym, ap, subst, ◌∙◌}
 use Rattle.std.proofs.lemmas.Option.{same_Some}
-use Rattle.vt_server.specs.Commands.{content_after}
-use Rattle.vt_server.specs.Hearings.{IsReplyTo}
-use Rattle.vt_server.specs.Places.{SetPool}
+use Rattle.vt_server.specs.message.CommandEffects.{content_after}
+use Rattle.vt_server.specs.frame.FrameContracts.{IsReplyTo}
+use Rattle.vt_server.specs.state.AddressStates.{SetPool}
 use Rattle.vt_server.specs.States.{state_of, places_by}
-use Rattle.vt_server.specs.Uploads.{content_of}
+use Rattle.vt_server.specs.state.PoolTables.{content_of}
 use Rattle.vt_node.specs.Watches.{heard_of}
-use Rattle.vt_server.proofs.Answered.{is-ignored, is-commanded}
-use Rattle.vt_server.proofs.Undrawn.{command-same, same-elsewhere, same-pool}
-use Rattle.vt_server.proofs.Writes.{content-placed}
+use Rattle.vt_server.proofs.lemmas.message.EffectsAndReplies.{is-ignored, is-commanded}
+use Rattle.vt_server.proofs.lemmas.shown.SameScreen.{command-same, same-elsewhere, same-pool}
+use Rattle.vt_server.proofs.lemmas.state.WritesByAddress.{content-placed}
 use Rattle.vt_server.proofs.terminal.Terminal.reply.Goals as goal
 use Rattle.vt_server.proofs.terminal.Terminal.reply.Goals.{then-error-eq0, else-error-eq0}
-use Rattle.vt_effects.proofs.Moving.{either_false}
-use Rattle.vt_names.proofs.Holding.{none-some}
+use Rattle.vt_effects.proofs.lemmas.objects.EntryChanges.{either_false}
+use Rattle.vt_names.proofs.AddressesAfterClaim.{none-some}
 
 pub returns-in_err-command-clause-replies : goal.returns-in_err-command-clause-replies
 returns-in_err-command-clause-replies c =

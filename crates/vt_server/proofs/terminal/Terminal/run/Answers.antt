@@ -1,10 +1,10 @@
 use Rattle.std.proofs.Common.{sym, subst, ◌∙◌, arith}
-use Rattle.vt_server.specs.Screens.{IsScreenOf}
+use Rattle.vt_server.specs.shown.Screens.{IsScreenOf}
 use Rattle.vt_server.specs.States.{state_of}
 use Rattle.vt_server.specs.Terminals.{State}
-use Rattle.vt_server.proofs.Running.{run-more, lost-stays, first-alone}
+use Rattle.vt_server.proofs.lemmas.steps.RunsOfInputs.{run-more, lost-stays, first-alone}
 use Rattle.vt_server.proofs.terminal.Terminal.run.Goals as goal
-use Rattle.vt_effects.proofs.Moving.{either_false}
+use Rattle.vt_effects.proofs.lemmas.objects.EntryChanges.{either_false}
 
 pub loop-at-preserved : goal.loop-at-preserved
 loop-at-preserved c = record {

@@ -1,5 +1,5 @@
 use Rattle.std.proofs.Common.{◌≡◌, true, false, take}
-use Rattle.vt_server.specs.Screens.{KeepsScreen}
+use Rattle.vt_server.specs.shown.Screens.{KeepsScreen}
 use Rattle.vt_server.specs.States.{state_of, TakesInputs}
 use Rattle.vt_server.proofs.terminal.Terminal.run.Given as goal
 

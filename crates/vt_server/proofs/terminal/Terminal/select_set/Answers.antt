@@ -1,7 +1,7 @@
 use Rattle.std.proofs.Common.{true, false}
 use Rattle.vt_server.specs.States.{state_of}
 use Rattle.vt_server.specs.Terminals.{pool_of}
-use Rattle.vt_server.proofs.Performed.{is-there, takes-set, takes-no_set}
+use Rattle.vt_server.proofs.lemmas.operator.ActionStep.{is-there, takes-set, takes-no_set}
 use Rattle.vt_server.proofs.terminal.Terminal.select_set.Goals as goal
 
 pub returns-then-is_none-clause-takes : goal.returns-then-is_none-clause-takes

@@ -1,11 +1,11 @@
 use Rattle.std.proofs.Common.{◌≡◌, ℕ, refl, ap, ◌∙◌}
 use Rattle.vt_names.specs.Claims.{Claimed}
-use Rattle.vt_server.specs.Choosing.{choosing, events_of_change, same_display, status_frame}
-use Rattle.vt_server.specs.Displays.{display_value}
+use Rattle.vt_server.specs.shown.ShownSet.{choosing, events_of_change, same_display, status_frame}
+use Rattle.vt_server.specs.shown.DisplayValues.{display_value}
 use Rattle.vt_server.specs.States.{state_of}
 use Rattle.vt_server.specs.Terminals.{State, after_acts}
-use Rattle.vt_server.proofs.Changes.{claims-acts}
-use Rattle.vt_server.proofs.Chosen.{not-false, not-true, settled-is, status-none, status-sent}
+use Rattle.vt_server.proofs.lemmas.acts.HolderChanges.{claims-acts}
+use Rattle.vt_server.proofs.lemmas.shown.EventsOfChange.{not-false, not-true, settled-is, status-none, status-sent}
 use Rattle.vt_server.proofs.terminal.Terminal.settle.Goals as goal
 
 pub returns-then-ne-clause-state : goal.returns-then-ne-clause-state

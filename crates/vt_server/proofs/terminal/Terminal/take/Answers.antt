@@ -1,17 +1,17 @@
 use Rattle.std.proofs.Common.{◌≡◌, ◌<◌, List, ◌++◌, is_some, true≢false, refl, sym, ap, subst, ◌∙◌, append-nil}
 use Rattle.vt_can.specs.frames.Frame.{source_of}
 use Rattle.vt_names.specs.Registry.{Set, set_at}
-use Rattle.vt_server.specs.Hearings.{FitsMeaning, TakesNotice}
+use Rattle.vt_server.specs.frame.FrameContracts.{FitsMeaning, TakesNotice}
 use Rattle.vt_server.specs.Outputs.{outputs_of}
-use Rattle.vt_server.specs.Places.{AddressState}
+use Rattle.vt_server.specs.state.AddressStates.{AddressState}
 use Rattle.vt_server.specs.States.{state_of}
 use Rattle.vt_server.specs.Terminals.{State, Sent}
-use Rattle.vt_server.specs.Uploads.{content_of, room_of}
+use Rattle.vt_server.specs.state.PoolTables.{content_of, room_of}
 use Rattle.vt_node.specs.Watches.{heard_of}
 use Rattle.vt_node.specs.declared.bus.FrameMeaning.TheVariants as notices
-use Rattle.vt_server.proofs.Framed.{takes-echo, takes-heard}
-use Rattle.vt_server.proofs.Heard.{upload-judges, came-reads, defence-none, heard-state}
-use Rattle.vt_server.proofs.Accepted.{accepted}
+use Rattle.vt_server.proofs.lemmas.frame.FrameEffect.{takes-echo, takes-heard}
+use Rattle.vt_server.proofs.lemmas.frame.FrameStep.{upload-judges, came-reads, defence-none, heard-state}
+use Rattle.vt_server.proofs.lemmas.frame.NoRefusalByFrame.{accepted}
 use Rattle.vt_server.proofs.terminal.Terminal.take.Goals as goal
 use Rattle.vt_server.proofs.terminal.Terminal.take.Goals.{in-ClaimRequest, in_default}
 

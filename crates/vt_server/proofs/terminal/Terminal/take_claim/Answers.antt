@@ -1,13 +1,13 @@
 use Rattle.std.proofs.Common.{◌≡◌, ℕ, Some, sym, ap, ◌∙◌}
-use Rattle.vt_server.specs.Places.{AddressState}
+use Rattle.vt_server.specs.state.AddressStates.{AddressState}
 use Rattle.vt_server.specs.States.{state_of, places_by}
 use Rattle.vt_server.specs.Steps.{before, changes}
 use Rattle.vt_server.specs.Terminals.{after_acts}
-use Rattle.vt_server.specs.Uploads.{content_of}
+use Rattle.vt_server.specs.state.PoolTables.{content_of}
 use Rattle.vt_node.specs.Watches.{heard_of}
 use Rattle.vt_node.specs.declared.bus.FrameMeaning.TheVariants.{Claim}
-use Rattle.vt_server.proofs.Claimed.{after-changes, acted-own, acted-other, sent-nothing, sent-defence}
-use Rattle.vt_server.proofs.Writes.{heard-placed}
+use Rattle.vt_server.proofs.lemmas.frame.ClaimEffect.{after-changes, acted-own, acted-other, sent-nothing, sent-defence}
+use Rattle.vt_server.proofs.lemmas.state.WritesByAddress.{heard-placed}
 use Rattle.vt_server.proofs.terminal.Terminal.take_claim.Goals as goal
 use Rattle.vt_server.proofs.terminal.Terminal.take_claim.Goals.{then-former, else-former}
 

@@ -1,5 +1,5 @@
 use Rattle.vt_server.specs.States.{state_of}
-use Rattle.vt_server.proofs.Uploaded.{etp-takes}
+use Rattle.vt_server.proofs.lemmas.message.MessageCalls.{etp-takes}
 use Rattle.vt_server.proofs.terminal.Terminal.take_etp.Goals as goal
 
 pub returns-clause-takes : goal.returns-clause-takes

@@ -1,13 +1,13 @@
 use Rattle.std.proofs.Common.{ℕ, sym, ap, subst, ◌∙◌}
 use Rattle.vt_names.specs.Registry.{set_at, joining}
-use Rattle.vt_server.specs.Hearings.{TakesNotice}
-use Rattle.vt_server.specs.Parts.{after_master}
+use Rattle.vt_server.specs.frame.FrameContracts.{TakesNotice}
+use Rattle.vt_server.specs.state.AddressViews.{after_master}
 use Rattle.vt_server.specs.States.{state_of}
 use Rattle.vt_server.specs.Terminals.{State, part, put}
 use Rattle.vt_node.specs.declared.bus.FrameMeaning.{FrameMeaning}
 use Rattle.vt_node.specs.declared.bus.FrameMeaning.TheVariants.{Member}
-use Rattle.vt_server.proofs.Heard.{takes-master, takes-member, takes-nothing, idle-by}
-use Rattle.vt_server.proofs.Watched.{registry-state}
+use Rattle.vt_server.proofs.lemmas.frame.FrameStep.{takes-master, takes-member, takes-nothing, idle-by}
+use Rattle.vt_server.proofs.lemmas.timeouts.FirstSilentSet.{registry-state}
 use Rattle.vt_server.proofs.terminal.Terminal.take_notice.Goals as goal
 
 pub returns-in-Master-clause-takes : goal.returns-in-Master-clause-takes

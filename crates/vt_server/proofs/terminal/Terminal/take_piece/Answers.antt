@@ -1,11 +1,11 @@
 use Rattle.std.proofs.Common.{drop, refl, sym}
-use Rattle.vt_server.specs.Places.{with_piece}
+use Rattle.vt_server.specs.state.AddressStates.{with_piece}
 use Rattle.vt_server.specs.States.{state_of}
-use Rattle.vt_server.specs.Uploads.{content_of}
-use Rattle.vt_server.proofs.Answered.{answers-none}
-use Rattle.vt_server.proofs.Framed.{any_verdict}
-use Rattle.vt_server.proofs.Undrawn.{same-pool}
-use Rattle.vt_server.proofs.Uploaded.{contents-state, piece-answered}
+use Rattle.vt_server.specs.state.PoolTables.{content_of}
+use Rattle.vt_server.proofs.lemmas.message.EffectsAndReplies.{answers-none}
+use Rattle.vt_server.proofs.lemmas.frame.FrameEffect.{any_verdict}
+use Rattle.vt_server.proofs.lemmas.shown.SameScreen.{same-pool}
+use Rattle.vt_server.proofs.lemmas.message.MessageCalls.{contents-state, piece-answered}
 use Rattle.vt_server.proofs.terminal.Terminal.take_piece.Goals as goal
 
 pub returns-then-registered-clause-answers : goal.returns-then-registered-clause-answers

@@ -3,7 +3,7 @@ use Rattle.std.specs.FinMap as finite
 use Rattle.vt_can.specs.frames.Frame.{source_of}
 use Rattle.vt_node.specs.Nodes.{NodeState}
 use Rattle.vt_server.specs.States.{state_of}
-use Rattle.vt_server.proofs.Uploaded.{tp-takes-alone}
+use Rattle.vt_server.proofs.lemmas.message.MessageCalls.{tp-takes-alone}
 use Rattle.vt_server.proofs.terminal.Terminal.take_tp.Goals as goal
 
 pub returns-clause-takes : goal.returns-clause-takes

@@ -1,5 +1,5 @@
 use Rattle.vt_server.specs.States.{state_of}
-use Rattle.vt_server.proofs.Uploaded.{tp-takes}
+use Rattle.vt_server.proofs.lemmas.message.MessageCalls.{tp-takes}
 use Rattle.vt_server.proofs.terminal.Terminal.take_tp_as_sender.Goals as goal
 
 pub returns-clause-takes : goal.returns-clause-takes

@@ -1,6 +1,6 @@
 use Rattle.std.proofs.Common.{◌≡◌, length, rules, ◌∙◌}
 use Rattle.vt_stores.specs.Stores.{map_of}
-use Rattle.vt_chains.proofs.Places.{count_is}
+use Rattle.vt_chains.proofs.IdIndices.{count_is}
 use Rattle.vt_set_tests.proofs.machine.showing.shows.Goals as goal
 
 pub is_shown-requires-clause-marks : goal.is_shown-requires-clause-marks

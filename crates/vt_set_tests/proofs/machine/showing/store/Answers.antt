@@ -8,8 +8,8 @@ use Rattle.vt_chains.specs.Depths.{ids_of, inclusions_of, IsClosed}
 use Rattle.vt_chains.specs.Inclusions.{IsShallow}
 use Rattle.vt_verify.specs.Rules.{IsAcceptable}
 use Rattle.vt_chains.specs.Limits.{terminal}
-use Rattle.vt_verify.proofs.Closing.{closed_store}
-use Rattle.vt_chains.proofs.Including.{same_inclusions}
+use Rattle.vt_verify.proofs.lemmas.references.IncludedObjectsExist.{closed_store}
+use Rattle.vt_chains.proofs.InclusionsInStore.{same_inclusions}
 use Rattle.vt_set_tests.proofs.machine.showing.store.Goals as goal
 
 true_test : (b : Bool) → IsTrue b → T b

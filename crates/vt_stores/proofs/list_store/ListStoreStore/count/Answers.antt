@@ -1,5 +1,5 @@
 use Rattle.std.proofs.Common.{arith}
-use Rattle.vt_stores.proofs.Stored.{counted, named_in}
+use Rattle.vt_stores.proofs.StoreMethods.{counted, named_in}
 use Rattle.vt_stores.proofs.list_store.ListStoreStore.count.Goals as goal
 
 pub returns-clause-count : goal.returns-clause-count

@@ -1,4 +1,4 @@
-use Rattle.vt_stores.proofs.Stored.{made_of}
+use Rattle.vt_stores.proofs.StoreMethods.{made_of}
 use Rattle.vt_stores.proofs.list_store.ListStoreStore.from_objects.Goals as goal
 
 pub sort-requires : goal.sort-requires

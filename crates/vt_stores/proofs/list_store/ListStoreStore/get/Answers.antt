@@ -1,6 +1,6 @@
 use Rattle.std.proofs.Common.{arith}
-use Rattle.vt_stores.proofs.Stored.{absent, placed, within_place, got_none, got_some, null_free_in}
-use Rattle.vt_stores.proofs.FromFront.{front_absent, front_place}
+use Rattle.vt_stores.proofs.StoreMethods.{absent, placed, within_place, got_none, got_some, null_free_in}
+use Rattle.vt_stores.proofs.LinearSearch.{front_absent, front_place}
 use Rattle.vt_stores.proofs.list_store.ListStoreStore.get.Goals as goal
 
 pub index-requires : goal.index-requires

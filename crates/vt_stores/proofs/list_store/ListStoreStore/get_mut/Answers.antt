@@ -1,8 +1,8 @@
 use Rattle.std.proofs.Common.{arith, refl, ap}
 use Rattle.vt_kinds.specs.Records.{seen}
 use Rattle.vt_stores.specs.Stores.{map_of}
-use Rattle.vt_stores.proofs.Stored.{absent, placed, within_place, got_none, got_some, stored_set, wrote_in, kept_in}
-use Rattle.vt_stores.proofs.FromFront.{front_absent, front_place}
+use Rattle.vt_stores.proofs.StoreMethods.{absent, placed, within_place, got_none, got_some, stored_set, wrote_in, kept_in}
+use Rattle.vt_stores.proofs.LinearSearch.{front_absent, front_place}
 use Rattle.vt_stores.proofs.list_store.ListStoreStore.get_mut.Goals as goal
 
 pub index_mut-requires : goal.index_mut-requires

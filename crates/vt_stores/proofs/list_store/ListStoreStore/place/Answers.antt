@@ -1,5 +1,5 @@
-use Rattle.vt_stores.proofs.Stored.{place_in, place_some, place_none}
-use Rattle.vt_stores.proofs.FromFront.{front_none, front_some}
+use Rattle.vt_stores.proofs.StoreMethods.{place_in, place_some, place_none}
+use Rattle.vt_stores.proofs.LinearSearch.{front_none, front_some}
 use Rattle.vt_stores.proofs.list_store.ListStoreStore.place.Goals as goal
 
 pub returns-clause-some : goal.returns-clause-some

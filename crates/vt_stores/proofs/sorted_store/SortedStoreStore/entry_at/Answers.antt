@@ -1,4 +1,4 @@
-use Rattle.vt_stores.proofs.Stored.{entry_past, entry_within}
+use Rattle.vt_stores.proofs.StoreMethods.{entry_past, entry_within}
 use Rattle.vt_stores.proofs.sorted_store.SortedStoreStore.entry_at.Goals as goal
 
 pub returns-in-None : goal.returns-in-None

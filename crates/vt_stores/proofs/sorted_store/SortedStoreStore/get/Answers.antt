@@ -1,4 +1,4 @@
-use Rattle.vt_stores.proofs.Stored.{absent, placed, got_none, got_some, found_some, null_free_in}
+use Rattle.vt_stores.proofs.StoreMethods.{absent, placed, got_none, got_some, found_some, null_free_in}
 use Rattle.vt_stores.proofs.sorted_store.SortedStoreStore.get.Goals as goal
 
 pub returns-in-None-clause-value : goal.returns-in-None-clause-value

@@ -1,7 +1,7 @@
 use Rattle.std.proofs.Common.{refl, ap}
 use Rattle.vt_kinds.specs.Records.{seen}
 use Rattle.vt_stores.specs.Stores.{map_of}
-use Rattle.vt_stores.proofs.Stored.{absent, placed, within_place, got_none, got_some, stored_set, wrote_in, kept_in}
+use Rattle.vt_stores.proofs.StoreMethods.{absent, placed, within_place, got_none, got_some, stored_set, wrote_in, kept_in}
 use Rattle.vt_stores.proofs.sorted_store.SortedStoreStore.get_mut.Goals as goal
 
 pub invariant_of-self-lent : goal.invariant_of-self-lent

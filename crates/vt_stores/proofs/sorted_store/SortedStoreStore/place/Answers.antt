@@ -1,4 +1,4 @@
-use Rattle.vt_stores.proofs.Stored.{place_in, place_some, place_none}
+use Rattle.vt_stores.proofs.StoreMethods.{place_in, place_some, place_none}
 use Rattle.vt_stores.proofs.sorted_store.SortedStoreStore.place.Goals as goal
 
 pub returns-clause-some : goal.returns-clause-some

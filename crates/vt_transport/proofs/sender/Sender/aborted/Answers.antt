@@ -1,6 +1,6 @@
 use Rattle.std.proofs.Common.{None, ap, sym, refl}
 use Rattle.vt_transport.specs.Senders.{SenderState, unanswered}
-use Rattle.vt_transport.proofs.Answering.{answers_as, removed_answers, aborted_message}
+use Rattle.vt_transport.proofs.SenderAnswers.{answers_as, removed_answers, aborted_message}
 use Rattle.vt_transport.proofs.sender.Sender.aborted.Goals as goal
 
 pub returns : goal.returns

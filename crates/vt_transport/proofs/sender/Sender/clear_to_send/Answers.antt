@@ -2,7 +2,7 @@ use Rattle.std.proofs.Common.{◌≡◌, ℕ, max, Some, ap, sym, refl, ◌∙�
 use Rattle.vt_can.specs.declared.transport.sessions.Timed.{Timed}
 use Rattle.vt_can.specs.transport.Messages.{Message}
 use Rattle.vt_transport.specs.Senders.{SenderState, unanswered, refreshed}
-use Rattle.vt_transport.proofs.Answering.{answers_removed, answers_absent, removed_answers, put_answers, of_another_group, waiting, packet_zero, past_the_last, packets_sent, packets_from, refusal, refusal_frames, sent_frames, count_below, count_within}
+use Rattle.vt_transport.proofs.SenderAnswers.{answers_removed, answers_absent, removed_answers, put_answers, of_another_group, waiting, packet_zero, past_the_last, packets_sent, packets_from, refusal, refusal_frames, sent_frames, count_below, count_within}
 use Rattle.vt_transport.proofs.sender.Sender.clear_to_send.Goals as goal
 use Rattle.vt_transport.proofs.sender.Sender.clear_to_send.Goals.{then-next-eq0-via-then-next-eq0, then-next-eq0-via-else-next-eq0+then-next-packets}
 

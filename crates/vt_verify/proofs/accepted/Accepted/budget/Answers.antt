@@ -5,8 +5,8 @@ use Rattle.vt_stores.specs.Shapes.{shape_of}
 use Rattle.vt_verify.specs.Budgets.{budget}
 use Rattle.vt_verify.specs.Triggers.{listing}
 use Rattle.vt_verify.specs.TriggerGraphs.{group_of_event}
-use Rattle.vt_verify.proofs.ListedEvents.{group_is}
-use Rattle.vt_verify.proofs.EventBudgets.{step_at, found_event, no_event}
+use Rattle.vt_verify.proofs.lemmas.graphs.EventGroups.{group_is}
+use Rattle.vt_verify.proofs.lemmas.budgets.EventBudgets.{step_at, found_event, no_event}
 use Rattle.vt_verify.proofs.accepted.Accepted.budget.Goals as goal
 
 pub returns-in-Some-clause-budget : goal.returns-in-Some-clause-budget

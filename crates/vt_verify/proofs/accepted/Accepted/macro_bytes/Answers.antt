@@ -5,7 +5,7 @@ use Rattle.vt_commands.specs.Pieces.{cut_within}
 use Rattle.vt_stores.specs.Stores.{Objects}
 use Rattle.vt_stores.specs.Shapes.{shape_of}
 use Rattle.vt_verify.specs.Macros.{cut_or_none, commands_of, commands}
-use Rattle.vt_verify.proofs.ListedEvents.{whole_bytes, allowed_pieces, pieces_read, commands_found}
+use Rattle.vt_verify.proofs.lemmas.graphs.EventGroups.{whole_bytes, allowed_pieces, pieces_read, commands_found}
 use Rattle.vt_verify.proofs.accepted.Accepted.macro_bytes.Goals as goal
 
 pub returns-in-Some-clause-whole : goal.returns-in-Some-clause-whole

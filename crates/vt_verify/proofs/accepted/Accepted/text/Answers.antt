@@ -7,8 +7,8 @@ use Rattle.vt_stores.specs.Shapes.{shape_of}
 use Rattle.vt_verify.specs.Budgets.{budget}
 use Rattle.vt_verify.specs.TriggerGraphs.{listed_events}
 use Rattle.vt_verify.specs.Reports.{report_text, count_line, event_line, budget_line}
-use Rattle.vt_verify.proofs.EventBudgets.{step_at}
-use Rattle.vt_verify.proofs.ReportLines.{line_added, all_taken}
+use Rattle.vt_verify.proofs.lemmas.budgets.EventBudgets.{step_at}
+use Rattle.vt_verify.proofs.lemmas.budgets.ReportLines.{line_added, all_taken}
 use Rattle.vt_verify.proofs.accepted.Accepted.text.Goals as goal
 
 pub loop-place-preserved : goal.loop-place-preserved

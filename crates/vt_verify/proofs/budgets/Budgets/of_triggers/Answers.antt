@@ -3,9 +3,9 @@ use Rattle.vt_rank.specs.Graphs.{lists}
 use Rattle.vt_verify.specs.declared.listing.Listing.{Listing}
 use Rattle.vt_verify.specs.Budgets.{budget}
 use Rattle.vt_verify.specs.Triggers.{listed}
-use Rattle.vt_verify.proofs.Costs.{group_cost_is}
-use Rattle.vt_verify.proofs.EventBudgets.{each_step}
-use Rattle.vt_verify.proofs.Graphs.{listings_are}
+use Rattle.vt_verify.proofs.lemmas.graphs.SameCosts.{group_cost_is}
+use Rattle.vt_verify.proofs.lemmas.budgets.EventBudgets.{each_step}
+use Rattle.vt_verify.proofs.lemmas.graphs.SameTriggers.{listings_are}
 use Rattle.vt_verify.proofs.budgets.Budgets.of_triggers.Goals as goal
 
 pub returns-clause-budgets : goal.returns-clause-budgets

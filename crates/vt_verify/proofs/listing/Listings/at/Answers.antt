@@ -6,7 +6,7 @@ use Rattle.vt_rank.specs.Graphs.{lists}
 use Rattle.vt_rank.proofs.Entries.{get_or-lists, get_or-lists_past}
 use Rattle.vt_verify.specs.Triggers.{listing}
 use Rattle.vt_verify.specs.TriggerGraphs.{Groups, group_of_event, macros_of}
-use Rattle.vt_verify.proofs.ListedEvents.{group_is}
+use Rattle.vt_verify.proofs.lemmas.graphs.EventGroups.{group_is}
 use Rattle.vt_verify.proofs.listing.Listings.at.Goals as goal
 
 of_group : (groups : List (List ℕ)) (found : Option ℕ) (k : ℕ) → found ≡ Some k

@@ -1,6 +1,6 @@
 use Rattle.vt_rank.specs.Graphs.{lists}
 use Rattle.vt_stores.specs.Shapes.{shape_of}
-use Rattle.vt_verify.proofs.Graphs.{listings_are}
+use Rattle.vt_verify.proofs.lemmas.graphs.SameTriggers.{listings_are}
 use Rattle.vt_verify.proofs.listing.Listings.of_objects.Goals as goal
 
 pub returns : goal.returns

@@ -1,0 +1,5 @@
+-- Lemmas, by subject.
+pub mod inclusions
+pub mod objects
+pub mod order
+pub mod stores

@@ -1,0 +1,4 @@
+-- Lemmas on inclusions.
+pub mod Levels
+pub mod NewInclusions
+pub mod ShortChains

@@ -1,0 +1,7 @@
+-- Lemmas, by subject.
+pub mod findings
+pub mod outputs
+pub mod pools
+pub mod runs
+pub mod sets
+pub mod views

@@ -1,0 +1,3 @@
+-- Lemmas on findings.
+pub mod OneStep
+pub mod OneVerdict

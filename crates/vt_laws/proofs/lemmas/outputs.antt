@@ -1,0 +1,5 @@
+-- Lemmas on outputs.
+pub mod FrameDestinations
+pub mod FramesOfActs
+pub mod OutputCount
+pub mod Packets

@@ -1,0 +1,4 @@
+-- Lemmas on messages of an implement.
+pub mod EffectsAndReplies
+pub mod MessageCalls
+pub mod RefusedUpload

@@ -1,0 +1,3 @@
+-- Lemmas on the operator's actions.
+pub mod ActionMessages
+pub mod ActionStep

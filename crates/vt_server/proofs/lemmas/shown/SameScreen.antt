@@ -1,0 +1,275 @@
+-- The screen is the same if the same set is shown with the same pool. Refused commands, uploads and actions keep both. Time and
+-- claims remove pools, but change none.
+use Rattle.std.proofs.Common.{◌≡◌, ◌≢◌, ℕ, Bool, true, false, cond, List, [], ◌∷◌, map, Option, Some, None, is_some, true≢false, refl, sym, ap, subst, ◌∙◌, nat_eq}
+use Rattle.std.specs.List.{filter}
+use Rattle.std.specs.Option.{option_eq, option_map}
+use Rattle.std.specs.Prelude.{Result, Ok, Err}
+use Rattle.vt_can.specs.declared.frames.frame.Frame.{Frame}
+use Rattle.vt_can.specs.frames.Frame.{source_of}
+use Rattle.vt_can.specs.lines.Actions.{ActionValue}
+use Rattle.vt_effects.specs.Effects.{effect}
+use Rattle.vt_machine.specs.SetStates.{SetState, with_objects}
+use Rattle.vt_macros.specs.Machines.{events_of}
+use Rattle.vt_machine.specs.declared.operator.OperatorRefusal.{OperatorRefusal}
+use Rattle.vt_names.specs.Registry.{Set}
+use Rattle.vt_stores.specs.Stores.{ObjectMap}
+use Rattle.vt_commands.specs.declared.command.Command.{Command}
+use Rattle.vt_commands.specs.declared.raising.Raised.{Raised}
+use Rattle.vt_server.specs.operator.ActionContracts.{PerformsAt}
+use Rattle.vt_server.specs.message.CommandEffects.{after_done, content_after, deletes, error_after, error_in, error_of, state_after}
+use Rattle.vt_server.specs.frame.FrameContracts.{FitsBeforeTimeouts}
+use Rattle.vt_server.specs.frame.TimeoutActs.{at_time, lapsed, silences, silent, tp_due, etp_due, sending_due, after_tp_timeouts, after_etp_timeouts, after_timeouts}
+use Rattle.vt_server.specs.operator.ActionEffects.{action_on}
+use Rattle.vt_server.specs.state.AddressViews.{Act, AddressView, Hears, Rebinds, TpExpires, EtpExpires, SendingExpires, FallsSilent, outcome, unchanged, without_set, stays_under, after_change, after_claim_heard}
+use Rattle.vt_server.specs.state.AddressStates.{SetPool, AddressState, heard_at, no_content}
+use Rattle.vt_server.specs.shown.Screens.{IsScreenAt, IsScreenOfShown, KeepsScreen, ShowsSame, ShowsWhatIsLeft, TellsChanges}
+use Rattle.vt_server.specs.States.{state_of}
+use Rattle.vt_server.specs.Steps.{before, changes, heard_at_source, acts, acted}
+use Rattle.vt_server.specs.Terminals.{State, pool_of, pool_at, part, put, after_act, after_acts}
+use Rattle.vt_node.specs.AddressFunctions.{with_at}
+use Rattle.vt_server.specs.message.Verdicts.{Verdict, Accepts, Faulty, Refuses, ended, end_of_pool, end_reply}
+use Rattle.vt_server.specs.state.PoolTables.{content_of}
+use Rattle.vt_node.specs.declared.bus.FrameMeaning.{FrameMeaning}
+use Rattle.vt_node.specs.declared.bus.FrameMeaning.TheVariants.{Claim}
+use Rattle.vt_server.specs.declared.pools.PoolTable as declared
+use Rattle.vt_server.specs.declared.frame.step.PreparedFrame.{PreparedFrame}
+use Rattle.vt_server.specs.declared.frame.step.PreparedFrame.TheVariants as readies
+use Rattle.vt_server.specs.declared.terminal.Terminal.{Terminal}
+use Rattle.vt_server.proofs.lemmas.acts.AddressedActs.{AllAt, at-append, at-below, at-changes, at-heard}
+use Rattle.vt_server.proofs.lemmas.acts.HolderChanges.{shown-acts}
+use Rattle.vt_server.proofs.lemmas.frame.FrameEffect.{any_verdict}
+use Rattle.vt_server.proofs.lemmas.steps.StepInvariants.{lapsed-keeps}
+use Rattle.vt_server.proofs.lemmas.operator.ActionMessages.{refused-is}
+use Rattle.vt_server.proofs.lemmas.shown.ShownSetHasPool.{HasPoolAt, ShownHasPool}
+use Rattle.vt_server.proofs.lemmas.acts.ComposedActs.{act-is}
+use Rattle.vt_node.proofs.ByAddress.{at-own, at-other}
+use Rattle.vt_names.proofs.IndexAfterClaim.{option_same}
+use Rattle.vt_names.proofs.AddressesAfterClaim.{by_eq}
+
+-- ---- the text
+
+text-same : (s t : State) (shown : Option ℕ) (text : List ℕ) → pool_at t shown ≡ pool_at s shown → IsScreenOfShown (pool_of s) shown text → IsScreenOfShown (pool_of t) shown text
+text-same s t None text same is = is
+text-same s t (Some a) text same is = subst (λ (pool : Option SetState). IsScreenAt a pool text) (sym same) is
+
+pub same-text : (s t : State) → ShowsSame s t → KeepsScreen s t
+same-text s t same text is =
+    subst (λ (shown : Option ℕ). IsScreenOfShown (pool_of t) shown text) (sym same.shown)
+    (text-same s t s.shown text (ap (pool_at t) (sym same.shown) ∙ same.pool) is)
+
+pub shows-then : (s t u : State) → ShowsSame s t → ShowsSame t u → ShowsSame s u
+shows-then s t u first second = record { shown = second.shown ∙ first.shown; pool = second.pool ∙ first.pool }
+
+-- The shown pool is unchanged.
+same-at : (s t : State) → t.shown ≡ s.shown → ((b : ℕ) → s.shown ≡ Some b → pool_of t b ≡ pool_of s b) → ShowsSame s t
+same-at s t shown each = record { shown = shown; pool = ap (pool_at t) shown ∙ at s.shown refl }
+  where
+    at : (o : Option ℕ) → s.shown ≡ o → pool_at t o ≡ pool_at s o
+    at None is = refl
+    at (Some a) is = each a is
+
+-- All pools are unchanged.
+same-by : (s t : State) → t.shown ≡ s.shown → ((b : ℕ) → pool_of t b ≡ pool_of s b) → ShowsSame s t
+same-by s t shown each = same-at s t shown (λ b is. each b)
+
+pools-kept : (old new : ℕ → SetPool) (a : ℕ) (x : SetPool) → new ≡ with_at a x old → x.pool ≡ (old a).pool → (b : ℕ) → (new b).pool ≡ (old b).pool
+pools-kept old new a x is same b =
+    ap (λ (k : ℕ → SetPool). (k b).pool) is
+    ∙ by_eq b a
+    (λ here. ap (λ q. (with_at a x old q).pool) here ∙ ap (λ (k : SetPool). k.pool) (at-own a old x) ∙ same ∙ ap (λ q. (old q).pool) (sym here))
+    (λ ne. ap (λ (k : SetPool). k.pool) (at-other a b old x ne))
+
+pools-other : (old new : ℕ → SetPool) (a : ℕ) (x : SetPool) → new ≡ with_at a x old → (b : ℕ) → b ≢ a → (new b).pool ≡ (old b).pool
+pools-other old new a x is b ne = ap (λ (k : ℕ → SetPool). (k b).pool) is ∙ ap (λ (k : SetPool). k.pool) (at-other a b old x ne)
+
+other-shown : (shown : Option ℕ) (a b : ℕ) → option_eq nat_eq shown (Some a) ≡ false → shown ≡ Some b → b ≢ a
+other-shown shown a b other is here =
+    true≢false (sym (option_same (Some a)) ∙ ap (λ o. option_eq nat_eq o (Some a)) (sym (is ∙ ap Some here)) ∙ other)
+
+module _ (t : Terminal) (contents : declared.PoolTable) (a : ℕ) (x : SetPool) (is : content_of contents ≡ with_at a x (content_of t.contents)) where
+  -- One content changes, but not its pool.
+  pub same-pool : x.pool ≡ (content_of t.contents a).pool → ShowsSame (state_of t) (state_of (record t { contents = contents }))
+  same-pool same =
+      same-by (state_of t) (state_of (record t { contents = contents })) refl (pools-kept (content_of t.contents) (content_of contents) a x is same)
+
+  -- The content of an address other than the shown one changes.
+  pub same-elsewhere : option_eq nat_eq t.shown (Some a) ≡ false → ShowsSame (state_of t) (state_of (record t { contents = contents }))
+  same-elsewhere other =
+      same-at (state_of t) (state_of (record t { contents = contents })) refl
+      (λ b at. pools-other (content_of t.contents) (content_of contents) a x is b (other-shown t.shown a b other at))
+
+-- ---- commands, ends of uploads and actions that change nothing
+
+refused-objects : (old : ObjectMap) (raised : List Raised) (result : Result ObjectMap ℕ) → error_in result ≢ 0 → after_done old raised result ≡ old
+refused-objects old raised (Ok middle) other = absurd (other refl)
+refused-objects old raised (Err bits) other = refl
+
+refused-command : (command : Command) (pool : Option SetState) → option_map (error_of command) pool ≢ Some 0 → option_map (state_after command) pool ≡ pool
+refused-command command None other = refl
+refused-command command (Some state) other =
+    ap (λ (objects : ObjectMap). Some (with_objects state objects))
+    (refused-objects state.objects (events_of state.objects command) (effect state.objects command) (λ h. other (ap Some h)))
+
+pub command-same : (command : Command) (content : SetPool) → error_after command content.pool ≢ Some 0 → (content_after command content).pool ≡ content.pool
+command-same command content other = cases (deletes command) other
+  where
+    cases : (b : Bool) → cond b (Some 0) (option_map (error_of command) content.pool) ≢ Some 0
+        → (cond b no_content (record content { pool = option_map (state_after command) content.pool })).pool ≡ content.pool
+    cases true other = absurd (other refl)
+    cases false other = refused-command command content.pool other
+
+pub end-same : (content : SetPool) (verdict : Verdict) → end_reply verdict ≢ end_of_pool 0 0xFFFF 0xFFFF 0 → (ended content verdict).pool ≡ content.pool
+end-same content (Accepts objects) other = absurd (other refl)
+end-same content (Faulty fault) other = refl
+end-same content (Refuses refusal) other = refl
+
+-- A refused action changes no pool.
+pub refused-pool : (old : Option SetState) (action : ActionValue) (refusal : OperatorRefusal) (pool : Option SetState) → PerformsAt old action (Some (Err refusal)) pool → pool ≡ old
+refused-pool None action refusal None is = refl
+refused-pool None action refusal (Some q) is = absurd is
+refused-pool (Some p) action refusal None is = absurd is
+refused-pool (Some p) action refusal (Some q) is = ap Some (refused-is p q (action_on p is.shown action) refusal is.comes).1
+
+-- ---- pools unchanged or removed
+
+abbrev pub Stays : Option SetState → Option SetState → Type 0
+Stays old new = is_some new ≡ true → new ≡ old
+
+gone : (old : Option SetState) → Stays old None
+gone old some = absurd (true≢false (sym some))
+
+stays-then : (old mid new : Option SetState) → Stays old mid → Stays mid new → Stays old new
+stays-then old mid new first second some =
+    let later = second some in
+    later ∙ first (subst (λ (pool : Option SetState). is_some pool ≡ true) later some)
+
+stays-at : (s t : State) (shown : Option ℕ) → ((b : ℕ) → Stays (pool_of s b) (pool_of t b)) → Stays (pool_at s shown) (pool_at t shown)
+stays-at s t None each = λ some. refl
+stays-at s t (Some a) each = each a
+
+left-by : (s t : State) → t.shown ≡ s.shown → ((b : ℕ) → Stays (pool_of s b) (pool_of t b)) → ShowsWhatIsLeft s t
+left-by s t shown each = record {
+  shown = shown;
+  pool = subst (λ (o : Option ℕ). Stays (pool_at s s.shown) (pool_at t o)) (sym shown) (stays-at s t s.shown each);
+}
+
+pub left-same : (s t : State) → ShowsSame s t → ShowsWhatIsLeft s t
+left-same s t same = record { shown = same.shown; pool = λ some. same.pool }
+
+pub left-then : (s t u : State) → ShowsWhatIsLeft s t → ShowsWhatIsLeft t u → ShowsWhatIsLeft s u
+left-then s t u first second = record {
+  shown = second.shown ∙ first.shown;
+  pool = stays-then (pool_at s s.shown) (pool_at t t.shown) (pool_at u u.shown) first.pool second.pool;
+}
+
+-- The shown set has a pool, so it is the pool of before.
+left-all : (s t : State) → ShowsWhatIsLeft s t → ShownHasPool t → ShowsSame s t
+left-all s t left has = record { shown = left.shown; pool = cases t.shown refl has }
+  where
+    cases : (o : Option ℕ) → t.shown ≡ o → HasPoolAt (pool_of t) o → pool_at t t.shown ≡ pool_at s s.shown
+    cases None is there = ap (pool_at t) is ∙ ap (pool_at s) (sym is ∙ left.shown)
+    cases (Some a) is there = left.pool (ap (λ o. is_some (pool_at t o)) is ∙ there)
+
+-- ---- acts that leave pools unchanged or remove them
+
+abbrev pub ActStays : Act → Type 0
+ActStays act = (now a : ℕ) (p : AddressView) → Stays p.place.content.pool (outcome now a p act).place.content.pool
+
+change-stays : (p : AddressView) (o : Option Set) → Stays p.place.content.pool (after_change p o).place.content.pool
+change-stays p None = λ some. refl
+change-stays p (Some set) = cases (stays_under set.name p.holder)
+  where
+    cases : (b : Bool) → Stays p.place.content.pool (cond b (unchanged p) (without_set p)).place.content.pool
+    cases true = λ some. refl
+    cases false = gone p.place.content.pool
+
+claim-stays : (p : AddressView) (o : Option Set) → Stays p.place.content.pool (after_claim_heard p o).place.content.pool
+claim-stays p None = λ some. refl
+claim-stays p (Some set) = λ some. refl
+
+rebinds-stays : ActStays Rebinds
+rebinds-stays now a p = change-stays p p.set
+
+claim-heard-stays : (name : ℕ) (f : Frame) (verdict : Verdict) → ActStays (Hears (Claim name) f verdict)
+claim-heard-stays name f verdict now a p = claim-stays (record p { place = heard_at now p.place }) p.set
+
+act-stays : (s : State) (a b : ℕ) (h : Act) → ActStays h → Stays (pool_of s b) (pool_of (after_act s a h) b)
+act-stays s a b h stays =
+    let place : AddressState = (outcome s.now a (part a s) h).place in
+    subst (λ (t : State). Stays (pool_of s b) (pool_of t b)) (sym (act-is s a h))
+    (by_eq b a
+    (λ is. subst (λ q. Stays (pool_of s q) (pool_of (put a (outcome s.now a (part a s) h) s) q)) (sym is)
+    (subst (λ (x : AddressState). Stays (pool_of s a) x.content.pool) (sym (at-own a s.places place)) (stays s.now a (part a s))))
+    (λ ne. λ some. ap (λ (x : AddressState). x.content.pool) (at-other a b s.places place ne)))
+
+acts-stay : (s : State) (b : ℕ) (hs : List (ℕ × Act)) → AllAt (λ a h. ActStays h) hs → Stays (pool_of s b) (pool_of (after_acts s hs) b)
+acts-stay s b [] all = λ some. refl
+acts-stay s b (h ∷ hs) all =
+    let t = after_act s h.0 h.1 in
+    stays-then (pool_of s b) (pool_of t b) (pool_of (after_acts t hs) b) (act-stays s h.0 b h.1 all.0) (acts-stay t b hs all.1)
+
+-- The timeouts and closings of a frame's time leave each pool unchanged or remove it.
+silent-all : (sets : List Set) → AllAt (λ a h. ActStays h) (map (λ (set : Set). (set.address, FallsSilent)) sets)
+silent-all [] = tt
+silent-all (set ∷ sets) = (λ now a p. gone p.place.content.pool, silent-all sets)
+
+lapsed-stays : (s : State) (b : ℕ) → Stays (pool_of s b) (pool_of (lapsed s) b)
+unfolding lapsed
+lapsed-stays s b =
+    let t = after_tp_timeouts s in
+    let u = after_etp_timeouts s in
+    let v = after_timeouts s in
+    let w = after_acts v (silences v) in
+    stays-then (pool_of s b) (pool_of v b) (pool_of w b)
+    (stays-then (pool_of s b) (pool_of u b) (pool_of v b)
+    (stays-then (pool_of s b) (pool_of t b) (pool_of u b)
+    (acts-stay s b (tp_due s) (at-below (λ a h. ActStays h) _ TpExpires 256 (λ a lt. λ now q p. λ some. refl)))
+    (acts-stay t b (etp_due t) (at-below (λ a h. ActStays h) _ EtpExpires 256 (λ a lt. λ now q p. λ some. refl))))
+    (acts-stay u b (sending_due u) (at-below (λ a h. ActStays h) _ SendingExpires 256 (λ a lt. λ now q p. λ some. refl))))
+    (acts-stay v b (silences v) (silent-all (filter (silent v) v.sets)))
+
+shown-lapsed : (s : State) → (lapsed s).shown ≡ s.shown
+shown-lapsed s = lapsed-keeps (λ t. t.shown ≡ s.shown) (λ t a h is. ap (λ (u : State). u.shown) (act-is t a h) ∙ is) s refl
+
+lapsed-left : (s : State) (now : ℕ) → ShowsWhatIsLeft s (lapsed (at_time s now))
+lapsed-left s now = left-by s (lapsed (at_time s now)) (shown-lapsed (at_time s now)) (lapsed-stays (at_time s now))
+
+-- A claim leaves each pool unchanged or removes it.
+claim-left : (s : State) (source name : ℕ) (f : Frame) (verdict : Verdict) → ShowsWhatIsLeft s (acted s source (Claim name) f verdict)
+claim-left s source name f verdict =
+    let n = Claim name in
+    let t = before s source n in
+    let hs = acts s source n f verdict in
+    left-by s (acted s source n f verdict) (shown-acts t hs)
+    (λ b. acts-stay t b hs
+    (at-append (λ a h. ActStays h) (changes s source n) (heard_at_source s.claims.own source n f verdict)
+    (at-changes (λ a h. ActStays h) (λ a. rebinds-stays) s source n)
+    (at-heard (λ a h. ActStays h) s.claims.own source n f verdict (claim-heard-stays name f verdict))))
+
+-- The whole step of a claim: its record, its effect and the choice of the shown set.
+pub claimed-left : (s t u v : State) (f : Frame) (n : FrameMeaning) (name : ℕ) → t ≡ before s (source_of f) n → u ≡ acted s (source_of f) (Claim name) f any_verdict
+    → ShowsSame u v → ShowsWhatIsLeft t v
+claimed-left s t u v f n name recorded took settles =
+    let first : ShowsWhatIsLeft s u = subst (ShowsWhatIsLeft s) (sym took) (claim-left s (source_of f) name f any_verdict) in
+    let all = left-then s u v first (left-same u v settles) in
+    subst (λ (x : State). ShowsWhatIsLeft x v) (sym recorded) (record { shown = all.shown; pool = all.pool })
+
+-- ---- an input
+
+-- The work done in advance for a frame changes no pool.
+pub prepared-shows : (s : State) (t : Terminal) (now : ℕ) (n : FrameMeaning) (f : Frame) (ready : PreparedFrame) → FitsBeforeTimeouts s t now n f ready → ShowsSame s (state_of t)
+prepared-shows s t now n f readies.Loses it = subst (ShowsSame s) (sym it.0) (record { shown = refl; pool = refl })
+prepared-shows s t now n f (readies.Claimed former) it = subst (ShowsSame s) (sym it.5) (record { shown = refl; pool = refl })
+prepared-shows s t now n f (readies.Prepared upload) it = subst (ShowsSame s) (sym it.0) (record { shown = refl; pool = refl })
+
+-- The whole step of a frame: work in advance, timeouts and closings, and its effect.
+pub line-kept : (s t u v : State) (now : ℕ) → ShowsSame s t → u ≡ lapsed (at_time t now) → ShowsWhatIsLeft u v
+    → ShownHasPool v → KeepsScreen s v
+line-kept s t u v now prepared lapses left has =
+    let lapsing : ShowsWhatIsLeft t u = subst (ShowsWhatIsLeft t) (sym lapses) (lapsed-left t now) in
+    same-text s v (shows-then s t v prepared (left-all t v (left-then t u v lapsing left) has))
+
+-- The whole step of an action: its effect and the choice of the shown set.
+pub told-through : (t m x : Terminal) → m ≡ x → TellsChanges t x → m.redraws ≡ false → ShowsSame (state_of t) (state_of m)
+told-through t m x is tells none =
+    subst (λ (y : Terminal). ShowsSame (state_of t) (state_of y)) (sym is) (tells (ap (λ (y : Terminal). y.redraws) (sym is) ∙ none)).1

@@ -1,0 +1,3 @@
+-- Lemmas on steps.
+pub mod RunsOfInputs
+pub mod StepInvariants

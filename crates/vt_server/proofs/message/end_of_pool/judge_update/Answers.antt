@@ -1,0 +1,35 @@
+use Rattle.std.proofs.Common.{◌≡◌, subst, ap, ◌∙◌}
+use Rattle.vt_stores.specs.Stores.{ObjectMap, map_of}
+use Rattle.vt_verify.specs.Rules.{IsVerified, IsRefused}
+use Rattle.vt_chains.specs.Limits.{terminal}
+use Rattle.vt_verify.specs.Updates.{updated}
+use Rattle.vt_server.specs.message.Verdicts.{Accepts, Refuses}
+use Rattle.vt_server.proofs.message.end_of_pool.judge_update.Goals as goal
+
+pub returns-in_ok-pool-in-Ok : goal.returns-in_ok-pool-in-Ok
+returns-in_ok-pool-in-Ok c bytes is =
+    let pool = c.args.read.now in
+    let store : map_of c.store.result.now ≡ c.args.live.now.objects = c.store.ensures.objects in record {
+      verdict = Accepts (map_of c.in-Ok.accepted);
+      right = record {
+        pool = pool;
+        read = is;
+        verified = subst (λ (o : ObjectMap). IsVerified (updated o pool)) store (subst IsVerified c.in-Ok.ensures.accepted.0 c.in-Ok.ensures.verified);
+        objects_are = ap map_of c.in-Ok.ensures.accepted.0 ∙ ap (λ (o : ObjectMap). map_of (updated o pool)) store;
+      };
+      carried_out = c.in_ok-pool-in-Ok.ensures.ok ∙ c.in_ok-live-in-Ok.ensures;
+    }
+
+pub returns-in_ok-reply-in-Err : goal.returns-in_ok-reply-in-Err
+returns-in_ok-reply-in-Err c bytes is =
+    let pool = c.args.read.now in
+    let store : map_of c.store.result.now ≡ c.args.live.now.objects = c.store.ensures.objects in record {
+      verdict = Refuses c.in-Err.refusal;
+      right = record {
+        pool = pool;
+        read = is;
+        refused = subst (λ (o : ObjectMap). IsRefused terminal (updated o pool) c.in-Err.refusal) store c.in-Err.ensures.refused;
+        named = c.in_ok-reply-in-Err.ensures.named;
+      };
+      carried_out = c.in_ok-reply-in-Err.ensures.reply;
+    }

@@ -1,0 +1,188 @@
+-- The work done in advance for a frame, and the contracts of the calls that handle it.
+use Rattle.std.specs.Prelude.{◌≡◌, ◌≢◌, ◌≤◌, ◌<◌, ◌+◌, ◌++◌, ℕ, true, false, List, [], ◌∷◌, length, Option, Some, None, is_some}
+use Rattle.std.specs.Option.{option_to_list}
+use Rattle.vt_can.specs.declared.frames.frame.Frame.{Frame}
+use Rattle.vt_can.specs.frames.Frame.{source_of}
+use Rattle.vt_can.specs.transport.Receivers.{HasCapacityFor}
+use Rattle.vt_can.specs.transport.Sessions.{alive}
+use Rattle.vt_names.specs.Registry.{set_at}
+use Rattle.vt_transport.specs.Protocol as tp
+use Rattle.vt_transport.specs.Wire.{tp_frame}
+use Rattle.vt_extended.specs.Protocol as etp
+use Rattle.vt_extended.specs.Wire.{etp_frame}
+use Rattle.vt_server.specs.message.Judgements.{IsJudgement}
+use Rattle.vt_server.specs.Findings.{IsJudged, ends_transfer}
+use Rattle.vt_server.specs.message.MessageEffects.{TRANSFER, END_OF_POOL, asked}
+use Rattle.vt_server.specs.frame.HoldersBeforeClaim.{AreFormer}
+use Rattle.vt_node.specs.Messages.{technical_reply}
+use Rattle.vt_server.specs.Outputs.{outputs_of, frames_of}
+use Rattle.vt_server.specs.state.AddressViews.{AddressView, after_message, after_notice}
+use Rattle.vt_server.specs.state.AddressStates.{SetPool, AddressState, with_content}
+use Rattle.vt_server.specs.frame.SessionEffects.{came}
+use Rattle.vt_server.specs.States.{state_of}
+use Rattle.vt_server.specs.Steps as steps
+use Rattle.vt_server.specs.Steps.{is_lost_by, answer_to, is_defended, hearing, acted, sent_by_frame}
+use Rattle.vt_server.specs.Terminals.{State, part, put}
+use Rattle.vt_node.specs.AddressFunctions.{with_at}
+use Rattle.vt_server.specs.message.Verdicts.{Verdict, IsVerdict}
+use Rattle.vt_server.specs.state.PoolTables.{content_of, room_of}
+use Rattle.vt_server.specs.declared.frame.claim.FormerHolders.{FormerHolders}
+use Rattle.vt_node.specs.declared.bus.FrameMeaning.{FrameMeaning}
+use Rattle.vt_node.specs.declared.bus.FrameMeaning.TheVariants as notices
+use Rattle.vt_server.specs.declared.frame.step.PreparedFrame.{PreparedFrame}
+use Rattle.vt_server.specs.declared.frame.step.PreparedFrame.TheVariants as readies
+use Rattle.vt_server.specs.declared.output.Output.{Output}
+use Rattle.vt_server.specs.declared.terminal.Terminal.{Terminal}
+use Rattle.vt_server.specs.declared.message.upload.PreparedMessage.{PreparedMessage}
+use Rattle.vt_server.specs.declared.message.upload.PreparedMessage.TheVariants as uploads
+
+-- ---- uploads
+
+abbrev pub begins_with : ℕ → List ℕ → Type 0
+begins_with function [] = ⊥
+begins_with function (byte ∷ bytes) = byte ≡ function
+
+abbrev pub is_other : List ℕ → Type 0
+is_other bytes = (begins_with TRANSFER bytes → ⊥) × (begins_with END_OF_POOL bytes → ⊥)
+
+-- The work done in advance is right for a message of these bytes, by the content of its address and the capacity of its upload.
+abbrev pub FitsMessage : SetPool → ℕ → List ℕ → PreparedMessage → Type 0
+FitsMessage content room bytes uploads.Nothing = is_other bytes
+FitsMessage content room bytes uploads.Room = begins_with TRANSFER bytes × (length bytes ≤ 1 + room)
+FitsMessage content room bytes (uploads.Piece piece) = begins_with TRANSFER bytes × (piece.items ≡ bytes) × (length bytes ≤ 1 + room)
+FitsMessage content room bytes (uploads.End judgement) = begins_with END_OF_POOL bytes × IsJudgement content judgement
+
+-- The work done in advance is right for a message that is there already: a piece comes with its capacity.
+abbrev pub FitsOneFrame : SetPool → ℕ → List ℕ → PreparedMessage → Type 0
+FitsOneFrame content room bytes uploads.Room = ⊥
+FitsOneFrame content room bytes uploads.Nothing = is_other bytes
+FitsOneFrame content room bytes (uploads.Piece piece) = begins_with TRANSFER bytes × (piece.items ≡ bytes) × (length bytes ≤ 1 + room)
+FitsOneFrame content room bytes (uploads.End judgement) = begins_with END_OF_POOL bytes × IsJudgement content judgement
+
+-- The work done in advance is the judgement of the upload.
+abbrev pub IsEnd : SetPool → PreparedMessage → Type 0
+IsEnd content (uploads.End judgement) = IsJudgement content judgement
+IsEnd content upload = ⊥
+
+-- The work done in advance is right for the message that a frame completes, if it completes one.
+abbrev pub FitsCompleted : SetPool → ℕ → Option (List ℕ) → PreparedMessage → Type 0
+FitsCompleted content room None upload = Unit {0}
+FitsCompleted content room (Some bytes) upload = FitsMessage content room bytes upload
+
+-- The work done in advance is right for a frame of this meaning. A message of one frame is there already.
+abbrev pub FitsMeaning : FrameMeaning → SetPool → ℕ → Option (List ℕ) → PreparedMessage → Type 0
+FitsMeaning notices.Message content room (Some bytes) upload = FitsOneFrame content room bytes upload
+FitsMeaning notice content room message upload = FitsCompleted content room message upload
+
+-- ---- reserved capacity
+
+-- Capacity is reserved for the session or the set that a frame may begin.
+pub record HasRoom (t : Terminal) (notice : FrameMeaning) (frame : Frame) : Type 0 where
+  pub tp : notice ≡ notices.Tp → HasCapacityFor tp.protocol (tp_frame t.node.claims.own frame) t.node.tp_room
+  pub etp : notice ≡ notices.Etp → HasCapacityFor etp.protocol (etp_frame t.node.claims.own frame) t.node.etp_room
+  pub sets : (count : ℕ) → notice ≡ notices.Master count → 0 < t.registry.room
+
+-- The capacity reserved for sessions and sets is unchanged.
+pub record RoomsStay (old new : Terminal) : Type 0 where
+  pub node : new.node ≡ old.node
+  pub registry : new.registry ≡ old.registry
+
+-- the state of an address after its overdue sessions have ended
+abbrev pub timely : ℕ → AddressState → AddressState
+timely now place = record place { tp = alive now place.tp; etp = alive now place.etp; sending = alive now place.sending }
+
+-- the bytes of the message that a frame completes, by the state of its source address
+abbrev pub message_by : Terminal → ℕ → AddressState → FrameMeaning → Frame → Option (List ℕ)
+message_by t now place notice frame = (came now t.node.claims.own (source_of frame) place notice frame).message
+
+abbrev pub IsNoClaim : FrameMeaning → Type 0
+IsNoClaim notice = (name : ℕ) → notice ≢ notices.Claim name
+
+-- ---- the work done in advance for a frame
+
+-- The work done in advance is right for a frame. The parameter HasUpload says which uploads are right.
+abbrev pub FitsFrame : State → Terminal → FrameMeaning → Frame → (PreparedMessage → Type 0) → PreparedFrame → Type 0
+FitsFrame s t notice frame HasUpload readies.Loses = (state_of t ≡ s) × (is_lost_by (answer_to s (source_of frame) notice) ≡ true)
+FitsFrame s t notice frame HasUpload (readies.Claimed former) =
+    (name : ℕ) × (notice ≡ notices.Claim name) × (is_lost_by (answer_to s (source_of frame) notice) ≡ false)
+    × AreFormer s (source_of frame) name former × (former.is_defended ≡ is_defended notice (answer_to s (source_of frame) notice))
+    × (state_of t ≡ steps.before s (source_of frame) notice)
+FitsFrame s t notice frame HasUpload (readies.Prepared upload) =
+    (state_of t ≡ s) × IsNoClaim notice × HasRoom t notice frame × HasUpload upload
+
+-- The work done in advance is right before the timeouts and closings of the frame's time.
+abbrev pub FitsBeforeTimeouts : State → Terminal → ℕ → FrameMeaning → Frame → PreparedFrame → Type 0
+FitsBeforeTimeouts s t now notice frame ready =
+    FitsFrame s t notice frame
+    (FitsMeaning notice (content_of t.contents (source_of frame)) (room_of t.contents (source_of frame))
+    (message_by t now (timely now ((state_of t).places (source_of frame))) notice frame)) ready
+
+-- The upload is right after the timeouts and closings, if the source still has a set.
+abbrev pub HasUpload : Terminal → FrameMeaning → Frame → PreparedMessage → Type 0
+HasUpload t notice frame upload =
+    is_some (set_at (source_of frame) t.registry.sets) ≡ true
+    → FitsMeaning notice (content_of t.contents (source_of frame)) (room_of t.contents (source_of frame))
+    (message_by t t.time ((state_of t).places (source_of frame)) notice frame) upload
+
+abbrev pub FitsAfterTimeouts : State → Terminal → FrameMeaning → Frame → PreparedFrame → Type 0
+FitsAfterTimeouts s t notice frame ready = FitsFrame s t notice frame (HasUpload t notice frame) ready
+
+-- ---- contracts of the calls
+
+-- If a message ends the upload of a set, the verdict on it is right.
+abbrev pub IsJudgedAt : AddressView → List ℕ → Verdict → Type 0
+IsJudgedAt p bytes verdict = ends_transfer p.set (Some bytes) ≡ true → IsVerdict p.place.content verdict
+
+-- A message of these bytes is handled at an address; if it ends the upload of a set, by a right verdict.
+pub record HandlesMessage (s : State) (source : ℕ) (bytes : List ℕ) (reply : Option Frame) (t : State) : Type 0 where
+  pub verdict : Verdict
+  pub judged : IsJudgedAt (part source s) bytes verdict
+  pub state : t ≡ put source (after_message source (part source s) verdict (part source s).set (Some bytes)) s
+  pub reply_is : option_to_list reply ≡ (after_message source (part source s) verdict (part source s).set (Some bytes)).frames
+
+-- the state with another content of an address
+abbrev pub with_content_at : ℕ → SetPool → State → State
+with_content_at address content s = record s { places = with_at address (with_content (s.places address) content) s.places }
+
+-- A technical request or a command is handled, and these are the bytes of the reply.
+pub record IsReplyTo (s : State) (source : ℕ) (bytes : List ℕ) (reply : Option (List ℕ)) (t : State) : Type 0 where
+  pub state : t ≡ with_content_at source (asked (s.places source).content bytes (technical_reply bytes)).content s
+  pub reply_is : reply ≡ (asked (s.places source).content bytes (technical_reply bytes)).reply
+
+-- A frame has the effect of its meaning at its source address.
+pub record TakesNotice (s : State) (notice : FrameMeaning) (frame : Frame) (t : State) (before after : List Output) : Type 0 where
+  pub verdict : Verdict
+  pub judged : IsJudged s.now (source_of frame) (part (source_of frame) s) notice frame verdict
+  pub state : t ≡ put (source_of frame) (after_notice s.now (source_of frame) (part (source_of frame) s) notice frame verdict) s
+  pub sent : after ≡ before ++ frames_of (after_notice s.now (source_of frame) (part (source_of frame) s) notice frame verdict).frames
+
+-- A recorded claim has its effect: the terminal defends its address, sets are closed, and the claim counts as a frame of its
+-- source.
+abbrev pub TakesClaim : FormerHolders → ℕ → State → State → List Output → List Output → Type 0
+TakesClaim former source u t before after =
+    (s : State) (name : ℕ) (frame : Frame) (verdict : Verdict) → source ≡ source_of frame → AreFormer s source name former
+    → former.is_defended ≡ is_defended (notices.Claim name) (answer_to s source (notices.Claim name))
+    → u ≡ steps.before s source (notices.Claim name)
+    → (t ≡ acted s source (notices.Claim name) frame verdict)
+    × (after ≡ before ++ outputs_of (sent_by_frame s source (notices.Claim name) frame verdict))
+
+-- Frames are sent to an address, and a completed message is handled there.
+pub record TakesMessage (s : State) (source : ℕ) (frames : List Frame) (message : Option (List ℕ)) (t : State) (before after : List Output) : Type 0 where
+  pub verdict : Verdict
+  pub judged : ends_transfer (part source s).set message ≡ true → IsVerdict (s.places source).content verdict
+  pub state : t ≡ put source (after_message source (part source s) verdict (part source s).set message) s
+  pub sent : after ≡ (before ++ frames_of frames) ++ frames_of (after_message source (part source s) verdict (part source s).set message).frames
+
+-- A frame other than a claim, from the terminal or another node, has its effect.
+pub record TakesFrame (s : State) (notice : FrameMeaning) (frame : Frame) (t : State) (before after : List Output) : Type 0 where
+  pub verdict : Verdict
+  pub judged : IsJudged s.now (source_of frame) (part (source_of frame) s) notice frame verdict
+  pub state : t ≡ acted s (source_of frame) notice frame verdict
+  pub sent : after ≡ before ++ outputs_of (sent_by_frame s (source_of frame) notice frame verdict)
+
+-- A frame has its effect after the timeouts and closings of its time.
+pub record Hears (old s : State) (notice : FrameMeaning) (frame : Frame) (t : State) (before after : List Output) : Type 0 where
+  pub verdict : Verdict
+  pub judged : IsJudged s.now (source_of frame) (part (source_of frame) s) notice frame verdict
+  pub state : t ≡ (hearing old s (source_of frame) notice frame verdict).after
+  pub sent : after ≡ before ++ outputs_of (hearing old s (source_of frame) notice frame verdict).sent

@@ -1,0 +1,53 @@
+-- The effect of each message from the master of a set, and its reply (docs/PROFILE.md, "Other messages", "Commands: all rows").
+use Rattle.std.specs.Prelude.{ℕ, ◌==◌, Bool, false, if◌then◌else◌, List, [], ◌∷◌, Option, Some, None}
+use Rattle.std.specs.Option.{option_map}
+use Rattle.vt_commands.specs.declared.command.Command.{Command}
+use Rattle.vt_commands.specs.Commands.{command_at}
+use Rattle.vt_server.specs.message.CommandEffects.{content_after, error_after}
+use Rattle.vt_node.specs.Messages.{technical_reply}
+use Rattle.vt_server.specs.state.AddressStates.{SetPool, with_piece}
+use Rattle.vt_server.specs.message.CommandReplies.{reply_to}
+use Rattle.vt_server.specs.message.Verdicts.{Verdict, ended, end_reply}
+
+pub record Handled : Type 0 where
+  pub content : SetPool
+  pub reply : Option (List ℕ)
+
+abbrev pub ignored : SetPool → Handled
+ignored content = record { content = content; reply = None }
+
+-- Without a pool a command is ignored, except Delete Object Pool.
+abbrev pub commanded : SetPool → Option Command → Handled
+commanded content None = ignored content
+commanded content (Some command) =
+    record { content = content_after command content; reply = option_map (reply_to command) (error_after command content.pool) }
+
+-- a technical request, or else a command
+abbrev pub asked : SetPool → List ℕ → Option (List ℕ) → Handled
+asked content bytes (Some reply) = record { content = content; reply = Some reply }
+asked content bytes None = commanded content (command_at bytes)
+
+-- the functions of Object Pool Transfer and End of Object Pool
+abbrev pub TRANSFER : ℕ
+TRANSFER = 0x11
+
+abbrev pub END_OF_POOL : ℕ
+END_OF_POOL = 0x12
+
+abbrev pub transferred : SetPool → List ℕ → Handled
+transferred content bytes = ignored (with_piece content bytes)
+
+abbrev pub end_handled : SetPool → Verdict → Handled
+end_handled content verdict = record { content = ended content verdict; reply = Some (end_reply verdict) }
+
+-- the effect of a message and its reply; the verdict counts for End of Object Pool alone
+abbrev pub handled : SetPool → Verdict → List ℕ → Handled
+handled content verdict [] = ignored content
+handled content verdict (function ∷ bytes) =
+    if function == TRANSFER then transferred content bytes
+    else if function == END_OF_POOL then end_handled content verdict
+    else asked content (function ∷ bytes) (technical_reply (function ∷ bytes))
+
+abbrev pub ends_pool : List ℕ → Bool
+ends_pool [] = false
+ends_pool (function ∷ bytes) = function == END_OF_POOL

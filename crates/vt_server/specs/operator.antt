@@ -1,0 +1,3 @@
+-- Definitions for the operator's actions.
+pub mod ActionContracts
+pub mod ActionEffects

@@ -1,0 +1,153 @@
+//! The handling of a received address claim.
+
+ghost use Rattle.std.specs.Prelude.{◌≡◌, ◌+◌, ◌≤◌, IfOk, OnOk, OnErr, vec_len, vec_capacity};
+ghost use Rattle.vt_names.specs.Claims.{address_of};
+ghost use Rattle.vt_server.specs.frame.FrameContracts.{TakesClaim};
+ghost use Rattle.vt_node.specs.Messages as messages;
+ghost use Rattle.vt_server.specs.state.AddressViews.{after_claim_heard, stays_under};
+ghost use Rattle.vt_server.specs.shown.Screens.{redraws};
+ghost use Rattle.vt_server.specs.States.{state_of};
+ghost use Rattle.vt_server.specs.frame.HoldersBeforeClaim.{AreFormer};
+ghost use Rattle.vt_server.specs.Steps as steps;
+ghost use Rattle.vt_server.specs.Terminals as spec;
+ghost use Rattle.vt_node.specs.declared.bus.FrameMeaning.TheVariants as notices;
+
+use crate::OutOfMemory;
+use crate::output::{Output, send};
+use crate::terminal::Terminal;
+use vt_can::Frame;
+use vt_names::Name;
+use vt_node::claim_from;
+
+/// The holders, before a claim, of the addresses whose holder the claim may change.
+#[derive(Drop)]
+pub(crate) struct FormerHolders {
+    /// Whether the terminal defends its own address against the claim.
+    pub(crate) is_defended: bool,
+    /// The former address of the NAME, if the claim is of another.
+    left: Option<u8>,
+    /// The holder of the former address.
+    left_holder: Option<Name>,
+    /// The holder of the claim's source address.
+    holder: Option<Name>,
+}
+
+impl Terminal {
+    /// Acts on a recorded claim: defends the own address, closes sets whose address has a new holder, and gives a set of the
+    /// source without a NAME the holder's. docs/PROFILE.md, "The terminal's claims", "Closing a set".
+    pub(crate) fn take_claim(
+        &mut self,
+        source: u8,
+        former: &FormerHolders,
+        outputs: &mut Vec<Output>,
+    )
+        requires room { vec_len outputs.old + 1 ≤ vec_capacity outputs.old }
+        ensures takes { TakesClaim former.now source (state_of self.old) (state_of self.new) outputs.old.items outputs.new.items }
+        ensures left { vec_capacity outputs.old + vec_len outputs.new ≤ vec_capacity outputs.new + vec_len outputs.old + 1 }
+    {
+        if former.is_defended {
+            send(outputs, self.own_claim());
+        }
+        self.rebind_left(former.left, former.left_holder);
+        self.rebind(source, former.holder);
+        if source != self.node.own() {
+            self.registry.hear(source, self.time);
+            self.bind(source);
+        }
+    }
+
+    /// The terminal's Address Claimed.
+    pub(crate) fn own_claim(&self) -> Frame
+        ensures { result ≡ messages.claim_from (state_of self.now).claims.own (state_of self.now).claims.name }
+    {
+        claim_from(self.node.own(), self.node.name())
+    }
+
+    /// Records a claim, the only part that may need memory. The sets are unchanged.
+    pub(crate) fn record(
+        &mut self,
+        source: u8,
+        name: Name,
+        is_defended: bool,
+    ) -> Result<FormerHolders, OutOfMemory>
+        ensures ok { OnOk result (state_of self.new ≡ steps.before (state_of self.old) source (notices.Claim name)) }
+        ensures former { IfOk result (AreFormer (state_of self.old) source name) }
+        ensures defended { IfOk result (λ former. former.is_defended ≡ is_defended) }
+        ensures err { OnErr result (state_of self.new ≡ state_of self.old) }
+        ensures redraws { redraws self.new ≡ redraws self.old }
+    {
+        let left = self.left_by(source, name);
+        let former = FormerHolders {
+            is_defended,
+            left,
+            left_holder: self.left_holder(left),
+            holder: self.node.holder(source),
+        };
+        self.node.hear_claim(source, name)?;
+        Ok(former)
+    }
+
+    // The former address of a NAME that claims another.
+    fn left_by(&self, source: u8, name: Name) -> Option<u8>
+        ensures { result ≡ steps.left_by source (address_of (state_of self.now).claims.addresses name) }
+    {
+        match self.node.address_of(name) {
+            Some(left) if left != source => Some(left),
+            _ => None,
+        }
+    }
+
+    fn left_holder(&self, left: Option<u8>) -> Option<Name>
+        ensures { result ≡ steps.left_holder (state_of self.now) left }
+    {
+        self.node.holder(left?)
+    }
+
+    fn rebind_left(&mut self, left: Option<u8>, was: Option<Name>)
+        ensures { state_of self.new ≡ spec.after_acts (state_of self.old) (steps.changed_left was (state_of self.old) left) }
+    {
+        if let Some(left) = left {
+            self.rebind(left, was);
+        }
+    }
+
+    // Closes the set of an address whose holder changed, unless the set has the new holder's NAME or none.
+    fn rebind(&mut self, address: u8, was: Option<Name>)
+        ensures { state_of self.new ≡ spec.after_acts (state_of self.old) (steps.changed was (state_of self.old) address) }
+    {
+        let holder = self.node.holder(address);
+        if was == holder {
+            return;
+        }
+        let Some(set) = self.registry.get(address) else {
+            return;
+        };
+        if stays_under(set.name(), holder) {
+            return;
+        }
+        self.registry.close(address);
+        self.contents.remove(address);
+    }
+
+    /// Gives a set without a NAME the NAME of its address's holder.
+    fn bind(&mut self, address: u8)
+        ensures { state_of self.new ≡ spec.put address (after_claim_heard (spec.part address (state_of self.old)) (spec.part address (state_of self.old)).set) (state_of self.old) }
+    {
+        let Some(set) = self.registry.get(address) else {
+            return;
+        };
+        if set.name().is_some() {
+            return;
+        }
+        if let Some(holder) = self.node.holder(address) {
+            self.registry.bind(address, holder);
+        }
+    }
+}
+
+// Whether a set with this NAME, or without one, stays open under this holder of its address.
+fn stays_under(name: Option<Name>, holder: Option<Name>) -> bool
+    ensures { result ≡ stays_under name holder }
+{
+    name.is_none() || name == holder
+}

@@ -1,0 +1,151 @@
+//! The end of an upload: its judgement and the reply.
+
+ghost use Rattle.std.specs.Prelude.{◌≡◌, [], ◌∷◌, ◌++◌, None, Some, IfOk, List, ℕ, slice_index};
+ghost use Rattle.std.specs.Option.{option_map};
+ghost use Rattle.vt_pool.specs.Pools.{Entry, IsWantOfMemory};
+ghost use Rattle.vt_verify.specs.Rules as rules;
+ghost use Rattle.vt_server.specs.message.Judgements.{IsJudgement};
+ghost use Rattle.vt_server.specs.message.Verdicts as transfers;
+ghost use Rattle.vt_server.specs.message.Verdicts.{IsPool};
+
+use crate::OutOfMemory;
+use byteorder::{ByteOrder, LittleEndian};
+use std::alloc::{AllocError, Global};
+use vt_machine::Live;
+use vt_objects::{ObjectId, SortedStore};
+use vt_pool::{Pool, PoolFault, Reading};
+use vt_verify::{Refusal, verify, verify_update};
+
+/// The judgement of a finished upload.
+#[derive(Drop)]
+pub(crate) enum Judgement {
+    /// The new pool of the set.
+    Accepted(Box<Live<SortedStore>>),
+    /// The reply that refuses the upload.
+    Refused([u8; 8]),
+}
+
+/// The reply to an accepted upload.
+pub(crate) const ACCEPTED: [u8; 8] = [0x12, 0, 0xFF, 0xFF, 0xFF, 0xFF, 0, 0xFF];
+
+/// Judges the bytes of an upload, as an update if the set has a pool. Changes nothing.
+pub(crate) fn judge(
+    alloc: Global,
+    pool: Option<&Live<SortedStore>>,
+    transfer: &Reading,
+) -> Result<Judgement, OutOfMemory>
+    ensures { IfOk result (IsJudgement (record { pool = option_map (λ live. live.now) pool.entry; transfer = transfer.now.bytes })) }
+{
+    let read = match transfer.pool() {
+        Ok(read) => read,
+        Err(fault) => {
+            let reply = fault_reply(fault)?;
+            return Ok(Judgement::Refused(reply));
+        }
+    };
+    match pool {
+        None => judge_first(alloc, &read),
+        Some(live) => judge_update(alloc, live, &read),
+    }
+}
+
+/// Judges the first pool of a set.
+fn judge_first(alloc: Global, read: &Pool<'_>) -> Result<Judgement, OutOfMemory>
+    ensures { (bytes : List ℕ) → IsPool bytes read.now → IfOk result (IsJudgement (record { pool = None; transfer = bytes })) }
+{
+    match verify(alloc, read) {
+        Ok(accepted) => {
+            let live = Live::from_accepted(alloc, accepted)?;
+            let pool = Box::new(alloc, live)?;
+            Ok(Judgement::Accepted(pool))
+        }
+        Err(refusal) => {
+            let reply = refusal_reply(&refusal)?;
+            Ok(Judgement::Refused(reply))
+        }
+    }
+}
+
+/// Judges an update of a pool.
+fn judge_update(
+    alloc: Global,
+    live: &Live<SortedStore>,
+    read: &Pool<'_>,
+) -> Result<Judgement, OutOfMemory>
+    ensures { (bytes : List ℕ) → IsPool bytes read.now → IfOk result (IsJudgement (record { pool = Some live.now; transfer = bytes })) }
+{
+    match verify_update(alloc, live.store(), read) {
+        Ok(accepted) => {
+            let live = live.renew_from(accepted)?;
+            let pool = Box::new(alloc, live)?;
+            Ok(Judgement::Accepted(pool))
+        }
+        Err(refusal) => {
+            let reply = refusal_reply(&refusal)?;
+            Ok(Judgement::Refused(reply))
+        }
+    }
+}
+
+/// The reply to bytes that are not a pool.
+fn fault_reply(fault: PoolFault) -> Result<[u8; 8], OutOfMemory>
+    ensures named { IfOk result (λ _. IsWantOfMemory fault → ⊥) }
+    ensures reply { IfOk result (λ reply. reply ≡ transfers.end_reply (transfers.Faulty fault)) }
+{
+    let code = match fault {
+        PoolFault::OutOfMemory { .. } => return Err(AllocError),
+        PoolFault::UnknownType { .. } | PoolFault::LeftOutType { .. } => 1,
+        _ => 4,
+    };
+    Ok(refused(null(), null(), code))
+}
+
+/// The reply to a refused pool: the IDs in the refusal, and the code of the cause.
+fn refusal_reply(refusal: &Refusal) -> Result<[u8; 8], OutOfMemory>
+    ensures named { IfOk result (λ _. rules.IsWantOfMemory refusal.now → ⊥) }
+    ensures reply { IfOk result (λ reply. reply ≡ transfers.end_reply (transfers.Refuses refusal.now)) }
+{
+    Ok(match refusal {
+        Refusal::OutOfMemory => return Err(AllocError),
+        Refusal::Missing { parent, id } | Refusal::MacroMissing { parent, id } => {
+            refused(*parent, *id, 2)
+        }
+        Refusal::WrongKind { parent, id } | Refusal::MacroKind { parent, id } => {
+            refused(*parent, *id, 4)
+        }
+        Refusal::MacroBytes { id } | Refusal::OverBudget { id } => refused(null(), *id, 4),
+        Refusal::MacroCommand { id, .. } | Refusal::MacroValue { id, .. } => refused(
+            null(),
+            *id,
+            4,
+        ),
+        Refusal::MacroCircle { path } => refused(null(), first_of(path.as_slice()), 4),
+        _ => refused(null(), null(), 4),
+    })
+}
+
+/// The first macro of a circle.
+fn first_of(path: &[u8]) -> ObjectId
+    ensures { result ≡ slice_index path.now 0 }
+{
+    match path.first() {
+        Some(id) => ObjectId::from_raw(u16::from(*id)),
+        None => ObjectId::from_raw(0),
+    }
+}
+
+/// The NULL ID.
+fn null() -> ObjectId
+    ensures { result ≡ 0xFFFF }
+{
+    ObjectId::from_raw(0xFFFF)
+}
+
+fn refused(parent: ObjectId, object: ObjectId, code: u8) -> [u8; 8]
+    ensures { result ≡ transfers.refused_pool parent object code }
+{
+    let mut bytes = [0x12, 1, 0, 0, 0, 0, code, 0xFF];
+    LittleEndian::write_u16(&mut bytes[2..4], parent.raw());
+    LittleEndian::write_u16(&mut bytes[4..6], object.raw());
+    bytes
+}

@@ -1,0 +1,88 @@
+//! The operator's actions on the shown working set (docs/PROFILE.md, "The operator").
+
+ghost use Rattle.std.specs.Prelude.{◌≡◌, ◌≤◌, Some, length, IfNone};
+ghost use Rattle.vt_can.specs.lines.Actions.{action_value};
+ghost use Rattle.vt_machine.specs.OperatorEntries.{text_message};
+ghost use Rattle.vt_server.specs.operator.ActionEffects as operators;
+ghost use Rattle.vt_server.specs.operator.ActionContracts.{Performs, WouldBeRefused};
+
+use arrayvec::ArrayVec;
+use byteorder::{ByteOrder, LittleEndian};
+use vt_can::Action;
+use vt_machine::{Acted, Live, OperatorRefusal};
+use vt_objects::{Object, ObjectId, SortedStore};
+
+/// Does an action on a working set. Does nothing for `Action::Set`, which is the terminal's own action.
+pub(crate) fn act(
+    live: &mut Live<SortedStore>,
+    action: &Action<'_>,
+) -> Option<Result<Acted, OperatorRefusal>>
+    ensures { Performs live.old (action_value action.now) result live.new }
+{
+    match action {
+        Action::Press(id) => Some(live.press(ObjectId::from_raw(*id))),
+        Action::Release(id) => Some(live.release(ObjectId::from_raw(*id))),
+        Action::Select(id) => Some(live.select(ObjectId::from_raw(*id))),
+        Action::Number(id, number) => Some(live.enter_number(ObjectId::from_raw(*id), *number)),
+        Action::Text(id, text) => Some(live.enter_text(ObjectId::from_raw(*id), text)),
+        Action::Set(_) => None,
+    }
+}
+
+/// The refusal of a text on a working set, if it would be refused. Changes nothing. An accepted text has at most 255 bytes.
+pub(crate) fn text_fault(
+    live: &mut Live<SortedStore>,
+    id: u16,
+    text: &[u8],
+) -> Option<OperatorRefusal>
+    ensures fault { WouldBeRefused (Some live.old) id text.now result }
+    ensures short { IfNone result (length text.now ≤ 255) }
+    ensures same { live.new ≡ live.old }
+{
+    let id = ObjectId::from_raw(id);
+    let fault = live.text_fault(id, text);
+    if fault.is_some() {
+        return fault;
+    }
+    // An input that accepts the text has a text at least as long.
+    match live.get(id) {
+        Some(Object::InputString(input)) if text.len() <= input.text.as_slice().len() => None,
+        _ => unreachable!(),
+    }
+}
+
+/// The message of an entered text.
+pub(crate) fn text_message(id: u16, text: &[u8]) -> ArrayVec<u8, 259>
+    requires { length text.now ≤ 255 }
+    ensures { result.items ≡ text_message id text.now }
+{
+    let mut head = [8, 0, 0, text.len() as u8];
+    LittleEndian::write_u16(&mut head[1..3], id);
+    let mut message = message(&head);
+    match message.try_extend_from_slice(text) {
+        Ok(()) => message,
+        Err(_full) => unreachable!(),
+    }
+}
+
+/// A message of these bytes.
+fn message(bytes: &[u8]) -> ArrayVec<u8, 259>
+    requires { length bytes.now ≤ 259 }
+    ensures { result.items ≡ bytes.now }
+{
+    let mut message = ArrayVec::new();
+    match message.try_extend_from_slice(bytes) {
+        Ok(()) => message,
+        Err(_full) => unreachable!(),
+    }
+}
+
+/// A message of at most eight bytes, filled to eight with `FF`.
+pub(crate) fn filled(bytes: &[u8]) -> [u8; 8]
+    requires { length bytes.now ≤ 8 }
+    ensures { result ≡ operators.filled bytes.now }
+{
+    let mut message = [0xFF; 8];
+    message[..bytes.len()].copy_from_slice(bytes);
+    message
+}

@@ -1,0 +1,212 @@
+//! The pool and the upload of each address.
+
+ghost use Rattle.std.specs.Prelude.{◌≡◌, ◌≤◌, ◌+◌, ◌++◌, ◌∷◌, ◌≢◌, ℕ, [], None, Some, false, length, drop, IfOk, IfNone, IsSome, OnOk, OnErr};
+ghost use Rattle.std.specs.Option.{option_map};
+ghost use Rattle.vt_stores.specs.Stores.{map_of};
+ghost use Rattle.vt_server.specs.message.CommandEffects.{content_after, error_after};
+ghost use Rattle.vt_can.specs.lines.Actions.{action_value};
+ghost use Rattle.vt_server.specs.operator.ActionContracts.{IsActedOn, WouldBeRefused};
+ghost use Rattle.vt_server.specs.message.Judgements.{IsJudgement, IsEnded};
+ghost use Rattle.vt_server.specs.state.AddressViews.{raised_on};
+ghost use Rattle.vt_server.specs.state.AddressStates.{no_content, with_piece};
+ghost use Rattle.vt_node.specs.AddressFunctions.{with_at};
+ghost use Rattle.vt_server.specs.state.PoolTables.{content_of, room_of};
+
+use crate::OutOfMemory;
+use crate::message::end_of_pool::{ACCEPTED, Judgement, judge};
+use crate::message::replies::{deletes, error_byte};
+use crate::operator::actions::{act, text_fault};
+use std::alloc::Global;
+use std::marker::Model;
+use vt_can::Action;
+use vt_machine::{Acted, Live, OperatorRefusal};
+use vt_objects::{Command, SortedStore};
+use vt_pool::Reading;
+
+/// At most one pool and one upload for each of the 256 addresses.
+#[derive(Drop)]
+pub(crate) struct PoolTable {
+    pools: [Option<Live<SortedStore>>; 256],
+    transfers: [Option<Reading>; 256],
+    // Whether some address may have a pool.
+    may_have_pools: bool,
+}
+
+impl Model for PoolTable {
+    ghost use Rattle.vt_server.specs.state.PoolTables.{Kept, kept_code, AreKept};
+
+    ghost Value = { Kept };
+
+    ghost coded = { kept_code };
+
+    ghost view = { λ c. record { pools = c.pools; transfers = c.transfers } };
+
+    ghost invariant = { λ c. AreKept c.pools c.transfers c.may_have_pools };
+}
+
+impl PoolTable {
+    pub(crate) fn new() -> PoolTable
+        ensures { (address : ℕ) → content_of result address ≡ no_content }
+    {
+        PoolTable {
+            pools: Default::default(),
+            transfers: Default::default(),
+            may_have_pools: false,
+        }
+    }
+
+    /// Whether some address may have a pool. False only if none has.
+    pub(crate) fn may_have_pools(&self) -> bool
+        ensures { result ≡ false → (address : ℕ) → (content_of self.now address).pool ≡ None }
+    {
+        self.may_have_pools
+    }
+
+    pub(crate) fn pool(&self, address: u8) -> Option<&Live<SortedStore>>
+        ensures { option_map (λ live. live.now) result ≡ (content_of self.now address).pool }
+    {
+        self.pools[usize::from(address)].as_ref()
+    }
+
+    /// Gives an address a pool and ends its upload.
+    pub(crate) fn put(&mut self, address: u8, pool: Live<SortedStore>)
+        ensures { content_of self.new ≡ with_at address (record { pool = Some pool; transfer = [] }) (content_of self.old) }
+    {
+        self.may_have_pools = true;
+        self.pools[usize::from(address)] = Some(pool);
+        self.transfers[usize::from(address)] = None;
+    }
+
+    /// Removes the pool and the upload of an address.
+    pub(crate) fn remove(&mut self, address: u8)
+        ensures content { content_of self.new ≡ with_at address no_content (content_of self.old) }
+        ensures rooms { (other : ℕ) → other ≢ address → room_of self.new other ≡ room_of self.old other }
+    {
+        self.pools[usize::from(address)] = None;
+        self.transfers[usize::from(address)] = None;
+    }
+
+    /// Runs a command on the pool of an address and returns the error byte of its reply. Returns `None` if there is no pool,
+    /// except for Delete Object Pool, which is done without one too.
+    pub(crate) fn apply(&mut self, address: u8, command: &Command<'_>) -> Option<u8>
+        ensures content { content_of self.new
+            ≡ with_at address (content_after command.now (content_of self.old address)) (content_of self.old) }
+        ensures error { result ≡ error_after command.now (content_of self.old address).pool }
+    {
+        if deletes(command) {
+            self.remove(address);
+            return Some(0);
+        }
+        let pool = self.pools[usize::from(address)].as_mut()?;
+        Some(error_byte(pool.apply(command)))
+    }
+
+    /// Reserves capacity for `count` more bytes in the upload of an address.
+    pub(crate) fn reserve(
+        &mut self,
+        alloc: Global,
+        address: u8,
+        count: usize,
+    ) -> Result<(), OutOfMemory>
+        ensures same { content_of self.new ≡ content_of self.old }
+        ensures ok { OnOk result (count ≤ room_of self.new address) }
+    {
+        let place = &mut self.transfers[usize::from(address)];
+        match place {
+            Some(transfer) => transfer.reserve(count),
+            None => {
+                let mut transfer = Reading::new(alloc);
+                transfer.reserve(count)?;
+                *place = Some(transfer);
+                Ok(())
+            }
+        }
+    }
+
+    /// Appends the bytes of a piece from index `from` on to the upload of an address, which has capacity for them.
+    pub(crate) fn feed(&mut self, address: u8, piece: Vec<u8>, from: usize)
+        requires from { from ≤ length piece.items }
+        requires room { length piece.items ≤ from + room_of self.old address }
+        ensures { content_of self.new ≡ with_at address (with_piece (content_of self.old address) (drop from piece.items)) (content_of self.old) }
+    {
+        let Some(transfer) = self.transfers[usize::from(address)].as_mut() else {
+            return;
+        };
+        match transfer.feed(piece, from) {
+            Ok(()) => {}
+            Err(_) => unreachable!(),
+        }
+    }
+
+    /// Judges the upload of an address. Changes nothing.
+    pub(crate) fn judge(&self, alloc: Global, address: u8) -> Result<Judgement, OutOfMemory>
+        ensures { IfOk result (IsJudgement (content_of self.now address)) }
+    {
+        let pool = self.pools[usize::from(address)].as_ref();
+        match &self.transfers[usize::from(address)] {
+            Some(transfer) => judge(alloc, pool, transfer),
+            None => judge(alloc, pool, &Reading::new(alloc)),
+        }
+    }
+
+    /// Ends the upload of an address by its judgement and returns the reply.
+    pub(crate) fn end(&mut self, address: u8, judgement: Judgement) -> [u8; 8]
+        requires { IsJudgement (content_of self.old address) judgement }
+        ensures { IsEnded (content_of self.old) address judgement result (content_of self.new) }
+    {
+        match judgement {
+            Judgement::Accepted(boxed) => {
+                let pool = Box::into_inner(boxed);
+                self.put(address, pool);
+                ACCEPTED
+            }
+            Judgement::Refused(reply) => {
+                self.transfers[usize::from(address)] = None;
+                reply
+            }
+        }
+    }
+
+    /// Raises an event of the Working Set at an address, if it has a pool.
+    pub(crate) fn raise(&mut self, address: u8, event: u8)
+        ensures { content_of self.new ≡ with_at address (record (content_of self.old address) { pool = option_map (λ state. raised_on state event) (content_of self.old address).pool }) (content_of self.old) }
+    {
+        match &mut self.pools[usize::from(address)] {
+            Some(live) => {
+                let id = live.working_set();
+                let _steps = live.raise(id, event);
+            }
+            None => {}
+        }
+    }
+
+    /// Does an action of the operator on the set at an address.
+    pub(crate) fn act(
+        &mut self,
+        address: u8,
+        action: &Action<'_>,
+    ) -> Option<Result<Acted, OperatorRefusal>>
+        ensures { IsActedOn (content_of self.old) address (action_value action.now) result (content_of self.new) }
+    {
+        let Some(live) = &mut self.pools[usize::from(address)] else {
+            return None;
+        };
+        act(live, action)
+    }
+
+    /// The refusal of a text on the set at an address, if it would be refused. Changes nothing. An accepted text has at most 255
+    /// bytes.
+    pub(crate) fn text_fault(
+        &mut self,
+        address: u8,
+        id: u16,
+        text: &[u8],
+    ) -> Option<OperatorRefusal>
+        ensures fault { WouldBeRefused (content_of self.old address).pool id text.now result }
+        ensures short { IsSome (content_of self.old address).pool → IfNone result (length text.now ≤ 255) }
+        ensures same { content_of self.new ≡ content_of self.old }
+    {
+        let live = self.pools[usize::from(address)].as_mut()?;
+        text_fault(live, id, text)
+    }
+}

@@ -1,0 +1,7 @@
+-- Lemmas, by subject.
+pub mod budgets
+pub mod graphs
+pub mod macros
+pub mod references
+pub mod rules
+pub mod stores

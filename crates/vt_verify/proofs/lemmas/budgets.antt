@@ -1,0 +1,4 @@
+-- Lemmas on budgets.
+pub mod EventBudgets
+pub mod FirstOverBudget
+pub mod ReportLines

@@ -1,0 +1,3 @@
+-- Lemmas on macros.
+pub mod CommandTests
+pub mod MacroBytes

@@ -1,0 +1,3 @@
+-- Lemmas on references.
+pub mod IncludedObjectsExist
+pub mod ReferenceTests

@@ -1,0 +1,3 @@
+-- Lemmas on stores.
+pub mod DistinctIds
+pub mod UpdatedStore
