@@ -3,6 +3,7 @@
 #![tactic(auto)]
 
 use std::io::{self, BufWriter, Write};
+use vt_logs::{Sink, Stream};
 use vt_program::{Files, run};
 
 /// The words of each run, the program's name first.
@@ -47,7 +48,7 @@ const RUNS: [&[&str]; 23] = [
 ];
 
 fn main(rt: HostRuntime) -> io::Result<()> {
-    let mut out = BufWriter::new(rt.alloc(), io::writer(&rt))?;
+    let mut out = Stream::new(BufWriter::new(rt.alloc(), io::writer(&rt))?);
     for words in &RUNS {
         run_words(&rt, words, &mut out)?;
     }
@@ -55,7 +56,7 @@ fn main(rt: HostRuntime) -> io::Result<()> {
 }
 
 /// Prints a run as a command line shows it: its words, its output, its messages and its status.
-fn run_words<W: Write>(rt: &HostRuntime, words: &[&str], out: &mut W) -> io::Result<()> {
+fn run_words<W: Sink>(rt: &HostRuntime, words: &[&str], out: &mut W) -> io::Result<()> {
     let mut messages = Vec::new(rt.alloc());
     write!(out, "$")?;
     for word in words {

@@ -1,5 +1,5 @@
 -- How far a replay has come.
-use Rattle.std.specs.Prelude.{◌≡◌, ◌⊎◌, ◌≤◌, ◌==◌, ◌+◌, ℕ, not, List, ◌++◌, length, Option}
+use Rattle.std.specs.Prelude.{◌≡◌, ◌≢◌, ◌⊎◌, ◌≤◌, Bool, true, ◌==◌, ◌+◌, ℕ, not, List, ◌++◌, length, Option}
 use Rattle.std.specs.List.{AllZip, AllByRecursion, AllPass}
 use Rattle.std.specs.Io.KnownBytes.{Appends}
 use Rattle.vt_can.specs.lines.Line.{Reads}
@@ -56,13 +56,13 @@ pub record Takes (from : ReplayPoint) (lines : List (List ℕ)) (to : ReplayPoin
   pub counts : to.counts ≡ with_lines from.counts readings
   pub text : Appends from.held to.held printed
 
--- why what a line says is not taken to its end
-abbrev pub IsStepFault : ReplayFault → Type 0
-IsStepFault fault = (fault ≡ Memory) ⊎ (fault ≡ Write)
+-- Why what a line says is not taken to its end. No write to a steady sink fails.
+abbrev pub IsStepFault : (steady : Bool) → ReplayFault → Type 0
+IsStepFault steady fault = (fault ≡ Memory) ⊎ ((fault ≡ Write) × (steady ≢ true))
 
--- why a line is not taken to its end
-abbrev pub IsLineFault : ReplayFault → Type 0
-IsLineFault fault = (fault ≡ TooLong) ⊎ IsStepFault fault
+-- Why a line is not taken to its end.
+abbrev pub IsLineFault : (steady : Bool) → ReplayFault → Type 0
+IsLineFault steady fault = (fault ≡ TooLong) ⊎ IsStepFault steady fault
 
 abbrev pub HasNoNewline : List ℕ → Type 0
 HasNoNewline text = AllPass (λ byte. not (byte == 10)) text

@@ -1,8 +1,10 @@
 -- A whole replay.
-use Rattle.std.specs.Prelude.{◌≡◌, ◌≤◌, ◌<◌, ℕ, List, ◌∷◌, ◌++◌, length}
+use Rattle.std.specs.Prelude.{◌≡◌, ◌≢◌, ◌≤◌, ◌<◌, ℕ, Bool, true, List, ◌∷◌, ◌++◌, length, Option, IfSome}
 use Rattle.std.specs.List.{AllZip, AllByRecursion}
 use Rattle.vt_can.specs.lines.Line.{Reads}
 use Rattle.vt_logs.specs.declared.counts.Counts.{Counts}
+use Rattle.vt_logs.specs.declared.fault.ReplayFault.{ReplayFault}
+use Rattle.vt_logs.specs.declared.fault.ReplayFault.TheVariants.{Memory, Read, TooLong, Write}
 use Rattle.vt_logs.specs.Lines.{lines_of}
 use Rattle.vt_logs.specs.Taken.{ReplayState, TakesReadings}
 use Rattle.vt_logs.specs.Texts.{LineReading, with_lines, no_counts, counts_text}
@@ -35,3 +37,11 @@ pub record HasLong (lines : List (List ℕ)) : Type 0 where
 
 abbrev pub HasLongLine : List ℕ → Type 0
 HasLongLine input = HasLong (lines_of input)
+
+-- The faults with which the replay of a log may end. No read of a steady source fails, and no write to a steady sink; 1,000,000,000
+-- reads end any log of fewer bytes.
+abbrev pub MayEndWith : (source sink : Bool) → (log : Option (List ℕ)) → ReplayFault → Type 0
+MayEndWith source sink log Read = source ≡ true → IfSome log (λ input. 1000000000 ≤ length input)
+MayEndWith source sink log Write = sink ≢ true
+MayEndWith source sink log Memory = Unit {0}
+MayEndWith source sink log TooLong = IfSome log HasLongLine

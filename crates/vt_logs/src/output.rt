@@ -5,12 +5,14 @@ ghost use Rattle.std.specs.Fmt.{decimal};
 ghost use Rattle.std.specs.List.{flat_map};
 ghost use Rattle.std.specs.Io.KnownBytes.{Appends, Keeps};
 ghost use Rattle.vt_logs.specs.Begun.{Begins};
+ghost use Rattle.vt_logs.specs.Progress.{IsStepFault};
 ghost use Rattle.vt_logs.specs.Texts.{output_text, refusal_name, fault_text, fault_name, counts_text};
 
 use crate::counts::Counts;
 use crate::fault::ReplayFault;
+use crate::streams::Sink;
 use itoa::Buffer;
-use std::io::{ErrorKind, Write};
+use std::io::ErrorKind;
 use vt_can::{LineFault, write_frame};
 use vt_server::{OperatorFault, Output};
 
@@ -18,10 +20,10 @@ use vt_server::{OperatorFault, Output};
 const WRITES: u32 = 1_000_000_000;
 
 /// Writes what the terminal sends, in its order.
-pub fn put_outputs<W: Write>(outputs: &[Output], writer: &mut W) -> Result<(), ReplayFault>
+pub fn put_outputs<W: Sink>(outputs: &[Output], writer: &mut W) -> Result<(), ReplayFault>
     ensures text { OnOk result (Appends (W.contents writer.old) (W.contents writer.new) (flat_map output_text outputs.now)) }
     ensures front { OnErr result (Begins (W.contents writer.old) (W.contents writer.new) (flat_map output_text outputs.now)) }
-    ensures fault { IfErr result (λ fault. fault ≡ ReplayFault.Write) }
+    ensures fault { IfErr result (IsStepFault W.steady) }
 {
     for output in outputs {
         put_output(output, writer)?;
@@ -30,10 +32,10 @@ pub fn put_outputs<W: Write>(outputs: &[Output], writer: &mut W) -> Result<(), R
 }
 
 /// Writes a frame, or a refusal to the operator, on a line of its own.
-fn put_output<W: Write>(output: &Output, writer: &mut W) -> Result<(), ReplayFault>
+fn put_output<W: Sink>(output: &Output, writer: &mut W) -> Result<(), ReplayFault>
     ensures text { OnOk result (Appends (W.contents writer.old) (W.contents writer.new) (output_text output.now)) }
     ensures front { OnErr result (Begins (W.contents writer.old) (W.contents writer.new) (output_text output.now)) }
-    ensures fault { IfErr result (λ fault. fault ≡ ReplayFault.Write) }
+    ensures fault { IfErr result (IsStepFault W.steady) }
 {
     match output {
         Output::Frame(frame) => {
@@ -66,10 +68,10 @@ fn refusal_name(fault: OperatorFault) -> &'static str
 }
 
 /// Writes that line `number` is faulty.
-pub fn put_fault<W: Write>(number: u64, fault: LineFault, writer: &mut W) -> Result<(), ReplayFault>
+pub fn put_fault<W: Sink>(number: u64, fault: LineFault, writer: &mut W) -> Result<(), ReplayFault>
     ensures text { OnOk result (Appends (W.contents writer.old) (W.contents writer.new) (fault_text number fault)) }
     ensures front { OnErr result (Begins (W.contents writer.old) (W.contents writer.new) (fault_text number fault)) }
-    ensures fault { IfErr result (λ fault. fault ≡ ReplayFault.Write) }
+    ensures fault { IfErr result (IsStepFault W.steady) }
 {
     put(b"line ", writer)?;
     put_number(number, writer)?;
@@ -79,10 +81,10 @@ pub fn put_fault<W: Write>(number: u64, fault: LineFault, writer: &mut W) -> Res
 }
 
 /// Writes the counts.
-pub fn put_counts<W: Write>(counts: &Counts, writer: &mut W) -> Result<(), ReplayFault>
+pub fn put_counts<W: Sink>(counts: &Counts, writer: &mut W) -> Result<(), ReplayFault>
     ensures text { OnOk result (Appends (W.contents writer.old) (W.contents writer.new) (counts_text counts.now)) }
     ensures front { OnErr result (Begins (W.contents writer.old) (W.contents writer.new) (counts_text counts.now)) }
-    ensures fault { IfErr result (λ fault. fault ≡ ReplayFault.Write) }
+    ensures fault { IfErr result (IsStepFault W.steady) }
 {
     put_count("lines ", counts.lines, writer)?;
     put_count(" frames ", counts.frames, writer)?;
@@ -93,51 +95,54 @@ pub fn put_counts<W: Write>(counts: &Counts, writer: &mut W) -> Result<(), Repla
     put(b"\n", writer)
 }
 
-fn put_count<W: Write>(label: &str, count: u64, writer: &mut W) -> Result<(), ReplayFault>
+fn put_count<W: Sink>(label: &str, count: u64, writer: &mut W) -> Result<(), ReplayFault>
     ensures text { OnOk result (Appends (W.contents writer.old) (W.contents writer.new) (label.now ++ decimal count)) }
     ensures front { OnErr result (Begins (W.contents writer.old) (W.contents writer.new) (label.now ++ decimal count)) }
-    ensures fault { IfErr result (λ fault. fault ≡ ReplayFault.Write) }
+    ensures fault { IfErr result (IsStepFault W.steady) }
 {
     put(label.as_bytes(), writer)?;
     put_number(count, writer)
 }
 
-fn put_number<W: Write>(number: u64, writer: &mut W) -> Result<(), ReplayFault>
+fn put_number<W: Sink>(number: u64, writer: &mut W) -> Result<(), ReplayFault>
     ensures text { OnOk result (Appends (W.contents writer.old) (W.contents writer.new) (decimal number)) }
     ensures front { OnErr result (Begins (W.contents writer.old) (W.contents writer.new) (decimal number)) }
-    ensures fault { IfErr result (λ fault. fault ≡ ReplayFault.Write) }
+    ensures fault { IfErr result (IsStepFault W.steady) }
 {
     put(Buffer::new().format(number).as_bytes(), writer)
 }
 
 /// Writes bytes as they are. It writes piece by piece, so that also after a fault it is known what stands written: the
 /// first of them.
-pub fn put<W: Write>(bytes: &[u8], writer: &mut W) -> Result<(), ReplayFault>
+pub fn put<W: Sink>(bytes: &[u8], writer: &mut W) -> Result<(), ReplayFault>
     ensures text { OnOk result (Appends (W.contents writer.old) (W.contents writer.new) bytes.now) }
     ensures front { OnErr result (Begins (W.contents writer.old) (W.contents writer.new) bytes.now) }
-    ensures fault { IfErr result (λ fault. fault ≡ ReplayFault.Write) }
+    ensures fault { IfErr result (IsStepFault W.steady) }
 {
     let mut rest = bytes;
     for _ in 0..WRITES {
         if rest.is_empty() {
             return Ok(());
         }
-        match writer.write(rest) {
+        match writer.write_some(rest) {
             Ok(0) => return Err(ReplayFault::Write),
             Ok(count) => rest = &rest[count..],
-            Err(fault) if fault.kind() == ErrorKind::Interrupted => {}
-            Err(_) => return Err(ReplayFault::Write),
+            Err(fault) => match fault.kind() {
+                ErrorKind::Interrupted => {}
+                ErrorKind::OutOfMemory => return Err(ReplayFault::Memory),
+                _ => return Err(ReplayFault::Write),
+            },
         }
     }
     Err(ReplayFault::Write)
 }
 
 /// Writes out what the writer holds back.
-pub fn flush<W: Write>(writer: &mut W) -> Result<(), ReplayFault>
+pub fn flush<W: Sink>(writer: &mut W) -> Result<(), ReplayFault>
     ensures kept { Keeps (W.contents writer.old) (W.contents writer.new) }
-    ensures fault { IfErr result (λ fault. fault ≡ ReplayFault.Write) }
+    ensures fault { IfErr result (IsStepFault W.steady) }
 {
-    writer.flush().map_err(|_| ReplayFault::Write)
+    writer.write_out().map_err(|_| ReplayFault::Write)
 }
 
 /// The name of a fault.

@@ -13,10 +13,11 @@ ghost use Rattle.vt_server.specs.States.{state_of};
 
 use crate::counts::Counts;
 use crate::fault::ReplayFault;
+use crate::notes::Notes;
 use crate::output::{put, put_fault, put_outputs};
+use crate::streams::Sink;
 use arrayvec::ArrayVec;
 use std::alloc::Global;
-use std::io::Write;
 use std::mem;
 use vt_can::{Line, LineFault, parse_line};
 use vt_server::{Input, Output, Terminal};
@@ -37,6 +38,8 @@ pub struct Progress {
     pub screen: Vec<u8>,
     /// Room for the next one.
     pub drawn: Vec<u8>,
+    /// What is noted for messages to people.
+    pub notes: Notes,
 }
 
 impl Progress {
@@ -52,29 +55,34 @@ impl Progress {
             outputs: Vec::new(alloc),
             screen: Vec::new(alloc),
             drawn: Vec::new(alloc),
+            notes: Notes::new(),
         }
     }
 
+    /// The notes of the lines taken.
+    pub fn into_notes(self) -> Notes {
+        let mut notes = self.notes;
+        notes.lines = self.counts.lines;
+        notes.faults = self.counts.faults;
+        notes
+    }
+
     /// Prints the first screen.
-    pub fn begin<W: Write>(
-        &mut self,
-        terminal: &Terminal,
-        writer: &mut W,
-    ) -> Result<(), ReplayFault>
+    pub fn begin<W: Sink>(&mut self, terminal: &Terminal, writer: &mut W) -> Result<(), ReplayFault>
         requires first { self.old.screen.items ≡ [] }
         ensures drawn { OnOk result (IsScreenOf (state_of terminal.now) self.new.screen.items) }
         ensures text { OnOk result (Appends (W.contents writer.old) (W.contents writer.new) self.new.screen.items) }
         ensures counts { self.new.counts ≡ self.old.counts }
         ensures pending { self.new.pending ≡ self.old.pending }
         ensures front { OnErr result (MayBegin (IsScreenOf (state_of terminal.now)) (W.contents writer.old) (W.contents writer.new)) }
-        ensures fault { IfErr result IsStepFault }
+        ensures fault { IfErr result (IsStepFault W.steady) }
     {
         terminal.screen(&mut self.screen)?;
         put(&self.screen, writer)
     }
 
     /// Takes the lines that end in a chunk, and keeps what has come of the next.
-    pub fn take_chunk<W: Write>(
+    pub fn take_chunk<W: Sink>(
         &mut self,
         chunk: &[u8],
         terminal: &mut Terminal,
@@ -92,7 +100,7 @@ impl Progress {
             (lines_of (self.old.pending.items ++ chunk.now ++ rest)) (state_of terminal.new) (W.contents writer.new)) }
         ensures too_long { IsErrOf result ReplayFault.TooLong → (rest : List ℕ) → StopsAtLong (stand terminal.old self.old.screen.items self.old.counts (W.contents writer.old))
             (lines_of (self.old.pending.items ++ chunk.now ++ rest)) (state_of terminal.new) (W.contents writer.new) }
-        ensures fault { IfErr result IsLineFault }
+        ensures fault { IfErr result (IsLineFault W.steady) }
     {
         let mut rest = chunk;
         while let Some((line, after)) = cut_line(rest) {
@@ -103,7 +111,7 @@ impl Progress {
     }
 
     /// Takes the last line, if it lacks its newline.
-    pub fn end_log<W: Write>(
+    pub fn end_log<W: Sink>(
         &mut self,
         terminal: &mut Terminal,
         writer: &mut W,
@@ -118,7 +126,7 @@ impl Progress {
             (lines_of self.old.pending.items) (state_of terminal.new) (W.contents writer.new)) }
         ensures too_long { IsErrOf result ReplayFault.TooLong → 4096 < length self.old.pending.items }
         ensures stay { IsErrOf result ReplayFault.TooLong → (state_of terminal.new ≡ state_of terminal.old) × (W.contents writer.new ≡ W.contents writer.old) }
-        ensures fault { IfErr result IsLineFault }
+        ensures fault { IfErr result (IsLineFault W.steady) }
     {
         if self.pending.is_empty() {
             return Ok(());
@@ -141,7 +149,7 @@ impl Progress {
     }
 
     /// Takes the line that ends with a part. Nothing is pending then.
-    fn end_line<W: Write>(
+    fn end_line<W: Sink>(
         &mut self,
         part: &[u8],
         terminal: &mut Terminal,
@@ -157,7 +165,7 @@ impl Progress {
             ((self.old.pending.items ++ part.now) ∷ []) (state_of terminal.new) (W.contents writer.new)) }
         ensures too_long { IsErrOf result ReplayFault.TooLong → 4096 < length (self.old.pending.items ++ part.now) }
         ensures stay { IsErrOf result ReplayFault.TooLong → (state_of terminal.new ≡ state_of terminal.old) × (W.contents writer.new ≡ W.contents writer.old) }
-        ensures fault { IfErr result IsLineFault }
+        ensures fault { IfErr result (IsLineFault W.steady) }
     {
         if !self.pending.is_empty() {
             self.keep(part)?;
@@ -170,7 +178,7 @@ impl Progress {
         self.take_line(part, terminal, writer)
     }
 
-    fn take_line<W: Write>(
+    fn take_line<W: Sink>(
         &mut self,
         line: &[u8],
         terminal: &mut Terminal,
@@ -185,15 +193,18 @@ impl Progress {
         ensures pending { self.new.pending ≡ self.old.pending }
         ensures stopped { OnErr result (Stops (stand terminal.old self.old.screen.items self.old.counts (W.contents writer.old))
             (line.now ∷ []) (state_of terminal.new) (W.contents writer.new)) }
-        ensures fault { IfErr result IsStepFault }
+        ensures fault { IfErr result (IsStepFault W.steady) }
     {
         let reading = parse_line(line);
+        if let Err(fault) = &reading {
+            self.notes.add_fault(self.counts.lines + 1, *fault, line);
+        }
         self.take_reading(reading, terminal, writer)
     }
 
     /// What a line does: the terminal takes a frame or an action of the operator, a fault is written, and all lines
     /// are counted.
-    fn take_reading<W: Write>(
+    fn take_reading<W: Sink>(
         &mut self,
         reading: Result<Line<'_>, LineFault>,
         terminal: &mut Terminal,
@@ -209,7 +220,7 @@ impl Progress {
             (W.contents writer.old) (W.contents writer.new)) }
         ensures counts { self.new.counts ≡ with_line self.old.counts (reading_of reading.entry) }
         ensures pending { self.new.pending ≡ self.old.pending }
-        ensures fault { IfErr result IsStepFault }
+        ensures fault { IfErr result (IsStepFault W.steady) }
     {
         self.counts.lines += 1;
         match reading {
@@ -237,7 +248,7 @@ impl Progress {
     }
 
     /// The terminal takes an input, and what it sends is written, and its screen, where that is new.
-    fn take_input<W: Write>(
+    fn take_input<W: Sink>(
         &mut self,
         input: &Input<'_>,
         terminal: &mut Terminal,
@@ -251,10 +262,11 @@ impl Progress {
             (W.contents writer.old) (W.contents writer.new)) }
         ensures counts { self.new.counts ≡ self.old.counts }
         ensures pending { self.new.pending ≡ self.old.pending }
-        ensures fault { IfErr result IsStepFault }
+        ensures fault { IfErr result (IsStepFault W.steady) }
     {
         self.outputs.clear();
         terminal.step(input, &mut self.outputs)?;
+        self.notes.add_refusals(self.counts.lines, &self.outputs);
         let is_new = self.draw(terminal)?;
         put_outputs(&self.outputs, writer)?;
         if is_new {

@@ -11,13 +11,15 @@ ghost use Rattle.vt_pool.specs.Pools.{contents};
 ghost use Rattle.vt_server.specs.States.{state_of};
 
 use crate::options::{Options, Preload, UsageError};
-use crate::sentences::{FaultSentence, Named, RefusalSentence};
+use crate::sentences::{
+    FaultSentence, FaultyLines, Named, RefusalSentence, RefusedAction, ReplaySentence,
+};
 use std::alloc::{AllocError, Global};
 use std::convert::AsStr;
 use std::fmt;
 use std::io::{self, Read, Write};
 use vt_kinds::{Kind, ObjectId};
-use vt_logs::{ReplayFault, replay};
+use vt_logs::{Notes, ReplayFault, Sink, Stream, replay_with_notes};
 use vt_pool::{Pool, PoolFault, read_pool};
 use vt_server::Terminal;
 use vt_verify::{Accepted, verify};
@@ -71,7 +73,10 @@ enum Fault<'a> {
         named: Named,
     },
     Memory,
-    Replay(ReplayFault),
+    Replay {
+        why: ReplayFault,
+        cause: Option<io::Error>,
+    },
 }
 
 impl fmt::Display for Fault<'_> {
@@ -83,7 +88,7 @@ impl fmt::Display for Fault<'_> {
             Fault::Pool(fault) => write!(f, "{fault}"),
             Fault::Refused { why, named: _ } => write!(f, "{why}"),
             Fault::Memory => write!(f, "out of memory"),
-            Fault::Replay(fault) => write!(f, "{fault}"),
+            Fault::Replay { why, cause: _ } => write!(f, "{why}"),
         }
     }
 }
@@ -96,9 +101,17 @@ impl From<AllocError> for Fault<'_> {
     }
 }
 
+/// The names of the files for messages, and the lines of the log that were taken.
+#[derive(Clone, Copy)]
+struct About<'a> {
+    pool: &'a str,
+    log: &'a str,
+    lines: u64,
+}
+
 /// Runs the program on its words, of which the first is its name. The fault or the refusal of a pool is printed to `out`;
 /// every other fault is named on `errors`, and the status is the same where that cannot be written.
-pub fn run<S: AsStr, F: Open, W: Write, E: Write>(
+pub fn run<S: AsStr, F: Open, W: Sink, E: Write>(
     alloc: Global,
     words: &[S],
     files: &mut F,
@@ -116,16 +129,23 @@ pub fn run<S: AsStr, F: Open, W: Write, E: Write>(
     if options.report {
         return print_report(alloc, options.file, files, out, errors);
     }
-    match replay_log(alloc, &options, files, out) {
+    let mut notes = Notes::new();
+    let result = replay_log(alloc, &options, files, out, &mut notes);
+    print_notes(&notes, options.file, errors);
+    match result {
         Ok(()) => Ok(Status::Done),
         Err(fault) => {
-            let pool = options.preload.as_ref().map_or("", |preload| preload.pool);
-            print_fault(&fault, pool, out, errors)
+            let about = About {
+                pool: options.preload.as_ref().map_or("", |preload| preload.pool),
+                log: options.file,
+                lines: notes.lines,
+            };
+            print_fault(&fault, &about, out, errors)
         }
     }
 }
 
-fn refuse<W: Write, E: Write>(
+fn refuse<W: Sink, E: Write>(
     refusal: &UsageError,
     out: &mut W,
     errors: &mut E,
@@ -149,9 +169,9 @@ fn refuse<W: Write, E: Write>(
 }
 
 /// Prints the fault or the refusal of the pool of a path, and says it in words on `errors`, as any other fault.
-fn print_fault<W: Write, E: Write>(
+fn print_fault<W: Sink, E: Write>(
     fault: &Fault<'_>,
-    pool: &str,
+    about: &About<'_>,
     out: &mut W,
     errors: &mut E,
 ) -> io::Result<Status>
@@ -164,7 +184,7 @@ fn print_fault<W: Write, E: Write>(
             writeln!(out, "{fault}")?;
             out.flush()?;
             let sentence = FaultSentence { fault };
-            let _ = writeln!(errors, "vt_replay: {pool}: {sentence}");
+            let _ = writeln!(errors, "vt_replay: {}: {sentence}", about.pool);
         }
         Fault::Refused { why, named } => {
             writeln!(out, "{why}")?;
@@ -173,7 +193,16 @@ fn print_fault<W: Write, E: Write>(
                 refusal: why,
                 named: *named,
             };
-            let _ = writeln!(errors, "vt_replay: {pool}: {sentence}");
+            let _ = writeln!(errors, "vt_replay: {}: {sentence}", about.pool);
+        }
+        Fault::Replay { why, cause } => {
+            let sentence = ReplaySentence {
+                why: *why,
+                log: about.log,
+                lines: about.lines,
+                cause: cause.as_ref().or(out.cause()),
+            };
+            let _ = writeln!(errors, "vt_replay: {sentence}");
         }
         _ => {
             let _ = writeln!(errors, "vt_replay: {fault}");
@@ -182,8 +211,23 @@ fn print_fault<W: Write, E: Write>(
     Ok(Status::Fault)
 }
 
+/// Says which lines of a log are faulty, and which actions of the operator were refused.
+fn print_notes<E: Write>(notes: &Notes, log: &str, errors: &mut E) {
+    if let Some(first) = notes.first_fault {
+        let sentence = FaultyLines { notes, first };
+        let _ = writeln!(errors, "vt_replay: {log}: {sentence}");
+        if let Some(hint) = first.hint {
+            let _ = writeln!(errors, "vt_replay: {log}: {hint}");
+        }
+    }
+    for refused in notes.refused.iter().flatten() {
+        let sentence = RefusedAction { refused };
+        let _ = writeln!(errors, "vt_replay: {log}: {sentence}");
+    }
+}
+
 /// Prints the report of the pool in a file.
-fn print_report<F: Open, W: Write, E: Write>(
+fn print_report<F: Open, W: Sink, E: Write>(
     alloc: Global,
     path: &str,
     files: &mut F,
@@ -199,7 +243,14 @@ fn print_report<F: Open, W: Write, E: Write>(
             out.flush()?;
             Ok(Status::Done)
         }
-        Err(fault) => print_fault(&fault, path, out, errors),
+        Err(fault) => {
+            let about = About {
+                pool: path,
+                log: path,
+                lines: 0,
+            };
+            print_fault(&fault, &about, out, errors)
+        }
     }
 }
 
@@ -214,11 +265,12 @@ fn report<'a, F: Open>(alloc: Global, path: &'a str, files: &mut F) -> Result<Ve
     Ok(text)
 }
 
-fn replay_log<'a, F: Open, W: Write>(
+fn replay_log<'a, F: Open, W: Sink>(
     alloc: Global,
     options: &Options<'a>,
     files: &mut F,
     out: &mut W,
+    notes: &mut Notes,
 ) -> Result<(), Fault<'a>>
     requires { AreApart options.now }
     ensures replayed { OnOk result (HasReplayed (F.file files.old) options.now (W.contents out.old) (W.contents out.new)) }
@@ -232,16 +284,22 @@ fn replay_log<'a, F: Open, W: Write>(
     }
     let path = options.file;
     let mut log = match files.open(path) {
-        Ok(log) => log,
+        Ok(log) => Stream::new(log),
         Err(cause) => return Err(Fault::File { path, cause }),
     };
-    match replay(alloc, &mut log, out, &mut terminal) {
+    match replay_with_notes(alloc, &mut log, out, &mut terminal, notes) {
         Ok(_counts) => {}
-        Err(fault) => return Err(Fault::Replay(fault)),
+        Err(why) => {
+            let cause = log.into_failure();
+            return Err(Fault::Replay { why, cause });
+        }
     }
     match out.flush() {
         Ok(()) => Ok(()),
-        Err(_) => Err(Fault::Replay(ReplayFault::Write)),
+        Err(_) => Err(Fault::Replay {
+            why: ReplayFault::Write,
+            cause: None,
+        }),
     }
 }
 

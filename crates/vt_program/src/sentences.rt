@@ -1,7 +1,8 @@
-//! What the error output says of a pool in words: the file, the place, the cause, and where the cure stands.
+//! Sentences for the error output: the place in a file, the cause, and where the cure stands.
 
-use std::fmt;
+use std::{fmt, io};
 use vt_kinds::{Kind, ObjectId};
+use vt_logs::{FaultyLine, Notes, RefusedActions, ReplayFault};
 use vt_records::PoolFault;
 use vt_verify::Refusal;
 
@@ -33,7 +34,11 @@ impl fmt::Display for FaultSentence<'_> {
                 write!(
                     f,
                     "the record at byte {at} has a type above 33, which VT version 3 does not have (fault 2; docs/POOLS.md)"
-                )
+                )?;
+                if *at == 0 {
+                    write!(f, "; a log is replayed without --report")?;
+                }
+                Ok(())
             }
             PoolFault::LeftOutType { at } => {
                 write!(
@@ -248,4 +253,76 @@ fn write_circle<W: fmt::Write>(f: &mut fmt::Formatter<W>, ids: &[u8]) -> fmt::Re
         f,
         " trigger each other in a circle (refusal 11; docs/POOLS.md)"
     )
+}
+
+/// The end of a replay before the end of its log.
+#[derive(Drop)]
+pub(crate) struct ReplaySentence<'a> {
+    pub(crate) why: ReplayFault,
+    /// The file of the log.
+    pub(crate) log: &'a str,
+    /// The lines taken, with the one whose text could not be written.
+    pub(crate) lines: u64,
+    /// The failure of the system, where it is known.
+    pub(crate) cause: Option<&'a io::Error>,
+}
+
+impl fmt::Display for ReplaySentence<'_> {
+    fn fmt<W: fmt::Write>(&self, f: &mut fmt::Formatter<W>) -> fmt::Result {
+        let ReplaySentence { log, lines, .. } = *self;
+        match self.why {
+            ReplayFault::Read => write!(f, "{log}: the log could not be read behind line {lines}")?,
+            ReplayFault::Write => {
+                write!(f, "{log}: the output could not be written at line {lines}")?;
+            }
+            ReplayFault::Memory => {
+                write!(f, "{log}: the memory for line {lines} was refused")?;
+            }
+            ReplayFault::TooLong => {
+                let line = lines.saturating_add(1);
+                write!(f, "{log}: line {line} is longer than 4096 bytes")?;
+            }
+        }
+        match self.cause {
+            Some(cause) => write!(f, ": {cause}"),
+            None => Ok(()),
+        }
+    }
+}
+
+/// The faulty lines of a log.
+#[derive(Drop)]
+pub(crate) struct FaultyLines<'a> {
+    pub(crate) notes: &'a Notes,
+    pub(crate) first: FaultyLine,
+}
+
+impl fmt::Display for FaultyLines<'_> {
+    fn fmt<W: fmt::Write>(&self, f: &mut fmt::Formatter<W>) -> fmt::Result {
+        let Notes { lines, faults, .. } = self.notes;
+        let verb = if *faults == 1 { "is" } else { "are" };
+        let FaultyLine { line, fault, .. } = self.first;
+        write!(
+            f,
+            "{faults} of {lines} lines {verb} faulty; line {line}: {fault}"
+        )
+    }
+}
+
+/// The operator's actions that were refused for one reason.
+#[derive(Drop)]
+pub(crate) struct RefusedAction<'a> {
+    pub(crate) refused: &'a RefusedActions,
+}
+
+impl fmt::Display for RefusedAction<'_> {
+    fn fmt<W: fmt::Write>(&self, f: &mut fmt::Formatter<W>) -> fmt::Result {
+        let RefusedActions { line, fault, count } = self.refused;
+        write!(f, "line {line}: the operator's action is refused: {fault}")?;
+        match count.saturating_sub(1) {
+            0 => Ok(()),
+            1 => write!(f, ", and so is 1 later action"),
+            more => write!(f, ", and so are {more} later actions"),
+        }
+    }
 }

@@ -5,6 +5,7 @@
 
 use std::io::{self, BufWriter, ErrorKind, Write};
 use std::process::ExitCode;
+use vt_logs::Stream;
 use vt_program::{Files, Status, run};
 
 fn main(rt: HostRuntime) -> io::Result<ExitCode> {
@@ -18,7 +19,7 @@ fn main(rt: HostRuntime) -> io::Result<ExitCode> {
         }
         Err(error) => return Err(error),
     };
-    let mut out = BufWriter::new(alloc, io::writer(&rt))?;
+    let mut out = Stream::new(BufWriter::new(alloc, io::writer(&rt))?);
     let status = run(
         alloc,
         words.as_slice(),

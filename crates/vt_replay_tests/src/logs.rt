@@ -40,7 +40,7 @@ impl<'a> Open for Shelf<'a> {
     }
 }
 
-/// A run: its words, its log and its pool; then its status, its text, and whether it reports a fault.
+/// A run: its words, its log and its pool; then its status, its text, and whether messages name a fault.
 type Run<'a> = (&'a [&'a str], (&'a [u8], &'a [u8]), (Status, &'a str, bool));
 
 fn expect_run(rt: &(impl Abort + AllocGlobal), wanted: &Run<'_>) -> Result<(), Fail> {
@@ -235,18 +235,20 @@ fn a_set_registers(rt: HostRuntime) -> Result<(), Fail> {
     expect_runs(&rt, &REGISTRATIONS)
 }
 
-/// Logs and their text.
-const LINES: [(&[u8], &str); 4] = [
+/// Logs, the text of each, and whether messages name a fault.
+const LINES: [(&[u8], &str, bool); 4] = [
     (
         b"",
         "screen none\n\
         lines 0 frames 0 operator 0 skipped 0 comments 0 faults 0\n",
+        false,
     ),
     (
         b"# a log\n\n(1.000000) can0 14E7\r\n(1.000000) can0 123#\n\
         (2.000000) can0 14E72680#\r\nx",
         "screen none\nline 3 Shape\nline 6 Time\n\
         lines 6 frames 1 operator 0 skipped 1 comments 2 faults 2\n",
+        true,
     ),
     (
         b"(1.000000) can0 14E72680#A0640\n\
@@ -256,6 +258,7 @@ const LINES: [(&[u8], &str); 4] = [
         (1.000000) can0 14E7",
         "screen none\nline 1 Hex\nline 5 Shape\n\
         lines 5 frames 1 operator 0 skipped 2 comments 0 faults 2\n",
+        true,
     ),
     (
         b"! press 100\n! text 7 \xFF  x\r\n! press  100\n! set 80\n\
@@ -266,12 +269,13 @@ const LINES: [(&[u8], &str); 4] = [
         "screen none\noperator 9 NoSet\noperator 9 NoSet\n\
         line 3 Operator\noperator 9 NoSet\nline 5 Time\nline 6 Length\n\
         lines 9 frames 0 operator 3 skipped 2 comments 1 faults 3\n",
+        true,
     ),
 ];
 
-fn expect_lines(rt: &(impl Abort + AllocGlobal), logs: &[(&[u8], &str)]) -> Result<(), Fail> {
-    for (log, text) in logs {
-        expect_run(rt, &(&LOG, (log, POOL), (Status::Done, text, false)))?;
+fn expect_lines(rt: &(impl Abort + AllocGlobal), logs: &[(&[u8], &str, bool)]) -> Result<(), Fail> {
+    for (log, text, names_fault) in logs {
+        expect_run(rt, &(&LOG, (log, POOL), (Status::Done, text, *names_fault)))?;
     }
     Ok(())
 }

@@ -3,7 +3,7 @@
 use super::streams::{Narrow, Pieces};
 use std::alloc::{AllocError, Global};
 use std::test::Fail;
-use vt_logs::{ReplayFault, replay};
+use vt_logs::{ReplayFault, Stream, replay};
 use vt_names::Name;
 use vt_server::Terminal;
 use vt_testing::accepted_pool;
@@ -67,11 +67,11 @@ fn is_cut_by_the_reader(alloc: Global, count: usize) -> Result<bool, Fail> {
         return Err(Fail::new("the log is shorter"));
     };
     let mut terminal = started(alloc)?;
-    let mut reader = Pieces {
+    let mut reader = Stream::new(Pieces {
         rest,
         most: 100,
         fails: true,
-    };
+    });
     let mut out = Vec::new(alloc);
     let end = replay(alloc, &mut reader, &mut out, &mut terminal);
     Ok(matches!(end, Err(ReplayFault::Read)) && TEXT.starts_with(&out))
@@ -91,9 +91,12 @@ fn is_cut_by_the_writer(alloc: Global, room: usize) -> Result<bool, Fail> {
     let mut terminal = started(alloc)?;
     let mut reader: &[u8] = LOG;
     let taken = Vec::new(alloc);
-    let mut writer = Narrow { taken, room };
+    let mut writer = Stream::new(Narrow { taken, room });
     let end = replay(alloc, &mut reader, &mut writer, &mut terminal);
-    Ok(matches!(end, Err(ReplayFault::Write)) && TEXT.get(..room) == Some(writer.taken.as_slice()))
+    Ok(
+        matches!(end, Err(ReplayFault::Write))
+            && TEXT.get(..room) == Some(writer.get_ref().taken.as_slice()),
+    )
 }
 
 #[test]

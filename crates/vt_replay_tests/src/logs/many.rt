@@ -5,7 +5,7 @@ use std::alloc::Global;
 use std::io::{self, Error, ErrorKind, Write};
 use std::process::Abort;
 use std::test::Fail;
-use vt_logs::replay;
+use vt_logs::{Stream, replay};
 use vt_names::Name;
 use vt_program::{Status, run};
 use vt_server::Terminal;
@@ -83,7 +83,7 @@ impl Write for Flushed {
 
 /// The end of a run whose writer can be flushed this many times, and whether a fault is reported.
 fn ends_after(alloc: Global, left: usize) -> io::Result<(Status, bool)> {
-    let mut out = Flushed { left };
+    let mut out = Stream::new(Flushed { left });
     let mut errors = Vec::new(alloc);
     let mut shelf = Shelf {
         log: b"# nothing\n",

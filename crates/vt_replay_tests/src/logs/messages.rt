@@ -1,11 +1,12 @@
-use super::streams::Narrow;
+use super::streams::{Narrow, Pieces};
 use super::{HIDE, LOG, Shelf, commented};
 use std::alloc::Global;
 use std::fmt::Display;
+use std::io;
 use std::process::Abort;
 use std::test::Fail;
-use vt_logs::ReplayFault;
-use vt_program::{Status, UsageError, run};
+use vt_logs::{ReplayFault, Stream};
+use vt_program::{Open, Status, UsageError, run};
 use vt_testing::POOL;
 
 const ABOUT: &str = "Replays a CAN log to a virtual terminal and prints what it answers, or checks \
@@ -159,11 +160,118 @@ fn faults_of_a_replay_are_named(rt: HostRuntime) -> Result<(), Fail> {
     Ok(())
 }
 
+/// Logs with faulty lines or refused actions, and the messages of each.
+const NOTES: [(&[u8], &str); 8] = [
+    (
+        b"# one\n(1.0\n(1.000000) can0 1G#\n",
+        "vt_replay: log: 2 of 3 lines are faulty; line 2: the line does not begin with a time, as (1.000000)\n",
+    ),
+    (
+        b"(1.000000) can0 14E7268G#\n",
+        "vt_replay: log: 1 of 1 lines is faulty; line 1: the ID or the data is not written in hex digits, two for each byte\n",
+    ),
+    (
+        b"(1.000000) can0 14E72680#000102030405060708\n",
+        "vt_replay: log: 1 of 1 lines is faulty; line 1: there are more than eight bytes of data\n",
+    ),
+    (
+        b"! pres 400\n",
+        "vt_replay: log: 1 of 1 lines is faulty; line 1: after the exclamation mark there is no action of the operator\n",
+    ),
+    (
+        b"  can0  14E72680   [3]  A0 64 00\n",
+        "vt_replay: log: 1 of 1 lines is faulty; line 1: the line does not begin with a time, as (1.000000)\n\
+        vt_replay: log: the line looks as candump prints it to a screen; candump -L prints a log\n",
+    ),
+    (
+        b"(1.000000)   can0 14E72680#\n",
+        "vt_replay: log: 1 of 1 lines is faulty; line 1: after the time there is no interface with ID#DATA, and at most R or T\n\
+        vt_replay: log: candump aligns the names of several interfaces by blanks; one interface, or names of one length, give none\n",
+    ),
+    (
+        POOL,
+        "vt_replay: log: 2 of 2 lines are faulty; line 1: the line does not begin with a time, as (1.000000)\n\
+        vt_replay: log: the line has bytes that are no text; an object pool is checked with --report\n",
+    ),
+    (
+        b"! press 1\n! press 2\n# three\n! set 80\n",
+        "vt_replay: log: line 1: the operator's action is refused: no working set is shown, or there is none with a pool at the address, and so are 2 later actions\n",
+    ),
+];
+
+fn expect_notes(rt: &(impl Abort + AllocGlobal), notes: &[(&[u8], &str)]) -> Result<(), Fail> {
+    for (log, wanted) in notes {
+        let same = has_errors(rt, &LOG, log, wanted)?;
+        assert!(rt; same, "{wanted}");
+    }
+    Ok(())
+}
+
+#[test]
+fn faulty_lines_and_refused_actions_are_named(rt: HostRuntime) -> Result<(), Fail> {
+    expect_notes(&rt, &NOTES)
+}
+
+#[test]
+fn a_log_is_no_pool(rt: HostRuntime) -> Result<(), Fail> {
+    let message =
+        "vt_replay: log: the record at byte 0 has a type above 33, which VT version 3 does not have \
+        (fault 2; docs/POOLS.md); a log is replayed without --report\n";
+    let named = has_errors(&rt, &["vt_replay", "log", "--report"], HIDE, message)?;
+    assert!(&rt; named);
+    Ok(())
+}
+
 #[test]
 fn a_long_line_is_named(rt: HostRuntime) -> Result<(), Fail> {
-    let log = commented(rt.alloc(), b"", 4097, b"")?;
-    let message = "vt_replay: a line of the log is longer than 4096 bytes\n";
+    let log = commented(rt.alloc(), b"# one\n", 4097, b"")?;
+    let message = "vt_replay: log: line 2 is longer than 4096 bytes\n";
     let named = has_errors(&rt, &LOG, &log, message)?;
     assert!(&rt; named);
+    Ok(())
+}
+
+/// A file whose first line is read, and then no more.
+#[derive(Drop)]
+struct Torn;
+
+impl Open for Torn {
+    type Reader = Pieces<'static>;
+
+    fn open(&mut self, _path: &str) -> io::Result<Pieces<'static>> {
+        Ok(Pieces {
+            rest: HIDE,
+            most: HIDE.len(),
+            fails: true,
+        })
+    }
+}
+
+#[test]
+fn a_failing_read_is_named(rt: HostRuntime) -> Result<(), Fail> {
+    let mut out = Vec::new(rt.alloc());
+    let mut errors = Vec::new(rt.alloc());
+    let status = run(rt.alloc(), &LOG, &mut Torn, &mut out, &mut errors)?;
+    assert!(&rt; status == Status::Fault);
+    let message = "vt_replay: log: the log could not be read behind line 1: other error\n";
+    assert_eq!(&rt; errors.as_slice(), message.as_bytes());
+    Ok(())
+}
+
+#[test]
+fn a_failing_write_is_named(rt: HostRuntime) -> Result<(), Fail> {
+    let taken = Vec::new(rt.alloc());
+    let mut out = Stream::new(Narrow { taken, room: 14 });
+    let mut errors = Vec::new(rt.alloc());
+    let mut shelf = Shelf {
+        log: b"# one\nx\n# three\n",
+        pool: b"",
+    };
+    let status = run(rt.alloc(), &LOG, &mut shelf, &mut out, &mut errors)?;
+    assert!(&rt; status == Status::Fault);
+    let message =
+        "vt_replay: log: 1 of 2 lines is faulty; line 2: the line does not begin with a time, as (1.000000)\n\
+        vt_replay: log: the output could not be written at line 2: other error\n";
+    assert_eq!(&rt; errors.as_slice(), message.as_bytes());
     Ok(())
 }

@@ -70,7 +70,7 @@ const SCREENS: [Run<'static>; 2] = [
     (
         &WITH_POOL,
         (NUMBERS, NUMBER_POOL),
-        (Status::Done, NUMBERS_TEXT, false),
+        (Status::Done, NUMBERS_TEXT, true),
     ),
     (
         &WITH_POOL,

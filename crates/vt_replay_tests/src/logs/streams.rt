@@ -1,7 +1,7 @@
 use super::Shelf;
 use std::alloc::Global;
 use std::io::{self, Error, ErrorKind, Read, Write};
-use vt_logs::{Counts, ReplayFault, replay};
+use vt_logs::{Counts, ReplayFault, Stream, replay};
 use vt_names::Name;
 use vt_program::run;
 use vt_server::Terminal;
@@ -67,11 +67,11 @@ const COUNTS: Counts = Counts {
 
 /// Whether a log read in slices of at most this many bytes is replayed with the same text.
 fn is_replayed(alloc: Global, most: usize) -> bool {
-    let mut reader = Pieces {
+    let mut reader = Stream::new(Pieces {
         rest: LOG,
         most,
         fails: false,
-    };
+    });
     let mut out = Vec::new(alloc);
     let mut terminal = Terminal::new(alloc, 0x26, Name::from_raw(1));
     match replay(alloc, &mut reader, &mut out, &mut terminal) {
@@ -95,11 +95,11 @@ const FAULTY_TEXT: &[u8] =
 
 #[test]
 fn a_reader_that_fails(rt: HostRuntime) {
-    let mut reader = Pieces {
+    let mut reader = Stream::new(Pieces {
         rest: FAULTY,
         most: 4,
         fails: true,
-    };
+    });
     let mut terminal = Terminal::new(rt.alloc(), 0x26, Name::from_raw(1));
     let mut out = Vec::new(rt.alloc());
     let end = replay(rt.alloc(), &mut reader, &mut out, &mut terminal);
@@ -111,11 +111,11 @@ fn a_reader_that_fails(rt: HostRuntime) {
 fn is_cut(alloc: Global, room: usize) -> bool {
     let mut reader: &[u8] = FAULTY;
     let taken = Vec::new(alloc);
-    let mut writer = Narrow { taken, room };
+    let mut writer = Stream::new(Narrow { taken, room });
     let mut terminal = Terminal::new(alloc, 0x26, Name::from_raw(1));
     let end = replay(alloc, &mut reader, &mut writer, &mut terminal);
     matches!(end, Err(ReplayFault::Write))
-        && FAULTY_TEXT.get(..room) == Some(writer.taken.as_slice())
+        && FAULTY_TEXT.get(..room) == Some(writer.get_ref().taken.as_slice())
 }
 
 #[test]
@@ -152,20 +152,20 @@ impl Write for Holding {
 
 /// Whether a replay whose reader fails at the end returns this fault, with this text written by then.
 fn is_written_out(alloc: Global, fails: bool, fault: ReplayFault, wanted: &[u8]) -> bool {
-    let mut reader = Pieces {
+    let mut reader = Stream::new(Pieces {
         rest: FAULTY,
         most: FAULTY.len(),
         fails: true,
-    };
-    let mut writer = Holding {
+    });
+    let mut writer = Stream::new(Holding {
         held: Vec::new(alloc),
         written: Vec::new(alloc),
         fails,
-    };
+    });
     let mut terminal = Terminal::new(alloc, 0x26, Name::from_raw(1));
     match replay(alloc, &mut reader, &mut writer, &mut terminal) {
         Ok(_) => false,
-        Err(end) => end == fault && writer.written.as_slice() == wanted,
+        Err(end) => end == fault && writer.get_ref().written.as_slice() == wanted,
     }
 }
 
@@ -180,12 +180,12 @@ fn lines_are_written_out_before_the_next_read(rt: HostRuntime) {
 /// Whether a report is cut at three bytes without a fault being reported.
 fn report_is_cut(alloc: Global, pool: &[u8]) -> bool {
     let taken = Vec::new(alloc);
-    let mut out = Narrow { taken, room: 3 };
+    let mut out = Stream::new(Narrow { taken, room: 3 });
     let mut errors = Vec::new(alloc);
     let mut shelf = Shelf { log: b"", pool };
     let words = ["vt_replay", "pool", "--report"];
     let end = run(alloc, &words, &mut shelf, &mut out, &mut errors);
-    end.is_err() && out.taken.len() == 3 && errors.is_empty()
+    end.is_err() && out.get_ref().taken.len() == 3 && errors.is_empty()
 }
 
 #[test]
