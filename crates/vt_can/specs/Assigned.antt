@@ -1,5 +1,5 @@
--- The assigned numbers in definitions: parameter groups, addresses, and the control bytes of both transport
--- protocols (ISO 11783-3, -5, -6 and -7).
+-- The numbers that the standard assigns: parameter groups, addresses, the control bytes of both transport
+-- protocols, and the functions of messages (ISO 11783-3, -5, -6 and -7).
 use Rattle.std.specs.Prelude.{ℕ}
 
 -- Parameter groups
@@ -87,6 +87,36 @@ ETP_END = 0x17
 -- the abort of a session, in both protocols
 abbrev pub ABORT : ℕ
 ABORT = 0xFF
+
+-- Functions, the first bytes of messages. Those of commands and of the operator's messages stand with the commands.
+
+-- Object Pool Transfer: a piece of an object pool
+abbrev pub TRANSFER : ℕ
+TRANSFER = 0x11
+
+-- End of Object Pool, and its reply
+abbrev pub END_OF_POOL : ℕ
+END_OF_POOL = 0x12
+
+-- Get Memory, and its reply
+abbrev pub GET_MEMORY : ℕ
+GET_MEMORY = 0xC0
+
+-- Get Number of Soft Keys, and its reply
+abbrev pub GET_SOFT_KEYS : ℕ
+GET_SOFT_KEYS = 0xC2
+
+-- Get Text Font Data, and its reply
+abbrev pub GET_FONTS : ℕ
+GET_FONTS = 0xC3
+
+-- Get Hardware, and its reply
+abbrev pub GET_HARDWARE : ℕ
+GET_HARDWARE = 0xC7
+
+-- VT Status
+abbrev pub VT_STATUS : ℕ
+VT_STATUS = 0xFE
 
 -- Other bytes
 

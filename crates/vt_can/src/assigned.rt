@@ -1,5 +1,5 @@
-//! The numbers assigned by ISO 11783-3, -5, -6 and -7: parameter groups, addresses, and the control bytes of both
-//! transport protocols.
+//! The numbers that the standard assigns: parameter groups, addresses, the control bytes of both transport
+//! protocols, and the functions of messages (ISO 11783-3, -5, -6 and -7).
 
 // Parameter groups
 
@@ -66,6 +66,29 @@ pub const ETP_END: u8 = 0x17;
 
 /// The abort of a session, in both protocols.
 pub const ABORT: u8 = 0xFF;
+
+// Functions, the first bytes of messages. Those of commands and of the operator's messages stand with the commands.
+
+/// Object Pool Transfer: a piece of an object pool.
+pub const TRANSFER: u8 = 0x11;
+
+/// End of Object Pool, and its reply.
+pub const END_OF_POOL: u8 = 0x12;
+
+/// Get Memory, and its reply.
+pub const GET_MEMORY: u8 = 0xC0;
+
+/// Get Number of Soft Keys, and its reply.
+pub const GET_SOFT_KEYS: u8 = 0xC2;
+
+/// Get Text Font Data, and its reply.
+pub const GET_FONTS: u8 = 0xC3;
+
+/// Get Hardware, and its reply.
+pub const GET_HARDWARE: u8 = 0xC7;
+
+/// VT Status.
+pub const VT_STATUS: u8 = 0xFE;
 
 // Other bytes
 

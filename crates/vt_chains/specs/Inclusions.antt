@@ -3,6 +3,7 @@ use Rattle.std.specs.Prelude.{◌≡◌, ◌≤◌, ◌+◌, ℕ, Bool, true, fa
 use Rattle.vt_kinds.specs.declared.place.Place.{Place}
 use Rattle.vt_kinds.specs.declared.place.Place.TheVariants as places
 use Rattle.vt_kinds.specs.declared.slot.Slot.{Slot}
+use Rattle.vt_kinds.specs.Ids.{null_id}
 use Rattle.vt_kinds.specs.Records.{Seen}
 use Rattle.vt_kinds.specs.References.{slots_of}
 use Rattle.vt_stores.specs.Stores.{Objects, object_at}
@@ -17,7 +18,7 @@ is_inclusion _ = false
 
 -- an including reference other than NULL
 abbrev pub includes : Slot → Bool
-includes slot = is_inclusion slot.place && not (slot.id == 0xFFFF)
+includes slot = is_inclusion slot.place && not (slot.id == null_id)
 
 abbrev pub included_by : Option Seen → List ℕ
 included_by None = []

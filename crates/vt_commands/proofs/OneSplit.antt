@@ -6,6 +6,7 @@ use Rattle.std.proofs.lemmas.Bool.{le-leb, leb-true}
 use Rattle.std.specs.List.{AllByRecursion, flat_map}
 use Rattle.std.specs.Prelude.{◌==◌}
 use Rattle.vt_commands.specs.Commands.{byte, word}
+use Rattle.vt_commands.specs.Functions.{CHANGE_CHILD_POSITION, CHANGE_STRING_VALUE}
 use Rattle.vt_commands.specs.Pieces.{IsPiece, IsCut, IsSplit, CutIsOne, command_length, cut, cut_within}
 
 lengths : (a b : Bool) (n : ℕ) → 8 ≤ cond a 9 (cond b (max 8 n) 8)
@@ -14,7 +15,7 @@ lengths false true n = omega arith
 lengths false false n = omega arith
 
 pub at_least : (bytes : List ℕ) → 8 ≤ command_length bytes
-at_least bytes = lengths (byte bytes 0 == 0xB4) (byte bytes 0 == 0xB3) (5 + word bytes 3)
+at_least bytes = lengths (byte bytes 0 == CHANGE_CHILD_POSITION) (byte bytes 0 == CHANGE_STRING_VALUE) (5 + word bytes 3)
 
 -- bytes after a command do not change its length
 pub length_front : (p rest : List ℕ) → 5 ≤ length p → command_length (p ++ rest) ≡ command_length p

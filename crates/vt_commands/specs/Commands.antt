@@ -1,9 +1,10 @@
 -- The commands of an implement and their bytes (ISO 11783-6; docs/PROFILE.md, "Commands").
-use Rattle.std.specs.Prelude.{ℕ, ℤ, List, [], ◌∷◌, take, drop, length, nat_le, ◌==◌, ◌&&◌, if◌then◌else◌, Option, Some, None, slice_index}
+use Rattle.std.specs.Prelude.{◌≡◌, ℕ, ℤ, List, [], ◌∷◌, take, drop, length, nat_le, ◌==◌, ◌&&◌, if◌then◌else◌, Option, Some, None, slice_index}
 use Rattle.std.specs.Int.{w16, cast_signed}
 use Rattle.byteorder.specs.Endian.{little_number}
 use Rattle.vt_commands.specs.declared.command.Command.{Command}
 use Rattle.vt_commands.specs.declared.command.Command.TheVariants.{HideShow, EnableDisable, ControlAudio, SetVolume, ChangeChildLocation, ChangeSize, ChangeBackgroundColour, ChangeNumericValue, ChangeEndPoint, ChangeFontAttributes, ChangeLineAttributes, ChangeFillAttributes, ChangeActiveMask, ChangeSoftKeyMask, ChangeAttribute, ChangePriority, ChangeListItem, DeletePool, ChangeStringValue, ChangeChildPosition, ExecuteMacro}
+use Rattle.vt_commands.specs.Functions.{function_of, HIDE_SHOW, ENABLE_DISABLE, CONTROL_AUDIO, SET_VOLUME, CHANGE_CHILD_LOCATION, CHANGE_SIZE, CHANGE_BACKGROUND_COLOUR, CHANGE_NUMERIC_VALUE, CHANGE_END_POINT, CHANGE_FONT_ATTRIBUTES, CHANGE_LINE_ATTRIBUTES, CHANGE_FILL_ATTRIBUTES, CHANGE_ACTIVE_MASK, CHANGE_SOFT_KEY_MASK, CHANGE_ATTRIBUTE, CHANGE_PRIORITY, CHANGE_LIST_ITEM, DELETE_POOL, CHANGE_STRING_VALUE, CHANGE_CHILD_POSITION, EXECUTE_MACRO}
 
 -- the byte at an offset, and the numbers of two and four bytes at an offset
 abbrev pub byte : List ℕ → ℕ → ℕ
@@ -29,27 +30,27 @@ row function least command = record { function = function; least = least; comman
 
 abbrev pub rows : List Row
 rows =
-    row 0xA0 8 (λ b. HideShow (word b 1) (byte b 3))
-    ∷ row 0xA1 8 (λ b. EnableDisable (word b 1) (byte b 3))
-    ∷ row 0xA3 8 (λ b. ControlAudio (byte b 1) (word b 2) (word b 4) (word b 6))
-    ∷ row 0xA4 8 (λ b. SetVolume (byte b 1))
-    ∷ row 0xA5 8 (λ b. ChangeChildLocation (word b 1) (word b 3) (byte b 5) (byte b 6))
-    ∷ row 0xA6 8 (λ b. ChangeSize (word b 1) (word b 3) (word b 5))
-    ∷ row 0xA7 8 (λ b. ChangeBackgroundColour (word b 1) (byte b 3))
-    ∷ row 0xA8 8 (λ b. ChangeNumericValue (word b 1) (long b 4))
-    ∷ row 0xA9 8 (λ b. ChangeEndPoint (word b 1) (word b 3) (word b 5) (byte b 7))
-    ∷ row 0xAA 8 (λ b. ChangeFontAttributes (word b 1) (byte b 3) (byte b 4) (byte b 5) (byte b 6))
-    ∷ row 0xAB 8 (λ b. ChangeLineAttributes (word b 1) (byte b 3) (byte b 4) (word b 5))
-    ∷ row 0xAC 8 (λ b. ChangeFillAttributes (word b 1) (byte b 3) (byte b 4) (word b 5))
-    ∷ row 0xAD 8 (λ b. ChangeActiveMask (word b 1) (word b 3))
-    ∷ row 0xAE 8 (λ b. ChangeSoftKeyMask (byte b 1) (word b 2) (word b 4))
-    ∷ row 0xAF 8 (λ b. ChangeAttribute (word b 1) (byte b 3) (long b 4))
-    ∷ row 0xB0 8 (λ b. ChangePriority (word b 1) (byte b 3))
-    ∷ row 0xB1 8 (λ b. ChangeListItem (word b 1) (byte b 3) (word b 4))
-    ∷ row 0xB2 8 (λ b. DeletePool)
-    ∷ row 0xB3 5 (λ b. ChangeStringValue (word b 1) (word b 3) (take (word b 3) (drop 5 b)))
-    ∷ row 0xB4 9 (λ b. ChangeChildPosition (word b 1) (word b 3) (signed_word b 5) (signed_word b 7))
-    ∷ row 0xBE 8 (λ b. ExecuteMacro (word b 1))
+    row HIDE_SHOW 8 (λ b. HideShow (word b 1) (byte b 3))
+    ∷ row ENABLE_DISABLE 8 (λ b. EnableDisable (word b 1) (byte b 3))
+    ∷ row CONTROL_AUDIO 8 (λ b. ControlAudio (byte b 1) (word b 2) (word b 4) (word b 6))
+    ∷ row SET_VOLUME 8 (λ b. SetVolume (byte b 1))
+    ∷ row CHANGE_CHILD_LOCATION 8 (λ b. ChangeChildLocation (word b 1) (word b 3) (byte b 5) (byte b 6))
+    ∷ row CHANGE_SIZE 8 (λ b. ChangeSize (word b 1) (word b 3) (word b 5))
+    ∷ row CHANGE_BACKGROUND_COLOUR 8 (λ b. ChangeBackgroundColour (word b 1) (byte b 3))
+    ∷ row CHANGE_NUMERIC_VALUE 8 (λ b. ChangeNumericValue (word b 1) (long b 4))
+    ∷ row CHANGE_END_POINT 8 (λ b. ChangeEndPoint (word b 1) (word b 3) (word b 5) (byte b 7))
+    ∷ row CHANGE_FONT_ATTRIBUTES 8 (λ b. ChangeFontAttributes (word b 1) (byte b 3) (byte b 4) (byte b 5) (byte b 6))
+    ∷ row CHANGE_LINE_ATTRIBUTES 8 (λ b. ChangeLineAttributes (word b 1) (byte b 3) (byte b 4) (word b 5))
+    ∷ row CHANGE_FILL_ATTRIBUTES 8 (λ b. ChangeFillAttributes (word b 1) (byte b 3) (byte b 4) (word b 5))
+    ∷ row CHANGE_ACTIVE_MASK 8 (λ b. ChangeActiveMask (word b 1) (word b 3))
+    ∷ row CHANGE_SOFT_KEY_MASK 8 (λ b. ChangeSoftKeyMask (byte b 1) (word b 2) (word b 4))
+    ∷ row CHANGE_ATTRIBUTE 8 (λ b. ChangeAttribute (word b 1) (byte b 3) (long b 4))
+    ∷ row CHANGE_PRIORITY 8 (λ b. ChangePriority (word b 1) (byte b 3))
+    ∷ row CHANGE_LIST_ITEM 8 (λ b. ChangeListItem (word b 1) (byte b 3) (word b 4))
+    ∷ row DELETE_POOL 8 (λ b. DeletePool)
+    ∷ row CHANGE_STRING_VALUE 5 (λ b. ChangeStringValue (word b 1) (word b 3) (take (word b 3) (drop 5 b)))
+    ∷ row CHANGE_CHILD_POSITION 9 (λ b. ChangeChildPosition (word b 1) (word b 3) (signed_word b 5) (signed_word b 7))
+    ∷ row EXECUTE_MACRO 8 (λ b. ExecuteMacro (word b 1))
     ∷ []
 
 -- the first row with the function of the bytes decodes them, if they are long enough
@@ -61,3 +62,7 @@ command_among (r ∷ rs) bytes =
 -- The command in a message's bytes, if there is one.
 abbrev pub command_at : List ℕ → Option Command
 command_at bytes = command_among rows bytes
+
+-- Its function is their first byte.
+abbrev pub FunctionIsFirst : Type 0
+FunctionIsFirst = (bytes : List ℕ) (command : Command) → command_at bytes ≡ Some command → function_of command ≡ byte bytes 0

@@ -3,13 +3,14 @@ use Rattle.std.specs.Prelude.{◌≡◌, ◌<◌, ◌↔◌, ℕ, zero, suc, ◌
 use Rattle.std.specs.Option.{option_map}
 use Rattle.std.specs.List.{AllByRecursion, flat_map}
 use Rattle.vt_commands.specs.Commands.{byte, word}
+use Rattle.vt_commands.specs.Functions.{CHANGE_CHILD_POSITION, CHANGE_STRING_VALUE}
 
 -- the number of bytes of the command at the front: 9 for Change Child Position, 5 and its text but at least 8 for
 -- Change String Value, 8 for every other command
 abbrev pub command_length : List ℕ → ℕ
 command_length bytes =
-    if byte bytes 0 == 0xB4 then 9
-    else if byte bytes 0 == 0xB3 then max 8 (5 + word bytes 3)
+    if byte bytes 0 == CHANGE_CHILD_POSITION then 9
+    else if byte bytes 0 == CHANGE_STRING_VALUE then max 8 (5 + word bytes 3)
     else 8
 
 -- bytes of exactly one macro command

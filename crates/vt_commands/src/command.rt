@@ -3,7 +3,10 @@
 ghost use Rattle.std.specs.Prelude.{◌≡◌, ◌≢◌, ◌≤◌, ◌+◌, length, ◌↔◌};
 ghost use Rattle.vt_commands.specs.Commands as commands;
 ghost use Rattle.vt_commands.specs.Commands.{command_at};
+ghost use Rattle.vt_commands.specs.Functions as functions;
+ghost use Rattle.vt_commands.specs.Functions.{function_of};
 
+use crate::function;
 use byteorder::{ByteOrder, LittleEndian};
 use vt_kinds::{LongText, ObjectId};
 
@@ -140,16 +143,45 @@ impl<'a> Command<'a> {
         ensures { result ≡ command_at bytes.now }
     {
         match *bytes.first()? {
-            0xB3 => string_value(bytes),
-            0xB4 => child_position(bytes),
+            function::CHANGE_STRING_VALUE => string_value(bytes),
+            function::CHANGE_CHILD_POSITION => child_position(bytes),
             _ => eight_bytes(bytes),
+        }
+    }
+
+    /// The function, which is the first byte of the command and of its reply.
+    pub fn function(&self) -> u8
+        ensures { result ≡ function_of self.now }
+    {
+        match self {
+            Command::HideShow { .. } => function::HIDE_SHOW,
+            Command::EnableDisable { .. } => function::ENABLE_DISABLE,
+            Command::ControlAudio { .. } => function::CONTROL_AUDIO,
+            Command::SetVolume { .. } => function::SET_VOLUME,
+            Command::ChangeChildLocation { .. } => function::CHANGE_CHILD_LOCATION,
+            Command::ChangeSize { .. } => function::CHANGE_SIZE,
+            Command::ChangeBackgroundColour { .. } => function::CHANGE_BACKGROUND_COLOUR,
+            Command::ChangeNumericValue { .. } => function::CHANGE_NUMERIC_VALUE,
+            Command::ChangeEndPoint { .. } => function::CHANGE_END_POINT,
+            Command::ChangeFontAttributes { .. } => function::CHANGE_FONT_ATTRIBUTES,
+            Command::ChangeLineAttributes { .. } => function::CHANGE_LINE_ATTRIBUTES,
+            Command::ChangeFillAttributes { .. } => function::CHANGE_FILL_ATTRIBUTES,
+            Command::ChangeActiveMask { .. } => function::CHANGE_ACTIVE_MASK,
+            Command::ChangeSoftKeyMask { .. } => function::CHANGE_SOFT_KEY_MASK,
+            Command::ChangeAttribute { .. } => function::CHANGE_ATTRIBUTE,
+            Command::ChangePriority { .. } => function::CHANGE_PRIORITY,
+            Command::ChangeListItem { .. } => function::CHANGE_LIST_ITEM,
+            Command::DeletePool => function::DELETE_POOL,
+            Command::ChangeStringValue { .. } => function::CHANGE_STRING_VALUE,
+            Command::ChangeChildPosition { .. } => function::CHANGE_CHILD_POSITION,
+            Command::ExecuteMacro { .. } => function::EXECUTE_MACRO,
         }
     }
 }
 
 /// Decodes Change String Value, of at least five bytes.
 fn string_value<'a>(bytes: &'a [u8]) -> Option<Command<'a>>
-    ensures { commands.byte bytes.now 0 ≡ 0xB3 → result ≡ command_at bytes.now }
+    ensures { commands.byte bytes.now 0 ≡ functions.CHANGE_STRING_VALUE → result ≡ command_at bytes.now }
 {
     if bytes.len() < 5 {
         return None;
@@ -166,7 +198,7 @@ fn string_value<'a>(bytes: &'a [u8]) -> Option<Command<'a>>
 
 /// Decodes Change Child Position, of at least nine bytes.
 fn child_position<'a>(bytes: &[u8]) -> Option<Command<'a>>
-    ensures { commands.byte bytes.now 0 ≡ 0xB4 → result ≡ command_at bytes.now }
+    ensures { commands.byte bytes.now 0 ≡ functions.CHANGE_CHILD_POSITION → result ≡ command_at bytes.now }
 {
     if bytes.len() < 9 {
         return None;
@@ -181,96 +213,96 @@ fn child_position<'a>(bytes: &[u8]) -> Option<Command<'a>>
 
 /// Decodes a command of eight bytes.
 fn eight_bytes<'a>(bytes: &[u8]) -> Option<Command<'a>>
-    ensures { commands.byte bytes.now 0 ≢ 0xB3 → commands.byte bytes.now 0 ≢ 0xB4 → result ≡ command_at bytes.now }
+    ensures { commands.byte bytes.now 0 ≢ functions.CHANGE_STRING_VALUE → commands.byte bytes.now 0 ≢ functions.CHANGE_CHILD_POSITION → result ≡ command_at bytes.now }
 {
     if bytes.len() < 8 {
         return None;
     }
     match bytes[0] {
-        0xA0 => Some(Command::HideShow {
+        function::HIDE_SHOW => Some(Command::HideShow {
             id: id(bytes, 1),
             state: bytes[3],
         }),
-        0xA1 => Some(Command::EnableDisable {
+        function::ENABLE_DISABLE => Some(Command::EnableDisable {
             id: id(bytes, 1),
             state: bytes[3],
         }),
-        0xA3 => Some(Command::ControlAudio {
+        function::CONTROL_AUDIO => Some(Command::ControlAudio {
             count: bytes[1],
             frequency: word(bytes, 2),
             on: word(bytes, 4),
             off: word(bytes, 6),
         }),
-        0xA4 => Some(Command::SetVolume { volume: bytes[1] }),
-        0xA5 => Some(Command::ChangeChildLocation {
+        function::SET_VOLUME => Some(Command::SetVolume { volume: bytes[1] }),
+        function::CHANGE_CHILD_LOCATION => Some(Command::ChangeChildLocation {
             parent: id(bytes, 1),
             child: id(bytes, 3),
             dx: bytes[5],
             dy: bytes[6],
         }),
-        0xA6 => Some(Command::ChangeSize {
+        function::CHANGE_SIZE => Some(Command::ChangeSize {
             id: id(bytes, 1),
             width: word(bytes, 3),
             height: word(bytes, 5),
         }),
-        0xA7 => Some(Command::ChangeBackgroundColour {
+        function::CHANGE_BACKGROUND_COLOUR => Some(Command::ChangeBackgroundColour {
             id: id(bytes, 1),
             colour: bytes[3],
         }),
-        0xA8 => Some(Command::ChangeNumericValue {
+        function::CHANGE_NUMERIC_VALUE => Some(Command::ChangeNumericValue {
             id: id(bytes, 1),
             value: long(bytes, 4),
         }),
-        0xA9 => Some(Command::ChangeEndPoint {
+        function::CHANGE_END_POINT => Some(Command::ChangeEndPoint {
             id: id(bytes, 1),
             width: word(bytes, 3),
             height: word(bytes, 5),
             direction: bytes[7],
         }),
-        0xAA => Some(Command::ChangeFontAttributes {
+        function::CHANGE_FONT_ATTRIBUTES => Some(Command::ChangeFontAttributes {
             id: id(bytes, 1),
             colour: bytes[3],
             size: bytes[4],
             font_type: bytes[5],
             style: bytes[6],
         }),
-        0xAB => Some(Command::ChangeLineAttributes {
+        function::CHANGE_LINE_ATTRIBUTES => Some(Command::ChangeLineAttributes {
             id: id(bytes, 1),
             colour: bytes[3],
             width: bytes[4],
             line_art: word(bytes, 5),
         }),
-        0xAC => Some(Command::ChangeFillAttributes {
+        function::CHANGE_FILL_ATTRIBUTES => Some(Command::ChangeFillAttributes {
             id: id(bytes, 1),
             fill_type: bytes[3],
             colour: bytes[4],
             pattern: id(bytes, 5),
         }),
-        0xAD => Some(Command::ChangeActiveMask {
+        function::CHANGE_ACTIVE_MASK => Some(Command::ChangeActiveMask {
             working_set: id(bytes, 1),
             mask: id(bytes, 3),
         }),
-        0xAE => Some(Command::ChangeSoftKeyMask {
+        function::CHANGE_SOFT_KEY_MASK => Some(Command::ChangeSoftKeyMask {
             mask_type: bytes[1],
             mask: id(bytes, 2),
             keys: id(bytes, 4),
         }),
-        0xAF => Some(Command::ChangeAttribute {
+        function::CHANGE_ATTRIBUTE => Some(Command::ChangeAttribute {
             id: id(bytes, 1),
             number: bytes[3],
             value: long(bytes, 4),
         }),
-        0xB0 => Some(Command::ChangePriority {
+        function::CHANGE_PRIORITY => Some(Command::ChangePriority {
             id: id(bytes, 1),
             priority: bytes[3],
         }),
-        0xB1 => Some(Command::ChangeListItem {
+        function::CHANGE_LIST_ITEM => Some(Command::ChangeListItem {
             id: id(bytes, 1),
             index: bytes[3],
             item: id(bytes, 4),
         }),
-        0xB2 => Some(Command::DeletePool),
-        0xBE => Some(Command::ExecuteMacro { id: id(bytes, 1) }),
+        function::DELETE_POOL => Some(Command::DeletePool),
+        function::EXECUTE_MACRO => Some(Command::ExecuteMacro { id: id(bytes, 1) }),
         _ => None,
     }
 }

@@ -38,6 +38,9 @@ pub enum Event {
 }
 
 impl Event {
+    /// The number of the last event.
+    pub const LAST_NUMBER: u8 = 26;
+
     /// The number of the event, 0 to 26.
     pub fn number(self) -> u8
         ensures { result ≡ event_number self }
@@ -112,6 +115,6 @@ impl Event {
     pub fn is_listable(number: u8) -> bool
         ensures { result ≡ is_listable number }
     {
-        (1..=26).contains(&number)
+        (1..=Event::LAST_NUMBER).contains(&number)
     }
 }

@@ -3,11 +3,8 @@
 ghost use Rattle.std.specs.Prelude.{◌≡◌, ◌<◌, ℕ, List, length, IfSome, IfNone};
 ghost use Rattle.vt_commands.specs.Pieces.{IsSplit, command_length};
 
+use crate::function::{CHANGE_CHILD_POSITION, CHANGE_STRING_VALUE};
 use byteorder::{ByteOrder, LittleEndian};
-
-const CHANGE_STRING_VALUE: u8 = 0xB3;
-
-const CHANGE_CHILD_POSITION: u8 = 0xB4;
 
 /// Splits a macro's bytes after its first command: returns that command's bytes with its padding, and the remaining
 /// bytes. `None` if the bytes end before the command does.

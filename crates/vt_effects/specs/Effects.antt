@@ -11,6 +11,7 @@ use Rattle.vt_kinds.specs.declared.slot.Slot.{Slot}
 use Rattle.vt_kinds.specs.declared.object.Object.TheVariants as objects
 use Rattle.vt_commands.specs.declared.command.Command.{Command}
 use Rattle.vt_commands.specs.declared.command.Command.TheVariants.{HideShow, EnableDisable, SetVolume, ChangeNumericValue, ChangeAttribute, ChangeListItem, ChangeStringValue}
+use Rattle.vt_kinds.specs.Ids.{null_id}
 use Rattle.vt_kinds.specs.Records.{Seen, kind_of}
 use Rattle.vt_kinds.specs.References.{slots_of}
 use Rattle.vt_stores.specs.Stores.{ObjectMap}
@@ -67,7 +68,7 @@ pointer_value _ = None
 
 -- whether a slot allows an ID: NULL, or an object of an allowed kind
 abbrev pub allows : ObjectMap → Slot → ℕ → Bool
-allows store slot id = if id == 0xFFFF then true else is_one_of slot.kinds (kind_in store id)
+allows store slot id = if id == null_id then true else is_one_of slot.kinds (kind_in store id)
 
 -- all slots, by rising ID
 abbrev pub all_slots : ObjectMap → List Slot
@@ -80,7 +81,7 @@ places_allow store pointer value = list_all (λ slot. not (slot.id == pointer) |
 -- whether a pointer's value may be drawn as an item; true if the item is not a pointer
 abbrev pub value_drawn : ObjectMap → Option ℕ → Bool
 value_drawn store None = true
-value_drawn store (Some value) = if value == 0xFFFF then true else is_one_of sets.Drawn (kind_in store value)
+value_drawn store (Some value) = if value == null_id then true else is_one_of sets.Drawn (kind_in store value)
 
 -- no chain from an ID has more than `most` inclusions
 unfoldable pub is_short : ℕ → (ℕ → List ℕ) → ℕ → Bool

@@ -6,6 +6,7 @@ use Rattle.vt_kinds.specs.declared.slot.Slot.{Slot}
 use Rattle.vt_kinds.specs.declared.object.Object.TheVariants as objects
 use Rattle.vt_commands.specs.declared.command.Command.{Command}
 use Rattle.vt_commands.specs.declared.command.Command.TheVariants.{ChangeNumericValue, ChangeAttribute, ChangeListItem}
+use Rattle.vt_kinds.specs.Ids.{null_id}
 use Rattle.vt_kinds.specs.Records.{Seen}
 use Rattle.vt_stores.specs.Stores.{ObjectMap}
 use Rattle.vt_effects.specs.declared.pointers.Pointed.{Pointed}
@@ -38,13 +39,13 @@ fits store command = true
 
 -- a slot allows a pointer's value, if the slot refers to the pointer
 abbrev pub slot_allows : Pointed → Slot → Bool
-slot_allows p slot = not (slot.id == p.pointer) || (if p.value == 0xFFFF then true else is_one_of slot.kinds p.kind)
+slot_allows p slot = not (slot.id == p.pointer) || (if p.value == null_id then true else is_one_of slot.kinds p.kind)
 
 -- the pointer's present value has the kind of the new one
 pub record IsOfThatKind (store : ObjectMap) (p : Pointed) : Type 0 where
   pub value : ℕ
   pub held : pointer_value (finite.get store p.pointer) ≡ Some value
-  pub there : (value == 0xFFFF) ≡ false
+  pub there : (value == null_id) ≡ false
   pub same : kind_in store value ≡ p.kind
 
 -- an object with its replaced ID restored

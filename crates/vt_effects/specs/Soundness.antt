@@ -4,6 +4,7 @@ use Rattle.std.specs.List.{AllByRecursion}
 use Rattle.std.specs.FinMap as finite
 use Rattle.vt_kinds.specs.declared.slot.Slot.{Slot}
 use Rattle.vt_commands.specs.declared.command.Command.{Command}
+use Rattle.vt_kinds.specs.Ids.{null_id}
 use Rattle.vt_kinds.specs.Records.{Seen}
 use Rattle.vt_kinds.specs.References.{slots_of}
 use Rattle.vt_stores.specs.Shapes.{Shape, shape_of}
@@ -22,7 +23,7 @@ value_fits store slot (Some value) = allows store slot value
 -- NULL, where NULL is allowed, or an object of an allowed kind; for a pointer, its value too
 abbrev pub is_in_order : ObjectMap → Slot → Bool
 is_in_order store slot =
-    if slot.id == 0xFFFF
+    if slot.id == null_id
     then slot.null
     else is_one_of slot.kinds (kind_in store slot.id) && value_fits store slot (pointer_value (finite.get store slot.id))
 

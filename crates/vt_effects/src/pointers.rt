@@ -4,6 +4,7 @@ ghost use Rattle.std.specs.Prelude.{◌≡◌, true, None, slice_get};
 ghost use Rattle.std.specs.Option.{option_to_list};
 ghost use Rattle.std.specs.List.{list_all, flat_map};
 ghost use Rattle.std.specs.FinMap as finite;
+ghost use Rattle.vt_kinds.specs.Ids.{null_id};
 ghost use Rattle.vt_kinds.specs.Records.{seen};
 ghost use Rattle.vt_kinds.specs.References.{slots_of};
 ghost use Rattle.vt_effects.specs.Effects as effects;
@@ -45,7 +46,7 @@ pub(crate) fn places_allow<S: Store>(store: &S, pointer: ObjectId, value: Object
 /// Whether the pointer's present value has the same kind.
 fn has_that_kind<S: Store>(store: &S, pointed: &Pointed) -> bool
     ensures kind { result ≡ true → IsOfThatKind (S.contents store.now) pointed.now }
-    ensures named { result ≡ true → finite.get (S.contents store.now) 0xFFFF ≡ None }
+    ensures named { result ≡ true → finite.get (S.contents store.now) null_id ≡ None }
 {
     match store.get(pointed.pointer) {
         Some(Object::ObjectPointer(pointer)) if !pointer.value.is_null() => {

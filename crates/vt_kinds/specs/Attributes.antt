@@ -10,6 +10,7 @@ use Rattle.vt_kinds.specs.declared.fields.Field.{Field}
 use Rattle.vt_kinds.specs.declared.fields.Field.TheVariants as fields
 use Rattle.vt_kinds.specs.declared.fields.ValueType.{ValueType}
 use Rattle.vt_kinds.specs.declared.fields.ValueType.TheVariants as types
+use Rattle.vt_kinds.specs.Ids.{null_id}
 use Rattle.vt_kinds.specs.References.{allowed, may_be_null, members, is_among}
 use Rattle.vt_kinds.specs.Scales.{IsScale}
 
@@ -41,7 +42,7 @@ IsAmong kinds (Some kind) = IsTrue (is_among kinds kind)
 -- a reference is allowed in a field of a kind: NULL, where the field allows it, or an object of an allowed kind
 abbrev pub MayStand : Kind → Place → ℕ → Option Kind → Type 0
 MayStand kind place id named =
-    ((id ≡ 0xFFFF) × IsTrue (may_be_null place)) ⊎ ((id ≢ 0xFFFF) × IsAmong (members (allowed kind place)) named)
+    ((id ≡ null_id) × IsTrue (may_be_null place)) ⊎ ((id ≢ null_id) × IsAmong (members (allowed kind place)) named)
 
 -- A field accepts a value. For a reference, `named` is the kind of the referenced object, if it exists. An object
 -- pointer's value has to meet more conditions (docs/PROFILE.md, "Values of attributes").

@@ -1,5 +1,6 @@
 -- The specifications that the contracts of vt_kinds use.
 pub mod Attributes
+pub mod Ids
 pub mod Kinds
 pub mod Layout
 pub mod Records

@@ -5,6 +5,7 @@ ghost use Rattle.vt_kinds.specs.Attributes as table;
 ghost use Rattle.vt_kinds.specs.Attributes.{Accepts};
 ghost use Rattle.vt_kinds.specs.Scales.{IsScale};
 
+use crate::id::ObjectId;
 use crate::kind::Kind;
 use crate::place::Place;
 use crate::scale::Scale;
@@ -109,7 +110,8 @@ impl ValueType {
         let lowest = self.lowest(value);
         match self {
             ValueType::Byte | ValueType::Word | ValueType::Long | ValueType::SignedLong => true,
-            ValueType::Reference(place) if lowest == 0xFFFF => place.allows_null(),
+            ValueType::Reference(place) if lowest == u32::from(ObjectId::NULL.raw()) =>
+                place.allows_null(),
             ValueType::Reference(place) => match named {
                 Some(named) => place.kinds(kind).contains(named),
                 None => false,

@@ -1,6 +1,7 @@
 //! The IDs of objects.
 
 ghost use Rattle.std.specs.Prelude.{◌≡◌, ◌↔◌, IsTrue};
+ghost use Rattle.vt_kinds.specs.Ids.{null_id};
 
 use std::marker::Model;
 
@@ -21,6 +22,9 @@ impl Model for ObjectId {
 }
 
 impl ObjectId {
+    /// The ID of no object, 65535.
+    pub const NULL: ObjectId = ObjectId { raw: 0xFFFF };
+
     /// The ID with this number; NULL for 65535.
     pub fn from_raw(raw: u16) -> ObjectId
         ensures { result ≡ raw }
@@ -37,8 +41,8 @@ impl ObjectId {
 
     /// Whether the ID is NULL, which belongs to no object.
     pub fn is_null(self) -> bool
-        ensures { IsTrue result ↔ (self ≡ 0xFFFF) }
+        ensures { IsTrue result ↔ (self ≡ null_id) }
     {
-        self.raw == 0xFFFF
+        self.raw == ObjectId::NULL.raw
     }
 }

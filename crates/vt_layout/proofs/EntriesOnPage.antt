@@ -15,6 +15,7 @@ use Rattle.vt_kinds.specs.declared.keys.Button.{Button}
 use Rattle.vt_kinds.specs.declared.input_fields.InputList.{InputList}
 use Rattle.vt_kinds.specs.declared.object.Object.{Object}
 use Rattle.vt_kinds.specs.declared.object.Object.TheVariants as objects
+use Rattle.vt_kinds.specs.Ids.{null_id}
 use Rattle.vt_kinds.specs.Records.{Seen, seen}
 use Rattle.vt_stores.specs.Stores.{ObjectMap}
 use Rattle.vt_machine.specs.SetStates.{IsActive}
@@ -132,7 +133,7 @@ quoted_whole new old mid all i n few before end last =
 
 -- ---- a mask
 
-pub no_mask : (store : ObjectMap) (mask : ℕ) (page : Sheet) → None ≡ finite.get store mask → finite.get store 65535 ≡ None → page ≡ with_elements store (drawing store mask) page
+pub no_mask : (store : ObjectMap) (mask : ℕ) (page : Sheet) → None ≡ finite.get store mask → finite.get store null_id ≡ None → page ≡ with_elements store (drawing store mask) page
 no_mask store mask page none null =
     ap (λ (es : List Element). with_elements store es page) (sym (ap₂ (λ one two. one ++ two) (none_met 32 store origin) (none_met 32 store origin)))
     ∙ ap (λ (keys : Option Seen). with_elements store (elements 32 store [] origin ++ elements 32 store (map unmoved (keys_of keys)) origin) page) (sym null)
@@ -161,7 +162,7 @@ screen_text store address mask first text page drawn last lines start head =
     ∙ page_text first (map (line store) (drawing store mask))
     ∙ ap (λ t. t ++ cut (map (line store) (drawing store mask))) head
 
-pub gains : (address : ℕ) (store : ObjectMap) (mask : ℕ) (old new text : List ℕ) → IsSound store → finite.get store 65535 ≡ None → IsActive store mask
+pub gains : (address : ℕ) (store : ObjectMap) (mask : ℕ) (old new text : List ℕ) → IsSound store → finite.get store null_id ≡ None → IsActive store mask
     → text ≡ heading address mask ++ cut (map (line store) (drawing store mask)) → new ≡ old ++ text → GainsScreen address store old new
 gains address store mask old new text sound null active is gained = record { text = text; is_screen = screen_is address store mask text sound null active is; gained = gained }
 

@@ -15,6 +15,7 @@ use Rattle.vt_kinds.specs.declared.place.Place.{Place}
 use Rattle.vt_kinds.specs.declared.place.Place.TheVariants as places
 use Rattle.vt_kinds.specs.declared.slot.Slot.{Slot}
 use Rattle.vt_kinds.specs.declared.variables.ObjectPointer.{ObjectPointer}
+use Rattle.vt_kinds.specs.Ids.{null_id}
 use Rattle.vt_kinds.specs.Records.{Seen, kind_of}
 use Rattle.vt_kinds.specs.References.{allowed, may_be_null, is_member, is_pointer, slot, listed, children_of}
 use Rattle.vt_stores.specs.Stores.{ObjectMap}
@@ -38,11 +39,11 @@ IsRight store s = IsTrue (is_in_order store s)
 -- ---- one slot
 
 -- The slot is NULL, where NULL is allowed, or refers to an object of an allowed kind, and a pointer's value fits.
-slot_case : (P : Type 0) (store : ObjectMap) (s : Slot) → IsRight store s → (eqb s.id 65535 ≡ true → s.null ≡ true → P)
-    → (eqb s.id 65535 ≡ false → IsTrue (is_one_of s.kinds (kind_in store s.id)) → IsTrue (value_fits store s (pointer_value (finite.get store s.id))) → P) → P
-slot_case P store s right null there = by (eqb s.id 65535) refl right
+slot_case : (P : Type 0) (store : ObjectMap) (s : Slot) → IsRight store s → (eqb s.id null_id ≡ true → s.null ≡ true → P)
+    → (eqb s.id null_id ≡ false → IsTrue (is_one_of s.kinds (kind_in store s.id)) → IsTrue (value_fits store s (pointer_value (finite.get store s.id))) → P) → P
+slot_case P store s right null there = by (eqb s.id null_id) refl right
   where
-    by : (b : Bool) → eqb s.id 65535 ≡ b → IsTrue (cond b s.null (is_one_of s.kinds (kind_in store s.id) && value_fits store s (pointer_value (finite.get store s.id)))) → P
+    by : (b : Bool) → eqb s.id null_id ≡ b → IsTrue (cond b s.null (is_one_of s.kinds (kind_in store s.id) && value_fits store s (pointer_value (finite.get store s.id)))) → P
     by true is right = null is right
     by false is right =
         let allows_kind = is_one_of s.kinds (kind_in store s.id) in
@@ -59,7 +60,7 @@ value_found : (store : ObjectMap) (s : Slot) (p : ObjectPointer) → finite.get 
     → IsRight store (slot kinds.ObjectPointer places.Value p.value) → IsFound store s.kinds s.null s.id
 value_found store s p at fits right =
     slot_case (IsFound store s.kinds s.null s.id) store (slot kinds.ObjectPointer places.Value p.value) right
-    (λ is null. NullPointer (ap pointer_value at ∙ ap Some (eqb-true p.value 65535 is)))
+    (λ is null. NullPointer (ap pointer_value at ∙ ap Some (eqb-true p.value null_id is)))
     (λ is other more.
     there (finite.get store p.value) refl (subst (λ (b : Bool). IsTrue (cond b true (is_one_of s.kinds (kind_in store p.value)))) is fits) other)
   where
@@ -72,7 +73,7 @@ value_found store s p at fits right =
 -- the ID of a slot is found
 slot_found : (store : ObjectMap) (s : Slot) → IsSound store → IsRight store s → IsFound store s.kinds s.null s.id
 slot_found store s sound right =
-    slot_case (IsFound store s.kinds s.null s.id) store s right (λ is null. Null (eqb-true s.id 65535 is) null) (λ other. named (finite.get store s.id) refl)
+    slot_case (IsFound store s.kinds s.null s.id) store s right (λ is null. Null (eqb-true s.id null_id is) null) (λ other. named (finite.get store s.id) refl)
   where
     named : (o : Option Seen) → finite.get store s.id ≡ o → IsTrue (is_one_of s.kinds (option_map kind_of o)) → IsTrue (value_fits store s (pointer_value o))
         → IsFound store s.kinds s.null s.id
@@ -161,17 +162,17 @@ key_entries_found store mask sound =
 
 -- the active mask of a working set is a mask or NULL
 mask_found : (store : ObjectMap) (id mask : ℕ) (o : Option Seen) → IsSound store → finite.get store id ≡ o → option_map kind_of o ≡ Some kinds.WorkingSet → mask_of o ≡ mask
-    → (mask ≡ 65535) ⊎ IsTrue (is_one_of sets.Masks (kind_in store mask))
+    → (mask ≡ null_id) ⊎ IsTrue (is_one_of sets.Masks (kind_in store mask))
 mask_found store id mask (Some (objects.WorkingSet o)) sound at kind is =
-    subst (λ (k : ℕ). (k ≡ 65535) ⊎ IsTrue (is_one_of sets.Masks (kind_in store k))) is
-    (slot_case ((o.active_mask ≡ 65535) ⊎ IsTrue (is_one_of sets.Masks (kind_in store o.active_mask))) store (slot kinds.WorkingSet places.ActiveMask o.active_mask)
-    (sound.slots id (objects.WorkingSet o) at).0 (λ same null. inl (eqb-true o.active_mask 65535 same)) (λ other there fits. inr there))
+    subst (λ (k : ℕ). (k ≡ null_id) ⊎ IsTrue (is_one_of sets.Masks (kind_in store k))) is
+    (slot_case ((o.active_mask ≡ null_id) ⊎ IsTrue (is_one_of sets.Masks (kind_in store o.active_mask))) store (slot kinds.WorkingSet places.ActiveMask o.active_mask)
+    (sound.slots id (objects.WorkingSet o) at).0 (λ same null. inl (eqb-true o.active_mask null_id same)) (λ other there fits. inr there))
 mask_found store id mask _ sound at kind is = absurd cc
 
 -- a slot for a soft key mask refers to one or is NULL
-keys_or_null : (store : ObjectMap) (s : Slot) → s.kinds ≡ sets.SoftKeyMasks → IsRight store s → (s.id ≡ 65535) ⊎ (kind_in store s.id ≡ Some kinds.SoftKeyMask)
+keys_or_null : (store : ObjectMap) (s : Slot) → s.kinds ≡ sets.SoftKeyMasks → IsRight store s → (s.id ≡ null_id) ⊎ (kind_in store s.id ≡ Some kinds.SoftKeyMask)
 keys_or_null store s are right =
-    slot_case ((s.id ≡ 65535) ⊎ (kind_in store s.id ≡ Some kinds.SoftKeyMask)) store s right (λ same null. inl (eqb-true s.id 65535 same))
+    slot_case ((s.id ≡ null_id) ⊎ (kind_in store s.id ≡ Some kinds.SoftKeyMask)) store s right (λ same null. inl (eqb-true s.id null_id same))
     (λ other there fits. inr (only (kind_in store s.id) (subst (λ (k : Kinds). IsTrue (is_one_of k (kind_in store s.id))) are there)))
   where
     only : (k : Option Kind) → IsTrue (is_one_of sets.SoftKeyMasks k) → k ≡ Some kinds.SoftKeyMask
@@ -180,7 +181,7 @@ keys_or_null store s are right =
 
 -- the soft key mask of a mask is a soft key mask or NULL
 keys_mask_found : (store : ObjectMap) (mask : ℕ) (o : Option Seen) → IsSound store → finite.get store mask ≡ o
-    → (soft_key_mask_of o ≡ 65535) ⊎ (kind_in store (soft_key_mask_of o) ≡ Some kinds.SoftKeyMask)
+    → (soft_key_mask_of o ≡ null_id) ⊎ (kind_in store (soft_key_mask_of o) ≡ Some kinds.SoftKeyMask)
 keys_mask_found store mask (Some (objects.DataMask o)) sound at =
     keys_or_null store (slot kinds.DataMask places.SoftKeyMask o.soft_key_mask) refl (sound.slots mask (objects.DataMask o) at).0
 keys_mask_found store mask (Some (objects.AlarmMask o)) sound at =
@@ -191,14 +192,14 @@ keys_mask_found store mask _ sound at = inl refl
 
 -- the value exists: the object's own if the slot is NULL, or else the variable's
 has_value : {A : Type 0} (read : Option Seen → Option A) (variables : Kinds) → ((o : Option Seen) → IsTrue (is_one_of variables (option_map kind_of o)) → (v : A) × (read o ≡ Some v))
-    → (store : ObjectMap) (s : Slot) (own : A) → s.kinds ≡ variables → IsRight store s → (v : A) × (cond (eqb s.id 65535) (Some own) (read (finite.get store s.id)) ≡ Some v)
+    → (store : ObjectMap) (s : Slot) (own : A) → s.kinds ≡ variables → IsRight store s → (v : A) × (cond (eqb s.id null_id) (Some own) (read (finite.get store s.id)) ≡ Some v)
 has_value {A} read variables reads store s own are right =
-    slot_case ((v : A) × (cond (eqb s.id 65535) (Some own) (read (finite.get store s.id)) ≡ Some v)) store s right
+    slot_case ((v : A) × (cond (eqb s.id null_id) (Some own) (read (finite.get store s.id)) ≡ Some v)) store s right
     (λ same null. (own, shown true same))
     (λ other there fits.
     let value = reads (finite.get store s.id) (subst (λ (k : Kinds). IsTrue (is_one_of k (kind_in store s.id))) are there) in (value.0, shown false other ∙ value.1))
   where
-    shown : (b : Bool) → eqb s.id 65535 ≡ b → cond (eqb s.id 65535) (Some own) (read (finite.get store s.id)) ≡ cond b (Some own) (read (finite.get store s.id))
+    shown : (b : Bool) → eqb s.id null_id ≡ b → cond (eqb s.id null_id) (Some own) (read (finite.get store s.id)) ≡ cond b (Some own) (read (finite.get store s.id))
     shown b is = ap (λ (c : Bool). cond c (Some own) (read (finite.get store s.id))) is
 
 -- a slot for a number variable has a number

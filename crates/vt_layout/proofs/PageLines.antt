@@ -6,6 +6,7 @@ use Rattle.std.specs.Prelude.{nat_lt, codes}
 use Rattle.std.specs.List.{flat_map}
 use Rattle.std.specs.FinMap as finite
 use Rattle.vt_kinds.specs.declared.entries.Child.{Child}
+use Rattle.vt_kinds.specs.Ids.{null_id}
 use Rattle.vt_stores.specs.Stores.{ObjectMap}
 use Rattle.vt_verify.specs.Rules.{working_sets}
 use Rattle.vt_machine.specs.SetStates.{IsActive}
@@ -112,7 +113,7 @@ walk_is_all store entries short = record {
 abbrev pub whole : ObjectMap → ℕ → List Placed
 whole store mask = all_placed 32 store (mask_entries store mask) origin ++ all_placed 32 store (key_entries store mask) origin
 
-pub whole_drawing : (store : ObjectMap) (mask : ℕ) → IsSound store → finite.get store 65535 ≡ None → IsDrawing store mask (whole store mask)
+pub whole_drawing : (store : ObjectMap) (mask : ℕ) → IsSound store → finite.get store null_id ≡ None → IsDrawing store mask (whole store mask)
 whole_drawing store mask sound null = record {
   in_mask = all_placed 32 store (mask_entries store mask) origin;
   of_keys = all_placed 32 store (key_entries store mask) origin;
@@ -132,7 +133,7 @@ whole_bare store mask =
     ∙ ap (λ es. es ++ bare (all_placed 32 store (key_entries store mask) origin)) (bare_all 32 store (mask_entries store mask) origin)
     ∙ ap (λ es. elements 32 store (mask_entries store mask) origin ++ es) (bare_all 32 store (key_entries store mask) origin)
 
-pub screen_is : (address : ℕ) (store : ObjectMap) (mask : ℕ) (text : List ℕ) → IsSound store → finite.get store 65535 ≡ None → IsActive store mask
+pub screen_is : (address : ℕ) (store : ObjectMap) (mask : ℕ) (text : List ℕ) → IsSound store → finite.get store null_id ≡ None → IsActive store mask
     → text ≡ heading address mask ++ cut (map (line store) (drawing store mask)) → IsScreen address store text
 screen_is address store mask text sound null active is = record {
   mask = mask;

@@ -10,6 +10,7 @@ use Rattle.vt_kinds.specs.declared.entries.Child.{Child}
 use Rattle.vt_kinds.specs.declared.kind.Kind.TheVariants as kinds
 use Rattle.vt_kinds.specs.declared.object.Object.TheVariants as objects
 use Rattle.vt_kinds.specs.declared.place.Place.TheVariants as places
+use Rattle.vt_kinds.specs.Ids.{null_id}
 use Rattle.vt_kinds.specs.Records.{Seen}
 use Rattle.vt_kinds.specs.References.{slots_of}
 use Rattle.vt_stores.specs.Stores.{ObjectMap}
@@ -32,7 +33,7 @@ record IsWay (store : ObjectMap) (from : ℕ) (rest : List ℕ) (least to : ℕ)
 
 -- an object includes all IDs of a list
 abbrev AreIncluded : ObjectMap → ℕ → List ℕ → Type 0
-AreIncluded store id names = (name : ℕ) → eqb name 65535 ≡ false → Contains names name → Contains (included_by (finite.get store id)) name
+AreIncluded store id names = (name : ℕ) → eqb name null_id ≡ false → Contains names name → Contains (included_by (finite.get store id)) name
 
 value_is : (value next : ℕ) (o : Option Seen) → option_map (λ x. value) o ≡ Some next → value ≡ next
 value_is value next None is = absurd cc
@@ -43,7 +44,7 @@ no_pointer : (store : ObjectMap) (next : ℕ) (p : ObjectPointer) → finite.get
 no_pointer store next p at shows = let never = subst (λ (o : Option Seen). IsTrue (is_element o)) at shows in absurd cc
 
 -- a chain with one more element in front
-way_more : (store : ObjectMap) (id name next : ℕ) (rest : List ℕ) (least to : ℕ) → finite.get store 65535 ≡ None → Contains (inclusions_of store id) name → stands_for store name ≡ Some next
+way_more : (store : ObjectMap) (id name next : ℕ) (rest : List ℕ) (least to : ℕ) → finite.get store null_id ≡ None → Contains (inclusions_of store id) name → stands_for store name ≡ Some next
     → IsTrue (is_element (finite.get store next)) → IsWay store next rest least to → IsWay store id (led_through name (finite.get store name) ++ rest) (suc least) to
 way_more store id name next rest least to null first stands shows way = by (finite.get store name) refl stands
   where
@@ -71,7 +72,7 @@ way_more store id name next rest least to null first stands shows way = by (fini
         record { is = (first, moved.is); last = moved.last; each = omega (arith, le) }
 
 -- the entry at an index of an included list makes the chain longer
-way_step : (store : ObjectMap) (id : ℕ) (entries : List Child) (from : Position) (place : ℕ) (next : Element) (rest : List ℕ) (least to : ℕ) → finite.get store 65535 ≡ None
+way_step : (store : ObjectMap) (id : ℕ) (entries : List Child) (from : Position) (place : ℕ) (next : Element) (rest : List ℕ) (least to : ℕ) → finite.get store null_id ≡ None
     → AreIncluded store id (ids_in entries) → entered store from place (slice_get entries place) ≡ Some next → IsWay store next.id rest least to
     → IsWay store id (through store (slice_get entries place) ++ rest) (suc least) to
 way_step store id entries from place next rest least to null included is way =
@@ -94,7 +95,7 @@ keys_are_included store mask name there h =
     among (Some (objects.SoftKeyMask o)) h = listed_included kinds.SoftKeyMask places.Key 0 o.keys name (λ i. refl) there h
     among _ h = absurd (Contains-nil name h)
 
-way_along : (store : ObjectMap) (path : List ℕ) (first e : Element) → finite.get store 65535 ≡ None → along store path (Some first) ≡ Some e
+way_along : (store : ObjectMap) (path : List ℕ) (first e : Element) → finite.get store null_id ≡ None → along store path (Some first) ≡ Some e
     → IsWay store first.id (passed_below store path (Some first)) (length path) e.id
 way_along store [] first e null leads = record {
   is = tt;
@@ -112,7 +113,7 @@ way_along store (place ∷ path) first e null leads =
         way_step store first.id (entries_in store (finite.get store first.id)) first.at place next (passed_below store path (Some next)) (length path) e.id null
         (drawn_are_included store first.id) is (rest next leads)
 
-way_of : (store : ObjectMap) (id : ℕ) (entries : List Child) (path : List ℕ) (e : Element) → finite.get store 65535 ≡ None → AreIncluded store id (ids_in entries)
+way_of : (store : ObjectMap) (id : ℕ) (entries : List Child) (path : List ℕ) (e : Element) → finite.get store null_id ≡ None → AreIncluded store id (ids_in entries)
     → at_path store entries origin path ≡ Some e → IsWay store id (passed store entries path) (length path) e.id
 way_of store id entries [] e null included leads = absurd cc
 way_of store id entries (place ∷ path) e null included leads = by (entered store origin place (slice_get entries place)) refl leads
@@ -128,11 +129,11 @@ chained store id rest least to sound way =
     let short = sound.shallow (id ∷ rest) way.is in
     record { is = way.is; last = way.last; short = omega (arith, short) }
 
-way_in_mask : (store : ObjectMap) (mask : ℕ) (path : List ℕ) (e : Element) → finite.get store 65535 ≡ None → at_path store (mask_entries store mask) origin path ≡ Some e
+way_in_mask : (store : ObjectMap) (mask : ℕ) (path : List ℕ) (e : Element) → finite.get store null_id ≡ None → at_path store (mask_entries store mask) origin path ≡ Some e
     → IsWay store mask (passed store (mask_entries store mask) path) (length path) e.id
 way_in_mask store mask path e null leads = way_of store mask (mask_entries store mask) path e null (drawn_are_included store mask) leads
 
-way_of_keys : (store : ObjectMap) (mask : ℕ) (path : List ℕ) (e : Element) → finite.get store 65535 ≡ None → at_path store (key_entries store mask) origin path ≡ Some e
+way_of_keys : (store : ObjectMap) (mask : ℕ) (path : List ℕ) (e : Element) → finite.get store null_id ≡ None → at_path store (key_entries store mask) origin path ≡ Some e
     → IsWay store (soft_key_mask_of (finite.get store mask)) (passed store (key_entries store mask) path) (length path) e.id
 way_of_keys store mask path e null leads = way_of store (soft_key_mask_of (finite.get store mask)) (key_entries store mask) path e null (keys_are_included store mask) leads
 
@@ -147,11 +148,11 @@ paths_chained = record {
 short_way : (store : ObjectMap) (id : ℕ) (rest : List ℕ) (least to : ℕ) → IsSound store → IsWay store id rest least to → least ≤ 32
 short_way store id rest least to sound way = let short = sound.shallow (id ∷ rest) way.is in let each = way.each in omega (arith, each, short)
 
-pub short_in_mask : (store : ObjectMap) (mask : ℕ) (path : List ℕ) (e : Element) → IsSound store → finite.get store 65535 ≡ None
+pub short_in_mask : (store : ObjectMap) (mask : ℕ) (path : List ℕ) (e : Element) → IsSound store → finite.get store null_id ≡ None
     → at_path store (mask_entries store mask) origin path ≡ Some e → length path ≤ 32
 short_in_mask store mask path e sound null leads = short_way store mask (passed store (mask_entries store mask) path) (length path) e.id sound (way_in_mask store mask path e null leads)
 
-pub short_of_keys : (store : ObjectMap) (mask : ℕ) (path : List ℕ) (e : Element) → IsSound store → finite.get store 65535 ≡ None
+pub short_of_keys : (store : ObjectMap) (mask : ℕ) (path : List ℕ) (e : Element) → IsSound store → finite.get store null_id ≡ None
     → at_path store (key_entries store mask) origin path ≡ Some e → length path ≤ 32
 short_of_keys store mask path e sound null leads =
     short_way store (soft_key_mask_of (finite.get store mask)) (passed store (key_entries store mask) path) (length path) e.id sound (way_of_keys store mask path e null leads)

@@ -6,6 +6,7 @@ use Rattle.vt_kinds.specs.declared.entries.Child.{Child}
 use Rattle.vt_kinds.specs.declared.kind.Kind.TheVariants as kinds
 use Rattle.vt_kinds.specs.declared.object.Object.TheVariants as objects
 use Rattle.vt_kinds.specs.declared.slot.Slot.{Slot}
+use Rattle.vt_kinds.specs.Ids.{null_id}
 use Rattle.vt_kinds.specs.Records.{Seen}
 use Rattle.vt_kinds.specs.References.{slots_of}
 use Rattle.vt_stores.specs.Stores.{ObjectMap}
@@ -108,7 +109,7 @@ pub record IsDrawing (store : ObjectMap) (mask : ℕ) (drawing : List Placed) : 
 
 -- The drawing of a mask is unique. It exists in a store in order without an object with the ID NULL.
 pub record DrawingsAreOne : Type 0 where
-  pub there : (store : ObjectMap) (mask : ℕ) → IsSound store → finite.get store 0xFFFF ≡ None → (drawing : List Placed) × IsDrawing store mask drawing
+  pub there : (store : ObjectMap) (mask : ℕ) → IsSound store → finite.get store null_id ≡ None → (drawing : List Placed) × IsDrawing store mask drawing
   pub one : (store : ObjectMap) (mask : ℕ) (one other : List Placed) → IsDrawing store mask one → IsDrawing store mask other → one ≡ other
 
 -- The objects shown are the elements of the drawing, however long.
@@ -174,8 +175,8 @@ pub record IsChained (store : ObjectMap) (from : ℕ) (passed : List ℕ) (to : 
 
 -- The path to an element of a store in order follows a chain of inclusions, from the mask or its soft key mask.
 pub record PathsAreChained : Type 0 where
-  pub in_mask : (store : ObjectMap) (mask : ℕ) (path : List ℕ) (e : Element) → IsSound store → finite.get store 0xFFFF ≡ None
+  pub in_mask : (store : ObjectMap) (mask : ℕ) (path : List ℕ) (e : Element) → IsSound store → finite.get store null_id ≡ None
       → at_path store (mask_entries store mask) origin path ≡ Some e → IsChained store mask (passed store (mask_entries store mask) path) e.id
-  pub of_keys : (store : ObjectMap) (mask : ℕ) (path : List ℕ) (e : Element) → IsSound store → finite.get store 0xFFFF ≡ None
+  pub of_keys : (store : ObjectMap) (mask : ℕ) (path : List ℕ) (e : Element) → IsSound store → finite.get store null_id ≡ None
       → at_path store (key_entries store mask) origin path ≡ Some e
       → IsChained store (soft_key_mask_of (finite.get store mask)) (passed store (key_entries store mask) path) e.id

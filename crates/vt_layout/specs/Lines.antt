@@ -6,6 +6,7 @@ use Rattle.std.specs.FinMap as finite
 use Rattle.hex.specs.Hex.{encode_upper}
 use Rattle.vt_kinds.specs.declared.object.Object.TheVariants as objects
 use Rattle.vt_objects.specs.Decimals.{shown_text}
+use Rattle.vt_kinds.specs.Ids.{null_id}
 use Rattle.vt_kinds.specs.Records.{Seen}
 use Rattle.vt_kinds.specs.Scales.{scale_places}
 use Rattle.vt_stores.specs.Stores.{ObjectMap}
@@ -65,7 +66,7 @@ text_in _ = None
 
 -- the text that an object shows: its variable's text, if it has a variable
 abbrev pub text_shown : ObjectMap → ℕ → List ℕ → Option (List ℕ)
-text_shown store variable own = if variable == 0xFFFF then Some own else text_in (finite.get store variable)
+text_shown store variable own = if variable == null_id then Some own else text_in (finite.get store variable)
 
 -- the mark of a disabled input
 abbrev pub switched : Option Bool → List ℕ

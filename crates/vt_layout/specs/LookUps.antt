@@ -8,6 +8,7 @@ use Rattle.vt_kinds.specs.declared.kind.Kind.TheVariants as kinds
 use Rattle.vt_kinds.specs.declared.kinds.Kinds.{Kinds}
 use Rattle.vt_kinds.specs.declared.kinds.Kinds.TheVariants as sets
 use Rattle.vt_kinds.specs.declared.object.Object.TheVariants as objects
+use Rattle.vt_kinds.specs.Ids.{null_id}
 use Rattle.vt_kinds.specs.Records.{Seen}
 use Rattle.vt_kinds.specs.References.{is_member, is_pointer}
 use Rattle.vt_stores.specs.Stores.{ObjectMap}
@@ -33,8 +34,8 @@ null_listed _ = false
 
 -- A listed ID resolves to an object of these kinds, or is NULL, where NULL is allowed, or a pointer with NULL.
 pub data IsFound (store : ObjectMap) (allowed : Kinds) (null : Bool) (name : ℕ) : Type 0 where
-  Null : name ≡ 0xFFFF → null ≡ true → IsFound store allowed null name
-  NullPointer : pointer_value (finite.get store name) ≡ Some 0xFFFF → IsFound store allowed null name
+  Null : name ≡ null_id → null ≡ true → IsFound store allowed null name
+  NullPointer : pointer_value (finite.get store name) ≡ Some null_id → IsFound store allowed null name
   StandsFor : (id : ℕ) (kind : Kind) → stands_for store name ≡ Some id → kind_in store id ≡ Some kind
       → is_member allowed kind ≡ true → is_pointer kind ≡ false → IsFound store allowed null name
 
@@ -71,9 +72,9 @@ HasValues store (Some o) = Unit {0}
 
 -- All that the drawing of a mask looks up exists, and is of an allowed kind.
 pub record FindsAll (store : ObjectMap) (mask : ℕ) : Type 0 where
-  pub active : IsActive store mask → (mask ≡ 0xFFFF) ⊎ IsTrue (is_one_of sets.Masks (kind_in store mask))
+  pub active : IsActive store mask → (mask ≡ null_id) ⊎ IsTrue (is_one_of sets.Masks (kind_in store mask))
   pub in_mask : AreFoundIn store mask
-  pub soft_key_mask : (soft_key_mask_of (finite.get store mask) ≡ 0xFFFF) ⊎ (kind_in store (soft_key_mask_of (finite.get store mask)) ≡ Some kinds.SoftKeyMask)
+  pub soft_key_mask : (soft_key_mask_of (finite.get store mask) ≡ null_id) ⊎ (kind_in store (soft_key_mask_of (finite.get store mask)) ≡ Some kinds.SoftKeyMask)
   pub keys : AllByRecursion (λ entry. IsFound store sets.Keys true entry.id) (key_entries store mask)
   pub in_elements : (id : ℕ) → IsShown store mask id → AreFoundIn store id
   pub values : (id : ℕ) → IsShown store mask id → HasValues store (finite.get store id)

@@ -3,6 +3,7 @@ use Rattle.std.specs.Prelude.{◌≡◌, ℕ, None, ◌==◌, if◌then◌else�
 use Rattle.std.specs.Fmt.{decimal}
 use Rattle.std.specs.List.{flat_map}
 use Rattle.std.specs.FinMap as finite
+use Rattle.vt_kinds.specs.Ids.{null_id}
 use Rattle.hex.specs.Hex.{encode_upper}
 use Rattle.vt_stores.specs.Stores.{ObjectMap}
 use Rattle.vt_verify.specs.Rules.{working_sets}
@@ -21,7 +22,7 @@ abbrev pub cut : List (List ℕ) → List ℕ
 cut lines = flat_map (λ line. line) (take most_lines lines) ++ (if nat_lt most_lines (length lines) then codes "more\n" else [])
 
 abbrev pub mask_name : ℕ → List ℕ
-mask_name mask = if mask == 0xFFFF then codes "none" else decimal mask
+mask_name mask = if mask == null_id then codes "none" else decimal mask
 
 -- the first line: the address of the working set, and its active mask
 abbrev pub heading : ℕ → ℕ → List ℕ
@@ -43,7 +44,7 @@ pub record GainsScreen (address : ℕ) (store : ObjectMap) (old new : List ℕ) 
 
 -- The screen of a working set is unique. It exists in a store in order without an object with the ID NULL.
 pub record ScreensAreOne : Type 0 where
-  pub there : (address : ℕ) (store : ObjectMap) (mask : ℕ) → IsSound store → finite.get store 0xFFFF ≡ None → IsActive store mask
+  pub there : (address : ℕ) (store : ObjectMap) (mask : ℕ) → IsSound store → finite.get store null_id ≡ None → IsActive store mask
       → (text : List ℕ) × IsScreen address store text
   pub one : (address : ℕ) (store : ObjectMap) (one other : List ℕ) → working_sets (shape_in store) ≡ 1
       → IsScreen address store one → IsScreen address store other → one ≡ other

@@ -1,24 +1,26 @@
 //! The walk through the elements of a mask, in the order of its drawing. Each element has one line, and a page holds
 //! 2,000 lines, so that a walk ends soon, however many paths there are.
 
-ghost use Rattle.std.specs.Prelude.{◌≡◌, ◌==◌, if◌then◌else◌, [], ◌+◌, ◌*◌, ℕ, None, Some, OnOk, IfSome, IfNone, map};
+ghost use Rattle.std.specs.Prelude.{◌≡◌, ◌==◌, if◌then◌else◌, [], ◌+◌, ◌*◌, ℕ, None, Some, OnOk, map};
 ghost use Rattle.std.specs.Option.{option_map, option_to_list};
 ghost use Rattle.std.specs.FinMap as finite;
 ghost use Rattle.vt_kinds.specs.declared.object.Object.TheVariants as objects;
+ghost use Rattle.vt_kinds.specs.Ids.{null_id};
 ghost use Rattle.vt_kinds.specs.Records.{seen};
-ghost use Rattle.vt_shown.specs.ShownElements.{stands_for, is_element, item_of, number_shown, soft_key_mask_of, keys_of};
+ghost use Rattle.vt_shown.specs.ShownElements.{stands_for, item_of, number_shown, keys_of};
 ghost use Rattle.vt_layout.specs.Drawings.{element, entries_in, unmoved, origin};
 ghost use Rattle.vt_layout.specs.PageTexts.{with_elements, IsNear};
 ghost use Rattle.vt_layout.specs.Walks.{elements, with_drawn, each_from, drawing};
 
 use crate::element::{Element, Position};
 use crate::page::Page;
-use crate::values::number_shown;
 use std::alloc::AllocError;
+use vt_chains::TERMINAL_LIMITS;
 use vt_objects::{Child, Container, InputList, Object, ObjectId, Store};
+use vt_shown::{is_element, number_shown, soft_key_mask, standing};
 
 /// The most inclusions in a chain.
-const MOST_INCLUSIONS: u8 = 32;
+const MOST_INCLUSIONS: u8 = TERMINAL_LIMITS.inclusions;
 
 /// The upper left corner of a mask, or of a key.
 const ORIGIN: Position = Position { x: 0, y: 0 };
@@ -30,24 +32,13 @@ pub(crate) fn draw_mask<S: Store>(
     page: &mut Page,
 ) -> Result<(), AllocError>
     ensures drawn { OnOk result (page.new ≡ with_elements (S.contents store.now) (drawing (S.contents store.now) mask) page.old) }
-    ensures named { finite.get (S.contents store.now) 0xFFFF ≡ None }
+    ensures named { finite.get (S.contents store.now) null_id ≡ None }
 {
     let Some(object) = store.get(mask) else {
         return Ok(());
     };
     draw_within(store, MOST_INCLUSIONS, object, ORIGIN, page)?;
-    draw_soft_keys(store, soft_key_mask(object), page)
-}
-
-/// The soft key mask of a mask. NULL if the object is not a mask.
-fn soft_key_mask(object: &Object<Vec<u8>>) -> ObjectId
-    ensures { result ≡ soft_key_mask_of (Some (seen object.now)) }
-{
-    match object {
-        Object::DataMask(o) => o.soft_key_mask,
-        Object::AlarmMask(o) => o.soft_key_mask,
-        _ => ObjectId::from_raw(0xFFFF),
-    }
+    draw_soft_keys(store, soft_key_mask(store, mask), page)
 }
 
 /// Draws the keys of a soft key mask.
@@ -186,30 +177,4 @@ fn item<S: Store>(store: &S, list: &InputList) -> Option<ObjectId>
 {
     let index = number_shown(store, list.variable, u32::from(list.value))?;
     list.items.as_slice().get(index as usize).copied()
-}
-
-/// The object that an ID resolves to, directly or through a pointer, and its own ID. `None` if it is missing.
-fn standing<S: Store>(store: &S, id: ObjectId) -> Option<(ObjectId, &Object<Vec<u8>>)>
-    ensures some { IfSome result (λ found. (stands_for (S.contents store.now) id ≡ Some found.0) × (finite.get (S.contents store.now) found.0 ≡ Some (seen found.1.now))) }
-    ensures none { IfNone result (stands_for (S.contents store.now) id ≡ None) }
-{
-    match store.get(id) {
-        None => None,
-        Some(Object::ObjectPointer(pointer)) => {
-            let value = pointer.value;
-            store.get(value).map(|object| (value, object))
-        }
-        Some(object) => Some((id, object)),
-    }
-}
-
-/// Whether an object is neither a pointer nor a hidden container.
-fn is_element(object: &Object<Vec<u8>>) -> bool
-    ensures { result ≡ is_element (Some (seen object.now)) }
-{
-    match object {
-        Object::ObjectPointer(_) => false,
-        Object::Container(o) => o.hidden == 0,
-        _ => true,
-    }
 }

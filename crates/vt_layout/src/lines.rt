@@ -12,12 +12,13 @@ use crate::texts::{
     write_code, write_decision, write_number, write_quoted, write_shown, write_size,
     write_standing, write_value,
 };
-use crate::values::{number_shown, text_shown};
+use crate::values::text_shown;
 use std::alloc::AllocError;
 use vt_objects::{
     ArchedBar, Button, InputBoolean, InputList, InputNumber, InputString, Key, Line, LinearBar,
     Meter, Object, OutputNumber, OutputString, Store,
 };
+use vt_shown::number_shown;
 
 /// Writes the line of an element.
 pub(crate) fn write_line<S: Store>(

@@ -2,6 +2,7 @@
 
 ghost use Rattle.std.specs.Prelude.{◌≡◌, ◌++◌, None, OnOk, OnErr, IfOk, map, string_bytes};
 ghost use Rattle.std.specs.FinMap as finite;
+ghost use Rattle.vt_kinds.specs.Ids.{null_id};
 ghost use Rattle.vt_layout.specs.Lines.{line};
 ghost use Rattle.vt_layout.specs.Screens.{heading, mask_name, cut, GainsScreen};
 ghost use Rattle.vt_layout.specs.Walks.{drawing};
@@ -40,7 +41,7 @@ fn screen<S: Store>(
     mask: ObjectId,
 ) -> Result<String, AllocError>
     ensures text { IfOk result (λ text. string_bytes text ≡ heading address mask ++ cut (map (line (S.contents store.now)) (drawing (S.contents store.now) mask))) }
-    ensures named { IfOk result (λ text. finite.get (S.contents store.now) 0xFFFF ≡ None) }
+    ensures named { IfOk result (λ text. finite.get (S.contents store.now) null_id ≡ None) }
 {
     let mut page = Page::new(heading(alloc, address, mask)?);
     draw_mask(store, mask, &mut page)?;

@@ -1,24 +1,10 @@
-//! The values that objects show: those of their variables, if they have variables.
+//! The texts that objects show: those of their variables, if they have any.
 
 ghost use Rattle.std.specs.Prelude.{◌≡◌};
 ghost use Rattle.std.specs.Option.{option_map};
-ghost use Rattle.vt_shown.specs.ShownElements.{number_shown};
 ghost use Rattle.vt_layout.specs.Lines.{text_shown};
 
 use vt_objects::{Object, ObjectId, Store};
-
-/// The number that an object shows. `None` if its variable is missing, which cannot happen in a store in order.
-pub(crate) fn number_shown<S: Store>(store: &S, variable: ObjectId, own: u32) -> Option<u32>
-    ensures { result ≡ number_shown (S.contents store.now) variable own }
-{
-    if variable.is_null() {
-        return Some(own);
-    }
-    match store.get(variable) {
-        Some(Object::NumberVariable(o)) => Some(o.value),
-        _ => None,
-    }
-}
 
 /// The text that an object shows. `None` if its variable is missing, which cannot happen in a store in order.
 pub(crate) fn text_shown<'a, S: Store>(

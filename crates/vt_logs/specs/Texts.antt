@@ -7,6 +7,7 @@ use Rattle.vt_can.specs.declared.lines.line.LineFault.TheVariants.{Time, Shape, 
 use Rattle.vt_can.specs.lines.WrittenForms.{frame_text}
 use Rattle.vt_can.specs.lines.Readings.{ParsedLine, FrameAt, OperatorAction, SkippedFrame, CommentLine}
 use Rattle.vt_logs.specs.declared.counts.Counts.{Counts}
+use Rattle.vt_machine.specs.declared.operator.OperatorRefusal.TheVariants as refusals
 use Rattle.vt_server.specs.declared.output.OperatorFault.{OperatorFault}
 use Rattle.vt_server.specs.declared.output.OperatorFault.TheVariants as faults
 use Rattle.vt_server.specs.declared.output.Output.{Output}
@@ -28,13 +29,13 @@ fault_name Operator = codes "Operator"
 
 -- the number and the name of a refusal to the operator
 abbrev pub refusal_name : OperatorFault → List ℕ
-refusal_name faults.NotShown = codes "1 NotShown"
-refusal_name faults.Disabled = codes "2 Disabled"
-refusal_name faults.Range = codes "3 Range"
-refusal_name faults.TooLong = codes "4 TooLong"
-refusal_name faults.WrongKind = codes "5 WrongKind"
-refusal_name faults.NotPressed = codes "6 NotPressed"
-refusal_name faults.Held = codes "7 Held"
+refusal_name (faults.Refused refusals.NotShown) = codes "1 NotShown"
+refusal_name (faults.Refused refusals.Disabled) = codes "2 Disabled"
+refusal_name (faults.Refused refusals.Range) = codes "3 Range"
+refusal_name (faults.Refused refusals.TooLong) = codes "4 TooLong"
+refusal_name (faults.Refused refusals.WrongKind) = codes "5 WrongKind"
+refusal_name (faults.Refused refusals.NotPressed) = codes "6 NotPressed"
+refusal_name (faults.Refused refusals.Held) = codes "7 Held"
 refusal_name faults.Busy = codes "8 Busy"
 refusal_name faults.NoSet = codes "9 NoSet"
 

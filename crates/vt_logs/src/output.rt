@@ -14,7 +14,7 @@ use crate::streams::Sink;
 use itoa::Buffer;
 use std::io::ErrorKind;
 use vt_can::{LineFault, write_frame};
-use vt_server::{OperatorFault, Output};
+use vt_server::{OperatorFault, OperatorRefusal, Output};
 
 /// After how many writes a text that is not written whole is given up.
 const WRITES: u32 = 1_000_000_000;
@@ -55,13 +55,13 @@ fn refusal_name(fault: OperatorFault) -> &'static str
     ensures { result.now ≡ refusal_name fault }
 {
     match fault {
-        OperatorFault::NotShown => "1 NotShown",
-        OperatorFault::Disabled => "2 Disabled",
-        OperatorFault::Range => "3 Range",
-        OperatorFault::TooLong => "4 TooLong",
-        OperatorFault::WrongKind => "5 WrongKind",
-        OperatorFault::NotPressed => "6 NotPressed",
-        OperatorFault::Held => "7 Held",
+        OperatorFault::Refused(OperatorRefusal::NotShown) => "1 NotShown",
+        OperatorFault::Refused(OperatorRefusal::Disabled) => "2 Disabled",
+        OperatorFault::Refused(OperatorRefusal::Range) => "3 Range",
+        OperatorFault::Refused(OperatorRefusal::TooLong) => "4 TooLong",
+        OperatorFault::Refused(OperatorRefusal::WrongKind) => "5 WrongKind",
+        OperatorFault::Refused(OperatorRefusal::NotPressed) => "6 NotPressed",
+        OperatorFault::Refused(OperatorRefusal::Held) => "7 Held",
         OperatorFault::Busy => "8 Busy",
         OperatorFault::NoSet => "9 NoSet",
     }

@@ -8,6 +8,7 @@ use Rattle.std.specs.FinMap as finite
 use Rattle.vt_kinds.specs.declared.kind.Kind.{Kind}
 use Rattle.vt_kinds.specs.declared.slot.Slot.{Slot}
 use Rattle.vt_kinds.specs.declared.object.Object.TheVariants as objects
+use Rattle.vt_kinds.specs.Ids.{null_id}
 use Rattle.vt_kinds.specs.Records.{Seen}
 use Rattle.vt_kinds.specs.References.{slots_of}
 use Rattle.vt_stores.specs.Stores.{ObjectMap, replaced, with_object}
@@ -107,12 +108,12 @@ module _ (m : ObjectMap) (id : ℕ) (old new : Seen) (at : finite.get m id ≡ S
 
   fits_same : (s : Slot) (v : Option ℕ) → value_fits n s v ≡ value_fits m s v
   fits_same s None = refl
-  fits_same s (Some w) = ap (λ (k : Option Kind). cond (w == 0xFFFF) true (is_one_of s.kinds k)) (kinds w)
+  fits_same s (Some w) = ap (λ (k : Option Kind). cond (w == null_id) true (is_one_of s.kinds k)) (kinds w)
 
   order_same : (s : Slot) → is_in_order n s ≡ is_in_order m s
   order_same s =
-      ap (λ (k : Option Kind). cond (s.id == 0xFFFF) s.null (is_one_of s.kinds k && value_fits n s (pointer_value (finite.get n s.id)))) (kinds s.id)
-      ∙ ap (λ (b : Bool). cond (s.id == 0xFFFF) s.null (is_one_of s.kinds (kind_in m s.id) && b))
+      ap (λ (k : Option Kind). cond (s.id == null_id) s.null (is_one_of s.kinds k && value_fits n s (pointer_value (finite.get n s.id)))) (kinds s.id)
+      ∙ ap (λ (b : Bool). cond (s.id == null_id) s.null (is_one_of s.kinds (kind_in m s.id) && b))
       (fits_same s (pointer_value (finite.get n s.id)) ∙ ap (value_fits m s) (values s.id))
 
   all_same : (ss : List Slot) → AllByRecursion (λ s. IsTrue (is_in_order m s)) ss → AllByRecursion (λ s. IsTrue (is_in_order n s)) ss

@@ -7,6 +7,7 @@ use Rattle.vt_kinds.specs.declared.object.Object.TheVariants as objects
 use Rattle.vt_commands.specs.declared.event.Event.TheVariants as events
 use Rattle.vt_commands.specs.declared.raising.Raised.{Raised}
 use Rattle.vt_commands.specs.Events.{raise}
+use Rattle.vt_commands.specs.Functions.{SOFT_KEY_ACTIVATION, BUTTON_ACTIVATION}
 use Rattle.vt_kinds.specs.Records.{Seen}
 use Rattle.vt_machine.specs.declared.live.HeldKey.{HeldKey}
 use Rattle.vt_machine.specs.declared.operator.Acted.{Acted}
@@ -29,8 +30,8 @@ abbrev pub key_bytes : ℕ → ℕ → ℕ → ℕ → ℕ → List ℕ
 key_bytes function code id mask key_code = function ∷ code ∷ little_bytes 2 id ++ little_bytes 2 mask ++ key_code ∷ 0xFF ∷ []
 
 abbrev pub key_message : ℕ → ℕ → ℕ → Option Seen → Option (List ℕ)
-key_message code id mask (Some (objects.Key o)) = Some (key_bytes 0 code id mask o.key_code)
-key_message code id mask (Some (objects.Button o)) = Some (key_bytes 1 code id mask o.key_code)
+key_message code id mask (Some (objects.Key o)) = Some (key_bytes SOFT_KEY_ACTIVATION code id mask o.key_code)
+key_message code id mask (Some (objects.Button o)) = Some (key_bytes BUTTON_ACTIVATION code id mask o.key_code)
 key_message code id mask _ = None
 
 abbrev pub holding : SetState → Option HeldKey → SetState

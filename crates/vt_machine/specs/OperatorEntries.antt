@@ -7,6 +7,8 @@ use Rattle.vt_kinds.specs.declared.object.Object.TheVariants as objects
 use Rattle.vt_commands.specs.declared.event.Event.TheVariants as events
 use Rattle.vt_commands.specs.declared.raising.Raised.{Raised}
 use Rattle.vt_commands.specs.Events.{raise}
+use Rattle.vt_commands.specs.Functions.{NUMERIC_VALUE, STRING_VALUE}
+use Rattle.vt_kinds.specs.Ids.{null_id}
 use Rattle.vt_kinds.specs.Records.{Seen}
 use Rattle.vt_stores.specs.Stores.{ObjectMap}
 use Rattle.vt_kinds.specs.Texts.{filled_up}
@@ -20,7 +22,7 @@ use Rattle.vt_effects.specs.Soundness.{IsSound}
 
 -- the object that stores a value: the variable of an object, if it has one
 abbrev pub kept_at : ℕ → ℕ → ℕ
-kept_at id variable = if variable == 0xFFFF then id else variable
+kept_at id variable = if variable == null_id then id else variable
 
 -- the events of an entry, with those of a new value if the stored value has changed
 abbrev pub entry_events : ℕ → Bool → List Raised
@@ -50,7 +52,7 @@ with_number n (objects.NumberVariable o) = objects.NumberVariable (record o { va
 with_number n o = o
 
 abbrev pub number_message : ℕ → ℕ → List ℕ
-number_message id n = 5 ∷ little_bytes 2 id ++ 0xFF ∷ little_bytes 4 n
+number_message id n = NUMERIC_VALUE ∷ little_bytes 2 id ++ 0xFF ∷ little_bytes 4 n
 
 abbrev pub is_value : ℕ → Option ℕ → Bool
 is_value n None = false
@@ -103,7 +105,7 @@ with_text text (objects.StringVariable o) = objects.StringVariable (record o { t
 with_text text o = o
 
 abbrev pub text_message : ℕ → List ℕ → List ℕ
-text_message id text = 8 ∷ little_bytes 2 id ++ length text ∷ text
+text_message id text = STRING_VALUE ∷ little_bytes 2 id ++ length text ∷ text
 
 -- the stored text is a text followed by spaces alone
 abbrev pub is_filled : List ℕ → List ℕ → Bool

@@ -9,6 +9,7 @@ use Rattle.vt_kinds.specs.contracts.object.Object as object
 use Rattle.vt_commands.specs.declared.command.Command.{Command}
 use Rattle.vt_kinds.specs.declared.kind.Kind.{Kind}
 use Rattle.vt_kinds.specs.declared.kind.Kind.TheVariants as kinds
+use Rattle.vt_kinds.specs.Ids.{null_id}
 use Rattle.vt_kinds.specs.Kinds.{kind_number}
 use Rattle.vt_stores.specs.LentObjects.{bytes_row}
 use Rattle.vt_kinds.specs.Records.{kind_of}
@@ -58,7 +59,7 @@ holds_key store (Some key) = is_key (kind_in store key.id)
 
 -- the first Working Set of a list of objects, or NULL
 abbrev pub first_set : Objects → ℕ
-first_set [] = 0xFFFF
+first_set [] = null_id
 first_set (e ∷ entries) = if is_working_set (kind_of e.1) then e.0 else first_set entries
 
 unfoldable pub working_set_in : ObjectMap → ℕ

@@ -13,6 +13,7 @@ use crate::live::Live;
 use crate::operator::{Acted, OperatorRefusal, message, raised};
 use arrayvec::ArrayVec;
 use byteorder::{ByteOrder, LittleEndian};
+use vt_commands::function;
 use vt_effects::byte;
 use vt_objects::{Event, Object, ObjectId, Raised, Store};
 
@@ -193,11 +194,12 @@ fn set_text(object: &mut Object<Vec<u8>>, text: &[u8])
     }
 }
 
-fn text_message(id: ObjectId, text: &[u8]) -> ArrayVec<u8, 259>
+/// The message of a text that is entered.
+pub fn text_message(id: ObjectId, text: &[u8]) -> ArrayVec<u8, 259>
     requires { length text.now ≤ 255 }
     ensures { result.items ≡ entering.text_message id text.now }
 {
-    let mut head = [8, 0, 0, text.len() as u8];
+    let mut head = [function::STRING_VALUE, 0, 0, text.len() as u8];
     LittleEndian::write_u16(&mut head[1..3], id.raw());
     let mut message = message(&head);
     match message.try_extend_from_slice(text) {
@@ -297,7 +299,7 @@ fn set_number(object: &mut Object<Vec<u8>>, number: u32)
 fn number_message(id: ObjectId, number: u32) -> ArrayVec<u8, 259>
     ensures { result.items ≡ entering.number_message id number }
 {
-    let mut bytes = [5, 0, 0, 0xFF, 0, 0, 0, 0];
+    let mut bytes = [function::NUMERIC_VALUE, 0, 0, 0xFF, 0, 0, 0, 0];
     LittleEndian::write_u16(&mut bytes[1..3], id.raw());
     LittleEndian::write_u32(&mut bytes[4..8], number);
     message(&bytes)

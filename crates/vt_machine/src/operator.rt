@@ -11,6 +11,7 @@ use crate::live::{HeldKey, Live};
 use arrayvec::ArrayVec;
 use byteorder::{ByteOrder, LittleEndian};
 use thiserror::Error;
+use vt_commands::function;
 use vt_objects::{Event, Object, ObjectId, Raised, Store};
 
 /// The reason to refuse an action of the operator: the refusals 1 to 7 of docs/PROFILE.md, "Refusals".
@@ -126,8 +127,20 @@ fn key_message<S: Store>(
     ensures { option_map (λ message. message.items) result ≡ operating.key_message code id mask (finite.get (S.contents store.now) id) }
 {
     match store.get(id) {
-        Some(Object::Key(key)) => Some(key_bytes(0, code, id, mask, key.key_code)),
-        Some(Object::Button(button)) => Some(key_bytes(1, code, id, mask, button.key_code)),
+        Some(Object::Key(key)) => Some(key_bytes(
+            function::SOFT_KEY_ACTIVATION,
+            code,
+            id,
+            mask,
+            key.key_code,
+        )),
+        Some(Object::Button(button)) => Some(key_bytes(
+            function::BUTTON_ACTIVATION,
+            code,
+            id,
+            mask,
+            button.key_code,
+        )),
         _ => None,
     }
 }

@@ -19,6 +19,7 @@ use Rattle.vt_commands.specs.declared.event.Event.TheVariants as events
 use Rattle.vt_commands.specs.declared.raising.Raised.{Raised}
 use Rattle.vt_commands.specs.Events.{event_number, raise, row_events}
 use Rattle.vt_kinds.specs.declared.place.Place.TheVariants as places
+use Rattle.vt_kinds.specs.Ids.{null_id}
 use Rattle.vt_kinds.specs.References.{slot}
 use Rattle.vt_kinds.specs.Records.{Seen, kind_of}
 use Rattle.vt_stores.specs.Stores.{ObjectMap, Objects, object_at}
@@ -126,11 +127,11 @@ hide_cost m shape mask false is there =
     sum_by-cons (raised_cost shape) (raise mask events.Hide) [] in
     omega (arith, most, one)
 
-active_mask_is : (m : ObjectMap) (set : ℕ) (found : Option Seen) → IsSound m → finite.get m set ≡ found → (mask_of found == 0xFFFF) ≡ false
+active_mask_is : (m : ObjectMap) (set : ℕ) (found : Option Seen) → IsSound m → finite.get m set ≡ found → (mask_of found == null_id) ≡ false
     → is_one_of sets.Masks (kind_in m (mask_of found)) ≡ true
 active_mask_is m set None sound is other = absurd cc
 active_mask_is m set (Some (objects.WorkingSet o)) sound is other =
-    in_masks (o.active_mask == 0xFFFF) other (IsSound.slots sound set (objects.WorkingSet o) is).0
+    in_masks (o.active_mask == null_id) other (IsSound.slots sound set (objects.WorkingSet o) is).0
   where
     in_masks : (b : Bool) → b ≡ false
         → IsTrue (cond b true (is_one_of sets.Masks (kind_in m o.active_mask) && value_fits m (slot kinds.WorkingSet places.ActiveMask o.active_mask) (pointer_value (finite.get m o.active_mask))))
@@ -157,7 +158,7 @@ events_bound : (m : ObjectMap) (shape : Shape) (command : Command) → IsSound m
 events_bound m shape (ChangeActiveMask set mask) sound is =
     mask_bound shape (greatest (λ id. total (cost shape) shape (listing id (event_number events.Hide))) (masks shape)) (raise set events.ActiveMask) (raise mask events.Show)
     (hide (mask_of (finite.get m set))) (mask_of (finite.get m set) == mask)
-    (hide_cost m shape (mask_of (finite.get m set)) (mask_of (finite.get m set) == 0xFFFF) is
+    (hide_cost m shape (mask_of (finite.get m set)) (mask_of (finite.get m set) == null_id) is
     (λ other. active_mask_is m set (finite.get m set) sound refl other))
 events_bound m shape command sound is = plain_bound shape (row_events command)
 

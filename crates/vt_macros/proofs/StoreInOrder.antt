@@ -16,6 +16,7 @@ use Rattle.vt_kinds.specs.declared.kinds.Kinds.TheVariants as sets
 use Rattle.vt_kinds.specs.declared.place.Place.TheVariants as places
 use Rattle.vt_kinds.specs.declared.slot.Slot.{Slot}
 use Rattle.vt_kinds.specs.declared.object.Object.TheVariants as objects
+use Rattle.vt_kinds.specs.Ids.{null_id}
 use Rattle.vt_kinds.specs.Records.{Seen, kind_of}
 use Rattle.vt_kinds.specs.References.{slot, slots_of, is_member}
 use Rattle.vt_stores.specs.Stores.{Objects, AreStored, object_at, map_of}
@@ -85,7 +86,7 @@ kind_one kinds id None there is = absurd cc
 kind_one kinds id (Some kind) there is = member_of kinds id kind is
 
 -- an ID other than NULL that exists and fits is of an allowed kind
-pub there_fits : (shape : Shape) (kinds : Kinds) (id : ℕ) (null b : Bool) → (id == 0xFFFF) ≡ b → cond b null (is_some (kind_at shape id)) ≡ true
+pub there_fits : (shape : Shape) (kinds : Kinds) (id : ℕ) (null b : Bool) → (id == null_id) ≡ b → cond b null (is_some (kind_at shape id)) ≡ true
     → cond b true (references.allows kinds id (kind_at shape id)) ≡ true → b ≡ false → is_one_of kinds (kind_at shape id) ≡ true
 there_fits shape kinds id null true e there fit other = absurd cc
 there_fits shape kinds id null false e there fit other = kind_one kinds id (kind_at shape id) there fit
@@ -95,13 +96,13 @@ later_passes true x rest none = none
 later_passes false x rest none = absurd cc
 
 -- an ID that exists and fits in the pool does so in its store
-allowed_in : (pool : Objects) (kinds : Kinds) (id : ℕ) (null b : Bool) → AreStored pool → (id == 0xFFFF) ≡ b → cond b null (is_some (kind_at (shape_of pool) id)) ≡ true
+allowed_in : (pool : Objects) (kinds : Kinds) (id : ℕ) (null b : Bool) → AreStored pool → (id == null_id) ≡ b → cond b null (is_some (kind_at (shape_of pool) id)) ≡ true
     → cond b true (references.allows kinds id (kind_at (shape_of pool) id)) ≡ true → b ≡ false → is_one_of kinds (kind_in (map_of pool) id) ≡ true
 allowed_in pool kinds id null b stored e there fit other =
     subst (λ (k : Option Kind). is_one_of kinds k ≡ true) (kind_is pool id stored) (there_fits (shape_of pool) kinds id null b e there fit other)
 
 -- a pointer's value fits in place of the pointer
-value_in : (pool : Objects) (s : Slot) (value : ℕ) (b : Bool) → AreStored pool → (value == 0xFFFF) ≡ b → cond b true (is_some (kind_at (shape_of pool) value)) ≡ true
+value_in : (pool : Objects) (s : Slot) (value : ℕ) (b : Bool) → AreStored pool → (value == null_id) ≡ b → cond b true (is_some (kind_at (shape_of pool) value)) ≡ true
     → cond b true (references.allows s.kinds value (kind_at (shape_of pool) value)) ≡ true
     → cond b true (is_one_of s.kinds (kind_in (map_of pool) value)) ≡ true
 value_in pool s value true stored e there fit = refl
@@ -112,13 +113,13 @@ pointer_fits : (pool : Objects) (parent : ℕ) (s : Slot) (found : Option Seen) 
     → first_failing (fits (shape_of pool)) (pointed (of_slot parent s) found) ≡ None → IsTrue (value_fits (map_of pool) s (pointer_value found))
 pointer_fits pool parent s None stored is there fit = refl
 pointer_fits pool parent s (Some (objects.ObjectPointer p)) stored is there fit =
-    value_in pool s p.value (p.value == 0xFFFF) stored refl
+    value_in pool s p.value (p.value == null_id) stored refl
     (passes_first (is_there (shape_of pool) (of_slot s.id (slot kinds.ObjectPointer places.Value p.value))) (of_slot s.id (slot kinds.ObjectPointer places.Value p.value)) None
     (found_entry (λ e. first_failing (is_there (shape_of pool)) (slot_references e) ≡ None) pool s.id (objects.ObjectPointer p) is there))
     (passes_first (fits (shape_of pool) (record (of_slot parent s) { id = p.value })) (record (of_slot parent s) { id = p.value }) None fit)
 pointer_fits pool parent s (Some _) stored is there fit = refl
 
-slot_by : (pool : Objects) (parent : ℕ) (s : Slot) (b : Bool) → AreStored pool → (s.id == 0xFFFF) ≡ b → cond b s.null (is_some (kind_at (shape_of pool) s.id)) ≡ true
+slot_by : (pool : Objects) (parent : ℕ) (s : Slot) (b : Bool) → AreStored pool → (s.id == null_id) ≡ b → cond b s.null (is_some (kind_at (shape_of pool) s.id)) ≡ true
     → cond b true (references.allows s.kinds s.id (kind_at (shape_of pool) s.id)) ≡ true
     → IsTrue (value_fits (map_of pool) s (pointer_value (finite.get (map_of pool) s.id)))
     → IsTrue (cond b s.null (is_one_of s.kinds (kind_in (map_of pool) s.id) && value_fits (map_of pool) s (pointer_value (finite.get (map_of pool) s.id))))
@@ -135,7 +136,7 @@ slots_by pool parent (s ∷ slots) stored all there fit =
     let r = of_slot parent s in
     let rest = map (of_slot parent) slots in
     let own : first_failing (fits (shape_of pool)) (with_value pool r) ≡ None = front_passes (fits (shape_of pool)) (with_value pool r) (flat_map (with_value pool) rest) fit in (
-      slot_by pool parent s (s.id == 0xFFFF) stored refl
+      slot_by pool parent s (s.id == null_id) stored refl
           (passes_first (is_there (shape_of pool) r) r (first_failing (is_there (shape_of pool)) rest) there)
           (passes_first (fits (shape_of pool) r) r (first_failing (fits (shape_of pool)) (pointed r (object_at pool r.id))) own)
           (subst (λ (o : Option Seen). IsTrue (value_fits (map_of pool) s (pointer_value o))) (sym (get_is pool s.id stored))

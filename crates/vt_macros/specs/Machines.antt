@@ -8,6 +8,7 @@ use Rattle.vt_commands.specs.declared.command.Command.TheVariants.{ChangeActiveM
 use Rattle.vt_commands.specs.declared.event.Event.TheVariants as events
 use Rattle.vt_commands.specs.declared.raising.Raised.{Raised}
 use Rattle.vt_commands.specs.Events.{raise, row_events}
+use Rattle.vt_kinds.specs.Ids.{null_id}
 use Rattle.vt_kinds.specs.Records.{Seen}
 use Rattle.vt_stores.specs.Stores.{ObjectMap}
 use Rattle.vt_verify.specs.declared.listing.Listing.{Listing}
@@ -25,11 +26,11 @@ use Rattle.vt_effects.specs.Soundness.{shape_in}
 -- the active mask of a working set; NULL for other objects
 abbrev pub mask_of : Option Seen → ℕ
 mask_of (Some (objects.WorkingSet o)) = o.active_mask
-mask_of _ = 0xFFFF
+mask_of _ = null_id
 
 -- the Hide event of the former active mask; none for NULL
 abbrev pub hide : ℕ → List Raised
-hide mask = if mask == 0xFFFF then [] else raise mask events.Hide ∷ []
+hide mask = if mask == null_id then [] else raise mask events.Hide ∷ []
 
 -- a mask that is active already is neither hidden nor shown
 abbrev pub mask_events : ℕ → ℕ → ℕ → List Raised

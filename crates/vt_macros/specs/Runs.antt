@@ -1,6 +1,7 @@
 -- All runs of events end within their budgets (docs/PROFILE.md, "Steps", "Costs and budgets").
 use Rattle.std.specs.Prelude.{◌≡◌, ◌≤◌, ◌+◌, ◌++◌, ℕ, List, [], ◌∷◌, None}
 use Rattle.std.specs.FinMap as finite
+use Rattle.vt_kinds.specs.Ids.{null_id}
 use Rattle.vt_commands.specs.declared.command.Command.{Command}
 use Rattle.vt_commands.specs.declared.raising.Raised.{Raised}
 use Rattle.vt_stores.specs.Stores.{ObjectMap, Objects, AreStored, map_of}
@@ -64,4 +65,4 @@ PoolsAreReady = (pool : Objects) → AreStored pool → IsAcceptable terminal po
 
 -- A store of an acceptable pool has no object with the ID NULL.
 abbrev pub NullIsNoObject : Type 0
-NullIsNoObject = (pool : Objects) (store : ObjectMap) → AreStored pool → IsReady pool store → finite.get store 0xFFFF ≡ None
+NullIsNoObject = (pool : Objects) (store : ObjectMap) → AreStored pool → IsReady pool store → finite.get store null_id ≡ None

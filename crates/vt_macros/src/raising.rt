@@ -27,7 +27,7 @@ pub fn active_mask<S: Store>(store: &S, working_set: ObjectId) -> ObjectId
 {
     match store.get(working_set) {
         Some(Object::WorkingSet(set)) => set.active_mask,
-        _ => ObjectId::from_raw(0xFFFF),
+        _ => ObjectId::NULL,
     }
 }
 

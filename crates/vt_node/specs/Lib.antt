@@ -3,6 +3,7 @@ pub mod AddressFunctions
 pub mod Bus
 pub mod Messages
 pub mod Nodes
+pub mod Profile
 pub mod ReceiverResults
 pub mod Registries
 pub mod Watches

@@ -1,9 +1,9 @@
 //! The terminal as a node of the bus (ISO 11783-3, -5, -6): the meaning of frames for it, the address claims received, its
 //! transport sessions, its working sets with the times of their last frames, and the bytes of its messages.
 //!
-//! - `notice_of` decodes a frame as a `FrameMeaning`.
-//! - `Node` has the claims received, both receivers and the sender. `WatchedRegistry` has the sets, and finds a silent one.
-//! - `message_to` and `claim_from` build frames, and `technical_reply` the bytes of a reply.
+//! - `notice_of` reads what a frame says, as a `FrameMeaning`.
+//! - `Node` has the claims heard, the two receivers and the sender. `WatchedRegistry` has the sets, and finds one that is silent.
+//! - `message_to`, `claim_from` and `technical_reply` make messages, and `profile` has what the terminal says of itself.
 //!
 //! docs/PROFILE.md, "Messages of address claim", "Working sets", "Silence", "Other messages".
 #![tactic(auto)]
@@ -11,6 +11,7 @@
 mod bus;
 mod messages;
 mod node;
+pub mod profile;
 mod watch;
 mod watched;
 

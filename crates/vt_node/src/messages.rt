@@ -1,11 +1,18 @@
 //! Messages of the terminal.
 
-ghost use Rattle.std.specs.Prelude.{◌≡◌, [], ◌∷◌};
-ghost use Rattle.vt_node.specs.Messages.{message_to, claim_from, memory_status, technical_reply};
+ghost use Rattle.std.specs.Prelude.{◌≡◌};
+ghost use Rattle.vt_node.specs.Messages.{message_to, claim_from, memory_reply, soft_keys_reply, fonts_reply, hardware_reply, technical_reply};
 
+use crate::profile::{
+    BOOT_TIME, FONT_STYLES, GRAPHIC_TYPE, HARDWARE, LARGE_FONTS, MASK_SIZE, MEMORY,
+    PHYSICAL_SOFT_KEYS, SMALL_FONTS, SOFT_KEY_SIZE, VERSION, VIRTUAL_SOFT_KEYS,
+};
 use arrayvec::ArrayVec;
 use byteorder::{ByteOrder, LittleEndian};
-use vt_can::assigned::{ADDRESS_CLAIMED, GLOBAL_ADDRESS, VT_TO_ECU};
+use vt_can::assigned::{
+    ADDRESS_CLAIMED, FILL, GET_FONTS, GET_HARDWARE, GET_MEMORY, GET_SOFT_KEYS, GLOBAL_ADDRESS,
+    VT_TO_ECU,
+};
 use vt_can::{CanId, Frame};
 use vt_names::Name;
 
@@ -14,12 +21,6 @@ const MESSAGE_PRIORITY: u8 = 5;
 
 /// The priority of address claims.
 const CLAIM_PRIORITY: u8 = 6;
-
-/// The version of the standard that the terminal reports.
-const VERSION: u8 = 3;
-
-/// The terminal's memory for object pools, in bytes.
-const MEMORY: u32 = 1_048_576;
 
 /// A message to the master of a working set.
 pub fn message_to(own: u8, address: u8, bytes: [u8; 8]) -> Frame
@@ -49,17 +50,58 @@ pub fn technical_reply(bytes: &[u8]) -> Option<[u8; 8]>
     ensures { result ≡ technical_reply bytes.now }
 {
     match *bytes.first()? {
-        0xC0 if bytes.len() >= 6 => Some(memory_reply(LittleEndian::read_u32(&bytes[2..]))),
-        0xC2 => Some([0xC2, 0xFF, 0xFF, 0xFF, 0x40, 0x40, 0x40, 0x06]),
-        0xC3 => Some([0xC3, 0xFF, 0xFF, 0xFF, 0xFF, 0x7F, 0x7F, 0x00]),
-        0xC7 => Some([0xC7, 0x00, 0x02, 0x00, 0xE0, 0x01, 0xE0, 0x01]),
+        GET_MEMORY if bytes.len() >= 6 => {
+            Some(memory_reply(LittleEndian::read_u32(&bytes[2..])))
+        }
+        GET_SOFT_KEYS => Some(soft_keys_reply()),
+        GET_FONTS => Some(fonts_reply()),
+        GET_HARDWARE => Some(hardware_reply()),
         _ => None,
     }
 }
 
 fn memory_reply(asked: u32) -> [u8; 8]
-    ensures { result ≡ 0xC0 ∷ 0x03 ∷ memory_status asked ∷ 0xFF ∷ 0xFF ∷ 0xFF ∷ 0xFF ∷ 0xFF ∷ [] }
+    ensures { result ≡ memory_reply asked }
 {
     let status = if asked <= MEMORY { 0 } else { 1 };
-    [0xC0, VERSION, status, 0xFF, 0xFF, 0xFF, 0xFF, 0xFF]
+    [GET_MEMORY, VERSION, status, FILL, FILL, FILL, FILL, FILL]
+}
+
+fn soft_keys_reply() -> [u8; 8]
+    ensures { result ≡ soft_keys_reply }
+{
+    [
+        GET_SOFT_KEYS,
+        FILL,
+        FILL,
+        FILL,
+        SOFT_KEY_SIZE,
+        SOFT_KEY_SIZE,
+        VIRTUAL_SOFT_KEYS,
+        PHYSICAL_SOFT_KEYS,
+    ]
+}
+
+fn fonts_reply() -> [u8; 8]
+    ensures { result ≡ fonts_reply }
+{
+    [
+        GET_FONTS,
+        FILL,
+        FILL,
+        FILL,
+        FILL,
+        SMALL_FONTS,
+        LARGE_FONTS,
+        FONT_STYLES,
+    ]
+}
+
+fn hardware_reply() -> [u8; 8]
+    ensures { result ≡ hardware_reply }
+{
+    let mut bytes = [GET_HARDWARE, BOOT_TIME, GRAPHIC_TYPE, HARDWARE, 0, 0, 0, 0];
+    LittleEndian::write_u16(&mut bytes[4..6], MASK_SIZE);
+    LittleEndian::write_u16(&mut bytes[6..8], MASK_SIZE);
+    bytes
 }

@@ -3,7 +3,7 @@
 ghost use Rattle.vt_objects.specs.Decimals.{ShownIsOne};
 ghost use Rattle.vt_objects.specs.AttributeFields.{AttributesAreFields};
 
-pub use vt_commands::laws::cut_is_one;
+pub use vt_commands::laws::{cut_is_one, function_is_first};
 pub use vt_writing::laws::objects_have_records;
 
 /// The shown text of a number is unique.

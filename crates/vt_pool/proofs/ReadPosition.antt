@@ -3,6 +3,7 @@ use Rattle.std.proofs.Common.{◌≡◌, ℕ, ◌<◌, ◌≤◌, Bool, true, fa
 use Rattle.std.proofs.lemmas.List.{length-append, length-drop, drop_at, drop_all, drop-append-le}
 use Rattle.byteorder.specs.Endian.{little_number}
 use Rattle.vt_kinds.specs.declared.kind.Kind.{Kind}
+use Rattle.vt_kinds.specs.Ids.{null_id}
 use Rattle.vt_kinds.specs.Layout.{Value, no_counts}
 use Rattle.vt_kinds.specs.Kinds.{kind_at}
 use Rattle.vt_kinds.specs.Records.{Seen, fields_of, kind_of, values_of, record_of, HasRecord}
@@ -75,7 +76,7 @@ no_memory (a ∷ b ∷ []) fits e = let no = sym (record_at-short (a ∷ b ∷ [
 no_memory (a ∷ b ∷ c ∷ rest) fits e =
     let rest_fits : IsBytes rest = IsBytes-rest c rest (IsBytes-rest b (c ∷ rest) (IsBytes-rest a (b ∷ c ∷ rest) fits)) in
     let id = little_number 2 (a ∷ b ∷ []) in
-    id_memory (eqb id 0xFFFF) id c rest rest_fits (sym (record_at-long a b c rest) ∙ e)
+    id_memory (eqb id null_id) id c rest rest_fits (sym (record_at-long a b c rest) ∙ e)
 
 -- ---- whole records up to a position
 

@@ -76,7 +76,7 @@ fn write_all(
     out: &mut Vec<u8>,
 ) -> Result<(), AllocError> {
     for (id, object) in objects {
-        if id.raw() < 0xFFFF {
+        if !id.is_null() {
             write_object(alloc, *id, object, out)?;
         }
     }

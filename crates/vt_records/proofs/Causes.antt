@@ -4,6 +4,7 @@ use Rattle.std.proofs.lemmas.Bool.{eqb-true, eqb-false, leb-true, leb-false}
 use Rattle.byteorder.specs.Endian.{little_number, little_bytes}
 use Rattle.byteorder.specs.Numbers.{little_number-reads_back}
 use Rattle.vt_kinds.specs.declared.kind.Kind.{Kind}
+use Rattle.vt_kinds.specs.Ids.{null_id}
 use Rattle.vt_kinds.specs.Layout.{Value, no_counts}
 use Rattle.vt_kinds.specs.Kinds.{kind_at}
 use Rattle.vt_kinds.specs.Records.{Seen, fields_of, kind_of, values_of, record_of}
@@ -54,7 +55,7 @@ module _ (a b c : ℕ) (rest : List ℕ) where
       let no = sym (subst (λ (q : Kind). values_at (fields_of q) no_counts rest ≡ Some (vs, has.tail)) same read) ∙ none in
       absurd cc
 
-  improper_stop : (kind : Kind) (x : List Value × List ℕ) (stop : RecordFault) → id ≢ 0xFFFF → HasValues all kind x.0 → NoRecordBegins all → IsMisfit 3 (fields_of kind) x.0 stop → IsStop all stop
+  improper_stop : (kind : Kind) (x : List Value × List ℕ) (stop : RecordFault) → id ≢ null_id → HasValues all kind x.0 → NoRecordBegins all → IsMisfit 3 (fields_of kind) x.0 stop → IsStop all stop
   improper_stop kind x (stops.Scale place) named has none is =
       record { head = omega arith; named = named; kind = kind; values = x.0; read = has; later = is.0; place = is.1; first = is.2; no_record = none }
   improper_stop kind x (stops.Decimals place) named has none is =
@@ -69,7 +70,7 @@ module _ (a b c : ℕ) (rest : List ℕ) where
   err_is kind (Ok x) stop e = absurd cc
   err_is kind (Err s) stop e = ap (λ (t : RecordFault). Err t) (stop_is s stop e)
 
-  values_stop : (kind : Kind) (vs : Option (List Value × List ℕ)) (stop : RecordFault) → IsBytes rest → values_at (fields_of kind) no_counts rest ≡ vs → id ≢ 0xFFFF → kind_at c ≡ Some kind → NoRecordBegins all
+  values_stop : (kind : Kind) (vs : Option (List Value × List ℕ)) (stop : RecordFault) → IsBytes rest → values_at (fields_of kind) no_counts rest ≡ vs → id ≢ null_id → kind_at c ≡ Some kind → NoRecordBegins all
       → fitting (fields_of kind) vs ≡ Err stop → IsStop all stop
   values_stop kind None stop fits is named known none e =
       subst (IsStop all) (values_err stops.Truncated stop e)
@@ -83,15 +84,15 @@ module _ (a b c : ℕ) (rest : List ℕ) where
   type_stop true false l h other = (other, λ is. let above = leb-false _ _ h in absurd (omega (arith, is.1)))
   type_stop false high l h other = (other, λ is. let below = leb-false _ _ l in absurd (omega (arith, is.0)))
 
-  kind_stop : (kind : Option Kind) (stop : RecordFault) → IsBytes rest → kind_at c ≡ kind → id ≢ 0xFFFF → NoRecordBegins all → of_kind id c rest kind ≡ Err stop → IsStop all stop
+  kind_stop : (kind : Option Kind) (stop : RecordFault) → IsBytes rest → kind_at c ≡ kind → id ≢ null_id → NoRecordBegins all → of_kind id c rest kind ≡ Err stop → IsStop all stop
   kind_stop None stop fits is named none e =
       subst (IsStop all) (stop_is (other_type c) stop e) (type_stop (leb 29 c) (leb c 33) refl refl (record { head = omega arith; named = named; no_kind = is }))
   kind_stop (Some k) stop fits is named none e =
       values_stop k (values_at (fields_of k) no_counts rest) stop fits refl named is none (err_is k (fields_at (fields_of k) rest) stop e)
 
-  id_stop : (null : Bool) (stop : RecordFault) → IsBytes rest → eqb id 0xFFFF ≡ null → NoRecordBegins all → cond null (Err stops.NullId) (of_kind id c rest (kind_at c)) ≡ Err stop → IsStop all stop
-  id_stop true stop fits is none e = subst (IsStop all) (stop_is stops.NullId stop e) (record { head = omega arith; null = eqb-true id 0xFFFF is })
-  id_stop false stop fits is none e = kind_stop (kind_at c) stop fits refl (eqb-false id 0xFFFF is) none e
+  id_stop : (null : Bool) (stop : RecordFault) → IsBytes rest → eqb id null_id ≡ null → NoRecordBegins all → cond null (Err stops.NullId) (of_kind id c rest (kind_at c)) ≡ Err stop → IsStop all stop
+  id_stop true stop fits is none e = subst (IsStop all) (stop_is stops.NullId stop e) (record { head = omega arith; null = eqb-true id null_id is })
+  id_stop false stop fits is none e = kind_stop (kind_at c) stop fits refl (eqb-false id null_id is) none e
 
 short_stop : (all : List ℕ) (stop : RecordFault) → length all < 3 → record_at all ≡ Err stop → IsStop all stop
 short_stop all stop lt e = subst (IsStop all) (stop_is stops.Truncated stop (sym (record_at-short all lt) ∙ e)) (inl lt)
@@ -102,7 +103,7 @@ record_stops (a ∷ []) stop fits e = short_stop (a ∷ []) stop (omega arith) e
 record_stops (a ∷ b ∷ []) stop fits e = short_stop (a ∷ b ∷ []) stop (omega arith) e
 record_stops (a ∷ b ∷ c ∷ rest) stop fits e =
     let rest_fits : IsBytes rest = IsBytes-rest c rest (IsBytes-rest b (c ∷ rest) (IsBytes-rest a (b ∷ c ∷ rest) fits)) in
-    id_stop a b c rest (eqb (little_number 2 (a ∷ b ∷ [])) 0xFFFF) stop rest_fits refl (none_begins (a ∷ b ∷ c ∷ rest) stop e) (sym (record_at-long a b c rest) ∙ e)
+    id_stop a b c rest (eqb (little_number 2 (a ∷ b ∷ [])) null_id) stop rest_fits refl (none_begins (a ∷ b ∷ c ∷ rest) stop e) (sym (record_at-long a b c rest) ∙ e)
 
 -- ---- each cause excludes a record
 

@@ -7,6 +7,7 @@ use Rattle.byteorder.specs.Numbers.{little_from-lt, little_number-reads_back}
 use Rattle.vt_kinds.specs.declared.kind.Kind.{Kind}
 use Rattle.vt_kinds.specs.declared.object.Object.{Object}
 use Rattle.vt_kinds.specs.declared.object.Object.TheVariants as objects
+use Rattle.vt_kinds.specs.Ids.{null_id}
 use Rattle.vt_kinds.specs.Layout.{Value, spelling, FieldsFit, Proper, no_counts}
 use Rattle.vt_kinds.specs.Kinds.{kind_number, kind_at}
 use Rattle.vt_kinds.specs.Records.{Seen, seen, fields_of, kind_of, values_of, record_of, HasRecord}
@@ -44,7 +45,7 @@ spelled id kind vs = little_bytes 2 id ++ kind_number kind ∷ spelling (fields_
 -- the bytes begin with a record
 pub record IsRead (all : List ℕ) (h : ReadRecord) : Type 0 where
   pub parts : all ≡ spelled h.id h.kind h.values ++ h.rest
-  pub named : h.id < 0xFFFF
+  pub named : h.id < null_id
   pub fields_fit : FieldsFit (fields_of h.kind) no_counts h.values
   pub proper : Proper (fields_of h.kind) h.values
 
@@ -54,7 +55,7 @@ long_is_read a b c rest h fits e =
     let id = little_number 2 front in
     let front_fits : IsBytes front = IsBytes-take 2 (a ∷ b ∷ c ∷ rest) fits in
     let rest_fits : IsBytes rest = IsBytes-rest c rest (IsBytes-rest b (c ∷ rest) (IsBytes-rest a (b ∷ c ∷ rest) fits)) in
-    let t = test_ok (eqb id 0xFFFF) (of_kind id c rest (kind_at c)) h e in
+    let t = test_ok (eqb id null_id) (of_kind id c rest (kind_at c)) h e in
     let k = of_kind_ok id c rest (kind_at c) h t.1 in
     let v = of_values_ok id k.0 (fields_at (fields_of k.0) rest) h k.2 in
     let read = fitting_ok (fields_of k.0) (values_at (fields_of k.0) no_counts rest) v.0 v.1 in
@@ -65,7 +66,7 @@ long_is_read a b c rest h fits e =
     let parts : a ∷ b ∷ c ∷ rest ≡ spelled id k.0 v.0.0 ++ v.0.1 =
     ap (λ (r : List ℕ). front ++ r) behind_it ∙ ap (λ (f : List ℕ). f ++ (kind_number k.0 ∷ (text ++ v.0.1))) (sym (number_spelled front front_fits)) in
     let below : id < 256 ^ 2 = little_from-lt 0 2 front front_fits in
-    let other : id ≢ 0xFFFF = eqb-false id 0xFFFF t.0 in
+    let other : id ≢ null_id = eqb-false id null_id t.0 in
     subst (IsRead (a ∷ b ∷ c ∷ rest)) v.2 (record { parts = parts; named = omega arith; fields_fit = took.1; proper = proper 3 (fields_of k.0) v.0.0 read.1 })
 
 pub is_read : (all : List ℕ) (h : ReadRecord) → IsBytes all → record_at all ≡ Ok h → IsRead all h
@@ -86,7 +87,7 @@ record_again id o rest has =
     let bytes = little_bytes 2 id in
     let named = has.named in
     let back : little_number 2 bytes ≡ id = little_number-reads_back 2 id [] (omega arith) in
-    let other : eqb id 0xFFFF ≡ false = ne_eqb id 0xFFFF (omega arith) in
+    let other : eqb id null_id ≡ false = ne_eqb id null_id (omega arith) in
     record_at-long (get_or bytes 0 0) (get_or bytes 1 0) (kind_number k) (spelling (fields_of k) (values_of o) ++ rest)
     ∙ rw (back, other, kind_at-kind_number k, values_again (fields_of k) no_counts (values_of o) rest has.fields_fit, no_misfit 3 (fields_of k) (values_of o) has.proper) refl
 
@@ -112,7 +113,7 @@ are_whole a b o p rest has other parts =
 
 -- ---- objects with any byte buffer
 
-has_record : {B : Type 0} (id : ℕ) (o : Object B) → id < 0xFFFF → FieldsFit (fields_of (kind_of o)) no_counts (values_of o) → Proper (fields_of (kind_of o)) (values_of o) → HasRecord id (seen o)
+has_record : {B : Type 0} (id : ℕ) (o : Object B) → id < null_id → FieldsFit (fields_of (kind_of o)) no_counts (values_of o) → Proper (fields_of (kind_of o)) (values_of o) → HasRecord id (seen o)
 has_record id (objects.WorkingSet o) named fit proper = record { named = named; fields_fit = fit; proper = proper }
 has_record id o named fit proper = record { named = named; fields_fit = fit; proper = proper }
 

@@ -4,6 +4,7 @@ use Rattle.std.proofs.lemmas.Bool.{eqb-true, le-ltb}
 use Rattle.byteorder.specs.Endian.{little_number}
 use Rattle.vt_kinds.specs.declared.kind.Kind.{Kind}
 use Rattle.vt_kinds.specs.declared.kind.Kind.TheVariants as kinds
+use Rattle.vt_kinds.specs.Ids.{null_id}
 use Rattle.vt_kinds.specs.Layout.{Value}
 use Rattle.vt_kinds.specs.Kinds.{kind_number, kind_at, kind_among, every_kind}
 use Rattle.vt_kinds.specs.Records.{fields_of}
@@ -70,7 +71,7 @@ abbrev pub of_kind : ℕ → ℕ → List ℕ → Option Kind → Result ReadRec
 of_kind id type rest kind = or_stop (other_type type) kind >>= λ k. of_values id k (fields_at (fields_of k) rest)
 
 abbrev pub behind : ℕ → ℕ → List ℕ → Result ReadRecord RecordFault
-behind id type rest = cond (eqb id 0xFFFF) (Err stops.NullId) (of_kind id type rest (kind_at type))
+behind id type rest = cond (eqb id null_id) (Err stops.NullId) (of_kind id type rest (kind_at type))
 
 pub record_at-short : (all : List ℕ) → length all < 3 → record_at all ≡ Err stops.Truncated
 unfolding record_at number_at bytes_at

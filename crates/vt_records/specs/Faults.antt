@@ -2,6 +2,7 @@
 use Rattle.std.specs.Prelude.{◌≡◌, ◌≢◌, ◌<◌, ◌≤◌, ℕ, ◌+◌, ◌⊎◌, List, ◌∷◌, ◌++◌, length, drop, None, Some, slice_index}
 use Rattle.byteorder.specs.Endian.{little_number}
 use Rattle.vt_kinds.specs.declared.kind.Kind.{Kind}
+use Rattle.vt_kinds.specs.Ids.{null_id}
 use Rattle.vt_kinds.specs.Layout.{RecordField, Value, field_spelling, spelling, FieldsFit, IsProper, no_counts}
 use Rattle.vt_kinds.specs.Records.{Seen, fields_of, record_of, HasRecord}
 use Rattle.vt_kinds.specs.Kinds.{kind_at}
@@ -23,11 +24,11 @@ NoRecordBegins rest = (id : ℕ) (o : Seen) (tail : List ℕ) → HasRecord id o
 
 pub record HasNullId (rest : List ℕ) : Type 0 where
   pub head : 3 ≤ length rest
-  pub null : id_at rest ≡ 0xFFFF
+  pub null : id_at rest ≡ null_id
 
 pub record HasOtherType (rest : List ℕ) : Type 0 where
   pub head : 3 ≤ length rest
-  pub named : id_at rest ≢ 0xFFFF
+  pub named : id_at rest ≢ null_id
   pub no_kind : kind_at (type_at rest) ≡ None
 
 -- after an ID and a kind's type come values that fit the kind's fields
@@ -40,7 +41,7 @@ pub record HasValues (rest : List ℕ) (kind : Kind) (values : List Value) : Typ
 -- the bytes end inside the fields of a known type
 pub record IsCut (rest : List ℕ) : Type 0 where
   pub head : 3 ≤ length rest
-  pub named : id_at rest ≢ 0xFFFF
+  pub named : id_at rest ≢ null_id
   pub known : kind_at (type_at rest) ≢ None
   pub cut : (kind : Kind) (values : List Value) → HasValues rest kind values → ⊥
 
@@ -59,7 +60,7 @@ IsFirstImproper sort at _ _ = ⊥
 -- record's first byte. No record begins there.
 pub record IsImproper (sort : RecordField) (rest : List ℕ) (at : ℕ) : Type 0 where
   pub head : 3 ≤ length rest
-  pub named : id_at rest ≢ 0xFFFF
+  pub named : id_at rest ≢ null_id
   pub kind : Kind
   pub values : List Value
   pub read : HasValues rest kind values

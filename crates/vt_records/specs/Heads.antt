@@ -2,6 +2,7 @@
 use Rattle.std.specs.Prelude.{◌≡◌, ℕ, ◌+◌, List, ◌∷◌, length, nat_le, nat_lt, ◌==◌, ◌&&◌, if◌then◌else◌, Option, Some, None, Result, Ok, Err}
 use Rattle.vt_kinds.specs.declared.kind.Kind.{Kind}
 use Rattle.vt_kinds.specs.declared.scale.Scale.{Scale}
+use Rattle.vt_kinds.specs.Ids.{null_id}
 use Rattle.vt_kinds.specs.Scales.{scale_at}
 use Rattle.vt_kinds.specs.Layout.{Unsigned, Signed, natural, bytes_in, RecordField, Number, Count, ScaleBytes, DecimalPlaces, Value, number, field_spelling, no_counts}
 use Rattle.vt_kinds.specs.Kinds.{kind_at}
@@ -73,7 +74,7 @@ unfoldable pub record_at : List ℕ → Result ReadRecord RecordFault
 record_at all = do
   id ← or_stop stops.Truncated (number_at 2 all)
   type ← or_stop stops.Truncated (number_at 1 id.1)
-  if id.0 == 0xFFFF then Err stops.NullId else do
+  if id.0 == null_id then Err stops.NullId else do
     kind ← or_stop (other_type type.0) (kind_at type.0)
     vs ← fields_at (fields_of kind) type.1
     Ok (record { id = id.0; kind = kind; values = vs.0; rest = vs.1 })

@@ -20,6 +20,7 @@ mod terminal;
 pub use input::Input;
 pub use output::{OperatorFault, Output};
 pub use terminal::{RunFault, Terminal};
+pub use vt_machine::OperatorRefusal;
 
 /// The error of a refused allocation.
 pub use std::alloc::AllocError as OutOfMemory;

@@ -9,34 +9,16 @@ use thiserror::Error;
 use vt_can::Frame;
 use vt_machine::OperatorRefusal;
 
-/// A refusal of an operator's action. Its number is its position here, from 1.
+/// Why an action of the operator is refused: the refusals 1 to 9 of docs/PROFILE.md, "Refusals".
 #[derive(Clone, Copy, Debug, PartialEq, Eq, Error)]
 pub enum OperatorFault {
-    /// The object is not shown.
-    #[error("the object is not shown")]
-    NotShown,
-    /// The input is not enabled.
-    #[error("the input is not enabled")]
-    Disabled,
-    /// The number is not accepted.
-    #[error("the number is not accepted")]
-    Range,
-    /// The text is longer than that of the object or its variable.
-    #[error("the text is longer than that of the object, or of its variable")]
-    TooLong,
-    /// The object is of another kind.
-    #[error("the object is of another kind")]
-    WrongKind,
-    /// The key is not the one that is held.
-    #[error("the key is not the one that is held")]
-    NotPressed,
-    /// A key is held already.
-    #[error("a key is held already")]
-    Held,
-    /// A message to the working set is still being sent.
+    /// The working set that is shown refuses it: 1 to 7.
+    #[error(transparent)]
+    Refused(OperatorRefusal),
+    /// A message to the working set is still being sent: 8.
     #[error("a message to the working set is still being sent")]
     Busy,
-    /// No working set is shown, or there is none with a pool at the address.
+    /// No working set is shown, or there is none with a pool at the address: 9.
     #[error("no working set is shown, or there is none with a pool at the address")]
     NoSet,
 }
@@ -88,14 +70,6 @@ impl From<OperatorRefusal> for OperatorFault {
     ghost from_gives = { λ refusal fault. fault ≡ fault_of refusal };
 
     fn from(refusal: OperatorRefusal) -> OperatorFault {
-        match refusal {
-            OperatorRefusal::NotShown => OperatorFault::NotShown,
-            OperatorRefusal::Disabled => OperatorFault::Disabled,
-            OperatorRefusal::Range => OperatorFault::Range,
-            OperatorRefusal::TooLong => OperatorFault::TooLong,
-            OperatorRefusal::WrongKind => OperatorFault::WrongKind,
-            OperatorRefusal::NotPressed => OperatorFault::NotPressed,
-            OperatorRefusal::Held => OperatorFault::Held,
-        }
+        OperatorFault::Refused(refusal)
     }
 }

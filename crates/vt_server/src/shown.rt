@@ -17,13 +17,7 @@ use crate::output::{Output, send};
 use crate::terminal::Terminal;
 use vt_can::assigned::NULL_ADDRESS;
 use vt_machine::Live;
-use vt_objects::{Object, ObjectId, SortedStore};
-
-/// The number of the event that a Working Set is no longer shown.
-const DEACTIVATE: u8 = 2;
-
-/// The number of the event that a Working Set is shown.
-const ACTIVATE: u8 = 1;
+use vt_objects::{Event, Object, ObjectId, SortedStore};
 
 /// A working set that shows an alarm.
 #[derive(Clone, Copy)]
@@ -85,8 +79,8 @@ impl Terminal {
         if was == now {
             return;
         }
-        self.raise_at(was, DEACTIVATE);
-        self.raise_at(now, ACTIVATE);
+        self.raise_at(was, Event::Deactivate.number());
+        self.raise_at(now, Event::Activate.number());
         self.redraws = true;
     }
 
@@ -115,8 +109,8 @@ impl Terminal {
         match self.shown_pool() {
             None => ShownMasks {
                 address: NULL_ADDRESS,
-                mask: ObjectId::from_raw(0xFFFF),
-                soft_keys: ObjectId::from_raw(0xFFFF),
+                mask: ObjectId::NULL,
+                soft_keys: ObjectId::NULL,
             },
             Some((address, live)) => ShownMasks {
                 address,

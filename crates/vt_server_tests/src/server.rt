@@ -118,13 +118,13 @@ fn expect_output(rt: &(impl Abort + AllocGlobal), output: &Output, text: &str) {
 // The number of a refusal.
 fn number_of(fault: OperatorFault) -> &'static str {
     match fault {
-        OperatorFault::NotShown => "1",
-        OperatorFault::Disabled => "2",
-        OperatorFault::Range => "3",
-        OperatorFault::TooLong => "4",
-        OperatorFault::WrongKind => "5",
-        OperatorFault::NotPressed => "6",
-        OperatorFault::Held => "7",
+        OperatorFault::Refused(OperatorRefusal::NotShown) => "1",
+        OperatorFault::Refused(OperatorRefusal::Disabled) => "2",
+        OperatorFault::Refused(OperatorRefusal::Range) => "3",
+        OperatorFault::Refused(OperatorRefusal::TooLong) => "4",
+        OperatorFault::Refused(OperatorRefusal::WrongKind) => "5",
+        OperatorFault::Refused(OperatorRefusal::NotPressed) => "6",
+        OperatorFault::Refused(OperatorRefusal::Held) => "7",
         OperatorFault::Busy => "8",
         OperatorFault::NoSet => "9",
     }

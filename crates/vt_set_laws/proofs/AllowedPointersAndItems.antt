@@ -14,6 +14,7 @@ use Rattle.vt_kinds.specs.declared.slot.Slot.{Slot}
 use Rattle.vt_kinds.specs.declared.input_fields.InputList.{InputList}
 use Rattle.vt_kinds.specs.declared.variables.ObjectPointer.{ObjectPointer}
 use Rattle.vt_kinds.specs.declared.object.Object.TheVariants as objects
+use Rattle.vt_kinds.specs.Ids.{null_id}
 use Rattle.vt_kinds.specs.Records.{Seen, kind_of}
 use Rattle.vt_kinds.specs.References.{slot, listed, slots_of}
 use Rattle.vt_stores.specs.Stores.{ObjectMap, Objects}
@@ -25,25 +26,25 @@ use Rattle.vt_effects.specs.Soundness.{IsSound, value_fits, is_in_order}
 use Rattle.vt_effects.proofs.lemmas.stores.OneChangedObject.{first_of, second_of, get_there, get_other, allows_stays}
 
 -- the kind of a referenced object and the value of a referenced pointer
-in_order_at : (m : ObjectMap) (s : Slot) (o : Seen) → finite.get m s.id ≡ Some o → (s.id ≡ 0xFFFF → ⊥) → IsTrue (is_in_order m s)
+in_order_at : (m : ObjectMap) (s : Slot) (o : Seen) → finite.get m s.id ≡ Some o → (s.id ≡ null_id → ⊥) → IsTrue (is_in_order m s)
     → IsTrue (is_one_of s.kinds (Some (kind_of o)) && value_fits m s (pointer_value (Some o)))
-in_order_at m s o at named is = by (eqb s.id 0xFFFF) refl is
+in_order_at m s o at named is = by (eqb s.id null_id) refl is
   where
-    by : (b : Bool) → eqb s.id 0xFFFF ≡ b → IsTrue (cond b s.null (is_one_of s.kinds (kind_in m s.id) && value_fits m s (pointer_value (finite.get m s.id))))
+    by : (b : Bool) → eqb s.id null_id ≡ b → IsTrue (cond b s.null (is_one_of s.kinds (kind_in m s.id) && value_fits m s (pointer_value (finite.get m s.id))))
         → IsTrue (is_one_of s.kinds (Some (kind_of o)) && value_fits m s (pointer_value (Some o)))
-    by true null is = absurd (named (eqb-true s.id 0xFFFF null))
+    by true null is = absurd (named (eqb-true s.id null_id null))
     by false there is = subst (λ (f : Option Seen). IsTrue (is_one_of s.kinds (option_map kind_of f) && value_fits m s (pointer_value f))) at is
 
-kind_at : (m : ObjectMap) (s : Slot) (o : Seen) → finite.get m s.id ≡ Some o → (s.id ≡ 0xFFFF → ⊥) → IsTrue (is_in_order m s)
+kind_at : (m : ObjectMap) (s : Slot) (o : Seen) → finite.get m s.id ≡ Some o → (s.id ≡ null_id → ⊥) → IsTrue (is_in_order m s)
     → IsTrue (is_one_of s.kinds (Some (kind_of o)))
 kind_at m s o at named is = first_of (is_one_of s.kinds (Some (kind_of o))) (value_fits m s (pointer_value (Some o))) (in_order_at m s o at named is)
 
-value_at : (m : ObjectMap) (s : Slot) (o : Seen) → finite.get m s.id ≡ Some o → (s.id ≡ 0xFFFF → ⊥) → IsTrue (is_in_order m s)
+value_at : (m : ObjectMap) (s : Slot) (o : Seen) → finite.get m s.id ≡ Some o → (s.id ≡ null_id → ⊥) → IsTrue (is_in_order m s)
     → IsTrue (value_fits m s (pointer_value (Some o)))
 value_at m s o at named is = second_of (is_one_of s.kinds (Some (kind_of o))) (value_fits m s (pointer_value (Some o))) (in_order_at m s o at named is)
 
 -- an existing object's ID is not NULL
-not_null : (m : ObjectMap) (id : ℕ) (o : Seen) → finite.get m 0xFFFF ≡ None → finite.get m id ≡ Some o → id ≡ 0xFFFF → ⊥
+not_null : (m : ObjectMap) (id : ℕ) (o : Seen) → finite.get m null_id ≡ None → finite.get m id ≡ Some o → id ≡ null_id → ⊥
 not_null m id o null at is =
     let never : None ≡ Some o = sym null ∙ ap (finite.get m) (sym is) ∙ at in
     absurd cc
@@ -57,7 +58,7 @@ abbrev allows_if_named : ObjectMap → ℕ → ℕ → Slot → Bool
 allows_if_named m id value s = not (s.id == id) || allows m s value
 
 -- a reference that is in order with the new value allows it
-place_allows : (m : ObjectMap) (id value : ℕ) (p : ObjectPointer) → finite.get m 0xFFFF ≡ None → finite.get m id ≡ Some (objects.ObjectPointer p) → (s : Slot)
+place_allows : (m : ObjectMap) (id value : ℕ) (p : ObjectPointer) → finite.get m null_id ≡ None → finite.get m id ≡ Some (objects.ObjectPointer p) → (s : Slot)
     → IsTrue (is_in_order (finite.insert m id (with_value p value)) s) → allows_if_named m id value s ≡ true
 place_allows m id value p null at s is = by (eqb s.id id) refl
   where
@@ -69,7 +70,7 @@ place_allows m id value p null at s is = by (eqb s.id id) refl
         (λ e. not_null m id (objects.ObjectPointer p) null at (sym (eqb-true s.id id same) ∙ e)) is
 
 -- a pointer does not refer to itself
-own_place_allows : (m : ObjectMap) (id value : ℕ) (p : ObjectPointer) → finite.get m 0xFFFF ≡ None → finite.get m id ≡ Some (objects.ObjectPointer p)
+own_place_allows : (m : ObjectMap) (id value : ℕ) (p : ObjectPointer) → finite.get m null_id ≡ None → finite.get m id ≡ Some (objects.ObjectPointer p)
     → IsTrue (is_in_order m (slot kinds.ObjectPointer places.Value p.value)) → allows_if_named m id value (slot kinds.ObjectPointer places.Value p.value) ≡ true
 own_place_allows m id value p null at is = by (eqb p.value id) refl
   where
@@ -85,7 +86,7 @@ all_allow : (test : Slot → Bool) (P : Slot → Type 0) (slots : List Slot) →
 all_allow test P [] of all = refl
 all_allow test P (s ∷ slots) of all = true_both (test s) (list_all test slots) (of s all.0) (all_allow test P slots of all.1)
 
-object_allows : (m : ObjectMap) (id value : ℕ) (p : ObjectPointer) → finite.get m 0xFFFF ≡ None → finite.get m id ≡ Some (objects.ObjectPointer p) → IsSound m
+object_allows : (m : ObjectMap) (id value : ℕ) (p : ObjectPointer) → finite.get m null_id ≡ None → finite.get m id ≡ Some (objects.ObjectPointer p) → IsSound m
     → IsSound (finite.insert m id (with_value p value)) → (q : ℕ) (o : Seen) → finite.get m q ≡ Some o → list_all (allows_if_named m id value) (slots_of o) ≡ true
 object_allows m id value p null at sound after q o there = by (eqb q id) refl
   where
@@ -107,7 +108,7 @@ all_of_objects test (e ∷ es) each =
     list_all-append test (slots_of e.1) (flat_map (λ e. slots_of e.1) es)
     ∙ true_both (list_all test (slots_of e.1)) (list_all test (flat_map (λ e. slots_of e.1) es)) (each 0 e refl) (all_of_objects test es (λ place. each (suc place)))
 
-pub places_allow_value : (m : ObjectMap) (id value : ℕ) (p : ObjectPointer) → finite.get m 0xFFFF ≡ None → finite.get m id ≡ Some (objects.ObjectPointer p)
+pub places_allow_value : (m : ObjectMap) (id value : ℕ) (p : ObjectPointer) → finite.get m null_id ≡ None → finite.get m id ≡ Some (objects.ObjectPointer p)
     → IsSound m
     → IsSound (finite.insert m id (objects.ObjectPointer (record p { value = value }))) → places_allow m id value ≡ true
 places_allow_value m id value p null at sound after =
@@ -123,7 +124,7 @@ item_in P kind start index [] item lt all = absurd (omega (arith, lt))
 item_in P kind start zero (x ∷ items) item lt all = (start, all.0)
 item_in P kind start (suc index) (x ∷ items) item lt all = item_in P kind (suc start) index items item (omega (arith, lt)) all.1
 
-drawn_at : (m : ObjectMap) (list item place : ℕ) (old new : InputList) → finite.get m 0xFFFF ≡ None → finite.get m list ≡ Some (objects.InputList old)
+drawn_at : (m : ObjectMap) (list item place : ℕ) (old new : InputList) → finite.get m null_id ≡ None → finite.get m list ≡ Some (objects.InputList old)
     → IsTrue (is_in_order (finite.insert m list (objects.InputList new)) (slot kinds.InputList (places.Item place) item))
     → (o : Option Seen) → finite.get m item ≡ o → value_drawn m (pointer_value o) ≡ true
 drawn_at m list item place old new null at is None there = refl
@@ -139,7 +140,7 @@ drawn_at m list item place old new null at is (Some (objects.ObjectPointer p)) t
         absurd cc
 drawn_at m list item place old new null at is _ there = refl
 
-pub item_drawn : (m : ObjectMap) (list index item : ℕ) (o : InputList) → finite.get m 0xFFFF ≡ None → finite.get m list ≡ Some (objects.InputList o)
+pub item_drawn : (m : ObjectMap) (list index item : ℕ) (o : InputList) → finite.get m null_id ≡ None → finite.get m list ≡ Some (objects.InputList o)
     → index < length o.items
     → IsSound (finite.insert m list (objects.InputList (record o { items = set o.items index item }))) → value_drawn m (pointer_value (finite.get m item)) ≡ true
 item_drawn m list index item o null at lt after =

@@ -7,6 +7,7 @@ use Rattle.vt_kinds.specs.declared.kind.Kind.{Kind}
 use Rattle.vt_kinds.specs.declared.input_fields.InputList.{InputList}
 use Rattle.vt_kinds.specs.declared.variables.ObjectPointer.{ObjectPointer}
 use Rattle.vt_kinds.specs.declared.object.Object.TheVariants as objects
+use Rattle.vt_kinds.specs.Ids.{null_id}
 use Rattle.vt_kinds.specs.Records.{Seen}
 use Rattle.vt_commands.specs.declared.command.Command.{Command}
 use Rattle.vt_commands.specs.declared.command.Command.TheVariants.{ChangeNumericValue, ChangeAttribute, ChangeListItem}
@@ -77,7 +78,7 @@ item_of_list named index item o new made =
 
 -- ---- stores in order pass the test
 
-pointer_kept : (m n : ObjectMap) (id value : ℕ) (command : Command) (named : Option Kind) → finite.get m 0xFFFF ≡ None → IsSound m → IsSound n
+pointer_kept : (m n : ObjectMap) (id value : ℕ) (command : Command) (named : Option Kind) → finite.get m null_id ≡ None → IsSound m → IsSound n
     → ((p : ObjectPointer) (new : Seen) → ◌≡◌ {A = Result Seen ℕ} (changed command named (objects.ObjectPointer p)) (Ok new) → objects.ObjectPointer (record p { value = value }) ≡ new)
     → (found : Option Seen) → finite.get m id ≡ found → ◌≡◌ {A = Result ObjectMap ℕ} (changed_at m id command named found) (Ok n)
     → pointer_may m id value (pointer_value found) n ≡ true
@@ -89,7 +90,7 @@ pointer_kept m n id value command named null sound ordered of (Some (objects.Obj
     (short_by_shallow n (IsSound.shallow ordered))
 pointer_kept m n id value command named null sound ordered of _ at made = refl
 
-item_kept : (m n : ObjectMap) (list index item : ℕ) (named : Option Kind) → finite.get m 0xFFFF ≡ None → IsSound n → (found : Option Seen) → finite.get m list ≡ found
+item_kept : (m n : ObjectMap) (list index item : ℕ) (named : Option Kind) → finite.get m null_id ≡ None → IsSound n → (found : Option Seen) → finite.get m list ≡ found
     → ◌≡◌ {A = Result ObjectMap ℕ} (changed_at m list (ChangeListItem list index item) named found) (Ok n) → value_drawn m (pointer_value (finite.get m item)) ≡ true
 item_kept m n list index item named null ordered (Some (objects.InputList o)) at made =
     let here = is_put m n list (change_item named index item (objects.InputList o)) made in
@@ -97,7 +98,7 @@ item_kept m n list index item named null ordered (Some (objects.InputList o)) at
     item_drawn m list index item o null at parts.0 (subst IsSound (sym (ap (finite.insert m list) parts.1 ∙ here.store)) ordered)
 item_kept m n list index item named null ordered _ at made = absurd cc
 
-kept : (m n : ObjectMap) (command : Command) → IsSound m → finite.get m 0xFFFF ≡ None
+kept : (m n : ObjectMap) (command : Command) → IsSound m → finite.get m null_id ≡ None
     → ◌≡◌ {A = Result ObjectMap ℕ} (changed_by m command (other_kind m (other_id command))) (Ok n) → IsSound n → keeps_order m command n ≡ true
 kept m n (ChangeListItem list index item) sound null made ordered =
     true_both (value_drawn m (pointer_value (finite.get m item))) (chains_are_short n)
@@ -110,7 +111,7 @@ kept m n (ChangeAttribute id number value) sound null made ordered =
     (finite.get m id) refl made
 kept m n _ sound null made ordered = refl
 
-order_decided : CommandsKeepOrder → (m n : ObjectMap) (command : Command) → IsSound m → finite.get m 0xFFFF ≡ None
+order_decided : CommandsKeepOrder → (m n : ObjectMap) (command : Command) → IsSound m → finite.get m null_id ≡ None
     → ◌≡◌ {A = Result ObjectMap ℕ} (changed_by m command (other_kind m (other_id command))) (Ok n) → IsTrue (keeps_order m command n) ↔ IsSound n
 order_decided keep m n command sound null made = (λ is. subst IsSound (done m n command made is) (keep m command sound), kept m n command sound null made)
 
@@ -126,7 +127,7 @@ effect_by m n command (Some id) made is =
 left_of : (m n : ObjectMap) (command : Command) → ◌≡◌ {A = Result ObjectMap ℕ} (effect m command) (Ok n) → after m command ≡ n
 left_of m n command is = ap (left m) is
 
-effect_decided : CommandsKeepOrder → (m n : ObjectMap) (command : Command) → IsSound m → finite.get m 0xFFFF ≡ None
+effect_decided : CommandsKeepOrder → (m n : ObjectMap) (command : Command) → IsSound m → finite.get m null_id ≡ None
     → ◌≡◌ {A = Result ObjectMap ℕ} (changed_by m command (other_kind m (other_id command))) (Ok n)
     → (◌≡◌ {A = Result ObjectMap ℕ} (effect m command) (Ok n)) ↔ IsSound n
 unfolding effect

@@ -19,6 +19,7 @@ use Rattle.vt_kinds.specs.declared.input_fields.InputString.{InputString}
 use Rattle.vt_kinds.specs.declared.variables.NumberVariable.{NumberVariable}
 use Rattle.vt_kinds.specs.declared.variables.StringVariable.{StringVariable}
 use Rattle.vt_kinds.specs.declared.object.Object.TheVariants as objects
+use Rattle.vt_kinds.specs.Ids.{null_id}
 use Rattle.vt_kinds.specs.Records.{Seen, kind_of}
 use Rattle.vt_kinds.specs.References.{allowed, slot}
 use Rattle.vt_kinds.specs.Texts.{filled_up}
@@ -146,7 +147,7 @@ number_variable (Some o) is = absurd cc
 number_kept : (m : ObjectMap) (id n : ℕ) (input : Seen) (kind : Kind) (variable at : ℕ) → finite.get m id ≡ Some input
     → Decides (is_number n (Some input)) (with_number n input ≡ input) → allowed kind places.Variable ≡ sets.NumberVariables
     → IsTrue (is_in_order m (slot kind places.Variable variable)) → kept_at id variable ≡ at → IsKept m at (with_number n) (is_number n)
-number_kept m id n input kind variable at there decides allows order is = by (variable == 0xFFFF) order is
+number_kept m id n input kind variable at there decides allows order is = by (variable == null_id) order is
   where
     by : (b : Bool)
         → IsTrue (cond b true (is_one_of (allowed kind places.Variable) (kind_in m variable)

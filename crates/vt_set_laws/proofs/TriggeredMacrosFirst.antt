@@ -12,6 +12,7 @@ use Rattle.vt_kinds.specs.declared.entries.MacroEntry.{MacroEntry}
 use Rattle.vt_kinds.specs.declared.kind.Kind.{Kind}
 use Rattle.vt_kinds.specs.declared.kind.Kind.TheVariants as kinds
 use Rattle.vt_kinds.specs.declared.kinds.Kinds.TheVariants as sets
+use Rattle.vt_kinds.specs.Ids.{null_id}
 use Rattle.vt_kinds.specs.Kinds.{kind_number, kind_at}
 use Rattle.vt_kinds.specs.References.{is_member}
 use Rattle.vt_commands.specs.declared.command.Command.{Command}
@@ -129,7 +130,7 @@ module _ (shape : Shape) where
   named-by n false (Some f) at there fit = named-in n f at (may-be n f fit)
 
   reference-in : (id n : ℕ) → is_there shape (macro_reference id n) ≡ true → fits shape (macro_reference id n) ≡ true → IsIn n
-  reference-in id n there fit = named-by n (eqb n 0xFFFF) (fixed_at shape n) refl there fit
+  reference-in id n there fit = named-by n (eqb n null_id) (fixed_at shape n) refl there fit
 
   -- ---- macros listed at an event
 

@@ -15,6 +15,7 @@ use Rattle.vt_kinds.specs.declared.place.Place.{Place}
 use Rattle.vt_kinds.specs.declared.place.Place.TheVariants as places
 use Rattle.vt_kinds.specs.declared.slot.Slot.{Slot}
 use Rattle.vt_kinds.specs.declared.object.Object.TheVariants as objects
+use Rattle.vt_kinds.specs.Ids.{null_id}
 use Rattle.vt_kinds.specs.Records.{Seen}
 use Rattle.vt_kinds.specs.References.{listed, slot}
 use Rattle.vt_stores.specs.Stores.{ObjectMap, IsPlace}
@@ -132,7 +133,7 @@ in_more slot slots name h = more_by (includes slot)
     more_by true = Contains-tail slot.id name (included_in slots) h
     more_by false = h
 
-pub listed_included : (kind : Kind) (place : ℕ → Place) (index : ℕ) (ids : List ℕ) (name : ℕ) → ((i : ℕ) → is_inclusion (place i) ≡ true) → eqb name 65535 ≡ false
+pub listed_included : (kind : Kind) (place : ℕ → Place) (index : ℕ) (ids : List ℕ) (name : ℕ) → ((i : ℕ) → is_inclusion (place i) ≡ true) → eqb name null_id ≡ false
     → Contains ids name → Contains (included_in (listed kind place index ids)) name
 listed_included kind place index [] name inclusion there h = absurd (Contains-nil name h)
 listed_included kind place index (id ∷ ids) name inclusion there h =
@@ -140,11 +141,11 @@ listed_included kind place index (id ∷ ids) name inclusion there h =
     let rest = listed kind place (suc index) ids in
     cons_case (Contains (included_in (listed kind place index (id ∷ ids))) name) id name ids h
     (λ same.
-    let is : includes first ≡ true = ap (λ b. b && not (eqb id 65535)) (inclusion index) ∙ ap not (ap (λ (n : ℕ). eqb n 65535) same ∙ there) in
+    let is : includes first ≡ true = ap (λ b. b && not (eqb id null_id)) (inclusion index) ∙ ap not (ap (λ (n : ℕ). eqb n null_id) same ∙ there) in
     subst (Contains (included_in (first ∷ rest))) same (in_first first rest is))
     (λ later. in_more first rest name (listed_included kind place (suc index) ids name inclusion there later))
 
-children_included : (kind : Kind) (children : List Child) (name : ℕ) → eqb name 65535 ≡ false → Contains (ids_in children) name
+children_included : (kind : Kind) (children : List Child) (name : ℕ) → eqb name null_id ≡ false → Contains (ids_in children) name
     → Contains (included_in (listed kind places.Child 0 (ids_in children))) name
 children_included kind children name there h = listed_included kind places.Child 0 (ids_in children) name (λ i. refl) there h
 
@@ -162,7 +163,7 @@ shown_within : (b : Bool) (xs : List ℕ) (name : ℕ) → Contains (cond b xs [
 shown_within true xs name h = h
 shown_within false xs name h = absurd (Contains-nil name h)
 
-pub drawn_included : (m : ObjectMap) (o : Option Seen) (name : ℕ) → eqb name 65535 ≡ false → Contains (drawn_in m o) name → Contains (included_by o) name
+pub drawn_included : (m : ObjectMap) (o : Option Seen) (name : ℕ) → eqb name null_id ≡ false → Contains (drawn_in m o) name → Contains (included_by o) name
 drawn_included m (Some (objects.WorkingSet o)) name there h = children_included kinds.WorkingSet o.children name there h
 drawn_included m (Some (objects.DataMask o)) name there h = children_included kinds.DataMask o.children name there h
 drawn_included m (Some (objects.AlarmMask o)) name there h = children_included kinds.AlarmMask o.children name there h
@@ -177,16 +178,16 @@ drawn_included m _ name there h = absurd (Contains-nil name h)
 -- ---- drawn elements have lesser levels
 
 -- a pointer includes its value
-value_of : (m : ObjectMap) (value other : ℕ) → finite.get m 65535 ≡ None → option_map (λ o. value) (finite.get m value) ≡ Some other → (eqb other 65535 ≡ false) × (value ≡ other)
+value_of : (m : ObjectMap) (value other : ℕ) → finite.get m null_id ≡ None → option_map (λ o. value) (finite.get m value) ≡ Some other → (eqb other null_id ≡ false) × (value ≡ other)
 value_of m value other null is = from (finite.get m value) refl is
   where
-    from : (o : Option Seen) → finite.get m value ≡ o → option_map (λ x. value) o ≡ Some other → (eqb other 65535 ≡ false) × (value ≡ other)
+    from : (o : Option Seen) → finite.get m value ≡ o → option_map (λ x. value) o ≡ Some other → (eqb other null_id ≡ false) × (value ≡ other)
     from None at is = absurd cc
     from (Some o) at is =
         let same : value ≡ other = same_Some value other is in
-        (ne_eqb other 65535 (λ e. let never = sym null ∙ ap (finite.get m) (sym (same ∙ e)) ∙ at in absurd cc), same)
+        (ne_eqb other null_id (λ e. let never = sym null ∙ ap (finite.get m) (sym (same ∙ e)) ∙ at in absurd cc), same)
 
-pub behind_case : (P : Type 0) (m : ObjectMap) (name other : ℕ) (o : Option Seen) → finite.get m 65535 ≡ None → behind m name o ≡ Some other
+pub behind_case : (P : Type 0) (m : ObjectMap) (name other : ℕ) (o : Option Seen) → finite.get m null_id ≡ None → behind m name o ≡ Some other
     → (name ≡ other → P) → (Contains (included_by o) other → P) → P
 behind_case P m name other None null is here later = absurd cc
 behind_case P m name other (Some (objects.ObjectPointer o)) null is here later =
@@ -208,14 +209,14 @@ stands_itself m name place at drawn =
       ap (behind m name) got ∙ itself m name at.object drawn,
     )
 
-pub is_there : (m : ObjectMap) (name other : ℕ) (o : Option Seen) → finite.get m name ≡ o → behind m name o ≡ Some other → finite.get m 65535 ≡ None → eqb name 65535 ≡ false
+pub is_there : (m : ObjectMap) (name other : ℕ) (o : Option Seen) → finite.get m name ≡ o → behind m name o ≡ Some other → finite.get m null_id ≡ None → eqb name null_id ≡ false
 is_there m name other None at is null = absurd cc
-is_there m name other (Some o) at is null = ne_eqb name 65535 (λ e. let never = sym null ∙ ap (finite.get m) (sym e) ∙ at in absurd cc)
+is_there m name other (Some o) at is null = ne_eqb name null_id (λ e. let never = sym null ∙ ap (finite.get m) (sym e) ∙ at in absurd cc)
 
 pub included_at : (m : ObjectMap) (id other : ℕ) → Contains (included_by (finite.get m id)) other → Contains (inclusions_of m id) other
 included_at m id other h = subst (λ (o : Option Seen). Contains (included_by o) other) (finite.get-entries m id) h
 
-pub named_falls : (m : ObjectMap) (levels : List ℕ) (place id other : ℕ) → IsCertificate (ids_of m) (inclusions_of m) levels → finite.get m 65535 ≡ None
+pub named_falls : (m : ObjectMap) (levels : List ℕ) (place id other : ℕ) → IsCertificate (ids_of m) (inclusions_of m) levels → finite.get m null_id ≡ None
     → IsAt (ids_of m) place id → IsNamed m (drawn_in m (finite.get m id)) other → IsBelow (ids_of m) levels other (slice_index levels place)
 named_falls m levels place id other certificate null stands named =
     let name = named.name in
@@ -230,15 +231,15 @@ named_falls m levels place id other certificate null stands named =
     record { place = last.place; there = last.there; less = omega (arith, one, two) })
 
 -- NULL is not the ID of an object
-pub null_nowhere : (m : ObjectMap) → All (λ id. id < 65535) (ids_of m) → finite.get m 65535 ≡ None
-null_nowhere m named = from (finite.get m 65535) refl
+pub null_nowhere : (m : ObjectMap) → All (λ id. id < null_id) (ids_of m) → finite.get m null_id ≡ None
+null_nowhere m named = from (finite.get m null_id) refl
   where
-    from : (o : Option Seen) → finite.get m 65535 ≡ o → finite.get m 65535 ≡ None
+    from : (o : Option Seen) → finite.get m null_id ≡ o → finite.get m null_id ≡ None
     from None at = at
     from (Some o) at =
-        let there = stands (finite.entries m) 65535 o (sym (finite.get-entries m 65535) ∙ at) in
-        let less = named there.0 65535 (within (ids_of m) there.0 65535 there.1) in
-        let is = get_or_from_slice_get (ids_of m) there.0 65535 65535 there.1 in
+        let there = stands (finite.entries m) null_id o (sym (finite.get-entries m null_id) ∙ at) in
+        let less = named there.0 null_id (within (ids_of m) there.0 null_id there.1) in
+        let is = get_or_from_slice_get (ids_of m) there.0 null_id null_id there.1 in
         absurd (omega (arith, less, is))
 
 -- ---- level by level
@@ -277,7 +278,7 @@ pass_ends m levels mask level place marks end are = record {
 }
 
 -- marking an object's drawing leaves the marks of its level and of greater levels unchanged
-still_set : (m : ObjectMap) (levels : List ℕ) (place id : ℕ) (marks new : List Bool) → IsCertificate (ids_of m) (inclusions_of m) levels → finite.get m 65535 ≡ None
+still_set : (m : ObjectMap) (levels : List ℕ) (place id : ℕ) (marks new : List Bool) → IsCertificate (ids_of m) (inclusions_of m) levels → finite.get m null_id ≡ None
     → IsAt (ids_of m) place id → Marks m (drawn_in m (finite.get m id)) marks new → (at other : ℕ) → IsAt (ids_of m) at other
     → slice_index_or new at false ≡ true → slice_index levels place ≤ slice_index levels at → slice_index_or marks at false ≡ true
 still_set m levels place id marks new certificate null stands draws at other there set le =
@@ -291,7 +292,7 @@ still_set m levels place id marks new certificate null stands draws at other the
     ]
 
 pub pass_more : (m : ObjectMap) (levels : List ℕ) (mask level place id : ℕ) (marks new : List Bool) → IsCertificate (ids_of m) (inclusions_of m) levels
-    → finite.get m 65535 ≡ None → IsAt (ids_of m) place id → slice_index_or marks place false ≡ true → slice_index levels place ≡ level
+    → finite.get m null_id ≡ None → IsAt (ids_of m) place id → slice_index_or marks place false ≡ true → slice_index levels place ≡ level
     → Marks m (drawn_in m (finite.get m id)) marks new → ArePassed m levels mask level place marks → ArePassed m levels mask level (place + 1) new
 pass_more m levels mask level place id marks new certificate null stands set is draws are = record {
   marked = record {

@@ -4,6 +4,7 @@ use Rattle.std.specs.Option.{option_map, option_to_list}
 use Rattle.std.specs.FinMap as finite
 use Rattle.vt_kinds.specs.declared.entries.Child.{Child}
 use Rattle.vt_kinds.specs.declared.object.Object.TheVariants as objects
+use Rattle.vt_kinds.specs.Ids.{null_id}
 use Rattle.vt_kinds.specs.Records.{Seen}
 use Rattle.vt_stores.specs.Stores.{ObjectMap}
 
@@ -37,7 +38,7 @@ number_in _ = None
 
 -- the number that an object shows: its variable's value, if it has a variable
 abbrev pub number_shown : ObjectMap → ℕ → ℕ → Option ℕ
-number_shown store variable own = if variable == 0xFFFF then Some own else number_in (finite.get store variable)
+number_shown store variable own = if variable == null_id then Some own else number_in (finite.get store variable)
 
 -- the item at an index, or none
 abbrev pub item_of : List ℕ → Option ℕ → List ℕ
@@ -61,7 +62,7 @@ drawn_in store _ = []
 abbrev pub soft_key_mask_of : Option Seen → ℕ
 soft_key_mask_of (Some (objects.DataMask o)) = o.soft_key_mask
 soft_key_mask_of (Some (objects.AlarmMask o)) = o.soft_key_mask
-soft_key_mask_of _ = 0xFFFF
+soft_key_mask_of _ = null_id
 
 abbrev pub keys_of : Option Seen → List ℕ
 keys_of (Some (objects.SoftKeyMask o)) = o.keys

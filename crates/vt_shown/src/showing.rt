@@ -1,7 +1,6 @@
 //! Tests whether a mask shows an object.
 
-ghost use Rattle.std.specs.Prelude.{◌≡◌, ◌≤◌, ◌<◌, ◌+◌, ◌∷◌, ℕ, [], false, true, length, slice_get, slice_index, slice_index_or, EachIndex, IfSome, IsTrue, Some};
-ghost use Rattle.std.specs.Option.{option_map};
+ghost use Rattle.std.specs.Prelude.{◌≡◌, ◌≤◌, ◌<◌, ◌+◌, ◌∷◌, ℕ, [], false, true, length, slice_get, slice_index, slice_index_or, EachIndex, IfNone, IfSome, IsTrue, None, Some};
 ghost use Rattle.std.specs.FinMap as finite;
 ghost use Rattle.vt_kinds.specs.Records.{Seen, seen};
 ghost use Rattle.vt_stores.specs.Stores.{IsPlace};
@@ -33,7 +32,7 @@ pub fn is_shown<S: Store>(
     let Some(place) = store.place(id) else {
         return false;
     };
-    if !is_element(store, id) {
+    if !has_element(store, id) {
         return false;
     }
     let mut named = [false; 65_536];
@@ -258,7 +257,7 @@ fn is_element_at<S: Store>(store: &S, place: usize) -> bool
     ensures { (entry : ℕ × Seen) → slice_get (finite.entries (S.contents store.now)) place ≡ Some entry → result ≡ showing.is_element (Some entry.1) }
 {
     match store.entry_at(place) {
-        Some((_, object)) => is_drawn(object),
+        Some((_, object)) => is_element(object),
         None => false,
     }
 }
@@ -268,10 +267,10 @@ fn mark_behind<S: Store>(store: &S, marks: &mut [bool], name: ObjectId)
     requires { length marks.old ≡ length (ids_of (S.contents store.now)) }
     ensures { Marks (S.contents store.now) (name ∷ []) marks.old marks.new }
 {
-    let Some(id) = stands_for(store, name) else {
+    let Some((id, object)) = standing(store, name) else {
         return;
     };
-    if !is_element(store, id) {
+    if !is_element(object) {
         return;
     }
     if let Some(place) = store.place(id) {
@@ -279,38 +278,33 @@ fn mark_behind<S: Store>(store: &S, marks: &mut [bool], name: ObjectId)
     }
 }
 
-/// The ID that a listed ID resolves to: a pointer's value, or the ID itself. `None` if the object is missing.
-fn stands_for<S: Store>(store: &S, id: ObjectId) -> Option<ObjectId>
-    ensures { result ≡ showing.stands_for (S.contents store.now) id }
+/// The object that an ID in a list stands for, if it is there, and its own ID: a pointer stands for its value.
+pub fn standing<S: Store>(store: &S, id: ObjectId) -> Option<(ObjectId, &Object<Vec<u8>>)>
+    ensures some { IfSome result (λ found. (showing.stands_for (S.contents store.now) id ≡ Some found.0) × (finite.get (S.contents store.now) found.0 ≡ Some (seen found.1.now))) }
+    ensures none { IfNone result (showing.stands_for (S.contents store.now) id ≡ None) }
 {
     match store.get(id) {
         None => None,
-        Some(Object::ObjectPointer(pointer)) => if_there(store, pointer.value),
-        Some(_) => Some(id),
+        Some(Object::ObjectPointer(pointer)) => {
+            let value = pointer.value;
+            store.get(value).map(|object| (value, object))
+        }
+        Some(object) => Some((id, object)),
     }
 }
 
-fn if_there<S: Store>(store: &S, id: ObjectId) -> Option<ObjectId>
-    ensures { result ≡ option_map (λ o. id) (finite.get (S.contents store.now) id) }
-{
-    match store.get(id) {
-        None => None,
-        Some(_) => Some(id),
-    }
-}
-
-/// Whether an object exists and is neither a pointer nor a hidden container.
-fn is_element<S: Store>(store: &S, id: ObjectId) -> bool
+/// Whether an element is there under an ID.
+fn has_element<S: Store>(store: &S, id: ObjectId) -> bool
     ensures { result ≡ showing.is_element (finite.get (S.contents store.now) id) }
 {
     match store.get(id) {
         None => false,
-        Some(object) => is_drawn(object),
+        Some(object) => is_element(object),
     }
 }
 
-/// Whether an object is neither a pointer nor a hidden container.
-fn is_drawn(object: &Object<Vec<u8>>) -> bool
+/// Whether an object is an element: neither a pointer nor a hidden container.
+pub fn is_element(object: &Object<Vec<u8>>) -> bool
     ensures { result ≡ showing.is_element (Some (seen object.now)) }
 {
     match object {
@@ -320,8 +314,9 @@ fn is_drawn(object: &Object<Vec<u8>>) -> bool
     }
 }
 
-/// The number that an object shows: its variable's value, if it has a variable.
-fn number_shown<S: Store>(store: &S, variable: ObjectId, own: u32) -> Option<u32>
+/// The number that an object shows: that of its variable, if it has one; none where the variable is not there, which a store
+/// in order rules out.
+pub fn number_shown<S: Store>(store: &S, variable: ObjectId, own: u32) -> Option<u32>
     ensures { result ≡ showing.number_shown (S.contents store.now) variable own }
 {
     if variable.is_null() {

@@ -14,6 +14,6 @@ pub fn soft_key_mask<S: Store>(store: &S, mask: ObjectId) -> ObjectId
     match store.get(mask) {
         Some(Object::DataMask(mask)) => mask.soft_key_mask,
         Some(Object::AlarmMask(mask)) => mask.soft_key_mask,
-        _ => ObjectId::from_raw(0xFFFF),
+        _ => ObjectId::NULL,
     }
 }

@@ -13,6 +13,7 @@ use Rattle.std.specs.FinMap as finite
 use Rattle.std.specs.FinMap.Entries.{put, is_sorted-put, below_all}
 use Rattle.std.specs.declared.cmp.Ordering.TheVariants.{Equal}
 use Rattle.vt_kinds.specs.declared.object.Object.{Object}
+use Rattle.vt_kinds.specs.Ids.{null_id}
 use Rattle.vt_kinds.specs.Records.{Seen, seen}
 use Rattle.vt_stores.specs.Stores.{Objects, ObjectMap, AreNamed, AreStored, IsRising, IsPlace, shown, ids, by_rising_id, object_at, map_of, contents_of, with_object, replaced}
 use Rattle.vt_stores.proofs.SortedEntries.{T_of, both_true, equal, greater, three, ids_shown, distinct_rising}
@@ -38,25 +39,25 @@ map_of_rising s =
 
 -- ---- NULL
 
-none_named : (s : Objects) → All (λ id. id < 0xFFFF) (ids s) → object_at s 0xFFFF ≡ None
+none_named : (s : Objects) → All (λ id. id < null_id) (ids s) → object_at s null_id ≡ None
 none_named [] all = refl
 none_named (e ∷ s) all =
-    ap (λ (b : Bool). cond b (Some e.1) (object_at s 0xFFFF)) (other_id e.0 0xFFFF (λ is. let lt = all 0 e.0 (omega arith) in absurd (omega (arith, is, lt))) (three 0xFFFF e.0))
+    ap (λ (b : Bool). cond b (Some e.1) (object_at s null_id)) (other_id e.0 null_id (λ is. let lt = all 0 e.0 (omega arith) in absurd (omega (arith, is, lt))) (three null_id e.0))
     ∙ none_named s (λ k d lt. all (suc k) d (omega arith))
 
-pub null_free : (s : Objects) → AreStored s → finite.get (finite.from_sorted {R = nat_cmp} s) 0xFFFF ≡ None
-null_free s stored = get_from s 0xFFFF stored.rising ∙ none_named s stored.named.named
+pub null_free : (s : Objects) → AreStored s → finite.get (finite.from_sorted {R = nat_cmp} s) null_id ≡ None
+null_free s stored = get_from s null_id stored.rising ∙ none_named s stored.named.named
 
 module _ {B : Type 0} where
   -- a permutation of the entries still has no NULL
   pub still_named : (es sorted : List (ℕ × Object B)) → IsPermutation es sorted → AreNamed (map shown es) → IsRising (map shown sorted) → AreStored (map shown sorted)
   still_named es sorted moved named rising =
-      let all : All (λ (id : ℕ). id < 0xFFFF) (map (λ (e : ℕ × Object B). e.0) es) = subst (All (λ (id : ℕ). id < 0xFFFF)) (ids_shown es) named.named in
+      let all : All (λ (id : ℕ). id < null_id) (map (λ (e : ℕ × Object B). e.0) es) = subst (All (λ (id : ℕ). id < null_id)) (ids_shown es) named.named in
       record {
         rising = rising;
         named = record {
           distinct = distinct_rising (map shown sorted) rising;
-          named = subst (All (λ (id : ℕ). id < 0xFFFF)) (sym (ids_shown sorted)) (All-map-IsPermutation (λ (e : ℕ × Object B). e.0) (λ (id : ℕ). id < 0xFFFF) es sorted moved all);
+          named = subst (All (λ (id : ℕ). id < null_id)) (sym (ids_shown sorted)) (All-map-IsPermutation (λ (e : ℕ × Object B). e.0) (λ (id : ℕ). id < null_id) es sorted moved all);
         };
       }
 
@@ -99,7 +100,7 @@ module _ {B : Type 0} where
     rising = rising_set es p x w stored.rising lt is;
     named = record {
       distinct = subst (IsDistinct eqb) (sym (ids_set es p x w is)) stored.named.distinct;
-      named = subst (All (λ (id : ℕ). id < 0xFFFF)) (sym (ids_set es p x w is)) stored.named.named;
+      named = subst (All (λ (id : ℕ). id < null_id)) (sym (ids_set es p x w is)) stored.named.named;
     };
   }
 
@@ -167,12 +168,12 @@ module _ {B : Type 0} where
   pub found_some : (es : List (ℕ × Object B)) (s : Objects) (q p : ℕ) (x : ℕ × Object B) → map shown es ≡ s → IsPlace (map shown es) q p → x ≡ get_or es p x → Some (seen x.1) ≡ object_at s q
   found_some es s q p x view at is = subst (λ (t : Objects). Some (seen x.1) ≡ object_at t q) view (object_at_place es q p x at is)
 
-  pub named_in : (es : List (ℕ × Object B)) (s : Objects) → map shown es ≡ s → AreStored (map shown es) → All (λ id. id < 0xFFFF) (ids (finite.entries (map_of s)))
+  pub named_in : (es : List (ℕ × Object B)) (s : Objects) → map shown es ≡ s → AreStored (map shown es) → All (λ id. id < null_id) (ids (finite.entries (map_of s)))
   named_in es s view stored =
       let is = subst AreStored view stored in
-      subst (λ (objects : Objects). All (λ id. id < 0xFFFF) (ids objects)) (sym (entries_from s is.rising)) is.named.named
+      subst (λ (objects : Objects). All (λ id. id < null_id) (ids objects)) (sym (entries_from s is.rising)) is.named.named
 
-  pub null_free_in : (es : List (ℕ × Object B)) (s : Objects) → map shown es ≡ s → AreStored (map shown es) → finite.get (map_of s) 0xFFFF ≡ None
+  pub null_free_in : (es : List (ℕ × Object B)) (s : Objects) → map shown es ≡ s → AreStored (map shown es) → finite.get (map_of s) null_id ≡ None
   null_free_in es s view stored = null_free s (subst AreStored view stored)
 
   length_shown : (es : List (ℕ × Object B)) → length (map shown es) ≡ length es
@@ -249,10 +250,10 @@ module _ {B : Type 0} where
 
 pub named_none : AreNamed []
 unfolding IsDistinct
-named_none = record { distinct = tt; named = All-nil (λ (id : ℕ). id < 0xFFFF) }
+named_none = record { distinct = tt; named = All-nil (λ (id : ℕ). id < null_id) }
 
-pub named_more : (x : ℕ × Seen) (s : Objects) → x.0 < 0xFFFF → AllByRecursion (λ k. eqb x.0 k ≡ false) (ids s) → AreNamed s → AreNamed (x ∷ s)
+pub named_more : (x : ℕ × Seen) (s : Objects) → x.0 < null_id → AllByRecursion (λ k. eqb x.0 k ≡ false) (ids s) → AreNamed s → AreNamed (x ∷ s)
 named_more x s lt other named = record {
   distinct = IsDistinct-cons eqb x.0 (ids s) other named.distinct;
-  named = All-cons (λ (id : ℕ). id < 0xFFFF) x.0 (ids s) lt named.named;
+  named = All-cons (λ (id : ℕ). id < null_id) x.0 (ids s) lt named.named;
 }

@@ -4,6 +4,7 @@ use Rattle.std.specs.List.{IsDistinct, All}
 use Rattle.std.specs.Ordering.{nat_cmp}
 use Rattle.std.specs.FinMap as finite
 use Rattle.vt_kinds.specs.declared.object.Object.{Object}
+use Rattle.vt_kinds.specs.Ids.{null_id}
 use Rattle.vt_kinds.specs.Records.{Seen, seen}
 
 -- objects under their IDs
@@ -19,7 +20,7 @@ ids objects = map (λ e. e.0) objects
 -- IDs are unique, and none is NULL
 pub record AreNamed (objects : Objects) : Type 0 where
   pub distinct : IsDistinct eqb (ids objects)
-  pub named : All (λ id. id < 0xFFFF) (ids objects)
+  pub named : All (λ id. id < null_id) (ids objects)
 
 -- ---- objects by rising ID
 

@@ -4,6 +4,7 @@ ghost use Rattle.std.specs.Prelude.{◌≡◌, None, IfOk, IfSome, IfNone, map, 
 ghost use Rattle.std.specs.Option.{option_map};
 ghost use Rattle.std.specs.FinMap as finite;
 ghost use Rattle.std.specs.Borrow.{sem, LendsSo};
+ghost use Rattle.vt_kinds.specs.Ids.{null_id};
 ghost use Rattle.vt_kinds.specs.Records.{seen};
 ghost use Rattle.vt_stores.specs.LentObjects.{object_row};
 ghost use Rattle.vt_stores.specs.Stores.{AreNamed, AreStored, IsPlace, shown, by_rising_id, object_at, map_of};
@@ -80,7 +81,7 @@ impl Store for SortedStore {
 
     fn get(&self, id: ObjectId) -> Option<&Object<Vec<u8>>>
         ensures value { option_map (λ o. seen o.now) result ≡ finite.get (map_of self.now) id }
-        ensures named { finite.get (map_of self.now) 0xFFFF ≡ None }
+        ensures named { finite.get (map_of self.now) null_id ≡ None }
         ensures found { option_map (λ o. seen o.now) result ≡ object_at self.now id }
     {
         match place_of(&self.entries, &self.places, id) {

@@ -5,6 +5,7 @@ ghost use Rattle.std.specs.Option.{option_map};
 ghost use Rattle.std.specs.List.{All};
 ghost use Rattle.std.specs.FinMap as finite;
 ghost use Rattle.std.specs.Borrow.{sem, LendsSo};
+ghost use Rattle.vt_kinds.specs.Ids.{null_id};
 ghost use Rattle.vt_kinds.specs.Records.{seen};
 ghost use Rattle.vt_stores.specs.Stores.{ObjectMap, AreNamed, IsPlace, ids, shown, contents_of, with_object};
 ghost use Rattle.vt_stores.specs.LentObjects.{object_row};
@@ -29,7 +30,7 @@ pub trait Store: Drop {
     /// Returns the object of an ID, or `None`; always `None` for NULL.
     fn get(&self, id: ObjectId) -> Option<&Object<Vec<u8>>>
         ensures value { option_map (λ o. seen o.now) result ≡ finite.get (contents self.now) id }
-        ensures named { finite.get (contents self.now) 0xFFFF ≡ None };
+        ensures named { finite.get (contents self.now) null_id ≡ None };
 
     /// Returns the object of an ID for a change, or `None`. A write changes this object alone.
     fn get_mut(&mut self, id: ObjectId) -> Option<&mut Object<Vec<u8>>>
@@ -41,7 +42,7 @@ pub trait Store: Drop {
     /// The number of objects. NULL is no object's ID.
     fn count(&self) -> usize
         ensures count { result ≡ finite.len (contents self.now) }
-        ensures named { All (λ id. id < 0xFFFF) (ids (finite.entries (contents self.now))) };
+        ensures named { All (λ id. id < null_id) (ids (finite.entries (contents self.now))) };
 
     /// Returns the object at an index, by rising ID from 0, and its ID; `None` from `count` on.
     fn entry_at(&self, place: usize) -> Option<(ObjectId, &Object<Vec<u8>>)>

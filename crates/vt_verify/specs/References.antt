@@ -6,6 +6,7 @@ use Rattle.vt_kinds.specs.declared.kinds.Kinds.{Kinds}
 use Rattle.vt_kinds.specs.declared.kinds.Kinds.TheVariants as sets
 use Rattle.vt_kinds.specs.declared.slot.Slot.{Slot}
 use Rattle.vt_kinds.specs.declared.object.Object.TheVariants as objects
+use Rattle.vt_kinds.specs.Ids.{null_id}
 use Rattle.vt_kinds.specs.Records.{Seen}
 use Rattle.vt_kinds.specs.References.{slots_of, is_member}
 use Rattle.vt_verify.specs.declared.reference.Reference.{Reference}
@@ -18,7 +19,7 @@ use Rattle.vt_stores.specs.Stores.{Objects, object_at}
 
 -- NULL, where NULL is allowed, or the ID of an existing object
 abbrev pub is_there : Shape → Reference → Bool
-is_there shape r = if r.id == 0xFFFF then r.may_be_null else is_some (kind_at shape r.id)
+is_there shape r = if r.id == null_id then r.may_be_null else is_some (kind_at shape r.id)
 
 -- macros with IDs above 255 are not allowed as sets.Macros
 abbrev pub may_stand : Kinds → ℕ → Kind → Bool
@@ -31,7 +32,7 @@ allows kinds id (Some kind) = may_stand kinds id kind
 
 -- an object of an allowed kind; NULL and missing objects pass
 abbrev pub fits : Shape → Reference → Bool
-fits shape r = if r.id == 0xFFFF then true else allows r.kinds r.id (kind_at shape r.id)
+fits shape r = if r.id == null_id then true else allows r.kinds r.id (kind_at shape r.id)
 
 abbrev pub stands : Shape → Reference → Bool
 stands shape r = is_there shape r && fits shape r

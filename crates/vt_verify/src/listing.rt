@@ -12,7 +12,7 @@ use crate::order::put_macro;
 use indexmap::IndexSet;
 use std::alloc::{AllocError, Global};
 use std::marker::Model;
-use vt_objects::{MacroEntry, Object, ObjectId, Raised, SortedStore};
+use vt_objects::{Event, MacroEntry, Object, ObjectId, Raised, SortedStore};
 
 /// An object and the number of an event of it.
 #[derive(Clone, Copy, Debug, PartialEq, Eq, Hash)]
@@ -34,9 +34,6 @@ impl Listing {
         }
     }
 }
-
-/// The number of the last event.
-pub(crate) const LAST_EVENT: u8 = 26;
 
 /// The macros that run at the events of objects.
 pub struct Listings {
@@ -128,7 +125,7 @@ fn put_listings(
     ensures groups { OnOk result (lists groups.new ≡ lists groups.old ++ groups_in id (fixed (seen object.now))) }
 {
     let mut event = next_listed(id, object, 0);
-    while event <= LAST_EVENT {
+    while event <= Event::LAST_NUMBER {
         put_listing(alloc, events, groups, Listing { id, event }, object)?;
         event = next_listed(id, object, event + 1);
     }
@@ -153,7 +150,7 @@ fn next_entry(entries: &[MacroEntry], from: u8) -> u8
     ensures within { (from ≤ result) × (result ≤ 27) }
     ensures none_before { (event : ℕ) → from ≤ event → event < result → macros_at event entries.now ≡ [] }
 {
-    let mut next = LAST_EVENT + 1;
+    let mut next = Event::LAST_NUMBER + 1;
     for entry in entries {
         if from <= entry.event && entry.event < next {
             next = entry.event;

@@ -1,6 +1,7 @@
 //! Proof that every object has a record.
 
 ghost use Rattle.std.specs.Prelude.{◌<◌};
+ghost use Rattle.vt_kinds.specs.Ids.{null_id};
 ghost use Rattle.vt_kinds.specs.Records.{HasRecord, seen};
 
 mod kinds;
@@ -18,7 +19,7 @@ use vt_kinds::{Object, ObjectId};
 
 /// Theorem: every object has a record under each ID except NULL.
 pub fn objects_have_records<B: AsSlice<u8>>(id: ObjectId, object: &Object<B>)
-    requires { id < 0xFFFF }
+    requires { id < null_id }
     ensures { HasRecord id (seen object.now) }
 {
     match object {

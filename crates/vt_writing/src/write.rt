@@ -3,6 +3,7 @@
 ghost use Rattle.std.specs.Prelude.{◌≡◌, ◌<◌, ◌++◌, OnOk, OnErr};
 ghost use Rattle.std.specs.Int.{w16, w32, cast_unsigned};
 ghost use Rattle.byteorder.specs.Endian.{little_bytes};
+ghost use Rattle.vt_kinds.specs.Ids.{null_id};
 ghost use Rattle.vt_kinds.specs.Records.{HasRecord, record_of, seen};
 ghost use Rattle.vt_kinds.specs.Scales.{scale_number};
 ghost use Rattle.vt_writing.specs.FieldWrites.{each_written};
@@ -99,7 +100,7 @@ pub fn write_object<B: AsSlice<u8>>(
     object: &Object<B>,
     out: &mut Vec<u8>,
 ) -> Result<(), AllocError>
-    requires { id < 0xFFFF }
+    requires { id < null_id }
     ensures ok { OnOk result (out.new.items ≡ out.old.items ++ record_of id object.now) }
     ensures record { HasRecord id (seen object.now) }
     ensures err { OnErr result (out.new.items ≡ out.old.items) }

@@ -1,6 +1,7 @@
 //! Tests of pools with failing allocations: an error changes nothing, and the call may be repeated.
 
 ghost use Rattle.std.specs.Prelude.{◌<◌, ◌≤◌, length, IfOk};
+ghost use Rattle.vt_kinds.specs.Ids.{null_id};
 
 use super::arriving::message;
 use super::each_kind::{RECORDS, joined};
@@ -52,7 +53,7 @@ fn write_again(
     object: &Object<Vec<u8>>,
     out: &mut Vec<u8>,
 ) -> Result<(), AllocError>
-    requires { id < 0xFFFF }
+    requires { id < null_id }
 {
     let before = out.len();
     if write_object(rt.alloc(), id, object, out).is_ok() {
@@ -70,7 +71,7 @@ fn expect_written(
 ) -> Result<(), AllocError> {
     let mut out = Vec::new(rt.alloc());
     for (id, object) in pool.objects() {
-        if id.raw() < 0xFFFF {
+        if !id.is_null() {
             let copy = copied_again(rt.alloc(), object)?;
             write_again(rt, *id, &copy, &mut out)?;
         }

@@ -1,6 +1,7 @@
 -- The effect of each message from the master of a set, and its reply (docs/PROFILE.md, "Other messages", "Commands: all rows").
 use Rattle.std.specs.Prelude.{ℕ, ◌==◌, Bool, false, if◌then◌else◌, List, [], ◌∷◌, Option, Some, None}
 use Rattle.std.specs.Option.{option_map}
+pub use Rattle.vt_can.specs.Assigned.{TRANSFER, END_OF_POOL}
 use Rattle.vt_commands.specs.declared.command.Command.{Command}
 use Rattle.vt_commands.specs.Commands.{command_at}
 use Rattle.vt_server.specs.message.CommandEffects.{content_after, error_after}
@@ -26,13 +27,6 @@ commanded content (Some command) =
 abbrev pub asked : SetPool → List ℕ → Option (List ℕ) → Handled
 asked content bytes (Some reply) = record { content = content; reply = Some reply }
 asked content bytes None = commanded content (command_at bytes)
-
--- the functions of Object Pool Transfer and End of Object Pool
-abbrev pub TRANSFER : ℕ
-TRANSFER = 0x11
-
-abbrev pub END_OF_POOL : ℕ
-END_OF_POOL = 0x12
 
 abbrev pub transferred : SetPool → List ℕ → Handled
 transferred content bytes = ignored (with_piece content bytes)

@@ -2,6 +2,8 @@
 -- pool").
 use Rattle.std.specs.Prelude.{◌≡◌, ℕ, List, [], ◌∷◌, ◌++◌, slice_index, Option, Some, None}
 use Rattle.byteorder.specs.Endian.{little_bytes}
+use Rattle.vt_can.specs.Assigned.{END_OF_POOL}
+use Rattle.vt_kinds.specs.Ids.{null_id}
 use Rattle.vt_stores.specs.Stores.{ObjectMap, Objects, by_rising_id, map_of}
 use Rattle.vt_records.specs.declared.fault.PoolFault.{PoolFault}
 use Rattle.vt_records.specs.declared.fault.PoolFault.TheVariants as faults
@@ -76,7 +78,7 @@ ended content (Refuses refusal) = record content { transfer = [] }
 
 -- the reply to End of Object Pool: the error, the IDs of a parent and its object, and the code of the cause
 abbrev pub end_of_pool : ℕ → ℕ → ℕ → ℕ → List ℕ
-end_of_pool error parent object code = (0x12 ∷ error ∷ little_bytes 2 parent) ++ little_bytes 2 object ++ code ∷ 0xFF ∷ []
+end_of_pool error parent object code = (END_OF_POOL ∷ error ∷ little_bytes 2 parent) ++ little_bytes 2 object ++ code ∷ 0xFF ∷ []
 
 abbrev pub refused_pool : ℕ → ℕ → ℕ → List ℕ
 refused_pool parent object code = end_of_pool 1 parent object code
@@ -90,16 +92,16 @@ fault_code _ = 4
 abbrev pub refusal_reply : Refusal → List ℕ
 refusal_reply (refusals.Missing parent id) = refused_pool parent id 2
 refusal_reply (refusals.WrongKind parent id) = refused_pool parent id 4
-refusal_reply (refusals.MacroBytes id) = refused_pool 0xFFFF id 4
-refusal_reply (refusals.MacroCommand id at) = refused_pool 0xFFFF id 4
+refusal_reply (refusals.MacroBytes id) = refused_pool null_id id 4
+refusal_reply (refusals.MacroCommand id at) = refused_pool null_id id 4
 refusal_reply (refusals.MacroMissing parent id) = refused_pool parent id 2
 refusal_reply (refusals.MacroKind parent id) = refused_pool parent id 4
-refusal_reply (refusals.MacroValue id at) = refused_pool 0xFFFF id 4
-refusal_reply (refusals.MacroCircle path) = refused_pool 0xFFFF (slice_index path.items 0) 4
-refusal_reply (refusals.OverBudget id) = refused_pool 0xFFFF id 4
-refusal_reply _ = refused_pool 0xFFFF 0xFFFF 4
+refusal_reply (refusals.MacroValue id at) = refused_pool null_id id 4
+refusal_reply (refusals.MacroCircle path) = refused_pool null_id (slice_index path.items 0) 4
+refusal_reply (refusals.OverBudget id) = refused_pool null_id id 4
+refusal_reply _ = refused_pool null_id null_id 4
 
 abbrev pub end_reply : Verdict → List ℕ
-end_reply (Accepts objects) = end_of_pool 0 0xFFFF 0xFFFF 0
-end_reply (Faulty fault) = refused_pool 0xFFFF 0xFFFF (fault_code fault)
+end_reply (Accepts objects) = end_of_pool 0 null_id null_id 0
+end_reply (Faulty fault) = refused_pool null_id null_id (fault_code fault)
 end_reply (Refuses refusal) = refusal_reply refusal

@@ -7,7 +7,6 @@ use Rattle.vt_can.specs.lines.Actions.{ActionValue, Press, Release, Select, Numb
 use Rattle.vt_can.specs.transport.Messages as transport
 use Rattle.vt_transport.specs.Wire.{rts_frame}
 use Rattle.vt_machine.specs.declared.operator.OperatorRefusal.{OperatorRefusal}
-use Rattle.vt_machine.specs.declared.operator.OperatorRefusal.TheVariants as refusals
 use Rattle.vt_machine.specs.OperatorEntries.{enter_number, enter_text}
 use Rattle.vt_machine.specs.SetStates.{SetState, with_objects}
 use Rattle.vt_machine.specs.SetStates.{active_in}
@@ -20,14 +19,9 @@ use Rattle.vt_node.specs.Messages.{message_to}
 use Rattle.vt_server.specs.declared.output.OperatorFault.{OperatorFault}
 use Rattle.vt_server.specs.declared.output.OperatorFault.TheVariants as faults
 
+-- the fault of an action that the set refuses
 abbrev pub fault_of : OperatorRefusal → OperatorFault
-fault_of refusals.NotShown = faults.NotShown
-fault_of refusals.Disabled = faults.Disabled
-fault_of refusals.Range = faults.Range
-fault_of refusals.TooLong = faults.TooLong
-fault_of refusals.WrongKind = faults.WrongKind
-fault_of refusals.NotPressed = faults.NotPressed
-fault_of refusals.Held = faults.Held
+fault_of refusal = faults.Refused refusal
 
 -- ---- actions on the shown set, by whether their object is shown
 

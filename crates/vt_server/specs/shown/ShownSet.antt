@@ -3,11 +3,14 @@ use Rattle.std.specs.Prelude.{ℕ, ◌==◌, ◌&&◌, Bool, nat_le, nat_eq, if�
 use Rattle.std.specs.Option.{option_eq}
 use Rattle.std.specs.FinMap as finite
 use Rattle.byteorder.specs.Endian.{little_bytes}
-use Rattle.vt_can.specs.Assigned.{FILL, GLOBAL_ADDRESS, NULL_ADDRESS}
+use Rattle.vt_can.specs.Assigned.{FILL, GLOBAL_ADDRESS, NULL_ADDRESS, VT_STATUS}
 use Rattle.vt_can.specs.declared.frames.frame.Frame.{Frame}
 use Rattle.vt_names.specs.Registry.{Set}
 use Rattle.vt_kinds.specs.declared.object.Object.TheVariants as objects
+use Rattle.vt_kinds.specs.Ids.{null_id}
 use Rattle.vt_kinds.specs.Records.{Seen}
+use Rattle.vt_commands.specs.declared.event.Event.TheVariants as events
+use Rattle.vt_commands.specs.Events.{event_number}
 use Rattle.vt_machine.specs.SetStates.{SetState}
 use Rattle.vt_machine.specs.SetStates.{active_in}
 use Rattle.vt_shown.specs.ShownElements.{soft_key_mask_of}
@@ -75,10 +78,10 @@ choosing s = record s { selected = selected_now s; shown = shown_now s }
 
 -- the numbers of the events Deactivate and Activate
 abbrev pub DEACTIVATE : ℕ
-DEACTIVATE = 2
+DEACTIVATE = event_number events.Deactivate
 
 abbrev pub ACTIVATE : ℕ
-ACTIVATE = 1
+ACTIVATE = event_number events.Activate
 
 abbrev pub raised_at : Option ℕ → ℕ → List (ℕ × Act)
 raised_at None event = []
@@ -97,7 +100,7 @@ pub record ShownMasks : Type 0 where
   pub soft_keys : ℕ
 
 abbrev pub display_of : ℕ → Option SetState → ShownMasks
-display_of address None = record { address = NULL_ADDRESS; mask = 0xFFFF; soft_keys = 0xFFFF }
+display_of address None = record { address = NULL_ADDRESS; mask = null_id; soft_keys = null_id }
 display_of address (Some state) = record {
   address = address;
   mask = active_in state.objects;
@@ -116,7 +119,7 @@ same_display a b = (a.address == b.address) && ((a.mask == b.mask) && (a.soft_ke
 
 abbrev pub status_frame : ℕ → ShownMasks → Frame
 status_frame own shown =
-    message_to own GLOBAL_ADDRESS ((0xFE ∷ shown.address ∷ little_bytes 2 shown.mask) ++ little_bytes 2 shown.soft_keys ++ 0 ∷ FILL ∷ [])
+    message_to own GLOBAL_ADDRESS ((VT_STATUS ∷ shown.address ∷ little_bytes 2 shown.mask) ++ little_bytes 2 shown.soft_keys ++ 0 ∷ FILL ∷ [])
 
 -- the status message, where the display has changed
 abbrev pub status : ℕ → ShownMasks → ShownMasks → List Sent

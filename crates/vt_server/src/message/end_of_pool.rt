@@ -11,6 +11,7 @@ ghost use Rattle.vt_server.specs.message.Verdicts.{IsPool};
 use crate::OutOfMemory;
 use byteorder::{ByteOrder, LittleEndian};
 use std::alloc::{AllocError, Global};
+use vt_can::assigned::END_OF_POOL;
 use vt_machine::Live;
 use vt_objects::{ObjectId, SortedStore};
 use vt_pool::{Pool, PoolFault, Reading};
@@ -26,7 +27,7 @@ pub(crate) enum Judgement {
 }
 
 /// The reply to an accepted upload.
-pub(crate) const ACCEPTED: [u8; 8] = [0x12, 0, 0xFF, 0xFF, 0xFF, 0xFF, 0, 0xFF];
+pub(crate) const ACCEPTED: [u8; 8] = [END_OF_POOL, 0, 0xFF, 0xFF, 0xFF, 0xFF, 0, 0xFF];
 
 /// Judges the bytes of an upload, as an update if the set has a pool. Changes nothing.
 pub(crate) fn judge(
@@ -97,7 +98,7 @@ fn fault_reply(fault: PoolFault) -> Result<[u8; 8], OutOfMemory>
         PoolFault::UnknownType { .. } | PoolFault::LeftOutType { .. } => 1,
         _ => 4,
     };
-    Ok(refused(null(), null(), code))
+    Ok(refused(ObjectId::NULL, ObjectId::NULL, code))
 }
 
 /// The reply to a refused pool: the IDs in the refusal, and the code of the cause.
@@ -113,14 +114,14 @@ fn refusal_reply(refusal: &Refusal) -> Result<[u8; 8], OutOfMemory>
         Refusal::WrongKind { parent, id } | Refusal::MacroKind { parent, id } => {
             refused(*parent, *id, 4)
         }
-        Refusal::MacroBytes { id } | Refusal::OverBudget { id } => refused(null(), *id, 4),
+        Refusal::MacroBytes { id } | Refusal::OverBudget { id } => refused(ObjectId::NULL, *id, 4),
         Refusal::MacroCommand { id, .. } | Refusal::MacroValue { id, .. } => refused(
-            null(),
+            ObjectId::NULL,
             *id,
             4,
         ),
-        Refusal::MacroCircle { path } => refused(null(), first_of(path.as_slice()), 4),
-        _ => refused(null(), null(), 4),
+        Refusal::MacroCircle { path } => refused(ObjectId::NULL, first_of(path.as_slice()), 4),
+        _ => refused(ObjectId::NULL, ObjectId::NULL, 4),
     })
 }
 
@@ -134,17 +135,10 @@ fn first_of(path: &[u8]) -> ObjectId
     }
 }
 
-/// The NULL ID.
-fn null() -> ObjectId
-    ensures { result ≡ 0xFFFF }
-{
-    ObjectId::from_raw(0xFFFF)
-}
-
 fn refused(parent: ObjectId, object: ObjectId, code: u8) -> [u8; 8]
     ensures { result ≡ transfers.refused_pool parent object code }
 {
-    let mut bytes = [0x12, 1, 0, 0, 0, 0, code, 0xFF];
+    let mut bytes = [END_OF_POOL, 1, 0, 0, 0, 0, code, 0xFF];
     LittleEndian::write_u16(&mut bytes[2..4], parent.raw());
     LittleEndian::write_u16(&mut bytes[4..6], object.raw());
     bytes

@@ -32,32 +32,45 @@ pub(crate) fn error_byte(outcome: Outcome) -> u8
 pub(crate) fn reply_to(command: &Command<'_>, error: u8) -> [u8; 8]
     ensures { result ≡ replies.reply_to command.now error }
 {
-    match command {
-        Command::HideShow { id, state } => about_with(0xA0, *id, *state, error),
-        Command::EnableDisable { id, state } => about_with(0xA1, *id, *state, error),
-        Command::ControlAudio { .. } => plain(0xA3, error),
-        Command::SetVolume { .. } => plain(0xA4, error),
-        Command::ChangeChildLocation { parent, child, .. } => {
-            about_two(0xA5, *parent, *child, error)
+    let function = command.function();
+    match *command {
+        Command::ControlAudio { .. } | Command::SetVolume { .. } | Command::DeletePool => {
+            plain(function, error)
         }
-        Command::ChangeSize { id, .. } => about(0xA6, *id, error),
-        Command::ChangeBackgroundColour { id, colour } => about_with(0xA7, *id, *colour, error),
-        Command::ChangeNumericValue { id, value } => with_value(*id, *value, error),
-        Command::ChangeEndPoint { id, .. } => about(0xA9, *id, error),
-        Command::ChangeFontAttributes { id, .. } => about(0xAA, *id, error),
-        Command::ChangeLineAttributes { id, .. } => about(0xAB, *id, error),
-        Command::ChangeFillAttributes { id, .. } => about(0xAC, *id, error),
-        Command::ChangeActiveMask { mask, .. } => about(0xAD, *mask, error),
-        Command::ChangeSoftKeyMask { mask, keys, .. } => about_two(0xAE, *mask, *keys, error),
-        Command::ChangeAttribute { id, number, .. } => about_with(0xAF, *id, *number, error),
-        Command::ChangePriority { id, priority } => about_with(0xB0, *id, *priority, error),
-        Command::ChangeListItem { id, index, item } => with_item(*id, *index, *item, error),
-        Command::DeletePool => plain(0xB2, error),
-        Command::ChangeStringValue { id, .. } => of_text(*id, error),
-        Command::ChangeChildPosition { parent, child, .. } => {
-            about_two(0xB4, *parent, *child, error)
+        Command::ChangeSize { id, .. }
+        | Command::ChangeEndPoint { id, .. }
+        | Command::ChangeFontAttributes { id, .. }
+        | Command::ChangeLineAttributes { id, .. }
+        | Command::ChangeFillAttributes { id, .. }
+        | Command::ChangeActiveMask { mask: id, .. }
+        | Command::ExecuteMacro { id } => about(function, id, error),
+        Command::HideShow { id, state: said }
+        | Command::EnableDisable { id, state: said }
+        | Command::ChangeBackgroundColour { id, colour: said }
+        | Command::ChangeAttribute {
+            id,
+            number: said,
+            ..
         }
-        Command::ExecuteMacro { id } => about(0xBE, *id, error),
+        | Command::ChangePriority { id, priority: said } => about_with(function, id, said, error),
+        Command::ChangeChildLocation {
+            parent: first,
+            child: second,
+            ..
+        }
+        | Command::ChangeSoftKeyMask {
+            mask: first,
+            keys: second,
+            ..
+        }
+        | Command::ChangeChildPosition {
+            parent: first,
+            child: second,
+            ..
+        } => { about_two(function, first, second, error) }
+        Command::ChangeNumericValue { id, value } => with_value(function, id, value, error),
+        Command::ChangeListItem { id, index, item } => with_item(function, id, index, item, error),
+        Command::ChangeStringValue { id, .. } => of_text(function, id, error),
     }
 }
 
@@ -92,28 +105,28 @@ fn about_two(function: u8, first: ObjectId, second: ObjectId, error: u8) -> [u8;
     bytes
 }
 
-fn with_value(id: ObjectId, value: u32, error: u8) -> [u8; 8]
-    ensures { result ≡ replies.with_value id value error }
+fn with_value(function: u8, id: ObjectId, value: u32, error: u8) -> [u8; 8]
+    ensures { result ≡ replies.with_value function id value error }
 {
-    let mut bytes = [0xA8, 0, 0, error, 0, 0, 0, 0];
+    let mut bytes = [function, 0, 0, error, 0, 0, 0, 0];
     LittleEndian::write_u16(&mut bytes[1..3], id.raw());
     LittleEndian::write_u32(&mut bytes[4..8], value);
     bytes
 }
 
-fn with_item(id: ObjectId, index: u8, item: ObjectId, error: u8) -> [u8; 8]
-    ensures { result ≡ replies.with_item id index item error }
+fn with_item(function: u8, id: ObjectId, index: u8, item: ObjectId, error: u8) -> [u8; 8]
+    ensures { result ≡ replies.with_item function id index item error }
 {
-    let mut bytes = [0xB1, 0, 0, index, 0, 0, error, 0xFF];
+    let mut bytes = [function, 0, 0, index, 0, 0, error, 0xFF];
     LittleEndian::write_u16(&mut bytes[1..3], id.raw());
     LittleEndian::write_u16(&mut bytes[4..6], item.raw());
     bytes
 }
 
-fn of_text(id: ObjectId, error: u8) -> [u8; 8]
-    ensures { result ≡ replies.of_text id error }
+fn of_text(function: u8, id: ObjectId, error: u8) -> [u8; 8]
+    ensures { result ≡ replies.of_text function id error }
 {
-    let mut bytes = [0xB3, 0xFF, 0xFF, 0, 0, error, 0xFF, 0xFF];
+    let mut bytes = [function, 0xFF, 0xFF, 0, 0, error, 0xFF, 0xFF];
     LittleEndian::write_u16(&mut bytes[3..5], id.raw());
     bytes
 }

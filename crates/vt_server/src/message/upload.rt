@@ -14,14 +14,9 @@ use crate::message::end_of_pool::{ACCEPTED, Judgement};
 use crate::message::replies::reply_to;
 use crate::terminal::Terminal;
 use vt_can::Frame;
+use vt_can::assigned::{END_OF_POOL, TRANSFER};
 use vt_node::{message_to, technical_reply};
 use vt_objects::Command;
-
-/// The function of Object Pool Transfer, a piece of a pool.
-const TRANSFER: u8 = 0x11;
-
-/// The function of End of Object Pool.
-const END_OF_POOL: u8 = 0x12;
 
 /// Work done in advance for the message that a frame completes.
 #[derive(Drop)]

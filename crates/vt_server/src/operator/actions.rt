@@ -2,12 +2,9 @@
 
 ghost use Rattle.std.specs.Prelude.{◌≡◌, ◌≤◌, Some, length, IfNone};
 ghost use Rattle.vt_can.specs.lines.Actions.{action_value};
-ghost use Rattle.vt_machine.specs.OperatorEntries.{text_message};
 ghost use Rattle.vt_server.specs.operator.ActionEffects as operators;
 ghost use Rattle.vt_server.specs.operator.ActionContracts.{Performs, WouldBeRefused};
 
-use arrayvec::ArrayVec;
-use byteorder::{ByteOrder, LittleEndian};
 use vt_can::Action;
 use vt_machine::{Acted, Live, OperatorRefusal};
 use vt_objects::{Object, ObjectId, SortedStore};
@@ -48,32 +45,6 @@ pub(crate) fn text_fault(
     match live.get(id) {
         Some(Object::InputString(input)) if text.len() <= input.text.as_slice().len() => None,
         _ => unreachable!(),
-    }
-}
-
-/// The message of an entered text.
-pub(crate) fn text_message(id: u16, text: &[u8]) -> ArrayVec<u8, 259>
-    requires { length text.now ≤ 255 }
-    ensures { result.items ≡ text_message id text.now }
-{
-    let mut head = [8, 0, 0, text.len() as u8];
-    LittleEndian::write_u16(&mut head[1..3], id);
-    let mut message = message(&head);
-    match message.try_extend_from_slice(text) {
-        Ok(()) => message,
-        Err(_full) => unreachable!(),
-    }
-}
-
-/// A message of these bytes.
-fn message(bytes: &[u8]) -> ArrayVec<u8, 259>
-    requires { length bytes.now ≤ 259 }
-    ensures { result.items ≡ bytes.now }
-{
-    let mut message = ArrayVec::new();
-    match message.try_extend_from_slice(bytes) {
-        Ok(()) => message,
-        Err(_full) => unreachable!(),
     }
 }
 

@@ -12,11 +12,13 @@ ghost use Rattle.vt_server.specs.declared.input.Input.TheVariants as inputs;
 
 use crate::OutOfMemory;
 use crate::frame::step::MOST_OUTPUTS;
-use crate::operator::actions::{filled, text_message};
+use crate::operator::actions::filled;
 use crate::output::{OperatorFault, Output, refuse, send};
 use crate::terminal::Terminal;
 use vt_can::Action;
+use vt_machine::text_message;
 use vt_node::message_to;
+use vt_objects::ObjectId;
 use vt_transport::SendFault;
 
 /// The most bytes of a text that fits into a message of one frame.
@@ -121,7 +123,7 @@ impl Terminal {
             refuse(outputs, OperatorFault::from(refusal));
             return Ok(());
         }
-        let message = text_message(id, text);
+        let message = text_message(ObjectId::from_raw(id), text);
         match self.node.start(self.time, address, message.as_slice()) {
             Ok(request) => {
                 let _done = self.contents.act(address, &Action::Text(id, text));

@@ -246,9 +246,9 @@ fn the_working_set_is_found_behind_its_mask(rt: HostRuntime) -> Result<(), Fail>
 }
 
 /// Whether the Object Pointer 200 has this value.
-fn points_at(live: &Live<SortedStore>, value: u16) -> bool {
+fn points_at(live: &Live<SortedStore>, value: ObjectId) -> bool {
     match live.get(ObjectId::from_raw(200)) {
-        Some(Object::ObjectPointer(pointer)) => pointer.value == ObjectId::from_raw(value),
+        Some(Object::ObjectPointer(pointer)) => pointer.value == value,
         _ => false,
     }
 }
@@ -257,7 +257,7 @@ fn points_at(live: &Live<SortedStore>, value: u16) -> bool {
 fn circles_of_inclusions_are_refused(rt: HostRuntime) -> Result<(), Fail> {
     let mut live = live::<SortedStore>(rt.alloc(), SET, POINTER)?;
     assert!(rt; come_to(&mut live, CIRCLE_ROWS));
-    assert!(rt; points_at(&live, 0xFFFF));
+    assert!(rt; points_at(&live, ObjectId::NULL));
     Ok(())
 }
 

@@ -19,6 +19,7 @@ use Rattle.vt_server.specs.frame.SessionEffects.{came}
 use Rattle.vt_server.specs.message.Verdicts.{Verdict, Accepts, Faulty, Refuses, IsPool, IsFaulty, IsVerdict, merged, ended, end_reply, refused_pool, fault_code, refusal_reply}
 use Rattle.vt_node.specs.declared.bus.FrameMeaning.{FrameMeaning}
 use Rattle.vt_node.specs.declared.bus.FrameMeaning.TheVariants.{Claim, ClaimRequest, Master, Member, Message, Tp, Etp, Nothing}
+use Rattle.vt_kinds.specs.Ids.{null_id}
 
 -- the laws on the reading and the verification of pools
 pub record Judging : Type 0 where
@@ -45,7 +46,7 @@ code_is (faults.NullId at) = refl
 named-alike : (r q : Refusal) → SaysTheSame r q → refusal_reply r ≡ refusal_reply q
 named-alike (refusals.TooDeep chain) (refusals.TooDeep other) same = refl
 named-alike (refusals.TooDeep chain) _ same = ap refusal_reply same
-named-alike (refusals.MacroCircle path) (refusals.MacroCircle other) same = ap (λ (n : ℕ). refused_pool 0xFFFF n 4) same
+named-alike (refusals.MacroCircle path) (refusals.MacroCircle other) same = ap (λ (n : ℕ). refused_pool null_id n 4) same
 named-alike (refusals.MacroCircle path) _ same = ap refusal_reply same
 named-alike _ q same = ap refusal_reply same
 
@@ -73,7 +74,7 @@ module _ (judging : Judging) where
   verdicts-alike content (Faulty fault) (Faulty other) x y =
       let same = judging.readings.types content.transfer fault other x.faulty y.faulty x.named y.named in
       let code : fault_code fault ≡ fault_code other = code_is fault ∙ ap (λ (b : Bool). cond b 1 4) same ∙ sym (code_is other) in
-      record { leave = refl; reply = ap (refused_pool 0xFFFF 0xFFFF) code }
+      record { leave = refl; reply = ap (refused_pool null_id null_id) code }
   verdicts-alike content (Faulty fault) (Refuses refusal) x y = pool-no-fault content y.pool fault y.read x
   verdicts-alike content (Refuses refusal) (Accepts b) x y =
       let same : y.pool ≡ x.pool = pool-one content.transfer y.pool x.pool y.read x.read in

@@ -1,6 +1,7 @@
 -- A command or an action raises at most three events.
 use Rattle.std.proofs.Common.{◌≤◌, length, ℕ, Bool, true, false, cond, eqb, [], ◌∷◌, ◌++◌, Option, Some, None, arith}
 use Rattle.std.specs.FinMap as finite
+use Rattle.vt_kinds.specs.Ids.{null_id}
 use Rattle.vt_commands.specs.declared.command.Command.{Command}
 use Rattle.vt_commands.specs.declared.command.Command.TheVariants as commands
 use Rattle.vt_commands.specs.declared.event.Event.{Event}
@@ -31,7 +32,7 @@ few-events store (commands.HideShow id state) = few-state (eqb state 1) (eqb sta
 few-events store (commands.EnableDisable id state) = few-state (eqb state 1) (eqb state 0) (raise id events.Enable) (raise id events.Disable)
 few-events store (commands.ChangeActiveMask set mask) =
     let old = mask_of (finite.get store set) in
-    few-masks (eqb old mask) (eqb old 0xFFFF) (raise set events.ActiveMask) (raise old events.Hide) (raise set events.ActiveMask) (raise mask events.Show)
+    few-masks (eqb old mask) (eqb old null_id) (raise set events.ActiveMask) (raise old events.Hide) (raise set events.ActiveMask) (raise mask events.Show)
 few-events store _ = omega arith
 
 pub few-selected : (id : ℕ) (o : Option ℕ) → length (operating.select_events id o) ≤ 3

@@ -45,6 +45,7 @@ use Rattle.vt_server.proofs.lemmas.acts.ComposedActs.{act-is}
 use Rattle.vt_node.proofs.ByAddress.{at-own, at-other}
 use Rattle.vt_names.proofs.IndexAfterClaim.{option_same}
 use Rattle.vt_names.proofs.AddressesAfterClaim.{by_eq}
+use Rattle.vt_kinds.specs.Ids.{null_id}
 
 -- ---- the text
 
@@ -118,7 +119,7 @@ command-same command content other = cases (deletes command) other
     cases true other = absurd (other refl)
     cases false other = refused-command command content.pool other
 
-pub end-same : (content : SetPool) (verdict : Verdict) → end_reply verdict ≢ end_of_pool 0 0xFFFF 0xFFFF 0 → (ended content verdict).pool ≡ content.pool
+pub end-same : (content : SetPool) (verdict : Verdict) → end_reply verdict ≢ end_of_pool 0 null_id null_id 0 → (ended content verdict).pool ≡ content.pool
 end-same content (Accepts objects) other = absurd (other refl)
 end-same content (Faulty fault) other = refl
 end-same content (Refuses refusal) other = refl

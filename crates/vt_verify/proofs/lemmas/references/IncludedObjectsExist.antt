@@ -4,6 +4,7 @@ use Rattle.std.specs.Prelude.{is_some, Contains}
 use Rattle.std.specs.Option.{option_map}
 use Rattle.std.specs.List.{flat_map}
 use Rattle.vt_kinds.specs.declared.slot.Slot.{Slot}
+use Rattle.vt_kinds.specs.Ids.{null_id}
 use Rattle.vt_kinds.specs.Records.{Seen, kind_of}
 use Rattle.vt_stores.specs.Stores.{Objects, IsRising, ids, object_at, map_of}
 use Rattle.vt_kinds.specs.References.{slots_of}
@@ -50,8 +51,8 @@ slots_there shape parent (s ∷ slots) next pass h =
     let parts = pass_case (is_there shape (of_slot parent s)) (first_failing (is_there shape) (map (of_slot parent) slots)) (of_slot parent s) pass in
     slot_case (is_some (kind_at shape next) ≡ true) s slots next h
     (λ in_it same.
-    let no_null = (both_true (is_inclusion s.place) (not (eqb s.id 65535)) in_it).1 in
-    subst (λ (k : ℕ). is_some (kind_at shape k) ≡ true) same (there_by s.null (is_some (kind_at shape s.id)) (eqb s.id 65535) no_null parts.0))
+    let no_null = (both_true (is_inclusion s.place) (not (eqb s.id null_id)) in_it).1 in
+    subst (λ (k : ℕ). is_some (kind_at shape k) ≡ true) same (there_by s.null (is_some (kind_at shape s.id)) (eqb s.id null_id) no_null parts.0))
     (λ rest. slots_there shape parent slots next parts.1 rest)
 
 none_there : (o : Option Seen) → o ≡ None → is_some (option_map kind_of o) ≡ true → ⊥

@@ -13,6 +13,7 @@ use Rattle.std.specs.Ordering.{nat_cmp, is_eq, eq_by_cmp}
 use Rattle.std.specs.declared.cmp.Ordering.{Ordering}
 use Rattle.std.specs.FinMap as finite
 use Rattle.std.specs.FinMap.Entries.{below_all, find-append}
+use Rattle.vt_kinds.specs.Ids.{null_id}
 use Rattle.vt_kinds.specs.Records.{Seen}
 use Rattle.vt_stores.specs.Stores.{Objects, ObjectMap, AreNamed, IsRising, ids, object_at, by_rising_id}
 use Rattle.vt_stores.proofs.SortedEntries.{three, both_true, equal, greater}
@@ -76,12 +77,12 @@ not_among (e ∷ es) id none =
     let both = entry_case (eq_by_cmp nat_cmp id e.0) e.1 (object_at es id) none in
     or_from (eqb id e.0) (list_any (eqb id) (ids es)) (other_by id e.0 both.0) (not_among es id both.1)
 
-named_more : (es : Objects) (id : ℕ) (o : Seen) → AreNamed es → object_at es id ≡ None → id < 0xFFFF → AreNamed (es ++ (id, o) ∷ [])
+named_more : (es : Objects) (id : ℕ) (o : Seen) → AreNamed es → object_at es id ≡ None → id < null_id → AreNamed (es ++ (id, o) ∷ [])
 named_more es id o named none lt =
     let same = map-append (λ (e : ℕ × Seen). e.0) es ((id, o) ∷ []) in
     record {
       distinct = subst (IsDistinct eqb) (sym same) (IsDistinct-push nat_eq_equiv (ids es) id named.distinct (not_among es id none));
-      named = subst (All (λ (k : ℕ). k < 0xFFFF)) (sym same) (All-push (λ (k : ℕ). k < 0xFFFF) (ids es) id named.named lt);
+      named = subst (All (λ (k : ℕ). k < null_id)) (sym same) (All-push (λ (k : ℕ). k < null_id) (ids es) id named.named lt);
     }
 
 -- ---- the objects made so far
@@ -121,7 +122,7 @@ module _ (m : ObjectMap) (update made : Objects) (place id : ℕ) (o : Seen) (th
       ap (λ (es : Objects). object_at es q) (take_one (finite.entries m) place (id, o) there)
       ∙ pushed_at (take place (finite.entries m)) id o q (none_before (finite.entries m) place id o (rising m) there)
 
-  pub updating_more : object_at update id ≡ None → id < 0xFFFF → IsUpdating m update (made ++ (id, o) ∷ []) (place + 1)
+  pub updating_more : object_at update id ≡ None → id < null_id → IsUpdating m update (made ++ (id, o) ∷ []) (place + 1)
   updating_more none lt =
       let nowhere : object_at made id ≡ None = is.looks id ∙ ap₂ (λ (x y : Option Seen). or_else x y) none (none_before (finite.entries m) place id o (rising m) there) in
       record {
@@ -141,7 +142,7 @@ module _ (m : ObjectMap) (update made : Objects) (place id : ℕ) (o : Seen) (th
   }
 
 -- the next entry of the store is appended, unless the update has its ID
-unless_case : (m : ObjectMap) (update made next : Objects) (place id : ℕ) (o : Seen) (found : Option Seen) → slice_get (finite.entries m) place ≡ Some (id, o) → id < 0xFFFF
+unless_case : (m : ObjectMap) (update made next : Objects) (place id : ℕ) (o : Seen) (found : Option Seen) → slice_get (finite.entries m) place ≡ Some (id, o) → id < null_id
     → object_at update id ≡ found → next ≡ unless found made id o → IsUpdating m update made place → IsUpdating m update next (place + 1)
 unless_case m update made next place id o None there lt looks becomes is =
     subst (λ (l : Objects). IsUpdating m update l (place + 1)) (sym becomes) (updating_more m update made place id o there is looks lt)
@@ -154,12 +155,12 @@ there_of m place id o stands is =
     let same = same_Some at.0 o (sym (get_placed m place id at.0 at.1) ∙ is) in
     at.1 ∙ ap (λ (x : Seen). Some (id, x)) same
 
-below_null : (list : List ℕ) (place id : ℕ) → All (λ (k : ℕ). k < 0xFFFF) list → IsAt list place id → id < 0xFFFF
+below_null : (list : List ℕ) (place id : ℕ) → All (λ (k : ℕ). k < null_id) list → IsAt list place id → id < null_id
 below_null list place id all stands =
-    subst (λ (k : ℕ). k < 0xFFFF) (get_or_from_slice_get list place id 0 stands) (all place 0 (within list place id stands))
+    subst (λ (k : ℕ). k < null_id) (get_or_from_slice_get list place id 0 stands) (all place 0 (within list place id stands))
 
 pub updating_step : (m : ObjectMap) (update made next : Objects) (place id : ℕ) (o : Seen) → IsAt (ids_of m) place id → finite.get m id ≡ Some o
-    → All (λ (k : ℕ). k < 0xFFFF) (ids_of m) → next ≡ unless (finite.get (contents update) id) made id o
+    → All (λ (k : ℕ). k < null_id) (ids_of m) → next ≡ unless (finite.get (contents update) id) made id o
     → IsUpdating m update made place → IsUpdating m update next (place + 1)
 updating_step m update made next place id o stands there all becomes is =
     unless_case m update made next place id o (finite.get (contents update) id) (there_of m place id o stands there) (below_null (ids_of m) place id all stands)

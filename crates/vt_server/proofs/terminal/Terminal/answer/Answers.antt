@@ -6,6 +6,7 @@ use Rattle.vt_node.specs.Messages.{message_to}
 use Rattle.vt_server.specs.state.AddressStates.{SetPool, with_piece}
 use Rattle.vt_server.specs.States.{state_of}
 use Rattle.vt_node.specs.AddressFunctions.{with_at}
+use Rattle.vt_kinds.specs.Ids.{null_id}
 use Rattle.vt_server.specs.message.Verdicts.{ended, end_of_pool}
 use Rattle.vt_server.specs.state.PoolTables.{content_of, room_of}
 use Rattle.vt_server.proofs.lemmas.message.EffectsAndReplies.{answers-none}
@@ -83,6 +84,6 @@ returns-after-eq-clause-tells c none =
             same-pool t c.end-reply.new.self a left ended-by.content
             (end-same (content_of t.contents a) ended-by.verdict
             (λ h. true≢false
-            (sym (ap (λ r. pointwise nat_eq r (end_of_pool 0 0xFFFF 0xFFFF 0)) (ended-by.reply_is ∙ h)) ∙ sym c.eq.ensures ∙ w.if-eq.false)))
+            (sym (ap (λ r. pointwise nat_eq r (end_of_pool 0 null_id null_id 0)) (ended-by.reply_is ∙ h)) ∙ sym c.eq.ensures ∙ w.if-eq.false)))
       ],
     )
