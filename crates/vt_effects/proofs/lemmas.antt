@@ -1,4 +1,4 @@
--- Lemmas, by subject.
+-- The lemmas of vt_effects, by subject.
 pub mod inclusions
 pub mod objects
 pub mod order

@@ -1,4 +1,4 @@
--- Lemmas, by subject.
+-- The lemmas of vt_laws, by subject.
 pub mod findings
 pub mod outputs
 pub mod pools

@@ -28,7 +28,7 @@ printed (Some pool) raised = total_budget (shape_in pool) raised
 abbrev pub budget_of : Pools → Run → ℕ
 budget_of pools run = printed (pools run.address) run.raised
 
--- the steps of all macros of an input; its command takes one more (vt_machine, `Lives`: `IsDone`)
+-- the steps of all macros of an input; its command takes one more (vt_machine, `SetStates`: `IsDone`)
 abbrev pub steps_in : State → JudgedInput → ℕ
 steps_in s e = sum_by steps_of (runs s e)
 

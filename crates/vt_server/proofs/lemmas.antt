@@ -1,4 +1,4 @@
--- Lemmas, by subject.
+-- The lemmas of vt_server, by subject.
 pub mod acts
 pub mod frame
 pub mod message

@@ -1,4 +1,4 @@
--- Definitions for frames of the bus.
+-- The handling of a received frame: its effect on sessions, its timeouts, and the contracts of its calls.
 pub mod FrameContracts
 pub mod HoldersBeforeClaim
 pub mod SessionEffects

@@ -1,4 +1,4 @@
--- Definitions for messages of an implement.
+-- The messages from the master of a set: their effects and replies, and the end of an upload.
 pub mod CommandEffects
 pub mod CommandReplies
 pub mod Judgements

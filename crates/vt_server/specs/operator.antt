@@ -1,3 +1,3 @@
--- Definitions for the operator's actions.
+-- The operator's actions: their effects, messages and refusals.
 pub mod ActionContracts
 pub mod ActionEffects

@@ -1,4 +1,4 @@
--- Definitions for the shown set and its screen.
+-- The shown set, the status message and the screen.
 pub mod DisplayValues
 pub mod Screens
 pub mod ShownSet

@@ -1,4 +1,4 @@
--- Definitions for the state of the terminal.
+-- The state kept for each address, its view, and the invariants of all terminals.
 pub mod AddressStates
 pub mod AddressViews
 pub mod PoolTables

@@ -1,4 +1,4 @@
-//! The step for frames of the bus.
+//! Frames received from the bus: address claims, transport sessions, and the timeouts at the time of each frame.
 
 pub(crate) mod claim;
 pub(crate) mod step;

@@ -1,4 +1,4 @@
-//! The step for messages of an implement.
+//! Messages from the master of a working set: pool uploads and commands, with their replies. Also the status message.
 
 pub(crate) mod end_of_pool;
 pub(crate) mod replies;

@@ -1,4 +1,4 @@
--- Lemmas, by subject.
+-- The lemmas of vt_verify, by subject.
 pub mod budgets
 pub mod graphs
 pub mod macros

@@ -1,4 +1,4 @@
--- Lemmas on order.
+-- References and chains stay in order: slots, pointers and the slots that a command writes.
 pub mod OrderAfterCommand
 pub mod PointerKinds
 pub mod SlotsAfterChange

@@ -1,4 +1,4 @@
--- Lemmas on stores.
+-- The store after a command: one changed object, and an unchanged shape.
 pub mod CommandExecution
 pub mod IdReplacements
 pub mod ObjectBeforeAndAfter

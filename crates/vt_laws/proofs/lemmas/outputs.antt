@@ -1,4 +1,4 @@
--- Lemmas on outputs.
+-- The outputs of a step: their destinations, their kinds and their number.
 pub mod FrameDestinations
 pub mod FramesOfActs
 pub mod OutputCount

@@ -1,4 +1,4 @@
--- Lemmas on pools.
+-- The pool of each address after an act, a step and a run.
 pub mod MessagesWithoutCommands
 pub mod PoolAfterAct
 pub mod PoolAfterStep

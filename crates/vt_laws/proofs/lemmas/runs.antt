@@ -1,4 +1,4 @@
--- Lemmas on runs.
+-- The runs of macros that an input begins: their causes, their number, their cost and their end.
 pub mod AtMostThreeEvents
 pub mod AtMostThreeRuns
 pub mod CausesOfRuns

@@ -1,4 +1,4 @@
--- Lemmas on sets.
+-- The list of sets after a claim and after a step, the holders of their addresses, and the selected and shown set.
 pub mod ClaimsOfRun
 pub mod NamesOfHolders
 pub mod SelectedAndShownSet

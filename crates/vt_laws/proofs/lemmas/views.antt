@@ -1,4 +1,4 @@
--- Lemmas on views.
+-- The view of an address depends on the happenings of that address alone.
 pub mod ActChangesOneView
 pub mod HappeningsDecideView
 pub mod HappeningsOfFrame

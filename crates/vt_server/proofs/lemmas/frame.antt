@@ -1,4 +1,4 @@
--- Lemmas on frames of the bus.
+-- The step of a received frame has the effect and the outputs of its definition.
 pub mod ClaimEffect
 pub mod FrameEffect
 pub mod FrameStep

@@ -1,3 +1,3 @@
--- Lemmas on the operator's actions.
+-- The operator's actions have the effects and the messages of their definitions.
 pub mod ActionMessages
 pub mod ActionStep

@@ -1,4 +1,4 @@
--- Lemmas on the shown set and its screen.
+-- The choice of the shown set, the events of its change, and unchanged screens.
 pub mod EventsOfChange
 pub mod LoopsOverSets
 pub mod SameScreen

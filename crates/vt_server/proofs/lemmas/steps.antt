@@ -1,3 +1,3 @@
--- Lemmas on steps.
+-- Invariants of every step, and runs of several inputs.
 pub mod RunsOfInputs
 pub mod StepInvariants

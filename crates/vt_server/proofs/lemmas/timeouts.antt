@@ -1,4 +1,4 @@
--- Lemmas on timeouts.
+-- Timeouts of sessions and closings of silent sets at the time of a frame.
 pub mod FirstSilentSet
 pub mod IndependenceOfClaims
 pub mod SessionLanes

@@ -1,3 +1,3 @@
--- Lemmas on macros.
+-- The bytes of a macro and the tests of its commands.
 pub mod CommandTests
 pub mod MacroBytes

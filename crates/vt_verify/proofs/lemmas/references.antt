@@ -1,3 +1,3 @@
--- Lemmas on references.
+-- References to existing objects of allowed kinds.
 pub mod IncludedObjectsExist
 pub mod ReferenceTests

@@ -1,3 +1,3 @@
--- Lemmas on stores.
+-- The objects of a pool and of an updated store.
 pub mod DistinctIds
 pub mod UpdatedStore
