@@ -6,7 +6,7 @@ use Rattle.std.proofs.lemmas.Bool.{cases_lt, cases_eq}
 use Rattle.std.specs.Prelude.{slice_get, slice_index, Contains}
 use Rattle.vt_kinds.specs.declared.slot.Slot.{Slot}
 use Rattle.vt_chains.specs.Inclusions.{includes, IsChain, IsShallow, IsTooDeep}
-use Rattle.vt_chains.specs.Depths.{IsAt, IsAt, IsBelow, AreDepths, unset, IsDepth, AreFound, Keeps, BeginsChain, IncludesChain}
+use Rattle.vt_chains.specs.Depths.{IsIdAt, IsAt, IsBelow, AreDepths, unset, IsDepth, AreFound, Keeps, BeginsChain, IncludesChain}
 use Rattle.vt_chains.proofs.InclusionsInStore.{IsSourced}
 use Rattle.vt_chains.proofs.Elements.{Contains-nil}
 use Rattle.vt_chains.proofs.IdIndices.{same_id, within}
@@ -14,12 +14,12 @@ use Rattle.vt_chains.proofs.Slots.{included_in, in_first, in_more, slot_case}
 
 -- the index of each ID is unique
 abbrev pub AreOnce : List ℕ → Type 0
-AreOnce ids = (a b id : ℕ) → IsAt ids a id → IsAt ids b id → a ≡ b
+AreOnce ids = (a b id : ℕ) → IsIdAt ids a id → IsIdAt ids b id → a ≡ b
 
 -- ---- depths prove that no chain is too long
 
 shorter_chain : (ids : List ℕ) (included : ℕ → List ℕ) (most : ℕ) (depths : List ℕ) → AreDepths ids included most depths
-    → (a place : ℕ) (rest : List ℕ) → IsAt ids place a → IsChain included (a ∷ rest) → length rest ≤ slice_index depths place
+    → (a place : ℕ) (rest : List ℕ) → IsIdAt ids place a → IsChain included (a ∷ rest) → length rest ≤ slice_index depths place
 shorter_chain ids included most depths are a place [] there chain = omega arith
 shorter_chain ids included most depths are a place (b ∷ rest) there chain =
     let lower = (are.depth place a there).above b chain.0 in
@@ -85,7 +85,7 @@ module _ (ids : List ℕ) (included : ℕ → List ℕ) (depths : List ℕ) (onc
 -- ---- one more depth
 
 module _ (ids : List ℕ) (included : ℕ → List ℕ) (depths : List ℕ) (once : AreOnce ids) (found : AreFound ids included depths)
-    (place id depth : ℕ) (there : IsAt ids place id) (low : depth < unset) (is : IsDepth ids included depths id depth) where
+    (place id depth : ℕ) (there : IsIdAt ids place id) (low : depth < unset) (is : IsDepth ids included depths id depth) where
   abbrev after : List ℕ
   after = set depths place depth
 
@@ -116,10 +116,10 @@ module _ (ids : List ℕ) (included : ℕ → List ℕ) (depths : List ℕ) (onc
     | inr apart ↦ let stays = index_there other apart in let le = found.within other in omega (arith, stays)
   ]
 
-  put_found : (at other : ℕ) → IsAt ids at other → slice_index after at ≢ unset → IsDepth ids included after other (slice_index after at)
+  put_found : (at other : ℕ) → IsIdAt ids at other → slice_index after at ≢ unset → IsDepth ids included after other (slice_index after at)
   put_found at other stands settled = elim (cases_eq at place) [
     | inl same ↦
-        let one : id ≡ other = same_id ids place id other there (subst (λ (k : ℕ). IsAt ids k other) same stands) in
+        let one : id ≡ other = same_id ids place id other there (subst (λ (k : ℕ). IsIdAt ids k other) same stands) in
         let here = ap (slice_index after) same ∙ index_here in
         subst (IsDepth ids included after other) (sym here)
         (subst (λ (k : ℕ). IsDepth ids included after k depth) one (still_depth ids included depths after id depth put_keeps (omega arith) is))
@@ -236,9 +236,9 @@ chain_push included (x ∷ y ∷ xs) a b chain h = (chain.0, chain_push included
 
 -- an ID is at no index with less than this depth
 abbrev pub IsDeep : List ℕ → List ℕ → ℕ → ℕ → Type 0
-IsDeep ids depths id depth = (place : ℕ) → IsAt ids place id → depth ≤ slice_index depths place
+IsDeep ids depths id depth = (place : ℕ) → IsIdAt ids place id → depth ≤ slice_index depths place
 
-pub deep_next : (ids : List ℕ) (included : ℕ → List ℕ) (depths : List ℕ) → AreOnce ids → AreFound ids included depths → (place id depth : ℕ) → IsAt ids place id
+pub deep_next : (ids : List ℕ) (included : ℕ → List ℕ) (depths : List ℕ) → AreOnce ids → AreFound ids included depths → (place id depth : ℕ) → IsIdAt ids place id
     → slice_index depths place ≢ unset → depth < slice_index depths place → (other : ℕ) × Contains (included id) other × IsDeep ids depths other depth
 deep_next ids included depths once found place id depth there settled deep = from (slice_index depths place) refl (found.found place id there settled)
   where
@@ -249,8 +249,8 @@ deep_next ids included depths once found place id depth there settled deep = fro
         (one.0, one.1, λ at stands. let same = ap (slice_index depths) (once at one.2.place one.0 stands one.2.there) in let here = one.2.is in omega (arith, e, same))
 
 -- an object included by one with a found depth has a found depth too
-pub next_is_found : (ids : List ℕ) (included : ℕ → List ℕ) (depths : List ℕ) → AreOnce ids → AreFound ids included depths → (place id other at : ℕ) → IsAt ids place id
-    → slice_index depths place ≢ unset → Contains (included id) other → IsAt ids at other → slice_index depths at ≢ unset
+pub next_is_found : (ids : List ℕ) (included : ℕ → List ℕ) (depths : List ℕ) → AreOnce ids → AreFound ids included depths → (place id other at : ℕ) → IsIdAt ids place id
+    → slice_index depths place ≢ unset → Contains (included id) other → IsIdAt ids at other → slice_index depths at ≢ unset
 next_is_found ids included depths once found place id other at there settled h stands e =
     let lower = (found.found place id there settled).above other h in
     let less = lower.less in
@@ -262,15 +262,15 @@ next_is_found ids included depths once found place id other at there settled h s
 
 pub record IsGrowing (ids : List ℕ) (included : ℕ → List ℕ) (depths : List ℕ) (first place step count : ℕ) (chain : List ℕ) : Type 0 where
   pub is : IsChain included chain
-  pub head : (id : ℕ) → IsAt ids first id → slice_get chain 0 ≡ Some id
-  pub last : (front : List ℕ) × (id : ℕ) × (chain ≡ front ++ id ∷ []) × IsAt ids place id
+  pub head : (id : ℕ) → IsIdAt ids first id → slice_get chain 0 ≡ Some id
+  pub last : (front : List ℕ) × (id : ℕ) × (chain ≡ front ++ id ∷ []) × IsIdAt ids place id
   pub long : length chain ≡ step + 1
   pub inside : place < length depths
   pub settled : slice_index depths place ≢ unset
   pub deep : count ≤ slice_index depths place + step
 
 pub growing_begins : (ids : List ℕ) (included : ℕ → List ℕ) (depths : List ℕ) (place count id : ℕ) → place < length depths → slice_index depths place ≢ unset
-    → count ≤ slice_index depths place → IsAt ids place id → IsGrowing ids included depths place place 0 count (id ∷ [])
+    → count ≤ slice_index depths place → IsIdAt ids place id → IsGrowing ids included depths place place 0 count (id ∷ [])
 growing_begins ids included depths place count id inside settled deep stands = record {
   is = tt;
   head = λ other at. ap Some (same_id ids place id other stands at);
@@ -286,8 +286,8 @@ head_stays [] y id is = absurd cc
 head_stays (x ∷ xs) y id is = is
 
 pub growing_more : (ids : List ℕ) (included : ℕ → List ℕ) (depths : List ℕ) (first place next step count id : ℕ) (chain : List ℕ) → step < count
-    → ((id : ℕ) → IsAt ids place id → (other : ℕ) × Contains (included id) other × IsAt ids next other) → count ≤ (slice_index depths next + step) + 1
-    → next < length depths → slice_index depths next ≢ unset → IsAt ids next id
+    → ((id : ℕ) → IsIdAt ids place id → (other : ℕ) × Contains (included id) other × IsIdAt ids next other) → count ≤ (slice_index depths next + step) + 1
+    → next < length depths → slice_index depths next ≢ unset → IsIdAt ids next id
     → IsGrowing ids included depths first place step count chain → IsGrowing ids included depths first next (step + 1) count (chain ++ id ∷ [])
 growing_more ids included depths first place next step count id chain lt goes deep inside settled stands grows =
     let last = grows.last in
@@ -307,7 +307,7 @@ growing_more ids included depths first place next step count id chain lt goes de
     }
 
 pub growing_ends : (ids : List ℕ) (included : ℕ → List ℕ) (depths : List ℕ) (first place step count : ℕ) (chain : List ℕ) → step ≡ count
-    → IsGrowing ids included depths first place step count chain → (id : ℕ) → IsAt ids first id → BeginsChain included id count chain
+    → IsGrowing ids included depths first place step count chain → (id : ℕ) → IsIdAt ids first id → BeginsChain included id count chain
 growing_ends ids included depths first place step count chain end grows id stands = record {
   is = grows.is;
   first = grows.head id stands;

@@ -3,7 +3,7 @@ use Rattle.std.proofs.Common.{◌≡◌, ℕ, zero, suc, ◌<◌, ◌≤◌, inl
 use Rattle.std.specs.Prelude.{slice_index, slice_index_or, Contains}
 use Rattle.std.specs.FinMap as finite
 use Rattle.vt_stores.specs.Stores.{ObjectMap, IsPlace}
-use Rattle.vt_chains.specs.Depths.{IsAt, IsBelow, IsClosed, AreDepths, ids_of, inclusions_of}
+use Rattle.vt_chains.specs.Depths.{IsIdAt, IsBelow, IsClosed, AreDepths, ids_of, inclusions_of}
 use Rattle.vt_chains.specs.Inclusions.{IsChain, IsShallow, IsTooDeep}
 use Rattle.vt_chains.specs.Limits.{terminal}
 use Rattle.vt_chains.proofs.InclusionsInStore.{IsSourced, sourced}
@@ -12,7 +12,7 @@ use Rattle.vt_chains.specs.declared.levels.Levels.{Levels}
 use Rattle.vt_chains.specs.Certificates.{IsCertificate, IsCertificateBut, AreLevels, AreLevelsBut}
 
 shorter_chain : (ids : List ℕ) (included : ℕ → List ℕ) (levels : List ℕ) → IsCertificate ids included levels
-    → (a place : ℕ) (rest : List ℕ) → IsAt ids place a → IsChain included (a ∷ rest) → length rest ≤ slice_index levels place
+    → (a place : ℕ) (rest : List ℕ) → IsIdAt ids place a → IsChain included (a ∷ rest) → length rest ≤ slice_index levels place
 shorter_chain ids included levels is a place [] there chain = omega arith
 shorter_chain ids included levels is a place (b ∷ rest) there chain =
     let lower = is.falls place a there b chain.0 in
@@ -43,16 +43,16 @@ depths_fall ids included levels are =
 
 -- a certificate except for one inclusion that also falls is a certificate
 pub one_more : (ids : List ℕ) (included : ℕ → List ℕ) (levels : List ℕ) (from to : ℕ) → IsCertificateBut ids included levels from to
-    → ((place : ℕ) → IsAt ids place from → Contains (included from) to → IsBelow ids levels to (slice_index levels place)) → IsCertificate ids included levels
+    → ((place : ℕ) → IsIdAt ids place from → Contains (included from) to → IsBelow ids levels to (slice_index levels place)) → IsCertificate ids included levels
 one_more ids included levels from to but falls = record { each = but.each; within = but.within; falls = all }
   where
-    all : (place id : ℕ) → IsAt ids place id → (other : ℕ) → Contains (included id) other → IsBelow ids levels other (slice_index levels place)
+    all : (place id : ℕ) → IsIdAt ids place id → (other : ℕ) → Contains (included id) other → IsBelow ids levels other (slice_index levels place)
     all place id there other h =
         elim (but.falls place id there other h) as (λ _. IsBelow ids levels other (slice_index levels place)) [
           | inl lower ↦ lower
           | inr is ↦
               subst (λ (k : ℕ). IsBelow ids levels k (slice_index levels place)) (sym is.1)
-              (falls place (subst (λ (k : ℕ). IsAt ids place k) is.0 there)
+              (falls place (subst (λ (k : ℕ). IsIdAt ids place k) is.0 there)
               (subst (λ (k : ℕ). Contains (included k) to) is.0 (subst (λ (k : ℕ). Contains (included id) k) is.1 h)))
         ]
 

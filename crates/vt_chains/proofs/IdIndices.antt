@@ -12,7 +12,7 @@ use Rattle.vt_kinds.specs.Records.{Seen}
 use Rattle.vt_stores.specs.Stores.{Objects, ObjectMap, IsRising, ids, object_at}
 use Rattle.vt_stores.proofs.SortedEntries.{three, both_true, equal, greater}
 use Rattle.vt_stores.proofs.BinarySearch.{is_below}
-use Rattle.vt_chains.specs.Depths.{ids_of, IsAt}
+use Rattle.vt_chains.specs.Depths.{ids_of, IsIdAt}
 
 true_of : (b : Bool) → T b → b ≡ true
 true_of true t = refl
@@ -23,7 +23,7 @@ rising m = true_of (finite.is_sorted nat_cmp (finite.entries m)) (finite.entries
 
 -- ---- the ID and the object at an index
 
-pub stands_of : (objects : Objects) (place id : ℕ) (o : Seen) → slice_get objects place ≡ Some (id, o) → IsAt (ids objects) place id
+pub stands_of : (objects : Objects) (place id : ℕ) (o : Seen) → slice_get objects place ≡ Some (id, o) → IsIdAt (ids objects) place id
 stands_of objects place id o is = slice_get-map (λ (e : ℕ × Seen). e.0) objects place ∙ ap (option_map (λ (e : ℕ × Seen). e.0)) is
 
 object_case : (P : Type 0) (o : Option (ℕ × Seen)) (id : ℕ) → option_map (λ (e : ℕ × Seen). e.0) o ≡ Some id → ((s : Seen) → o ≡ Some (id, s) → P) → P
@@ -31,12 +31,12 @@ object_case P None id is here = absurd cc
 object_case P (Some e) id is here = here e.1 (ap (λ (k : ℕ). Some (k, e.1)) (same_Some e.0 id is))
 
 -- the object at the index of an ID
-pub object_of : (objects : Objects) (place id : ℕ) → IsAt (ids objects) place id → (o : Seen) × (slice_get objects place ≡ Some (id, o))
+pub object_of : (objects : Objects) (place id : ℕ) → IsIdAt (ids objects) place id → (o : Seen) × (slice_get objects place ≡ Some (id, o))
 object_of objects place id is =
     object_case ((o : Seen) × (slice_get objects place ≡ Some (id, o))) (slice_get objects place) id (sym (slice_get-map (λ (e : ℕ × Seen). e.0) objects place) ∙ is)
     (λ o some. (o, some))
 
-pub above_at : (a : ℕ) (objects : Objects) (place id : ℕ) → IsTrue (below_all nat_cmp a objects) → IsAt (ids objects) place id → a < id
+pub above_at : (a : ℕ) (objects : Objects) (place id : ℕ) → IsTrue (below_all nat_cmp a objects) → IsIdAt (ids objects) place id → a < id
 above_at a [] place id all is = absurd cc
 above_at a (e ∷ objects) zero id all is =
     subst (λ (k : ℕ). a < k) (same_Some e.0 id is) (is_below a e.0 (three a e.0) (both_true (is_lt (nat_cmp a e.0)) (below_all nat_cmp a objects) all).0)
@@ -53,7 +53,7 @@ found_at (e ∷ objects) (suc place) id o rising is =
     ∙ found_at objects place id o parts.1 is
 
 -- the index of an ID is unique
-pub one_place : (objects : Objects) (a b id : ℕ) → IsRising objects → IsAt (ids objects) a id → IsAt (ids objects) b id → a ≡ b
+pub one_place : (objects : Objects) (a b id : ℕ) → IsRising objects → IsIdAt (ids objects) a id → IsIdAt (ids objects) b id → a ≡ b
 one_place [] a b id rising one other = absurd cc
 one_place (e ∷ objects) zero zero id rising one other = refl
 one_place (e ∷ objects) zero (suc b) id rising one other =
@@ -74,25 +74,25 @@ one_place (e ∷ objects) (suc a) (suc b) id rising one other =
 pub get_placed : (m : ObjectMap) (place id : ℕ) (o : Seen) → slice_get (finite.entries m) place ≡ Some (id, o) → finite.get m id ≡ Some o
 get_placed m place id o is = finite.get-entries m id ∙ found_at (finite.entries m) place id o (rising m) is
 
-pub missing_nowhere : (m : ObjectMap) (place id : ℕ) → IsAt (ids_of m) place id → finite.get m id ≡ None → ⊥
+pub missing_nowhere : (m : ObjectMap) (place id : ℕ) → IsIdAt (ids_of m) place id → finite.get m id ≡ None → ⊥
 missing_nowhere m place id is none =
     let o = object_of (finite.entries m) place id is in
     let some = sym none ∙ get_placed m place id o.0 o.1 in
     absurd cc
 
-pub once : (m : ObjectMap) (a b id : ℕ) → IsAt (ids_of m) a id → IsAt (ids_of m) b id → a ≡ b
+pub once : (m : ObjectMap) (a b id : ℕ) → IsIdAt (ids_of m) a id → IsIdAt (ids_of m) b id → a ≡ b
 once m a b id one other = one_place (finite.entries m) a b id (rising m) one other
 
-pub within : (ids : List ℕ) (place id : ℕ) → IsAt ids place id → place < length ids
+pub within : (ids : List ℕ) (place id : ℕ) → IsIdAt ids place id → place < length ids
 within ids place id is = slice_get_within ids place id is
 
 -- each index has an ID
-pub someone : (ids : List ℕ) (place : ℕ) → place < length ids → (id : ℕ) × IsAt ids place id
+pub someone : (ids : List ℕ) (place : ℕ) → place < length ids → (id : ℕ) × IsIdAt ids place id
 someone [] place lt = absurd (omega arith)
 someone (id ∷ ids) zero lt = (id, refl)
 someone (id ∷ ids) (suc place) lt = someone ids place (omega arith)
 
-pub same_id : (ids : List ℕ) (place a b : ℕ) → IsAt ids place a → IsAt ids place b → a ≡ b
+pub same_id : (ids : List ℕ) (place a b : ℕ) → IsIdAt ids place a → IsIdAt ids place b → a ≡ b
 same_id ids place a b one other = same_Some a b (sym one ∙ other)
 
 -- the number of IDs is the number of objects

@@ -2,7 +2,7 @@
 -- (docs/PROFILE.md, "Inclusions and chains").
 use Rattle.std.specs.Prelude.{◌≡◌, ◌≤◌, ◌⊎◌, ℕ, List, length, slice_index, Contains}
 use Rattle.vt_stores.specs.Stores.{ObjectMap}
-use Rattle.vt_chains.specs.Depths.{ids_of, inclusions_of, IsAt, IsBelow, IsClosed}
+use Rattle.vt_chains.specs.Depths.{ids_of, inclusions_of, IsIdAt, IsBelow, IsClosed}
 use Rattle.vt_chains.specs.Inclusions.{IsShallow}
 use Rattle.vt_chains.specs.Limits.{terminal}
 use Rattle.vt_chains.specs.declared.levels.Levels.{Levels}
@@ -11,13 +11,13 @@ use Rattle.vt_chains.specs.declared.levels.Levels.{Levels}
 pub record IsCertificate (ids : List ℕ) (included : ℕ → List ℕ) (levels : List ℕ) : Type 0 where
   pub each : length levels ≡ length ids
   pub within : (place : ℕ) → slice_index levels place ≤ terminal.inclusions
-  pub falls : (place id : ℕ) → IsAt ids place id → (other : ℕ) → Contains (included id) other → IsBelow ids levels other (slice_index levels place)
+  pub falls : (place id : ℕ) → IsIdAt ids place id → (other : ℕ) → Contains (included id) other → IsBelow ids levels other (slice_index levels place)
 
 -- a certificate except that the level may not fall with one inclusion
 pub record IsCertificateBut (ids : List ℕ) (included : ℕ → List ℕ) (levels : List ℕ) (from to : ℕ) : Type 0 where
   pub each : length levels ≡ length ids
   pub within : (place : ℕ) → slice_index levels place ≤ terminal.inclusions
-  pub falls : (place id : ℕ) → IsAt ids place id → (other : ℕ) → Contains (included id) other
+  pub falls : (place id : ℕ) → IsIdAt ids place id → (other : ℕ) → Contains (included id) other
       → IsBelow ids levels other (slice_index levels place) ⊎ ((id ≡ from) × (other ≡ to))
   pub closed : IsClosed ids included
 

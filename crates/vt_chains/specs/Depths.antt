@@ -13,24 +13,24 @@ abbrev pub inclusions_of : ObjectMap → ℕ → List ℕ
 inclusions_of store = included (finite.entries store)
 
 -- an ID is at an index
-abbrev pub IsAt : List ℕ → ℕ → ℕ → Type 0
-IsAt ids place id = slice_get ids place ≡ Some id
+abbrev pub IsIdAt : List ℕ → ℕ → ℕ → Type 0
+IsIdAt ids place id = slice_get ids place ≡ Some id
 
 -- an ID is at an index with this depth
 pub record IsAt (ids depths : List ℕ) (id depth : ℕ) : Type 0 where
   pub place : ℕ
-  pub there : IsAt ids place id
+  pub there : IsIdAt ids place id
   pub is : slice_index depths place ≡ depth
 
 -- an ID is at an index with less than this depth
 pub record IsBelow (ids depths : List ℕ) (id most : ℕ) : Type 0 where
   pub place : ℕ
-  pub there : IsAt ids place id
+  pub there : IsIdAt ids place id
   pub less : slice_index depths place < most
 
 -- each included ID is at an index
 abbrev pub IsClosed : List ℕ → (ℕ → List ℕ) → Type 0
-IsClosed ids included = (id other : ℕ) → Contains (included id) other → (place : ℕ) × IsAt ids place other
+IsClosed ids included = (id other : ℕ) → Contains (included id) other → (place : ℕ) × IsIdAt ids place other
 
 -- the depth of an ID: one more than the greatest depth of its inclusions
 pub record IsDepth (ids : List ℕ) (included : ℕ → List ℕ) (depths : List ℕ) (id depth : ℕ) : Type 0 where
@@ -41,7 +41,7 @@ pub record IsDepth (ids : List ℕ) (included : ℕ → List ℕ) (depths : List
 pub record AreDepths (ids : List ℕ) (included : ℕ → List ℕ) (most : ℕ) (depths : List ℕ) : Type 0 where
   pub each : length depths ≡ length ids
   pub within : (place : ℕ) → slice_index depths place ≤ most
-  pub depth : (place id : ℕ) → IsAt ids place id → IsDepth ids included depths id (slice_index depths place)
+  pub depth : (place id : ℕ) → IsIdAt ids place id → IsDepth ids included depths id (slice_index depths place)
 
 -- the depths of objects by rising ID, within the limit of inclusions in a chain
 abbrev pub HasDepths : Limits → Objects → List ℕ → Type 0
@@ -57,7 +57,7 @@ unset = 255
 pub record AreFound (ids : List ℕ) (included : ℕ → List ℕ) (depths : List ℕ) : Type 0 where
   pub each : length depths ≡ length ids
   pub within : (place : ℕ) → slice_index depths place ≤ unset
-  pub found : (place id : ℕ) → IsAt ids place id → slice_index depths place ≢ unset → IsDepth ids included depths id (slice_index depths place)
+  pub found : (place id : ℕ) → IsIdAt ids place id → slice_index depths place ≢ unset → IsDepth ids included depths id (slice_index depths place)
 
 -- found depths are unchanged
 abbrev pub Keeps : List ℕ → List ℕ → Type 0

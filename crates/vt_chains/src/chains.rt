@@ -5,7 +5,7 @@ ghost use Rattle.std.specs.FinMap as finite;
 ghost use Rattle.vt_kinds.specs.Records.{seen};
 ghost use Rattle.vt_stores.specs.Stores.{Objects};
 ghost use Rattle.vt_chains.specs.Inclusions.{IsShallow, IsTooDeep, includes};
-ghost use Rattle.vt_chains.specs.Depths.{ids_of, inclusions_of, IsAt, IsAt, IsBelow, IsClosed, AreDepths, unset, IsDepth, AreFound, Keeps, BeginsChain, IncludesChain};
+ghost use Rattle.vt_chains.specs.Depths.{ids_of, inclusions_of, IsIdAt, IsAt, IsBelow, IsClosed, AreDepths, unset, IsDepth, AreFound, Keeps, BeginsChain, IncludesChain};
 
 use arrayvec::ArrayVec;
 use vt_kinds::{Object, ObjectId, Place, Slot, slots};
@@ -46,7 +46,7 @@ fn settle<S: Store>(store: &S, depths: &mut [u8], place: usize, most: u8) -> Res
     ensures keeps { Keeps depths.old depths.new }
     ensures within { IfOk result (λ depth. depth ≤ most) }
     ensures ok { IfOk result (λ depth. slice_index depths.new place ≡ depth) }
-    ensures err { IfErr result (λ chain. (id : ℕ) → IsAt (ids_of (S.contents store.now)) place id → BeginsChain (inclusions_of (S.contents store.now)) id (most + 1) chain.items) }
+    ensures err { IfErr result (λ chain. (id : ℕ) → IsIdAt (ids_of (S.contents store.now)) place id → BeginsChain (inclusions_of (S.contents store.now)) id (most + 1) chain.items) }
 {
     let depth = depths[place];
     if depth == UNSET {
@@ -69,7 +69,7 @@ fn settle_entry<S: Store>(store: &S, depths: &mut [u8], place: usize, most: u8) 
     ensures keeps { Keeps depths.old depths.new }
     ensures within { IfOk result (λ depth. depth ≤ most) }
     ensures ok { IfOk result (λ depth. slice_index depths.new place ≡ depth) }
-    ensures err { IfErr result (λ chain. (id : ℕ) → IsAt (ids_of (S.contents store.now)) place id → BeginsChain (inclusions_of (S.contents store.now)) id (most + 1) chain.items) }
+    ensures err { IfErr result (λ chain. (id : ℕ) → IsIdAt (ids_of (S.contents store.now)) place id → BeginsChain (inclusions_of (S.contents store.now)) id (most + 1) chain.items) }
 {
     let (id, object) = entry(store, place);
     match deepest(store, depths, id, object, most) {
@@ -122,7 +122,7 @@ fn settle_included<S: Store>(
     id: ObjectId,
     most: u8,
 ) -> Result<u8, Chain>
-    requires there { (place : ℕ) × IsAt (ids_of (S.contents store.now)) place id }
+    requires there { (place : ℕ) × IsIdAt (ids_of (S.contents store.now)) place id }
     requires found { AreFound (ids_of (S.contents store.now)) (inclusions_of (S.contents store.now)) depths.old }
     requires closed { IsClosed (ids_of (S.contents store.now)) (inclusions_of (S.contents store.now)) }
     requires most { most ≤ 32 }
@@ -142,8 +142,8 @@ fn settle_included<S: Store>(
 
 /// The index of an ID in the store.
 fn place_of<S: Store>(store: &S, id: ObjectId) -> usize
-    requires { (place : ℕ) × IsAt (ids_of (S.contents store.now)) place id }
-    ensures { IsAt (ids_of (S.contents store.now)) result id }
+    requires { (place : ℕ) × IsIdAt (ids_of (S.contents store.now)) place id }
+    ensures { IsIdAt (ids_of (S.contents store.now)) result id }
 {
     match store.place(id) {
         Some(place) => place,
@@ -154,7 +154,7 @@ fn place_of<S: Store>(store: &S, id: ObjectId) -> usize
 /// The object at an index, and its ID.
 pub fn entry<S: Store>(store: &S, place: usize) -> (ObjectId, &Object<Vec<u8>>)
     requires { place < length (ids_of (S.contents store.now)) }
-    ensures stands { IsAt (ids_of (S.contents store.now)) place result.0 }
+    ensures stands { IsIdAt (ids_of (S.contents store.now)) place result.0 }
     ensures object { finite.get (S.contents store.now) result.0 ≡ Some (seen result.1.now) }
 {
     match store.entry_at(place) {
@@ -171,7 +171,7 @@ fn chain_from<S: Store>(store: &S, depths: &[u8], place: usize, count: u8) -> Ch
     requires is_found { slice_index depths.now place ≢ unset }
     requires deep { count ≤ slice_index depths.now place }
     requires count { count ≤ 33 }
-    ensures { (id : ℕ) → IsAt (ids_of (S.contents store.now)) place id → BeginsChain (inclusions_of (S.contents store.now)) id count result.items }
+    ensures { (id : ℕ) → IsIdAt (ids_of (S.contents store.now)) place id → BeginsChain (inclusions_of (S.contents store.now)) id count result.items }
 {
     let mut chain = ArrayVec::new();
     let mut place = place;
@@ -190,7 +190,7 @@ fn next<S: Store>(store: &S, depths: &[u8], place: usize, depth: u8) -> usize
     requires place { place < length depths.now }
     requires is_found { slice_index depths.now place ≢ unset }
     requires deep { depth < slice_index depths.now place }
-    ensures next { (id : ℕ) → IsAt (ids_of (S.contents store.now)) place id → (other : ℕ) × Contains (inclusions_of (S.contents store.now) id) other × IsAt (ids_of (S.contents store.now)) result other }
+    ensures next { (id : ℕ) → IsIdAt (ids_of (S.contents store.now)) place id → (other : ℕ) × Contains (inclusions_of (S.contents store.now) id) other × IsIdAt (ids_of (S.contents store.now)) result other }
     ensures deep { depth ≤ slice_index depths.now result }
     ensures found { slice_index depths.now result ≢ unset }
 {

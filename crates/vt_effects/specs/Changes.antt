@@ -1,6 +1,6 @@
 -- The effect of each command on its object: the changed object, or the error bit of the first test that fails
 -- (docs/PROFILE.md, "Commands: form, tests, error byte and events" and the section of each command).
-use Rattle.std.specs.Prelude.{◌≡◌, ◌⊎◌, Contains, IsTrue, ℕ, ℤ, pos, neg_ℤ, ◌+◌, ◌-◌, ◌%◌, ◌^◌, ◌+ℤ◌, ◌-ℤ◌, int_le, nat_le, nat_lt, Bool, true, false, not, ◌==◌, ◌&&◌, ◌||◌, if◌then◌else◌, List, map, set, take, length, Option, Some, None, is_some, Result, Ok, Err}
+use Rattle.std.specs.Prelude.{◌≡◌, ◌⊎◌, Contains, IsTrue, ℕ, ℤ, pos, neg_ℤ, ◌+◌, ◌-◌, ◌%◌, ◌^◌, ◌+ℤ◌, ◌-ℤ◌, int_le, nat_le, nat_lt, Bool, true, false, not, ◌==◌, ◌&&◌, ◌||◌, if◌then◌else◌, List, [], ◌∷◌, map, set, take, length, Option, Some, None, is_some, Result, Ok, Err}
 use Rattle.std.specs.List.{list_any, AllByRecursion}
 use Rattle.vt_kinds.specs.declared.kind.Kind.{Kind}
 use Rattle.vt_kinds.specs.declared.kind.Kind.TheVariants as kinds
@@ -11,6 +11,8 @@ use Rattle.vt_kinds.specs.declared.place.Place.TheVariants as places
 use Rattle.vt_kinds.specs.declared.slot.Slot.{Slot}
 use Rattle.vt_kinds.specs.declared.entries.Child.{Child}
 use Rattle.vt_kinds.specs.declared.fields.Attribute.{Attribute}
+use Rattle.vt_kinds.specs.declared.fields.Field.{Field}
+use Rattle.vt_kinds.specs.declared.fields.Field.TheVariants as fields
 use Rattle.vt_kinds.specs.declared.fields.ValueType.{ValueType}
 use Rattle.vt_kinds.specs.declared.fields.ValueType.TheVariants as types
 use Rattle.vt_kinds.specs.declared.object.Object.TheVariants as objects
@@ -22,7 +24,8 @@ use Rattle.vt_kinds.specs.Attributes.{attribute_at}
 use Rattle.vt_kinds.specs.Scales.{scale_at}
 use Rattle.vt_kinds.specs.Texts.{filled_up}
 use Rattle.vt_stores.specs.Shapes.{fixed}
-use Rattle.vt_effects.specs.Fields.{byte, word, with_field}
+use Rattle.vt_effects.specs.Errors as errors
+use Rattle.vt_effects.specs.Fields.{byte, word, with_field, with_fields}
 
 -- the error byte with one bit set
 abbrev pub bit : ℕ → ℕ
@@ -49,19 +52,19 @@ abbrev pub is_state : ℕ → Bool
 is_state state = nat_le state 1
 
 abbrev pub hide_show : ℕ → Seen → Result Seen ℕ
-hide_show state (objects.Container o) = if_passed (is_state state) (bit 2) (objects.Container (record o { hidden = 1 - state }))
-hide_show state _ = Err (bit 1)
+hide_show state (objects.Container o) = if_passed (is_state state) errors.STATE (objects.Container (record o { hidden = 1 - state }))
+hide_show state _ = Err errors.OBJECT_ID
 
 -- options with their lowest bit replaced
 abbrev pub with_lowest_bit : ℕ → ℕ → ℕ
 with_lowest_bit options state = options - options % 2 + state
 
 abbrev pub enable_disable : ℕ → Seen → Result Seen ℕ
-enable_disable state (objects.InputBoolean o) = if_passed (is_state state) (bit 2) (objects.InputBoolean (record o { enabled = state }))
-enable_disable state (objects.InputString o) = if_passed (is_state state) (bit 2) (objects.InputString (record o { enabled = state }))
-enable_disable state (objects.InputNumber o) = if_passed (is_state state) (bit 2) (objects.InputNumber (record o { options_two = with_lowest_bit o.options_two state }))
-enable_disable state (objects.InputList o) = if_passed (is_state state) (bit 2) (objects.InputList (record o { options = with_lowest_bit o.options state }))
-enable_disable state _ = Err (bit 1)
+enable_disable state (objects.InputBoolean o) = if_passed (is_state state) errors.STATE (objects.InputBoolean (record o { enabled = state }))
+enable_disable state (objects.InputString o) = if_passed (is_state state) errors.STATE (objects.InputString (record o { enabled = state }))
+enable_disable state (objects.InputNumber o) = if_passed (is_state state) errors.STATE (objects.InputNumber (record o { options_two = with_lowest_bit o.options_two state }))
+enable_disable state (objects.InputList o) = if_passed (is_state state) errors.STATE (objects.InputList (record o { options = with_lowest_bit o.options state }))
+enable_disable state _ = Err errors.OBJECT_ID
 
 -- ---- Change Child Location and Change Child Position change every entry of the child
 
@@ -99,12 +102,12 @@ leaves child dx dy children = list_any (λ c. c.id == child && not (fits_record 
 
 -- The tests after that of the parent, in order: whether the child exists, and whether it is in the parent's list.
 abbrev pub for_child : ℕ → Option Kind → List Child → Result (List Child) ℕ → Result (List Child) ℕ
-for_child child None children moved = Err (bit 1)
-for_child child (Some kind) children moved = if stands_in child children then moved else Err (bit 0)
+for_child child None children moved = Err errors.CHILD
+for_child child (Some kind) children moved = if stands_in child children then moved else Err errors.OBJECT
 
 abbrev pub change_location : Option Kind → ℕ → ℕ → ℕ → List Child → Result (List Child) ℕ
 change_location named child dx dy children =
-    for_child child named children (if_passed (not (leaves child dx dy children)) (bit 4) (move_child child (shifted dx dy) children))
+    for_child child named children (if_passed (not (leaves child dx dy children)) errors.OTHER (move_child child (shifted dx dy) children))
 
 abbrev pub change_position : Option Kind → ℕ → ℤ → ℤ → List Child → Result (List Child) ℕ
 change_position named child x y children = for_child child named children (Ok (move_child child (placed x y) children))
@@ -121,43 +124,21 @@ in_parent change (objects.AlarmMask o) = put_children (λ children. objects.Alar
 in_parent change (objects.Container o) = put_children (λ children. objects.Container (record o { children = children })) (change o.children)
 in_parent change (objects.Key o) = put_children (λ children. objects.Key (record o { children = children })) (change o.children)
 in_parent change (objects.Button o) = put_children (λ children. objects.Button (record o { children = children })) (change o.children)
-in_parent change _ = Err (bit 0)
+in_parent change _ = Err errors.OBJECT
 
--- ---- Change Size sets the width alone for kinds without a height
+-- ---- commands that write fields and do no more
 
-abbrev pub change_size : ℕ → ℕ → Seen → Result Seen ℕ
-change_size w h (objects.Container o) = Ok (objects.Container (record o { width = w; height = h }))
-change_size w h (objects.Button o) = Ok (objects.Button (record o { width = w; height = h }))
-change_size w h (objects.InputBoolean o) = Ok (objects.InputBoolean (record o { width = w }))
-change_size w h (objects.InputString o) = Ok (objects.InputString (record o { width = w; height = h }))
-change_size w h (objects.InputNumber o) = Ok (objects.InputNumber (record o { width = w; height = h }))
-change_size w h (objects.InputList o) = Ok (objects.InputList (record o { width = w; height = h }))
-change_size w h (objects.OutputString o) = Ok (objects.OutputString (record o { width = w; height = h }))
-change_size w h (objects.OutputNumber o) = Ok (objects.OutputNumber (record o { width = w; height = h }))
-change_size w h (objects.Rectangle o) = Ok (objects.Rectangle (record o { width = w; height = h }))
-change_size w h (objects.Ellipse o) = Ok (objects.Ellipse (record o { width = w; height = h }))
-change_size w h (objects.Polygon o) = Ok (objects.Polygon (record o { width = w; height = h }))
-change_size w h (objects.Meter o) = Ok (objects.Meter (record o { width = w }))
-change_size w h (objects.LinearBar o) = Ok (objects.LinearBar (record o { width = w; height = h }))
-change_size w h (objects.ArchedBar o) = Ok (objects.ArchedBar (record o { width = w; height = h }))
-change_size w h (objects.Picture o) = Ok (objects.Picture (record o { width = w }))
-change_size w h _ = Err (bit 0)
+-- what is made of an object of these kinds, else the bit of another object
+abbrev pub for_kinds : Kinds → Seen → Result Seen ℕ → Result Seen ℕ
+for_kinds kinds o made = if is_member kinds (kind_of o) then made else Err errors.OBJECT
 
--- ---- Change Background Colour
+-- an object of these kinds with other values of some fields, where a test is passed
+abbrev pub write_fields_if : Kinds → Bool → ℕ → List (Field × ℕ) → Seen → Result Seen ℕ
+write_fields_if kinds test error values o = for_kinds kinds o (if_passed test error (with_fields values o))
 
-abbrev pub change_colour : ℕ → Seen → Result Seen ℕ
-change_colour colour (objects.WorkingSet o) = Ok (objects.WorkingSet (record o { colour = colour }))
-change_colour colour (objects.DataMask o) = Ok (objects.DataMask (record o { colour = colour }))
-change_colour colour (objects.AlarmMask o) = Ok (objects.AlarmMask (record o { colour = colour }))
-change_colour colour (objects.SoftKeyMask o) = Ok (objects.SoftKeyMask (record o { colour = colour }))
-change_colour colour (objects.Key o) = Ok (objects.Key (record o { colour = colour }))
-change_colour colour (objects.Button o) = Ok (objects.Button (record o { colour = colour }))
-change_colour colour (objects.InputBoolean o) = Ok (objects.InputBoolean (record o { colour = colour }))
-change_colour colour (objects.InputString o) = Ok (objects.InputString (record o { colour = colour }))
-change_colour colour (objects.InputNumber o) = Ok (objects.InputNumber (record o { colour = colour }))
-change_colour colour (objects.OutputString o) = Ok (objects.OutputString (record o { colour = colour }))
-change_colour colour (objects.OutputNumber o) = Ok (objects.OutputNumber (record o { colour = colour }))
-change_colour colour _ = Err (bit 0)
+-- the same with no test
+abbrev pub write_fields : Kinds → List (Field × ℕ) → Seen → Result Seen ℕ
+write_fields kinds values o = for_kinds kinds o (Ok (with_fields values o))
 
 -- ---- Change Numeric Value uses as many of the lowest bytes as a kind's value has
 
@@ -166,56 +147,44 @@ abbrev pub is_index : ℕ → ℕ → Bool
 is_index index count = nat_lt index count || (index == 255)
 
 abbrev pub change_value : Option Kind → ℕ → Seen → Result Seen ℕ
-change_value named n (objects.InputBoolean o) = if_passed (nat_le (byte n) 1) (bit 1) (objects.InputBoolean (record o { value = byte n }))
-change_value named n (objects.InputNumber o) = if_passed (nat_le o.min n && nat_le n o.max) (bit 1) (objects.InputNumber (record o { value = n }))
-change_value named n (objects.InputList o) = if_passed (is_index (byte n) (length o.items)) (bit 1) (objects.InputList (record o { value = byte n }))
+change_value named n (objects.InputBoolean o) = if_passed (nat_le (byte n) 1) errors.VALUE (objects.InputBoolean (record o { value = byte n }))
+change_value named n (objects.InputNumber o) = if_passed (nat_le o.min n && nat_le n o.max) errors.VALUE (objects.InputNumber (record o { value = n }))
+change_value named n (objects.InputList o) = if_passed (is_index (byte n) (length o.items)) errors.VALUE (objects.InputList (record o { value = byte n }))
 change_value named n (objects.OutputNumber o) = Ok (objects.OutputNumber (record o { value = n }))
 change_value named n (objects.Meter o) = Ok (objects.Meter (record o { value = word n }))
 change_value named n (objects.LinearBar o) = Ok (objects.LinearBar (record o { value = word n }))
 change_value named n (objects.ArchedBar o) = Ok (objects.ArchedBar (record o { value = word n }))
 change_value named n (objects.NumberVariable o) = Ok (objects.NumberVariable (record o { value = n }))
 change_value named n (objects.ObjectPointer o) =
-    if_passed (may_stand kinds.ObjectPointer places.Value (word n) named) (bit 1) (objects.ObjectPointer (record o { value = word n }))
-change_value named n _ = Err (bit 0)
+    if_passed (may_stand kinds.ObjectPointer places.Value (word n) named) errors.VALUE (objects.ObjectPointer (record o { value = word n }))
+change_value named n _ = Err errors.OBJECT
 
--- ---- Change End Point, Change Font Attributes, Change Line Attributes, Change Fill Attributes
-
-abbrev pub change_end_point : ℕ → ℕ → ℕ → Seen → Result Seen ℕ
-change_end_point w h direction (objects.Line o) = if_passed (nat_le direction 1) (bit 1) (objects.Line (record o { width = w; height = h; direction = direction }))
-change_end_point w h direction _ = Err (bit 0)
-
-abbrev pub change_font : ℕ → ℕ → ℕ → ℕ → Seen → Result Seen ℕ
-change_font colour size type style (objects.Font o) = Ok (objects.Font (record o { colour = colour; size = size; font_type = type; style = style }))
-change_font colour size type style _ = Err (bit 0)
-
-abbrev pub change_line_attributes : ℕ → ℕ → ℕ → Seen → Result Seen ℕ
-change_line_attributes colour width art (objects.LineAttributes o) = Ok (objects.LineAttributes (record o { colour = colour; width = width; line_art = art }))
-change_line_attributes colour width art _ = Err (bit 0)
+-- ---- Change Fill Attributes
 
 abbrev pub change_fill_attributes : Option Kind → ℕ → ℕ → ℕ → Seen → Result Seen ℕ
 change_fill_attributes named type colour pattern (objects.FillAttributes o) =
-    if_passed (may_stand kinds.FillAttributes places.Pattern pattern named) (bit 3) (objects.FillAttributes (record o { fill_type = type; colour = colour; pattern = pattern }))
-change_fill_attributes named type colour pattern _ = Err (bit 0)
+    if_passed (may_stand kinds.FillAttributes places.Pattern pattern named) errors.PATTERN (objects.FillAttributes (record o { fill_type = type; colour = colour; pattern = pattern }))
+change_fill_attributes named type colour pattern _ = Err errors.OBJECT
 
 -- ---- Change Active Mask requires an existing mask
 
 abbrev pub change_active_mask : Option Kind → ℕ → Seen → Result Seen ℕ
 change_active_mask named mask (objects.WorkingSet o) =
-    if_passed (is_one_of sets.Masks named) (bit 1) (objects.WorkingSet (record o { active_mask = mask }))
-change_active_mask named mask _ = Err (bit 0)
+    if_passed (is_one_of sets.Masks named) errors.VALUE (objects.WorkingSet (record o { active_mask = mask }))
+change_active_mask named mask _ = Err errors.OBJECT
 
 -- ---- Change Soft Key Mask: type 1 is a Data Mask, and type 2 an Alarm Mask
 
 abbrev pub change_soft_key_mask : Option Kind → ℕ → ℕ → Seen → Result Seen ℕ
 change_soft_key_mask named type keys (objects.DataMask o) =
     if type == 1
-    then if_passed (may_stand kinds.DataMask places.SoftKeyMask keys named) (bit 1) (objects.DataMask (record o { soft_key_mask = keys }))
-    else Err (bit 0)
+    then if_passed (may_stand kinds.DataMask places.SoftKeyMask keys named) errors.VALUE (objects.DataMask (record o { soft_key_mask = keys }))
+    else Err errors.OBJECT
 change_soft_key_mask named type keys (objects.AlarmMask o) =
     if type == 2
-    then if_passed (may_stand kinds.AlarmMask places.SoftKeyMask keys named) (bit 1) (objects.AlarmMask (record o { soft_key_mask = keys }))
-    else Err (bit 0)
-change_soft_key_mask named type keys _ = Err (bit 0)
+    then if_passed (may_stand kinds.AlarmMask places.SoftKeyMask keys named) errors.VALUE (objects.AlarmMask (record o { soft_key_mask = keys }))
+    else Err errors.OBJECT
+change_soft_key_mask named type keys _ = Err errors.OBJECT
 
 -- ---- Change Attribute
 
@@ -228,26 +197,22 @@ takes kind types.Decimals n named = nat_le (byte n) 7
 takes kind _ n named = true
 
 abbrev pub put_attribute : Option Attribute → Option Kind → ℕ → Seen → Result Seen ℕ
-put_attribute None named n o = Err (bit 1)
+put_attribute None named n o = Err errors.ATTRIBUTE
 put_attribute (Some attribute) named n o =
-    if_passed (takes (kind_of o) attribute.value_type n named) (bit 2) (with_field attribute.field n o)
+    if_passed (takes (kind_of o) attribute.value_type n named) errors.ATTRIBUTE_VALUE (with_field attribute.field n o)
 
 abbrev pub change_attribute : Option Kind → ℕ → ℕ → Seen → Result Seen ℕ
 change_attribute named number n o =
-    if is_member sets.WithAttributes (kind_of o) then put_attribute (attribute_at (kind_of o) number) named n o else Err (bit 0)
+    for_kinds sets.WithAttributes o (put_attribute (attribute_at (kind_of o) number) named n o)
 
--- ---- Change Priority, Change List Item, Change String Value, Execute Macro
-
-abbrev pub change_priority : ℕ → Seen → Result Seen ℕ
-change_priority priority (objects.AlarmMask o) = if_passed (nat_le priority 2) (bit 1) (objects.AlarmMask (record o { priority = priority }))
-change_priority priority _ = Err (bit 0)
+-- ---- Change List Item, Change String Value, Execute Macro
 
 abbrev pub change_item : Option Kind → ℕ → ℕ → Seen → Result Seen ℕ
 change_item named index item (objects.InputList o) =
     if nat_lt index (length o.items)
-    then if_passed (may_stand kinds.InputList (places.Item index) item named) (bit 2) (objects.InputList (record o { items = set o.items index item }))
-    else Err (bit 1)
-change_item named index item _ = Err (bit 0)
+    then if_passed (may_stand kinds.InputList (places.Item index) item named) errors.ITEM (objects.InputList (record o { items = set o.items index item }))
+    else Err errors.INDEX
+change_item named index item _ = Err errors.OBJECT
 
 -- whether a length exceeds neither the object's text nor the bytes of the command
 abbrev pub is_length : ℕ → List ℕ → List ℕ → Bool
@@ -258,15 +223,15 @@ abbrev pub over : ℕ → List ℕ → List ℕ → List ℕ
 over count text old = filled_up (length old) (take count text)
 
 abbrev pub change_text : ℕ → List ℕ → Seen → Result Seen ℕ
-change_text count text (objects.InputString o) = if_passed (is_length count text o.text) (bit 2) (objects.InputString (record o { text = over count text o.text }))
-change_text count text (objects.OutputString o) = if_passed (is_length count text o.text) (bit 2) (objects.OutputString (record o { text = over count text o.text }))
-change_text count text (objects.StringVariable o) = if_passed (is_length count text o.text) (bit 2) (objects.StringVariable (record o { text = over count text o.text }))
-change_text count text _ = Err (bit 1)
+change_text count text (objects.InputString o) = if_passed (is_length count text o.text) errors.LENGTH (objects.InputString (record o { text = over count text o.text }))
+change_text count text (objects.OutputString o) = if_passed (is_length count text o.text) errors.LENGTH (objects.OutputString (record o { text = over count text o.text }))
+change_text count text (objects.StringVariable o) = if_passed (is_length count text o.text) errors.LENGTH (objects.StringVariable (record o { text = over count text o.text }))
+change_text count text _ = Err errors.OBJECT_ID
 
 -- the macro is unchanged
 abbrev pub execute_macro : ℕ → Seen → Result Seen ℕ
-execute_macro id (objects.Macro o) = if_passed (nat_le id 255) (bit 2) (objects.Macro o)
-execute_macro id _ = Err (bit 1)
+execute_macro id (objects.Macro o) = if_passed (nat_le id 255) errors.MACRO_ID (objects.Macro o)
+execute_macro id _ = Err errors.OBJECT_ID
 
 -- ---- all commands
 
@@ -288,17 +253,21 @@ abbrev pub changed : Command → Option Kind → Seen → Result Seen ℕ
 changed (HideShow id state) named o = hide_show state o
 changed (EnableDisable id state) named o = enable_disable state o
 changed (ChangeChildLocation parent child dx dy) named o = in_parent (change_location named child dx dy) o
-changed (ChangeSize id width height) named o = change_size width height o
-changed (ChangeBackgroundColour id colour) named o = change_colour colour o
+changed (ChangeSize id width height) named o = write_fields sets.Sized ((fields.Width, width) ∷ (fields.Height, height) ∷ []) o
+changed (ChangeBackgroundColour id colour) named o = write_fields sets.Coloured ((fields.Colour, colour) ∷ []) o
 changed (ChangeNumericValue id value) named o = change_value named value o
-changed (ChangeEndPoint id width height direction) named o = change_end_point width height direction o
-changed (ChangeFontAttributes id colour size type style) named o = change_font colour size type style o
-changed (ChangeLineAttributes id colour width art) named o = change_line_attributes colour width art o
+changed (ChangeEndPoint id width height direction) named o =
+    write_fields_if sets.Lines (nat_le direction 1) errors.VALUE ((fields.Width, width) ∷ (fields.Height, height) ∷ (fields.Direction, direction) ∷ []) o
+changed (ChangeFontAttributes id colour size type style) named o =
+    write_fields sets.Fonts ((fields.Colour, colour) ∷ (fields.Size, size) ∷ (fields.Type, type) ∷ (fields.Style, style) ∷ []) o
+changed (ChangeLineAttributes id colour width art) named o =
+    write_fields sets.LineAttributes ((fields.Colour, colour) ∷ (fields.Width, width) ∷ (fields.LineArt, art) ∷ []) o
 changed (ChangeFillAttributes id type colour pattern) named o = change_fill_attributes named type colour pattern o
 changed (ChangeActiveMask set mask) named o = change_active_mask named mask o
 changed (ChangeSoftKeyMask type mask keys) named o = change_soft_key_mask named type keys o
 changed (ChangeAttribute id number value) named o = change_attribute named number value o
-changed (ChangePriority id priority) named o = change_priority priority o
+changed (ChangePriority id priority) named o =
+    write_fields_if sets.AlarmMasks (nat_le priority 2) errors.VALUE ((fields.Priority, priority) ∷ []) o
 changed (ChangeListItem id index item) named o = change_item named index item o
 changed (ChangeStringValue id count text) named o = change_text count text o
 changed (ChangeChildPosition parent child x y) named o = in_parent (change_position named child x y) o

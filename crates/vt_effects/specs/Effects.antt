@@ -18,17 +18,18 @@ use Rattle.vt_stores.specs.Stores.{ObjectMap}
 use Rattle.vt_commands.specs.Targets.{object_of}
 use Rattle.vt_chains.specs.Depths.{ids_of, inclusions_of}
 use Rattle.vt_chains.specs.Limits.{terminal}
+use Rattle.vt_effects.specs.Errors as errors
 use Rattle.vt_effects.specs.Fields.{word}
-use Rattle.vt_effects.specs.Changes.{bit, if_passed, is_one_of, other_id, changed, left}
+use Rattle.vt_effects.specs.Changes.{if_passed, is_one_of, other_id, changed, left}
 
 -- ---- the object of a command
 
 -- the error byte for a missing object
 abbrev pub missing_error : Command → ℕ
-missing_error (HideShow id state) = bit 1
-missing_error (EnableDisable id state) = bit 1
-missing_error (ChangeStringValue id count text) = bit 1
-missing_error _ = bit 0
+missing_error (HideShow id state) = errors.OBJECT_ID
+missing_error (EnableDisable id state) = errors.OBJECT_ID
+missing_error (ChangeStringValue id count text) = errors.OBJECT_ID
+missing_error _ = errors.OBJECT
 
 abbrev pub put : ObjectMap → ℕ → Result Seen ℕ → Result ObjectMap ℕ
 put store id (Ok o) = Ok (finite.insert store id o)
@@ -44,7 +45,7 @@ changed_in store id command named = changed_at store id command named (finite.ge
 
 -- a command without an object changes nothing: the terminal's sounds are not in its store
 abbrev pub without_object : ObjectMap → Command → Result ObjectMap ℕ
-without_object store (SetVolume volume) = if_passed (nat_le volume 100) (bit 4) store
+without_object store (SetVolume volume) = if_passed (nat_le volume 100) errors.OTHER store
 without_object store command = Ok store
 
 abbrev pub changed_for : ObjectMap → Command → Option Kind → Option ℕ → Result ObjectMap ℕ
@@ -109,8 +110,8 @@ keeps_order store command new = true
 
 -- the error byte for a value that breaks the order
 abbrev pub value_error : Command → ℕ
-value_error (ChangeNumericValue id value) = bit 1
-value_error _ = bit 2
+value_error (ChangeNumericValue id value) = errors.VALUE
+value_error _ = errors.ITEM
 
 abbrev pub in_order : ObjectMap → Command → Result ObjectMap ℕ → Result ObjectMap ℕ
 in_order store command (Err error) = Err error

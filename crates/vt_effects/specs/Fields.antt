@@ -1,7 +1,8 @@
--- The writes of Change Attribute: in an object of each kind, the lowest bytes of a value in one field (docs/PROFILE.md,
--- "Attribute numbers").
+-- What commands write: in an object of each kind the field of a name, with the lowest bytes of a value
+-- (docs/PROFILE.md, "Attribute numbers").
 use Rattle.std.specs.Prelude.{ℕ, ◌%◌, nat_le, if◌then◌else◌, List, Option, Some, None}
 use Rattle.std.specs.Int.{w32, cast_signed}
+use Rattle.std.specs.List.{fold}
 use Rattle.vt_kinds.specs.declared.fields.Field.{Field}
 use Rattle.vt_kinds.specs.declared.fields.Field.TheVariants as fields
 use Rattle.vt_kinds.specs.declared.scale.Scale.{Scale}
@@ -296,3 +297,7 @@ with_field field n (objects.FillAttributes o) = objects.FillAttributes (fill_att
 with_field field n (objects.InputAttributes o) = objects.InputAttributes (input_attributes_with field n o)
 with_field field n (objects.ObjectPointer o) = objects.ObjectPointer (object_pointer_with field n o)
 with_field field n o = o
+
+-- an object with other values of some fields, written one after the other
+abbrev pub with_fields : List (Field × ℕ) → Seen → Seen
+with_fields values o = fold (λ object entry. with_field entry.0 entry.1 object) o values

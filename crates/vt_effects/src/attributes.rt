@@ -1,4 +1,4 @@
-//! The writes of Change Attribute.
+//! The fields of objects, as commands write them.
 
 ghost use Rattle.std.specs.Prelude.{◌≡◌};
 ghost use Rattle.vt_kinds.specs.Records.{seen};

@@ -4,25 +4,24 @@ ghost use Rattle.std.specs.Prelude.{◌≡◌};
 ghost use Rattle.vt_kinds.specs.Records.{seen};
 ghost use Rattle.vt_effects.specs.Changes.{HasResult, left, changed};
 
-mod attribute_objects;
 mod attributes;
 mod children;
-mod masks;
-mod sizes;
+mod fields;
+mod references;
 mod states;
 mod texts;
 mod values;
 
-use attribute_objects::{change_fill_attributes, change_font, change_line_attributes};
+use crate::error;
 use attributes::{change_attribute, execute_macro};
 use children::{change_location, change_position};
-use masks::{change_active_mask, change_priority, change_soft_key_mask};
-use sizes::{change_colour, change_end_point, change_size};
+use fields::{write_fields, write_fields_if};
+use references::{change_active_mask, change_fill_attributes, change_soft_key_mask};
 use states::{enable_disable, hide_show};
 use texts::change_text;
 use values::{change_item, change_value};
 use vt_commands::Command;
-use vt_kinds::{Child, Kind, Object};
+use vt_kinds::{Child, Field, Kind, Kinds, Object};
 
 /// Does a command on its object. `named` is the kind of the command's other object, or `None` if that object is missing.
 /// A refusal is the error byte of the command's reply, with the bit of the first test that fails, and leaves the object
@@ -41,28 +40,68 @@ pub fn change(
         Command::ChangeChildLocation { child, dx, dy, .. } => {
             change_location(object, named, child, dx, dy)
         }
-        Command::ChangeSize { width, height, .. } => change_size(object, width, height),
-        Command::ChangeBackgroundColour { colour, .. } => change_colour(object, colour),
+        Command::ChangeSize { width, height, .. } => write_fields(
+            object,
+            Kinds::Sized,
+            &[
+                (Field::Width, u32::from(width)),
+                (Field::Height, u32::from(height)),
+            ],
+        ),
+        Command::ChangeBackgroundColour { colour, .. } => {
+            write_fields(
+                object,
+                Kinds::Coloured,
+                &[(Field::Colour, u32::from(colour))],
+            )
+        }
         Command::ChangeNumericValue { value, .. } => change_value(object, named, value),
         Command::ChangeEndPoint {
             width,
             height,
             direction,
             ..
-        } => change_end_point(object, width, height, direction),
+        } => write_fields_if(
+            object,
+            Kinds::Lines,
+            direction <= 1,
+            error::VALUE,
+            &[
+                (Field::Width, u32::from(width)),
+                (Field::Height, u32::from(height)),
+                (Field::Direction, u32::from(direction)),
+            ],
+        ),
         Command::ChangeFontAttributes {
             colour,
             size,
             font_type,
             style,
             ..
-        } => change_font(object, colour, size, font_type, style),
+        } => write_fields(
+            object,
+            Kinds::Fonts,
+            &[
+                (Field::Colour, u32::from(colour)),
+                (Field::Size, u32::from(size)),
+                (Field::Type, u32::from(font_type)),
+                (Field::Style, u32::from(style)),
+            ],
+        ),
         Command::ChangeLineAttributes {
             colour,
             width,
             line_art,
             ..
-        } => change_line_attributes(object, colour, width, line_art),
+        } => write_fields(
+            object,
+            Kinds::LineAttributes,
+            &[
+                (Field::Colour, u32::from(colour)),
+                (Field::Width, u32::from(width)),
+                (Field::LineArt, u32::from(line_art)),
+            ],
+        ),
         Command::ChangeFillAttributes {
             fill_type,
             colour,
@@ -78,7 +117,13 @@ pub fn change(
         Command::ChangeAttribute { number, value, .. } => {
             change_attribute(object, named, number, value)
         }
-        Command::ChangePriority { priority, .. } => change_priority(object, priority),
+        Command::ChangePriority { priority, .. } => write_fields_if(
+            object,
+            Kinds::AlarmMasks,
+            priority <= 2,
+            error::VALUE,
+            &[(Field::Priority, u32::from(priority))],
+        ),
         Command::ChangeListItem { index, item, .. } => change_item(object, named, index, item),
         Command::ChangeStringValue {
             length,

@@ -7,6 +7,7 @@ ghost use Rattle.vt_effects.specs.Effects as effects;
 ghost use Rattle.vt_effects.specs.Effects.{changed_by, changed_in};
 
 use crate::changes::change;
+use crate::error;
 use vt_commands::Command;
 use vt_kinds::{Kind, ObjectId};
 use vt_stores::Store;
@@ -33,7 +34,7 @@ fn without_object(command: &Command<'_>) -> Result<(), u8>
     ensures { (store : ObjectMap) → HasResult result (effects.without_object store command.now) }
 {
     match *command {
-        Command::SetVolume { volume } if volume > 100 => Err(1 << 4),
+        Command::SetVolume { volume } if volume > 100 => Err(error::OTHER),
         _ => Ok(()),
     }
 }
@@ -61,7 +62,7 @@ fn missing_error(command: &Command<'_>) -> u8
     match command {
         Command::HideShow { .. }
         | Command::EnableDisable { .. }
-        | Command::ChangeStringValue { .. } => 1 << 1,
-        _ => 1 << 0,
+        | Command::ChangeStringValue { .. } => error::OBJECT_ID,
+        _ => error::OBJECT,
     }
 }

@@ -10,6 +10,7 @@ ghost use Rattle.vt_effects.specs.Replacements as replacements;
 ghost use Rattle.vt_effects.specs.Soundness.{IsSound};
 
 use crate::effects::change_in;
+use crate::error;
 use crate::numbers::id;
 use crate::pointers::places_allow;
 use crate::references::is_one_of;
@@ -159,7 +160,7 @@ fn value_error(command: &Command<'_>) -> u8
     ensures { result ≡ effects.value_error command.now }
 {
     match command {
-        Command::ChangeNumericValue { .. } => 1 << 1,
-        _ => 1 << 2,
+        Command::ChangeNumericValue { .. } => error::VALUE,
+        _ => error::ITEM,
     }
 }

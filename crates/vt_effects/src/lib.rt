@@ -10,6 +10,7 @@
 mod attributes;
 mod changes;
 mod effects;
+mod error;
 mod execution;
 pub mod laws;
 mod numbers;

@@ -27,7 +27,7 @@ impl Entry for Child {
 
     ghost numbers = { child_numbers };
 
-    #[tactic(auto, unfolding(crate::specs::Reading::row_at))]
+    #[tactic(auto, unfolding(crate::specs::TableReads::row_at))]
     fn read(reader: &mut Reader<'_>) -> Result<Child, RecordFault> {
         reader.need(6)?;
         let id = reader.id();
@@ -42,7 +42,7 @@ impl Entry for MacroEntry {
 
     ghost numbers = { macro_numbers };
 
-    #[tactic(auto, unfolding(crate::specs::Reading::row_at))]
+    #[tactic(auto, unfolding(crate::specs::TableReads::row_at))]
     fn read(reader: &mut Reader<'_>) -> Result<MacroEntry, RecordFault> {
         reader.need(2)?;
         let event = reader.u8();
@@ -56,7 +56,7 @@ impl Entry for Language {
 
     ghost numbers = { language_numbers };
 
-    #[tactic(auto, unfolding(crate::specs::Reading::row_at))]
+    #[tactic(auto, unfolding(crate::specs::TableReads::row_at))]
     fn read(reader: &mut Reader<'_>) -> Result<Language, RecordFault> {
         reader.need(2)?;
         let first = reader.u8();
@@ -70,7 +70,7 @@ impl Entry for ObjectId {
 
     ghost numbers = { id_numbers };
 
-    #[tactic(auto, unfolding(crate::specs::Reading::row_at))]
+    #[tactic(auto, unfolding(crate::specs::TableReads::row_at))]
     fn read(reader: &mut Reader<'_>) -> Result<ObjectId, RecordFault> {
         reader.need(2)?;
         Ok(reader.id())
@@ -82,7 +82,7 @@ impl Entry for Point {
 
     ghost numbers = { point_numbers };
 
-    #[tactic(auto, unfolding(crate::specs::Reading::row_at))]
+    #[tactic(auto, unfolding(crate::specs::TableReads::row_at))]
     fn read(reader: &mut Reader<'_>) -> Result<Point, RecordFault> {
         reader.need(4)?;
         let x = reader.u16();

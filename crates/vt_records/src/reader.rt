@@ -51,7 +51,7 @@ impl<'a> Reader<'a> {
         Ok(())
     }
 
-    #[tactic(auto, unfolding(crate::specs::Reading::number_at))]
+    #[tactic(auto, unfolding(crate::specs::TableReads::number_at))]
     pub fn u8(&mut self) -> u8
         requires { 1 ≤ length self.old }
         ensures read { number_at 1 self.old ≡ Some (result, self.new) }
@@ -61,7 +61,7 @@ impl<'a> Reader<'a> {
     }
 
     /// Reads one byte, or fails if none remains.
-    #[tactic(auto, unfolding(crate::specs::Reading::number_at))]
+    #[tactic(auto, unfolding(crate::specs::TableReads::number_at))]
     pub fn try_u8(&mut self) -> Result<u8, RecordFault>
         ensures { Finds (λ x. (x, self.new)) result (number_at 1 self.old) }
     {
@@ -69,7 +69,7 @@ impl<'a> Reader<'a> {
         Ok(front[0])
     }
 
-    #[tactic(auto, unfolding(crate::specs::Reading::number_at))]
+    #[tactic(auto, unfolding(crate::specs::TableReads::number_at))]
     pub fn u16(&mut self) -> u16
         requires { 2 ≤ length self.old }
         ensures read { number_at 2 self.old ≡ Some (result, self.new) }
@@ -78,7 +78,7 @@ impl<'a> Reader<'a> {
         LittleEndian::read_u16(self.front(2))
     }
 
-    #[tactic(auto, unfolding(crate::specs::Reading::number_at))]
+    #[tactic(auto, unfolding(crate::specs::TableReads::number_at))]
     pub fn u32(&mut self) -> u32
         requires { 4 ≤ length self.old }
         ensures read { number_at 4 self.old ≡ Some (result, self.new) }
@@ -95,7 +95,7 @@ impl<'a> Reader<'a> {
         ObjectId::from_raw(self.u16())
     }
 
-    #[tactic(auto, unfolding(crate::specs::Reading::signed_at))]
+    #[tactic(auto, unfolding(crate::specs::TableReads::signed_at))]
     pub fn i16(&mut self) -> i16
         requires { 2 ≤ length self.old }
         ensures read { signed_at w16 self.old ≡ Some (result, self.new) }
@@ -104,7 +104,7 @@ impl<'a> Reader<'a> {
         self.u16().cast_signed()
     }
 
-    #[tactic(auto, unfolding(crate::specs::Reading::signed_at))]
+    #[tactic(auto, unfolding(crate::specs::TableReads::signed_at))]
     pub fn i32(&mut self) -> i32
         requires { 4 ≤ length self.old }
         ensures read { signed_at w32 self.old ≡ Some (result, self.new) }
@@ -114,7 +114,7 @@ impl<'a> Reader<'a> {
     }
 
     /// Reads four bytes.
-    #[tactic(auto, unfolding(crate::specs::Reading::number_at))]
+    #[tactic(auto, unfolding(crate::specs::TableReads::number_at))]
     pub fn four_bytes(&mut self) -> [u8; 4]
         requires { 4 ≤ length self.old }
         ensures read { number_at 4 self.old ≡ Some (little_number 4 result, self.new) }
@@ -125,7 +125,7 @@ impl<'a> Reader<'a> {
     }
 
     /// Splits `count` bytes off the front; so many must remain.
-    #[tactic(auto, unfolding(crate::specs::Reading::bytes_at))]
+    #[tactic(auto, unfolding(crate::specs::TableReads::bytes_at))]
     fn front(&mut self, count: usize) -> &'a [u8]
         requires { count ≤ length self.old }
         ensures read { bytes_at count self.old ≡ Some (result.now, self.new) }
@@ -137,7 +137,7 @@ impl<'a> Reader<'a> {
         front
     }
 
-    #[tactic(auto, unfolding(crate::specs::Reading::bytes_at))]
+    #[tactic(auto, unfolding(crate::specs::TableReads::bytes_at))]
     pub fn bytes(&mut self, count: usize) -> Result<&'a [u8], RecordFault>
         ensures read { Finds (λ x. (x.now, self.new)) result (bytes_at count self.old) }
         ensures len { IfOk result (λ x. length x.now ≡ count) }

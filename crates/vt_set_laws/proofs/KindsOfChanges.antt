@@ -14,7 +14,8 @@ use Rattle.vt_commands.specs.declared.command.Command.{Command}
 use Rattle.vt_commands.specs.declared.command.Command.TheVariants.{HideShow, EnableDisable, ControlAudio, SetVolume, ChangeChildLocation, ChangeSize, ChangeBackgroundColour, ChangeNumericValue, ChangeEndPoint, ChangeFontAttributes, ChangeLineAttributes, ChangeFillAttributes, ChangeActiveMask, ChangeSoftKeyMask, ChangeAttribute, ChangePriority, ChangeListItem, DeletePool, ChangeStringValue, ChangeChildPosition, ExecuteMacro}
 use Rattle.vt_commands.specs.declared.target.Target.{Target}
 use Rattle.vt_commands.specs.Targets.{object_of, targets}
-use Rattle.vt_effects.specs.Changes.{bit, if_passed, stands_in, shifted, move_child, for_child, change_location, change_position, put_children, in_parent, hide_show, enable_disable, change_size, change_colour, change_value, change_end_point, change_font, change_line_attributes, change_fill_attributes, change_active_mask, change_soft_key_mask, put_attribute, change_attribute, change_priority, change_item, change_text, execute_macro, changed}
+use Rattle.vt_effects.specs.Changes.{if_passed, stands_in, shifted, move_child, for_child, change_location, change_position, put_children, in_parent, hide_show, enable_disable, for_kinds, change_value, change_fill_attributes, change_active_mask, change_soft_key_mask, put_attribute, change_attribute, change_item, change_text, execute_macro, changed}
+use Rattle.vt_effects.specs.Errors.{bit}
 use Rattle.vt_set_laws.specs.CommandKinds.{kind_error, children_in, lacks, mask_type, has_other_cause, first_id, KindsAreThoseOfChanges}
 
 -- A change of an object of another kind is the error, and of an object of these kinds only for another cause.
@@ -59,7 +60,21 @@ tested_both : (kinds : Kinds) (error : ℕ) (cause : Bool) (o : Seen) (first : B
 tested_both kinds error cause o true other_error test fails new among differ of = tested kinds error cause o test fails new among differ
 tested_both kinds error cause o false other_error test fails new among differ of = one_of kinds error cause o (Err other_error) among (λ is. of refl (ap error_of is))
 
+of_kinds : (kinds : Kinds) (o : Seen) (made : Result Seen ℕ) → (◌≡◌ {A = Result Seen ℕ} made (Err (bit 0)) → ⊥)
+    → IsDecided kinds (bit 0) false o (for_kinds kinds o made)
+of_kinds kinds o made never = by (is_member kinds (kind_of o)) refl
+  where
+    by : (b : Bool) → is_member kinds (kind_of o) ≡ b → IsDecided kinds (bit 0) false o (cond b made (Err (bit 0)))
+    by true among = one_of _ _ _ o made among (λ is. absurd (never is))
+    by false among = other _ _ _ o among
+
 -- ---- the changes of each command
+
+writes : (kinds : Kinds) (o new : Seen) → IsDecided kinds (bit 0) false o (for_kinds kinds o (Ok new))
+writes kinds o new = of_kinds kinds o (Ok new) (λ is. absurd cc)
+
+writes_if : (kinds : Kinds) (test : Bool) (o new : Seen) → IsDecided kinds (bit 0) false o (for_kinds kinds o (if_passed test (bit 1) new))
+writes_if kinds test o new = of_kinds kinds o (if_passed test (bit 1) new) (if_differs test (bit 1) (bit 0) new refl)
 
 hides : (state : ℕ) (o : Seen) → IsDecided sets.Containers (bit 1) false o (hide_show state o)
 hides state (objects.Container c) = tested _ _ _ (objects.Container c) _ _ _ refl refl
@@ -118,38 +133,6 @@ moves_to : (named : Option Kind) (child : ℕ) (x y : ℤ) (o : Seen)
     → IsDecided sets.Parents (bit 0) (lacks (children_in o) child) o (in_parent (change_position named child x y) o)
 moves_to named child x y o = moves (change_position named child x y) child o (λ children is. not_standing child named children _ (λ e. absurd cc) is)
 
-sizes : (w h : ℕ) (o : Seen) → IsDecided sets.Sized (bit 0) false o (change_size w h o)
-sizes w h (objects.Container c) = done _ _ _ (objects.Container c) _ refl
-sizes w h (objects.Button c) = done _ _ _ (objects.Button c) _ refl
-sizes w h (objects.InputBoolean c) = done _ _ _ (objects.InputBoolean c) _ refl
-sizes w h (objects.InputString c) = done _ _ _ (objects.InputString c) _ refl
-sizes w h (objects.InputNumber c) = done _ _ _ (objects.InputNumber c) _ refl
-sizes w h (objects.InputList c) = done _ _ _ (objects.InputList c) _ refl
-sizes w h (objects.OutputString c) = done _ _ _ (objects.OutputString c) _ refl
-sizes w h (objects.OutputNumber c) = done _ _ _ (objects.OutputNumber c) _ refl
-sizes w h (objects.Rectangle c) = done _ _ _ (objects.Rectangle c) _ refl
-sizes w h (objects.Ellipse c) = done _ _ _ (objects.Ellipse c) _ refl
-sizes w h (objects.Polygon c) = done _ _ _ (objects.Polygon c) _ refl
-sizes w h (objects.Meter c) = done _ _ _ (objects.Meter c) _ refl
-sizes w h (objects.LinearBar c) = done _ _ _ (objects.LinearBar c) _ refl
-sizes w h (objects.ArchedBar c) = done _ _ _ (objects.ArchedBar c) _ refl
-sizes w h (objects.Picture c) = done _ _ _ (objects.Picture c) _ refl
-sizes w h o = other _ _ _ o refl
-
-colours : (colour : ℕ) (o : Seen) → IsDecided sets.Coloured (bit 0) false o (change_colour colour o)
-colours colour (objects.WorkingSet c) = done _ _ _ (objects.WorkingSet c) _ refl
-colours colour (objects.DataMask c) = done _ _ _ (objects.DataMask c) _ refl
-colours colour (objects.AlarmMask c) = done _ _ _ (objects.AlarmMask c) _ refl
-colours colour (objects.SoftKeyMask c) = done _ _ _ (objects.SoftKeyMask c) _ refl
-colours colour (objects.Key c) = done _ _ _ (objects.Key c) _ refl
-colours colour (objects.Button c) = done _ _ _ (objects.Button c) _ refl
-colours colour (objects.InputBoolean c) = done _ _ _ (objects.InputBoolean c) _ refl
-colours colour (objects.InputString c) = done _ _ _ (objects.InputString c) _ refl
-colours colour (objects.InputNumber c) = done _ _ _ (objects.InputNumber c) _ refl
-colours colour (objects.OutputString c) = done _ _ _ (objects.OutputString c) _ refl
-colours colour (objects.OutputNumber c) = done _ _ _ (objects.OutputNumber c) _ refl
-colours colour o = other _ _ _ o refl
-
 values : (named : Option Kind) (n : ℕ) (o : Seen) → IsDecided sets.Numeric (bit 0) false o (change_value named n o)
 values named n (objects.InputBoolean c) = tested _ _ _ (objects.InputBoolean c) _ _ _ refl refl
 values named n (objects.InputNumber c) = tested _ _ _ (objects.InputNumber c) _ _ _ refl refl
@@ -161,18 +144,6 @@ values named n (objects.ArchedBar c) = done _ _ _ (objects.ArchedBar c) _ refl
 values named n (objects.NumberVariable c) = done _ _ _ (objects.NumberVariable c) _ refl
 values named n (objects.ObjectPointer c) = tested _ _ _ (objects.ObjectPointer c) _ _ _ refl refl
 values named n o = other _ _ _ o refl
-
-end_points : (w h direction : ℕ) (o : Seen) → IsDecided sets.Lines (bit 0) false o (change_end_point w h direction o)
-end_points w h direction (objects.Line c) = tested _ _ _ (objects.Line c) _ _ _ refl refl
-end_points w h direction o = other _ _ _ o refl
-
-fonts : (colour size type style : ℕ) (o : Seen) → IsDecided sets.Fonts (bit 0) false o (change_font colour size type style o)
-fonts colour size type style (objects.Font c) = done _ _ _ (objects.Font c) _ refl
-fonts colour size type style o = other _ _ _ o refl
-
-line_attributes : (colour width art : ℕ) (o : Seen) → IsDecided sets.LineAttributes (bit 0) false o (change_line_attributes colour width art o)
-line_attributes colour width art (objects.LineAttributes c) = done _ _ _ (objects.LineAttributes c) _ refl
-line_attributes colour width art o = other _ _ _ o refl
 
 fill_attributes : (named : Option Kind) (type colour pattern : ℕ) (o : Seen)
     → IsDecided sets.FillAttributes (bit 0) false o (change_fill_attributes named type colour pattern o)
@@ -194,19 +165,8 @@ attribute_put : (attribute : Option Attribute) (named : Option Kind) (n : ℕ) (
 attribute_put None named n o is = differs (bit 1) (bit 0) refl is
 attribute_put (Some attribute) named n o is = if_differs _ (bit 2) (bit 0) _ refl is
 
-attributes_by : (b : Bool) (o : Seen) (made : Result Seen ℕ) → is_member sets.WithAttributes (kind_of o) ≡ b → (◌≡◌ {A = Result Seen ℕ} made (Err (bit 0)) → ⊥)
-    → IsDecided sets.WithAttributes (bit 0) false o (cond b made (Err (bit 0)))
-attributes_by true o made among never = one_of _ _ _ o made among (λ is. absurd (never is))
-attributes_by false o made among never = other _ _ _ o among
-
 attributes : (named : Option Kind) (number n : ℕ) (o : Seen) → IsDecided sets.WithAttributes (bit 0) false o (change_attribute named number n o)
-attributes named number n o =
-    attributes_by (is_member sets.WithAttributes (kind_of o)) o (put_attribute (attribute_at (kind_of o) number) named n o) refl
-    (attribute_put (attribute_at (kind_of o) number) named n o)
-
-priorities : (priority : ℕ) (o : Seen) → IsDecided sets.AlarmMasks (bit 0) false o (change_priority priority o)
-priorities priority (objects.AlarmMask c) = tested _ _ _ (objects.AlarmMask c) _ _ _ refl refl
-priorities priority o = other _ _ _ o refl
+attributes named number n o = of_kinds sets.WithAttributes o _ (λ is. attribute_put (attribute_at (kind_of o) number) named n o is)
 
 items : (named : Option Kind) (index item : ℕ) (o : Seen) → IsDecided sets.InputLists (bit 0) false o (change_item named index item o)
 items named index item (objects.InputList c) = tested_both _ _ _ (objects.InputList c) _ _ _ _ _ refl refl (λ _ is. absurd (omega (arith, is)))
@@ -243,15 +203,15 @@ decides (ControlAudio count frequency on off) named o t ts is = absurd cc
 decides (SetVolume volume) named o t ts is = absurd cc
 decides (ChangeChildLocation parent child dx dy) named o t ts is =
     by_first (IsRefusedBy (ChangeChildLocation parent child dx dy) named o) _ t _ ts is (moves_by named child dx dy o)
-decides (ChangeSize id width height) named o t ts is = by_first (IsRefusedBy (ChangeSize id width height) named o) _ t _ ts is (sizes width height o)
-decides (ChangeBackgroundColour id colour) named o t ts is = by_first (IsRefusedBy (ChangeBackgroundColour id colour) named o) _ t _ ts is (colours colour o)
+decides (ChangeSize id width height) named o t ts is = by_first (IsRefusedBy (ChangeSize id width height) named o) _ t _ ts is (writes sets.Sized o _)
+decides (ChangeBackgroundColour id colour) named o t ts is = by_first (IsRefusedBy (ChangeBackgroundColour id colour) named o) _ t _ ts is (writes sets.Coloured o _)
 decides (ChangeNumericValue id value) named o t ts is = by_first (IsRefusedBy (ChangeNumericValue id value) named o) _ t _ ts is (values named value o)
 decides (ChangeEndPoint id width height direction) named o t ts is =
-    by_first (IsRefusedBy (ChangeEndPoint id width height direction) named o) _ t _ ts is (end_points width height direction o)
+    by_first (IsRefusedBy (ChangeEndPoint id width height direction) named o) _ t _ ts is (writes_if sets.Lines _ o _)
 decides (ChangeFontAttributes id colour size type style) named o t ts is =
-    by_first (IsRefusedBy (ChangeFontAttributes id colour size type style) named o) _ t _ ts is (fonts colour size type style o)
+    by_first (IsRefusedBy (ChangeFontAttributes id colour size type style) named o) _ t _ ts is (writes sets.Fonts o _)
 decides (ChangeLineAttributes id colour width art) named o t ts is =
-    by_first (IsRefusedBy (ChangeLineAttributes id colour width art) named o) _ t _ ts is (line_attributes colour width art o)
+    by_first (IsRefusedBy (ChangeLineAttributes id colour width art) named o) _ t _ ts is (writes sets.LineAttributes o _)
 decides (ChangeFillAttributes id type colour pattern) named o t ts is =
     by_first (IsRefusedBy (ChangeFillAttributes id type colour pattern) named o) _ t _ ts is (fill_attributes named type colour pattern o)
 decides (ChangeActiveMask set mask) named o t ts is = by_first (IsRefusedBy (ChangeActiveMask set mask) named o) _ t _ ts is (active_masks named mask o)
@@ -259,7 +219,7 @@ decides (ChangeSoftKeyMask type mask keys) named o t ts is =
     by_first (IsRefusedBy (ChangeSoftKeyMask type mask keys) named o) _ t _ ts is (soft_key_masks named type keys o)
 decides (ChangeAttribute id number value) named o t ts is =
     by_first (IsRefusedBy (ChangeAttribute id number value) named o) _ t _ ts is (attributes named number value o)
-decides (ChangePriority id priority) named o t ts is = by_first (IsRefusedBy (ChangePriority id priority) named o) _ t _ ts is (priorities priority o)
+decides (ChangePriority id priority) named o t ts is = by_first (IsRefusedBy (ChangePriority id priority) named o) _ t _ ts is (writes_if sets.AlarmMasks _ o _)
 decides (ChangeListItem id index item) named o t ts is = by_first (IsRefusedBy (ChangeListItem id index item) named o) _ t _ ts is (items named index item o)
 decides DeletePool named o t ts is = absurd cc
 decides (ChangeStringValue id count text) named o t ts is = by_first (IsRefusedBy (ChangeStringValue id count text) named o) _ t _ ts is (texts count text o)

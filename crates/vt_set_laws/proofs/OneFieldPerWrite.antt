@@ -22,7 +22,8 @@ use Rattle.vt_stores.specs.Shapes.{Fixed, fixed}
 use Rattle.vt_objects.specs.AttributeFields.{IsField, IsNamed, field_of, written}
 use Rattle.vt_effects.specs.Fields.{or_scale, scale_of, decimals_of, with_field}
 use Rattle.vt_effects.specs.Fields as effects
-use Rattle.vt_effects.specs.Changes.{ChangesKeep, bit, if_passed, left, takes, put_attribute, change_attribute}
+use Rattle.vt_effects.specs.Changes.{ChangesKeep, if_passed, left, takes, put_attribute, change_attribute}
+use Rattle.vt_effects.specs.Errors.{bit}
 use Rattle.vt_set_laws.specs.AttributeWrites.{AttributesAreWritten}
 
 -- ---- values

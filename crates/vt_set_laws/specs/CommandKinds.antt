@@ -10,7 +10,8 @@ use Rattle.vt_commands.specs.declared.command.Command.{Command}
 use Rattle.vt_commands.specs.declared.command.Command.TheVariants.{HideShow, EnableDisable, ChangeChildLocation, ChangeSoftKeyMask, ChangeStringValue, ChangeChildPosition, ExecuteMacro}
 use Rattle.vt_commands.specs.declared.target.Target.{Target}
 use Rattle.vt_commands.specs.Targets.{object_of, targets}
-use Rattle.vt_effects.specs.Changes.{bit, changed, stands_in}
+use Rattle.vt_effects.specs.Changes.{changed, stands_in}
+use Rattle.vt_effects.specs.Errors.{bit}
 
 -- the error byte for an object of a kind that the command cannot change
 abbrev pub kind_error : Command → ℕ

@@ -19,7 +19,7 @@ use Rattle.vt_kinds.specs.Ids.{null_id}
 use Rattle.vt_kinds.specs.Records.{Seen}
 use Rattle.vt_kinds.specs.References.{listed, slot}
 use Rattle.vt_stores.specs.Stores.{ObjectMap, IsPlace}
-use Rattle.vt_chains.specs.Depths.{IsAt, IsBelow, ids_of, inclusions_of}
+use Rattle.vt_chains.specs.Depths.{IsIdAt, IsBelow, ids_of, inclusions_of}
 use Rattle.vt_chains.specs.Inclusions.{is_inclusion, includes, included_by}
 use Rattle.vt_chains.proofs.InclusionsInStore.{stands}
 use Rattle.vt_chains.proofs.Elements.{Contains-nil, Contains-head, Contains-tail, cons_case}
@@ -108,7 +108,7 @@ marks_one m name id place marks long is element at =
           subst (IsMarked m (set marks place true)) (same_Some id other (sym is ∙ stands)) (record { place = place; there = there; set = get_or-set_same marks place true false lt });
       only = λ other now. elim (cases_eq now.place place) as (λ _. IsMarked m marks other ⊎ IsNamed m (name ∷ []) other) [
         | inl same ↦ inr (
-            let same_one : id ≡ other = same_id (ids_of m) place id other there (subst (λ (p : ℕ). IsAt (ids_of m) p other) same now.there) in
+            let same_one : id ≡ other = same_id (ids_of m) place id other there (subst (λ (p : ℕ). IsIdAt (ids_of m) p other) same now.there) in
             subst (IsNamed m (name ∷ [])) same_one (record { name = name; among = Contains-head name []; stands = is; element = element }))
         | inr differs ↦ inl (record { place = now.place; there = now.there; set = sym (get_or-set_other marks place now.place true false differs) ∙ now.set })
       ];
@@ -217,7 +217,7 @@ pub included_at : (m : ObjectMap) (id other : ℕ) → Contains (included_by (fi
 included_at m id other h = subst (λ (o : Option Seen). Contains (included_by o) other) (finite.get-entries m id) h
 
 pub named_falls : (m : ObjectMap) (levels : List ℕ) (place id other : ℕ) → IsCertificate (ids_of m) (inclusions_of m) levels → finite.get m null_id ≡ None
-    → IsAt (ids_of m) place id → IsNamed m (drawn_in m (finite.get m id)) other → IsBelow (ids_of m) levels other (slice_index levels place)
+    → IsIdAt (ids_of m) place id → IsNamed m (drawn_in m (finite.get m id)) other → IsBelow (ids_of m) levels other (slice_index levels place)
 named_falls m levels place id other certificate null stands named =
     let name = named.name in
     let lower = certificate.falls place id stands name
@@ -247,7 +247,7 @@ null_nowhere m named = from (finite.get m null_id) refl
 -- the drawings of the marked objects of a level with lesser indices are marked as well
 pub record ArePassed (m : ObjectMap) (levels : List ℕ) (mask level place : ℕ) (marks : List Bool) : Type 0 where
   pub marked : AreMarked m levels mask (level + 1) marks
-  pub passed : (at id : ℕ) → IsAt (ids_of m) at id → at < place → slice_index_or marks at false ≡ true → slice_index levels at ≡ level
+  pub passed : (at id : ℕ) → IsIdAt (ids_of m) at id → at < place → slice_index_or marks at false ≡ true → slice_index levels at ≡ level
       → (other : ℕ) → IsNamed m (drawn_in m (finite.get m id)) other → IsMarked m marks other
 
 pub pass_begins : (m : ObjectMap) (levels : List ℕ) (mask level : ℕ) (marks : List Bool) → AreMarked m levels mask (level + 1) marks → ArePassed m levels mask level 0 marks
@@ -279,7 +279,7 @@ pass_ends m levels mask level place marks end are = record {
 
 -- marking an object's drawing leaves the marks of its level and of greater levels unchanged
 still_set : (m : ObjectMap) (levels : List ℕ) (place id : ℕ) (marks new : List Bool) → IsCertificate (ids_of m) (inclusions_of m) levels → finite.get m null_id ≡ None
-    → IsAt (ids_of m) place id → Marks m (drawn_in m (finite.get m id)) marks new → (at other : ℕ) → IsAt (ids_of m) at other
+    → IsIdAt (ids_of m) place id → Marks m (drawn_in m (finite.get m id)) marks new → (at other : ℕ) → IsIdAt (ids_of m) at other
     → slice_index_or new at false ≡ true → slice_index levels place ≤ slice_index levels at → slice_index_or marks at false ≡ true
 still_set m levels place id marks new certificate null stands draws at other there set le =
     elim (draws.only other (record { place = at; there = there; set = set })) as (λ _. slice_index_or marks at false ≡ true) [
@@ -292,7 +292,7 @@ still_set m levels place id marks new certificate null stands draws at other the
     ]
 
 pub pass_more : (m : ObjectMap) (levels : List ℕ) (mask level place id : ℕ) (marks new : List Bool) → IsCertificate (ids_of m) (inclusions_of m) levels
-    → finite.get m null_id ≡ None → IsAt (ids_of m) place id → slice_index_or marks place false ≡ true → slice_index levels place ≡ level
+    → finite.get m null_id ≡ None → IsIdAt (ids_of m) place id → slice_index_or marks place false ≡ true → slice_index levels place ≡ level
     → Marks m (drawn_in m (finite.get m id)) marks new → ArePassed m levels mask level place marks → ArePassed m levels mask level (place + 1) new
 pass_more m levels mask level place id marks new certificate null stands set is draws are = record {
   marked = record {
@@ -308,13 +308,13 @@ pass_more m levels mask level place id marks new certificate null stands set is 
   };
   passed = λ at x there lt now level_is other named. elim (cases_eq at place) as (λ _. IsMarked m new other) [
     | inl same ↦
-        let same_one : x ≡ id = same_id (ids_of m) place x id (subst (λ (p : ℕ). IsAt (ids_of m) p x) same there) stands in
+        let same_one : x ≡ id = same_id (ids_of m) place x id (subst (λ (p : ℕ). IsIdAt (ids_of m) p x) same there) stands in
         draws.added other (subst (λ (k : ℕ). IsNamed m (drawn_in m (finite.get m k)) other) same_one named)
     | inr differs ↦ draws.kept other (are.passed at x there (omega (arith, lt, differs)) (was at x there now (omega (arith, level_is, is))) level_is other named)
   ];
 }
   where
-    was : (at other : ℕ) → IsAt (ids_of m) at other → slice_index_or new at false ≡ true → slice_index levels place ≤ slice_index levels at → slice_index_or marks at false ≡ true
+    was : (at other : ℕ) → IsIdAt (ids_of m) at other → slice_index_or new at false ≡ true → slice_index levels place ≤ slice_index levels at → slice_index_or marks at false ≡ true
     was = still_set m levels place id marks new certificate null stands draws
 
 -- ---- the first and the last marks
@@ -364,11 +364,11 @@ hidden_by_mark m levels mask id place marks are at clear shown =
 
 -- ---- the indices of objects
 
-pub placed_is : (m : ObjectMap) (place id other : ℕ) (o : Seen) → slice_get (finite.entries m) place ≡ Some (other, o) → IsAt (ids_of m) place id → finite.get m id ≡ Some o
+pub placed_is : (m : ObjectMap) (place id other : ℕ) (o : Seen) → slice_get (finite.entries m) place ≡ Some (other, o) → IsIdAt (ids_of m) place id → finite.get m id ≡ Some o
 placed_is m place id other o at there =
     subst (λ (k : ℕ). finite.get m k ≡ Some o) (same_id (ids_of m) place other id (stands_of (finite.entries m) place other o at) there) (get_placed m place other o at)
 
-pub never_past : (m : ObjectMap) (place id : ℕ) → slice_get (finite.entries m) place ≡ None → IsAt (ids_of m) place id → ⊥
+pub never_past : (m : ObjectMap) (place id : ℕ) → slice_get (finite.entries m) place ≡ None → IsIdAt (ids_of m) place id → ⊥
 never_past m place id none there = let at = object_of (finite.entries m) place id there in let never = sym none ∙ at.1 in absurd cc
 
 pub cleared : (n : ℕ) (marks : List Bool) → marks ≡ replicate n false → (at : ℕ) → slice_index_or marks at false ≡ false

@@ -2,13 +2,13 @@
 use Rattle.std.specs.Prelude.{◌≡◌, ◌≤◌, ◌⊎◌, ℕ, Bool, true, false, List, [], ◌∷◌, length, slice_index, slice_index_or}
 use Rattle.std.specs.FinMap as finite
 use Rattle.vt_stores.specs.Stores.{ObjectMap}
-use Rattle.vt_chains.specs.Depths.{ids_of, IsAt}
+use Rattle.vt_chains.specs.Depths.{ids_of, IsIdAt}
 use Rattle.vt_shown.specs.ShownElements.{drawn_in, soft_keys, IsNamed, IsShown}
 
 -- the object of an ID is marked
 pub record IsMarked (store : ObjectMap) (marks : List Bool) (id : ℕ) : Type 0 where
   pub place : ℕ
-  pub there : IsAt (ids_of store) place id
+  pub there : IsIdAt (ids_of store) place id
   pub set : slice_index_or marks place false ≡ true
 
 -- the new marks are the old ones and those of the elements that the listed IDs resolve to
@@ -28,5 +28,5 @@ pub record AreMarked (store : ObjectMap) (levels : List ℕ) (mask level : ℕ) 
   pub shown : (id : ℕ) → IsMarked store marks id → IsShown store mask id
   pub in_mask : (id : ℕ) → IsNamed store (drawn_in store (finite.get store mask)) id → IsMarked store marks id
   pub keys : (id : ℕ) → IsNamed store (soft_keys store mask) id → IsMarked store marks id
-  pub within : (place id : ℕ) → IsAt (ids_of store) place id → slice_index_or marks place false ≡ true → level ≤ slice_index levels place
+  pub within : (place id : ℕ) → IsIdAt (ids_of store) place id → slice_index_or marks place false ≡ true → level ≤ slice_index levels place
       → (other : ℕ) → IsNamed store (drawn_in store (finite.get store id)) other → IsMarked store marks other

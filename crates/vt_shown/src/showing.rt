@@ -4,7 +4,7 @@ ghost use Rattle.std.specs.Prelude.{◌≡◌, ◌≤◌, ◌<◌, ◌+◌, ◌�
 ghost use Rattle.std.specs.FinMap as finite;
 ghost use Rattle.vt_kinds.specs.Records.{Seen, seen};
 ghost use Rattle.vt_stores.specs.Stores.{IsPlace};
-ghost use Rattle.vt_chains.specs.Depths.{ids_of, inclusions_of, IsAt};
+ghost use Rattle.vt_chains.specs.Depths.{ids_of, inclusions_of, IsIdAt};
 ghost use Rattle.vt_chains.specs.Certificates.{IsCertificate};
 ghost use Rattle.vt_shown.specs.Marks.{Marks, AreDone, AreMarked};
 ghost use Rattle.vt_shown.specs.ShownElements as showing;
@@ -124,7 +124,7 @@ fn mark_drawing_at<S: Store>(store: &S, marks: &mut [bool], named: &mut [bool], 
     requires marks { length marks.old ≡ length (ids_of (S.contents store.now)) }
     requires all { length named.old ≡ 65536 }
     requires named { AreDone (S.contents store.now) named.old marks.old }
-    ensures marks { (id : ℕ) → IsAt (ids_of (S.contents store.now)) place id → Marks (S.contents store.now) (showing.drawn_in (S.contents store.now) (finite.get (S.contents store.now) id)) marks.old marks.new }
+    ensures marks { (id : ℕ) → IsIdAt (ids_of (S.contents store.now)) place id → Marks (S.contents store.now) (showing.drawn_in (S.contents store.now) (finite.get (S.contents store.now) id)) marks.old marks.new }
     ensures all { length named.new ≡ 65536 }
     ensures named { AreDone (S.contents store.now) named.new marks.new }
 {

@@ -93,7 +93,7 @@ pub fn put_scale(out: &mut Vec<u8>, scale: Scale) -> Result<(), AllocError>
 }
 
 /// Appends the record of an object under an ID other than NULL. After an error the vector is unchanged.
-#[tactic(auto, using(crate::proofs::Writing::written_is))]
+#[tactic(auto, using(crate::proofs::TableEncoding::written_is))]
 pub fn write_object<B: AsSlice<u8>>(
     alloc: Global,
     id: ObjectId,

@@ -6,6 +6,7 @@ ghost use Rattle.vt_effects.specs.Changes as changes;
 ghost use Rattle.vt_effects.specs.Changes.{HasResult, left};
 
 use crate::attributes::write_field;
+use crate::error;
 use vt_commands::attribute;
 use vt_kinds::{Kind, Kinds, Object, ObjectId, ValueType};
 
@@ -22,13 +23,13 @@ pub(crate) fn change_attribute(
 {
     let kind = object.kind();
     if !Kinds::WithAttributes.contains(kind) {
-        return Err(1 << 0);
+        return Err(error::OBJECT);
     }
     let Some(attribute) = attribute(kind, number) else {
-        return Err(1 << 1);
+        return Err(error::ATTRIBUTE);
     };
     if !takes(attribute.value_type, kind, value, named) {
-        return Err(1 << 2);
+        return Err(error::ATTRIBUTE_VALUE);
     }
     write_field(object, attribute.field, value);
     Ok(())
@@ -40,10 +41,10 @@ pub(crate) fn execute_macro(object: &mut Object<Vec<u8>>, id: ObjectId) -> Resul
     ensures object { seen object.new ≡ left (seen object.old) (changes.execute_macro id (seen object.old)) }
 {
     let Object::Macro(_) = object else {
-        return Err(1 << 1);
+        return Err(error::OBJECT_ID);
     };
     if id.raw() > 255 {
-        return Err(1 << 2);
+        return Err(error::MACRO_ID);
     }
     Ok(())
 }

@@ -5,6 +5,7 @@ ghost use Rattle.vt_kinds.specs.Records.{seen};
 ghost use Rattle.vt_effects.specs.Changes as changes;
 ghost use Rattle.vt_effects.specs.Changes.{HasResult, left, in_parent, child_at, placed, fits_record, is_position};
 
+use crate::error;
 use vt_kinds::{Child, Entries, Kind, Object, ObjectId};
 
 /// Moves every entry of a child by `dx` and `dy`, each minus 127. `named` is the kind of the child, or `None` if missing.
@@ -25,7 +26,7 @@ pub(crate) fn change_location(
         Object::Container(parent) => shift(&mut parent.children, named, child, dx, dy),
         Object::Key(parent) => shift(&mut parent.children, named, child, dx, dy),
         Object::Button(parent) => shift(&mut parent.children, named, child, dx, dy),
-        _ => Err(1 << 0),
+        _ => Err(error::OBJECT),
     }
 }
 
@@ -45,7 +46,7 @@ pub(crate) fn change_position(
         Object::Container(parent) => place(&mut parent.children, named, entry),
         Object::Key(parent) => place(&mut parent.children, named, entry),
         Object::Button(parent) => place(&mut parent.children, named, entry),
-        _ => Err(1 << 0),
+        _ => Err(error::OBJECT),
     }
 }
 
@@ -60,13 +61,13 @@ fn shift(
     ensures children { children.new ≡ left children.old (changes.change_location named child dx dy children.old) }
 {
     if named.is_none() {
-        return Err(1 << 1);
+        return Err(error::CHILD);
     }
     if !stands_in(child, children) {
-        return Err(1 << 0);
+        return Err(error::OBJECT);
     }
     if leaves(child, dx, dy, children) {
-        return Err(1 << 4);
+        return Err(error::OTHER);
     }
     for index in 0..children.len() {
         let entry = children.as_slice()[usize::from(index)];
@@ -81,11 +82,11 @@ fn place(children: &mut Entries<Child>, named: Option<Kind>, entry: &Child) -> R
     ensures children { children.new ≡ left children.old (changes.change_position named entry.now.id entry.now.x entry.now.y children.old) }
 {
     if named.is_none() {
-        return Err(1 << 1);
+        return Err(error::CHILD);
     }
     let child = entry.id;
     if !stands_in(child, children) {
-        return Err(1 << 0);
+        return Err(error::OBJECT);
     }
     for index in 0..children.len() {
         let old = children.as_slice()[usize::from(index)];

@@ -5,6 +5,7 @@ ghost use Rattle.vt_kinds.specs.Records.{seen};
 ghost use Rattle.vt_effects.specs.Changes as changes;
 ghost use Rattle.vt_effects.specs.Changes.{HasResult, left};
 
+use crate::error;
 use vt_kinds::Object;
 
 /// Shows a container (state 1) or hides it (state 0).
@@ -13,10 +14,10 @@ pub(crate) fn hide_show(object: &mut Object<Vec<u8>>, state: u8) -> Result<(), u
     ensures object { seen object.new ≡ left (seen object.old) (changes.hide_show state (seen object.old)) }
 {
     let Object::Container(container) = object else {
-        return Err(1 << 1);
+        return Err(error::OBJECT_ID);
     };
     if state > 1 {
-        return Err(1 << 2);
+        return Err(error::STATE);
     }
     container.hidden = 1 - state;
     Ok(())
@@ -32,10 +33,10 @@ pub(crate) fn enable_disable(object: &mut Object<Vec<u8>>, state: u8) -> Result<
         | Object::InputString(_)
         | Object::InputNumber(_)
         | Object::InputList(_) => {}
-        _ => return Err(1 << 1),
+        _ => return Err(error::OBJECT_ID),
     }
     if state > 1 {
-        return Err(1 << 2);
+        return Err(error::STATE);
     }
     match object {
         Object::InputBoolean(input) => input.enabled = state,

@@ -5,6 +5,7 @@ ghost use Rattle.vt_kinds.specs.Records.{seen};
 ghost use Rattle.vt_effects.specs.Changes as changes;
 ghost use Rattle.vt_effects.specs.Changes.{HasResult, left};
 
+use crate::error;
 use crate::numbers::{byte, id, word};
 use crate::references::may_stand;
 use vt_kinds::{Kind, Object, ObjectId, Place};
@@ -22,19 +23,19 @@ pub(crate) fn change_value(
     match object {
         Object::InputBoolean(input) => {
             if byte(value) > 1 {
-                return Err(1 << 1);
+                return Err(error::VALUE);
             }
             input.value = byte(value);
         }
         Object::InputNumber(input) => {
             if value < input.min || value > input.max {
-                return Err(1 << 1);
+                return Err(error::VALUE);
             }
             input.value = value;
         }
         Object::InputList(list) => {
             if byte(value) >= list.items.len() && byte(value) != 255 {
-                return Err(1 << 1);
+                return Err(error::VALUE);
             }
             list.value = byte(value);
         }
@@ -45,11 +46,11 @@ pub(crate) fn change_value(
         Object::NumberVariable(variable) => variable.value = value,
         Object::ObjectPointer(pointer) => {
             if !may_stand(Kind::ObjectPointer, Place::Value, id(value), named) {
-                return Err(1 << 1);
+                return Err(error::VALUE);
             }
             pointer.value = id(value);
         }
-        _ => return Err(1 << 0),
+        _ => return Err(error::OBJECT),
     }
     Ok(())
 }
@@ -65,13 +66,13 @@ pub(crate) fn change_item(
     ensures object { seen object.new ≡ left (seen object.old) (changes.change_item named index item (seen object.old)) }
 {
     let Object::InputList(list) = object else {
-        return Err(1 << 0);
+        return Err(error::OBJECT);
     };
     if index >= list.items.len() {
-        return Err(1 << 1);
+        return Err(error::INDEX);
     }
     if !may_stand(Kind::InputList, Place::Item(index), item, named) {
-        return Err(1 << 2);
+        return Err(error::ITEM);
     }
     list.items.set(index, item);
     Ok(())

@@ -1,7 +1,7 @@
 use Rattle.std.proofs.Common.{ℕ, List, sym, ap, subst, ◌∙◌, arith}
 use Rattle.std.specs.Prelude.{Contains}
 use Rattle.vt_kinds.specs.declared.slot.Slot.{Slot}
-use Rattle.vt_chains.specs.Depths.{ids_of, inclusions_of, IsAt}
+use Rattle.vt_chains.specs.Depths.{ids_of, inclusions_of, IsIdAt}
 use Rattle.vt_chains.proofs.Elements.{Contains-nil}
 use Rattle.vt_chains.proofs.IdIndices.{once, same_id, someone, within}
 use Rattle.vt_chains.proofs.Slots.{included_in, inclusions_are, in_first, in_more, slot_case}
@@ -72,7 +72,7 @@ loop-slot-preserved-else-depths-next g c = (
         slot_case ((other : ℕ) × Contains (included_in left) other × IsDeep (ids_of m) c.args.depths.now other c.args.depth) c.in-Some.slot left before.1.0
             (subst (λ (l : List Slot). Contains (included_in l) before.1.0) c.in-Some.ensures.steps before.1.1)
             (λ is same.
-            let deep = before.1.2 c.place_of-next.result (subst (λ (k : ℕ). IsAt (ids_of m) c.place_of-next.result k) same c.place_of-next.ensures) in
+            let deep = before.1.2 c.place_of-next.result (subst (λ (k : ℕ). IsIdAt (ids_of m) c.place_of-next.result k) same c.place_of-next.ensures) in
             absurd (omega (arith, deep, lt)))
             (λ later. (before.1.0, later, before.1.2)),
       ),

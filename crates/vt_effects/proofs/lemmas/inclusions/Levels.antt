@@ -7,7 +7,7 @@ use Rattle.std.specs.FinMap as finite
 use Rattle.vt_commands.specs.declared.command.Command.{Command}
 use Rattle.vt_kinds.specs.Records.{Seen, kind_of}
 use Rattle.vt_stores.specs.Stores.{ObjectMap}
-use Rattle.vt_chains.specs.Depths.{IsAt, IsBelow, IsClosed, ids_of, inclusions_of}
+use Rattle.vt_chains.specs.Depths.{IsIdAt, IsBelow, IsClosed, ids_of, inclusions_of}
 use Rattle.vt_chains.specs.declared.levels.Levels.{Levels}
 use Rattle.vt_chains.specs.Certificates.{IsCertificate, IsCertificateBut, AreLevels, AreLevelsBut}
 use Rattle.vt_chains.proofs.InclusionsInStore.{sourced, stands}
@@ -28,12 +28,12 @@ levels_kept m id old new command levels c none are =
       room = are.room ∙ sym (ap length (ids_stay m id old new command c));
     }
   where
-    falls : (place q : ℕ) → IsAt (ids_of m) place q → (x : ℕ) → Contains (inclusions_of (finite.insert m id new) q) x
+    falls : (place q : ℕ) → IsIdAt (ids_of m) place q → (x : ℕ) → Contains (inclusions_of (finite.insert m id new) q) x
         → IsBelow (ids_of m) levels.levels.items x (slice_index levels.levels.items place)
     falls place q there x h =
         ⊎_elim (are.certificate.falls place q there x) (λ more. absurd (none x more.1)) (inclusions_after m id old new command c q x h)
 
-found : (m : ObjectMap) (x : ℕ) (o : Option Seen) → finite.get m x ≡ o → is_some (option_map kind_of o) ≡ true → (place : ℕ) × IsAt (ids_of m) place x
+found : (m : ObjectMap) (x : ℕ) (o : Option Seen) → finite.get m x ≡ o → is_some (option_map kind_of o) ≡ true → (place : ℕ) × IsIdAt (ids_of m) place x
 found m x None is some = absurd cc
 found m x (Some y) is some = stands (finite.entries m) x y (sym (finite.get-entries m x) ∙ is)
 
@@ -46,7 +46,7 @@ levels_but m id after old new command levels c names are =
       room = are.room ∙ sym (ap length (ids_stay m id old new command c));
     }
   where
-    falls : (place q : ℕ) → IsAt (ids_of m) place q → (x : ℕ) → Contains (inclusions_of (finite.insert m id new) q) x
+    falls : (place q : ℕ) → IsIdAt (ids_of m) place q → (x : ℕ) → Contains (inclusions_of (finite.insert m id new) q) x
         → IsBelow (ids_of m) levels.levels.items x (slice_index levels.levels.items place) ⊎ ((q ≡ id) × (x ≡ after))
     falls place q there x h =
         ⊎_elim (λ before. inl (are.certificate.falls place q there x before)) (λ more. inr (more.0, same_Some x after (sym more.1.other ∙ names)))

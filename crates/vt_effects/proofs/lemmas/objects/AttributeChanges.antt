@@ -7,7 +7,8 @@ use Rattle.vt_kinds.specs.Records.{Seen, kind_of}
 use Rattle.vt_kinds.specs.References.{is_member}
 use Rattle.vt_kinds.specs.Attributes.{attribute_at}
 use Rattle.vt_effects.specs.Fields.{with_field}
-use Rattle.vt_effects.specs.Changes.{if_passed, bit, takes, put_attribute, change_attribute}
+use Rattle.vt_effects.specs.Changes.{if_passed, takes, put_attribute, change_attribute}
+use Rattle.vt_effects.specs.Errors.{bit}
 
 pub attribute_put : (named : Option Kind) (number n : ℕ) (o : Seen) (kind : Kind) (attribute : Attribute) (b : Bool) → kind ≡ kind_of o
     → is_member sets.WithAttributes kind ≡ true → attribute_at kind number ≡ Some attribute → b ≡ takes kind attribute.value_type n named

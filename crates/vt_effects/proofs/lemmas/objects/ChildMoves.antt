@@ -2,7 +2,8 @@
 use Rattle.std.proofs.Common.{◌≡◌, ℕ, Bool, true, false, not, cond, List, length, Option, Some, None, is_some, Err, sym, ap, ◌∙◌}
 use Rattle.vt_kinds.specs.declared.kind.Kind.{Kind}
 use Rattle.vt_kinds.specs.declared.entries.Child.{Child}
-use Rattle.vt_effects.specs.Changes.{left, bit, if_passed, child_at, placed, shifted, stands_in, leaves, move_child, change_position, change_location}
+use Rattle.vt_effects.specs.Changes.{left, if_passed, child_at, placed, shifted, stands_in, leaves, move_child, change_position, change_location}
+use Rattle.vt_effects.specs.Errors.{bit}
 use Rattle.vt_effects.proofs.lemmas.objects.EntryChanges.{up_to, up_to_all}
 
 pub placed_all : (named : Option Kind) (entry : Child) (children now : List Child) (index : ℕ) → is_some named ≡ true → stands_in entry.id children ≡ true

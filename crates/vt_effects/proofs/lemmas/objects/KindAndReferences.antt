@@ -24,7 +24,8 @@ use Rattle.vt_kinds.specs.References.{slot, slots_of, listed}
 use Rattle.vt_kinds.specs.Attributes.{attribute_at, attributes_of, numbered, byte}
 use Rattle.vt_stores.specs.Shapes.{fixed}
 use Rattle.vt_effects.specs.Fields.{word, with_field}
-use Rattle.vt_effects.specs.Changes.{left, bit, if_passed, is_one_of, may_stand, takes, other_id, child_at, move_child, shifted, placed, stands_in, leaves, for_child, change_location, change_position, put_children, in_parent, put_attribute, changed, writes, is_attribute, IsWritten}
+use Rattle.vt_effects.specs.Changes.{left, if_passed, is_one_of, may_stand, takes, other_id, child_at, move_child, shifted, placed, stands_in, leaves, for_child, change_location, change_position, put_children, in_parent, put_attribute, changed, writes, is_attribute, IsWritten}
+use Rattle.vt_effects.specs.Errors.{bit}
 
 -- the object keeps its fixed part, and its slots have a property
 record Leaves (P : Slot → Type 0) (o : Seen) (made : Result Seen ℕ) : Type 0 where

@@ -6,7 +6,8 @@ use Rattle.vt_commands.specs.declared.command.Command.TheVariants.{SetVolume}
 use Rattle.vt_kinds.specs.Records.{Seen}
 use Rattle.vt_stores.specs.Stores.{ObjectMap}
 use Rattle.vt_commands.specs.Targets.{object_of}
-use Rattle.vt_effects.specs.Changes.{bit, if_passed, left, other_id}
+use Rattle.vt_effects.specs.Changes.{if_passed, left, other_id}
+use Rattle.vt_effects.specs.Errors.{bit}
 use Rattle.vt_effects.specs.Effects.{without_object, changed_for, changed_by, keeps_order, value_error, in_order, other_kind, effect_on, effect, after}
 use Rattle.vt_effects.specs.Soundness.{IsSound}
 use Rattle.vt_effects.proofs.lemmas.stores.ObjectBeforeAndAfter.{Changed, Made, changed_case}

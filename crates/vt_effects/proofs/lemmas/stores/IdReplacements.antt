@@ -19,7 +19,8 @@ use Rattle.vt_commands.specs.Targets.{object_of}
 use Rattle.vt_chains.proofs.IdIndices.{someone}
 use Rattle.vt_effects.specs.declared.replacements.Replacement.{Replacement}
 use Rattle.vt_effects.specs.Fields.{word}
-use Rattle.vt_effects.specs.Changes.{bit, if_passed, may_stand, other_id, change_item, changed}
+use Rattle.vt_effects.specs.Changes.{if_passed, may_stand, other_id, change_item, changed}
+use Rattle.vt_effects.specs.Errors.{bit}
 use Rattle.vt_effects.specs.Effects.{pointer_value, pointer_may, chains_are_short, keeps_order, other_kind}
 use Rattle.vt_effects.specs.Replacements.{item_at, replacement, replaced, fits, restored}
 use Rattle.vt_effects.proofs.lemmas.stores.ObjectBeforeAndAfter.{Changed}

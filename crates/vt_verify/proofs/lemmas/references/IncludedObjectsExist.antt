@@ -12,7 +12,7 @@ use Rattle.vt_verify.specs.Lists.{first_failing}
 use Rattle.vt_stores.specs.Shapes.{Shape, shape_of, kind_at}
 use Rattle.vt_verify.specs.References.{is_there, of_slot, slot_references}
 use Rattle.vt_chains.specs.Inclusions.{is_inclusion, included_by, included}
-use Rattle.vt_chains.specs.Depths.{IsAt, IsClosed, ids_of, inclusions_of}
+use Rattle.vt_chains.specs.Depths.{IsIdAt, IsClosed, ids_of, inclusions_of}
 use Rattle.vt_verify.specs.Rules as rules
 use Rattle.vt_verify.proofs.lemmas.rules.FirstFailure.{all_pass}
 use Rattle.vt_stores.proofs.SortedEntries.{both_true}
@@ -72,7 +72,7 @@ all_there objects id next pass h none =
 
 pub closed : (objects : Objects) → rules.missing objects ≡ None → IsClosed (ids objects) (included objects)
 closed objects pass id other h =
-    option_case ((place : ℕ) × IsAt (ids objects) place other) (object_at objects other)
+    option_case ((place : ℕ) × IsIdAt (ids objects) place other) (object_at objects other)
     (λ none. absurd (all_there objects id other pass h none))
     (λ o some. stands objects other o some)
 

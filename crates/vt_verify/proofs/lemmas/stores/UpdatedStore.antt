@@ -20,7 +20,7 @@ use Rattle.vt_stores.proofs.SortedEntries.{three, both_true, equal, greater}
 use Rattle.vt_stores.proofs.BinarySearch.{other_id}
 use Rattle.vt_verify.specs.Updates.{updated, or_else, unless, UpdatesReplace}
 use Rattle.vt_pool.specs.Pools.{contents}
-use Rattle.vt_chains.specs.Depths.{IsAt, ids_of}
+use Rattle.vt_chains.specs.Depths.{IsIdAt, ids_of}
 use Rattle.vt_chains.proofs.IdIndices.{rising, above_at, stands_of, object_of, get_placed, within}
 
 -- ---- lookups in joined lists
@@ -149,17 +149,17 @@ unless_case m update made next place id o None there lt looks becomes is =
 unless_case m update made next place id o (Some u) there lt looks becomes is =
     subst (λ (l : Objects). IsUpdating m update l (place + 1)) (sym becomes) (updating_passes m update made place id o there is u looks)
 
-there_of : (m : ObjectMap) (place id : ℕ) (o : Seen) → IsAt (ids_of m) place id → finite.get m id ≡ Some o → slice_get (finite.entries m) place ≡ Some (id, o)
+there_of : (m : ObjectMap) (place id : ℕ) (o : Seen) → IsIdAt (ids_of m) place id → finite.get m id ≡ Some o → slice_get (finite.entries m) place ≡ Some (id, o)
 there_of m place id o stands is =
     let at = object_of (finite.entries m) place id stands in
     let same = same_Some at.0 o (sym (get_placed m place id at.0 at.1) ∙ is) in
     at.1 ∙ ap (λ (x : Seen). Some (id, x)) same
 
-below_null : (list : List ℕ) (place id : ℕ) → All (λ (k : ℕ). k < null_id) list → IsAt list place id → id < null_id
+below_null : (list : List ℕ) (place id : ℕ) → All (λ (k : ℕ). k < null_id) list → IsIdAt list place id → id < null_id
 below_null list place id all stands =
     subst (λ (k : ℕ). k < null_id) (get_or_from_slice_get list place id 0 stands) (all place 0 (within list place id stands))
 
-pub updating_step : (m : ObjectMap) (update made next : Objects) (place id : ℕ) (o : Seen) → IsAt (ids_of m) place id → finite.get m id ≡ Some o
+pub updating_step : (m : ObjectMap) (update made next : Objects) (place id : ℕ) (o : Seen) → IsIdAt (ids_of m) place id → finite.get m id ≡ Some o
     → All (λ (k : ℕ). k < null_id) (ids_of m) → next ≡ unless (finite.get (contents update) id) made id o
     → IsUpdating m update made place → IsUpdating m update next (place + 1)
 updating_step m update made next place id o stands there all becomes is =

@@ -1,12 +1,36 @@
-//! Change Active Mask, Change Soft Key Mask and Change Priority.
+//! Commands that write a reference: Change Fill Attributes, Change Active Mask and Change Soft Key Mask.
 
 ghost use Rattle.std.specs.Prelude.{◌≡◌};
 ghost use Rattle.vt_kinds.specs.Records.{seen};
 ghost use Rattle.vt_effects.specs.Changes as changes;
 ghost use Rattle.vt_effects.specs.Changes.{HasResult, left};
 
+use crate::error;
 use crate::references::{is_one_of, may_stand};
 use vt_kinds::{Kind, Kinds, Object, ObjectId, Place};
+
+/// Sets all fields of fill attributes. `named` is the kind of the pattern, if that is there.
+pub(crate) fn change_fill_attributes(
+    object: &mut Object<Vec<u8>>,
+    named: Option<Kind>,
+    fill_type: u8,
+    colour: u8,
+    pattern: ObjectId,
+) -> Result<(), u8>
+    ensures result { HasResult result (changes.change_fill_attributes named fill_type colour pattern (seen object.old)) }
+    ensures object { seen object.new ≡ left (seen object.old) (changes.change_fill_attributes named fill_type colour pattern (seen object.old)) }
+{
+    let Object::FillAttributes(fill_attributes) = object else {
+        return Err(error::OBJECT);
+    };
+    if !may_stand(Kind::FillAttributes, Place::Pattern, pattern, named) {
+        return Err(error::PATTERN);
+    }
+    fill_attributes.fill_type = fill_type;
+    fill_attributes.colour = colour;
+    fill_attributes.pattern = pattern;
+    Ok(())
+}
 
 /// Sets the active mask. `named` is the kind of the mask, or `None` if it is missing.
 pub(crate) fn change_active_mask(
@@ -18,10 +42,10 @@ pub(crate) fn change_active_mask(
     ensures object { seen object.new ≡ left (seen object.old) (changes.change_active_mask named mask (seen object.old)) }
 {
     let Object::WorkingSet(working_set) = object else {
-        return Err(1 << 0);
+        return Err(error::OBJECT);
     };
     if !is_one_of(Kinds::Masks, named) {
-        return Err(1 << 1);
+        return Err(error::VALUE);
     }
     working_set.active_mask = mask;
     Ok(())
@@ -41,33 +65,18 @@ pub(crate) fn change_soft_key_mask(
     match object {
         Object::DataMask(data_mask) if mask_type == 1 => {
             if !may_stand(Kind::DataMask, Place::SoftKeyMask, keys, named) {
-                return Err(1 << 1);
+                return Err(error::VALUE);
             }
             data_mask.soft_key_mask = keys;
             Ok(())
         }
         Object::AlarmMask(alarm_mask) if mask_type == 2 => {
             if !may_stand(Kind::AlarmMask, Place::SoftKeyMask, keys, named) {
-                return Err(1 << 1);
+                return Err(error::VALUE);
             }
             alarm_mask.soft_key_mask = keys;
             Ok(())
         }
-        _ => Err(1 << 0),
+        _ => Err(error::OBJECT),
     }
-}
-
-/// Sets the priority of an alarm mask, 0 to 2.
-pub(crate) fn change_priority(object: &mut Object<Vec<u8>>, priority: u8) -> Result<(), u8>
-    ensures result { HasResult result (changes.change_priority priority (seen object.old)) }
-    ensures object { seen object.new ≡ left (seen object.old) (changes.change_priority priority (seen object.old)) }
-{
-    let Object::AlarmMask(mask) = object else {
-        return Err(1 << 0);
-    };
-    if priority > 2 {
-        return Err(1 << 1);
-    }
-    mask.priority = priority;
-    Ok(())
 }
