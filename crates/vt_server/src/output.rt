@@ -1,7 +1,8 @@
 //! The outputs of the terminal.
 
-ghost use Rattle.std.specs.Prelude.{◌≡◌, ◌++◌, ◌+◌, ◌<◌, ◌≤◌, [], ◌∷◌, length, vec_len, vec_capacity};
-ghost use Rattle.vt_server.specs.Outputs.{frames_of};
+ghost use Rattle.std.specs.Prelude.{◌≡◌, ◌++◌, [], ◌∷◌, length};
+ghost use Rattle.std.specs.Option.{option_to_list};
+ghost use Rattle.vt_server.specs.Outputs.{frames_of, HasCapacity, UsesAtMost};
 ghost use Rattle.vt_server.specs.declared.output.Output.TheVariants as declared;
 
 use arrayvec::ArrayVec;
@@ -32,32 +33,42 @@ pub enum Output {
     Refused(OperatorFault),
 }
 
-/// Appends a frame. The vector has spare capacity.
+/// Appends a frame for which there is spare capacity.
 pub(crate) fn send(outputs: &mut Vec<Output>, frame: Frame)
-    requires room { vec_len outputs.old < vec_capacity outputs.old }
+    requires capacity { HasCapacity 1 outputs.old }
     ensures items { outputs.new.items ≡ outputs.old.items ++ declared.Frame frame ∷ [] }
-    ensures len { vec_len outputs.new ≡ vec_len outputs.old + 1 }
-    ensures room { vec_capacity outputs.old ≤ vec_capacity outputs.new }
+    ensures capacity { UsesAtMost 1 outputs.old outputs.new }
 {
     let _done = outputs.push(Output::Frame(frame));
 }
 
-/// Appends a refusal. The vector has spare capacity.
-pub(crate) fn refuse(outputs: &mut Vec<Output>, fault: OperatorFault)
-    requires room { vec_len outputs.old < vec_capacity outputs.old }
-    ensures items { outputs.new.items ≡ outputs.old.items ++ declared.Refused fault ∷ [] }
-    ensures len { vec_len outputs.new ≡ vec_len outputs.old + 1 }
-    ensures room { vec_capacity outputs.old ≤ vec_capacity outputs.new }
+/// Appends a reply, if there is one, for which there is spare capacity.
+pub(crate) fn send_reply(outputs: &mut Vec<Output>, reply: Option<Frame>)
+    requires capacity { HasCapacity 1 outputs.old }
+    ensures items { outputs.new.items ≡ outputs.old.items ++ frames_of (option_to_list reply) }
+    ensures capacity { UsesAtMost 1 outputs.old outputs.new }
 {
-    let _done = outputs.push(Output::Refused(fault));
+    if let Some(reply) = reply {
+        send(outputs, reply);
+    }
 }
 
-/// Appends frames. The vector has spare capacity.
+/// Appends an output, if there is one, for which there is spare capacity.
+pub(crate) fn append(outputs: &mut Vec<Output>, output: Option<Output>)
+    requires capacity { HasCapacity 1 outputs.old }
+    ensures items { outputs.new.items ≡ outputs.old.items ++ option_to_list output }
+    ensures capacity { UsesAtMost 1 outputs.old outputs.new }
+{
+    if let Some(output) = output {
+        let _done = outputs.push(output);
+    }
+}
+
+/// Appends frames for which there is spare capacity.
 pub(crate) fn send_all(outputs: &mut Vec<Output>, frames: ArrayVec<Frame, 255>)
-    requires room { vec_len outputs.old + length frames.items ≤ vec_capacity outputs.old }
+    requires capacity { HasCapacity (length frames.items) outputs.old }
     ensures items { outputs.new.items ≡ outputs.old.items ++ frames_of frames.items }
-    ensures len { vec_len outputs.new ≡ vec_len outputs.old + length frames.items }
-    ensures room { vec_capacity outputs.old ≤ vec_capacity outputs.new }
+    ensures capacity { UsesAtMost (length frames.items) outputs.old outputs.new }
 {
     for frame in frames {
         send(outputs, frame);

@@ -1,12 +1,12 @@
 //! Which working set is shown (docs/PROFILE.md, "The shown set and the selected set").
 
-ghost use Rattle.std.specs.Prelude.{◌≡◌, ◌≤◌, ◌+◌, ◌++◌, ℕ, [], ◌∷◌, None, Some, false, is_some, vec_len, vec_capacity};
+ghost use Rattle.std.specs.Prelude.{◌≡◌, ◌++◌, ℕ, [], ◌∷◌, None, Some, false, is_some};
 ghost use Rattle.std.specs.FinMap as finite;
 ghost use Rattle.std.specs.Option.{option_map};
 ghost use Rattle.vt_kinds.specs.Records.{seen};
 ghost use Rattle.vt_server.specs.shown.ShownSet as choosing;
 ghost use Rattle.vt_server.specs.shown.DisplayValues.{display_value, found_pool};
-ghost use Rattle.vt_server.specs.Outputs.{outputs_of};
+ghost use Rattle.vt_server.specs.Outputs.{outputs_of, HasCapacity};
 ghost use Rattle.vt_server.specs.shown.Screens.{TellsChanges, redraws};
 ghost use Rattle.vt_server.specs.States.{state_of};
 ghost use Rattle.vt_server.specs.Steps.{settled, sent_by_settling};
@@ -38,7 +38,7 @@ impl Terminal {
     /// Chooses the shown set, raises the events of its change, and sends the status if the display differs from the one before
     /// the input.
     pub(crate) fn settle(&mut self, before: &ShownMasks, outputs: &mut Vec<Output>)
-        requires room { vec_len outputs.old + 1 ≤ vec_capacity outputs.old }
+        requires capacity { HasCapacity 1 outputs.old }
         ensures state { state_of self.new ≡ settled (state_of self.old) }
         ensures sent { (s : spec.State) → display_value before.now ≡ choosing.display s
             → outputs.new.items ≡ outputs.old.items ++ outputs_of (sent_by_settling s (state_of self.old)) }

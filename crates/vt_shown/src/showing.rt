@@ -267,13 +267,13 @@ fn mark_behind<S: Store>(store: &S, marks: &mut [bool], name: ObjectId)
     requires { length marks.old ≡ length (ids_of (S.contents store.now)) }
     ensures { Marks (S.contents store.now) (name ∷ []) marks.old marks.new }
 {
-    let Some((id, object)) = standing(store, name) else {
+    let Some(found) = standing(store, name) else {
         return;
     };
-    if !is_element(object) {
+    if !is_element(found.1) {
         return;
     }
-    if let Some(place) = store.place(id) {
+    if let Some(place) = store.place(found.0) {
         marks[place] = true;
     }
 }

@@ -133,12 +133,16 @@ FitsAfterTimeouts s t notice frame ready = FitsFrame s t notice frame (HasUpload
 abbrev pub IsJudgedAt : AddressView → List ℕ → Verdict → Type 0
 IsJudgedAt p bytes verdict = ends_transfer p.set (Some bytes) ≡ true → IsVerdict p.place.content verdict
 
--- A message of these bytes is handled at an address; if it ends the upload of a set, by a right verdict.
-pub record HandlesMessage (s : State) (source : ℕ) (bytes : List ℕ) (reply : Option Frame) (t : State) : Type 0 where
+-- A message, if there is one, is handled at an address, by a right verdict where it ends the upload of a set.
+pub record Handles (s : State) (source : ℕ) (message : Option (List ℕ)) (reply : Option Frame) (t : State) : Type 0 where
   pub verdict : Verdict
-  pub judged : IsJudgedAt (part source s) bytes verdict
-  pub state : t ≡ put source (after_message source (part source s) verdict (part source s).set (Some bytes)) s
-  pub reply_is : option_to_list reply ≡ (after_message source (part source s) verdict (part source s).set (Some bytes)).frames
+  pub judged : ends_transfer (part source s).set message ≡ true → IsVerdict (s.places source).content verdict
+  pub state : t ≡ put source (after_message source (part source s) verdict (part source s).set message) s
+  pub reply_is : option_to_list reply ≡ (after_message source (part source s) verdict (part source s).set message).frames
+
+-- A message of these bytes is handled.
+abbrev pub HandlesMessage : State → ℕ → List ℕ → Option Frame → State → Type 0
+HandlesMessage s source bytes = Handles s source (Some bytes)
 
 -- the state with another content of an address
 abbrev pub with_content_at : ℕ → SetPool → State → State
@@ -165,13 +169,6 @@ TakesClaim former source u t before after =
     → u ≡ steps.before s source (notices.Claim name)
     → (t ≡ acted s source (notices.Claim name) frame verdict)
     × (after ≡ before ++ outputs_of (sent_by_frame s source (notices.Claim name) frame verdict))
-
--- Frames are sent to an address, and a completed message is handled there.
-pub record TakesMessage (s : State) (source : ℕ) (frames : List Frame) (message : Option (List ℕ)) (t : State) (before after : List Output) : Type 0 where
-  pub verdict : Verdict
-  pub judged : ends_transfer (part source s).set message ≡ true → IsVerdict (s.places source).content verdict
-  pub state : t ≡ put source (after_message source (part source s) verdict (part source s).set message) s
-  pub sent : after ≡ (before ++ frames_of frames) ++ frames_of (after_message source (part source s) verdict (part source s).set message).frames
 
 -- A frame other than a claim, from the terminal or another node, has its effect.
 pub record TakesFrame (s : State) (notice : FrameMeaning) (frame : Frame) (t : State) (before after : List Output) : Type 0 where

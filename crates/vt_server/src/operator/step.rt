@@ -1,7 +1,7 @@
 //! The handling of the operator's actions (docs/PROFILE.md, "The operator").
 
-ghost use Rattle.std.specs.Prelude.{◌≡◌, ◌+◌, ◌<◌, ◌≤◌, true, false, length, OnOk, OnErr, IsOk, vec_len, vec_capacity};
-ghost use Rattle.std.specs.Option.{option_map};
+ghost use Rattle.std.specs.Prelude.{◌≡◌, ◌<◌, [], ◌∷◌, true, false, length, OnOk, OnErr, IsOk, IfOk};
+ghost use Rattle.std.specs.Option.{option_map, option_to_list};
 ghost use Rattle.vt_can.specs.lines.Actions.{action_value};
 ghost use Rattle.vt_can.specs.lines.Actions as actions;
 ghost use Rattle.vt_server.specs.operator.ActionContracts.{TakesAction, IsShort};
@@ -13,7 +13,7 @@ ghost use Rattle.vt_server.specs.declared.input.Input.TheVariants as inputs;
 use crate::OutOfMemory;
 use crate::frame::step::MOST_OUTPUTS;
 use crate::operator::actions::filled;
-use crate::output::{OperatorFault, Output, refuse, send};
+use crate::output::{OperatorFault, Output, append};
 use crate::terminal::Terminal;
 use vt_can::Action;
 use vt_machine::text_message;
@@ -25,7 +25,7 @@ use vt_transport::SendFault;
 const SHORT_TEXT: usize = 4;
 
 impl Terminal {
-    /// Does an action of the operator. All growths are made before the first change.
+    /// Does an action of the operator. All allocations are made before the first change.
     pub(crate) fn operate(
         &mut self,
         action: &Action<'_>,
@@ -47,94 +47,81 @@ impl Terminal {
         let before = self.display();
         let told = self.redraws;
         self.redraws = false;
-        match action {
-            Action::Set(address) => self.select_set(*address, outputs),
+        let answer = match action {
+            Action::Set(address) => self.select_set(*address),
             Action::Text(id, text) if text.len() > SHORT_TEXT => {
-                if let Err(refused) = self.enter_long_text(*id, text, outputs) {
-                    self.redraws = told;
-                    return Err(refused);
+                match self.enter_long_text(*id, text) {
+                    Ok(output) => Some(output),
+                    Err(refused) => {
+                        self.redraws = told;
+                        return Err(refused);
+                    }
                 }
             }
-            _ => self.act(action, outputs),
-        }
+            _ => self.act(action),
+        };
+        append(outputs, answer);
         self.settle(&before, outputs);
         Ok(())
     }
 
-    /// Selects the set at an address.
-    fn select_set(&mut self, address: u8, outputs: &mut Vec<Output>)
-        requires room { vec_len outputs.old + 1 ≤ vec_capacity outputs.old }
-        ensures takes { TakesAction (state_of self.old) (actions.Set address) (state_of self.new) outputs.old.items outputs.new.items }
+    /// Selects the set of an address. Returns a refusal if there is no pool at the address.
+    fn select_set(&mut self, address: u8) -> Option<Output>
+        ensures takes { TakesAction (state_of self.old) (actions.Set address) (state_of self.new) [] (option_to_list result) }
         ensures tells { TellsChanges self.old self.new }
-        ensures left { vec_capacity outputs.old + vec_len outputs.new ≤ vec_capacity outputs.new + vec_len outputs.old + 1 }
     {
         if self.contents.pool(address).is_none() {
-            refuse(outputs, OperatorFault::NoSet);
-            return;
+            return Some(Output::Refused(OperatorFault::NoSet));
         }
         self.selected = Some(address);
+        None
     }
 
-    /// Acts on the shown set. The action has a message of one frame, or none.
-    fn act(&mut self, action: &Action<'_>, outputs: &mut Vec<Output>)
-        requires room { vec_len outputs.old + 1 ≤ vec_capacity outputs.old }
+    /// Acts on the shown set. Returns the message of one frame, if the action has one, or the refusal.
+    fn act(&mut self, action: &Action<'_>) -> Option<Output>
         requires short { IsShort (action_value action.now) }
-        ensures takes { TakesAction (state_of self.old) (action_value action.now) (state_of self.new) outputs.old.items outputs.new.items }
+        ensures takes { TakesAction (state_of self.old) (action_value action.now) (state_of self.new) [] (option_to_list result) }
         ensures tells { TellsChanges self.old self.new }
-        ensures left { vec_capacity outputs.old + vec_len outputs.new ≤ vec_capacity outputs.new + vec_len outputs.old + 1 }
     {
         let Some(address) = self.shown_address() else {
-            refuse(outputs, OperatorFault::NoSet);
-            return;
+            return Some(Output::Refused(OperatorFault::NoSet));
         };
         match self.contents.act(address, action) {
-            None => {}
-            Some(Err(refusal)) => refuse(outputs, OperatorFault::from(refusal)),
+            None => None,
+            Some(Err(refusal)) => Some(Output::Refused(OperatorFault::from(refusal))),
             Some(Ok(acted)) => {
                 self.redraws = true;
-                if !acted.message.is_empty() {
-                    let bytes = filled(acted.message.as_slice());
-                    send(outputs, message_to(self.node.own(), address, bytes));
+                if acted.message.is_empty() {
+                    return None;
                 }
+                let bytes = filled(acted.message.as_slice());
+                Some(Output::Frame(message_to(self.node.own(), address, bytes)))
             }
         }
     }
 
-    /// Enters a text whose message is sent in packets, which needs a session and its memory.
-    fn enter_long_text(
-        &mut self,
-        id: u16,
-        text: &[u8],
-        outputs: &mut Vec<Output>,
-    ) -> Result<(), OutOfMemory>
-        requires room { vec_len outputs.old + 1 ≤ vec_capacity outputs.old }
+    /// Enters a text whose message is sent in packets, which needs a session and its memory. Returns the session's first frame,
+    /// or the refusal.
+    fn enter_long_text(&mut self, id: u16, text: &[u8]) -> Result<Output, OutOfMemory>
         requires long { 4 < length text.now }
-        ensures takes { OnOk result (TakesAction (state_of self.old) (actions.Text id text.now) (state_of self.new) outputs.old.items outputs.new.items) }
+        ensures takes { IfOk result (λ output. TakesAction (state_of self.old) (actions.Text id text.now) (state_of self.new) [] (output ∷ [])) }
         ensures tells { TellsChanges self.old self.new }
-        ensures left { vec_capacity outputs.old + vec_len outputs.new ≤ vec_capacity outputs.new + vec_len outputs.old + 1 }
         ensures err { OnErr result (state_of self.new ≡ state_of self.old) }
-        ensures err_sent { OnErr result (outputs.new.items ≡ outputs.old.items) }
     {
         let Some(address) = self.shown_address() else {
-            refuse(outputs, OperatorFault::NoSet);
-            return Ok(());
+            return Ok(Output::Refused(OperatorFault::NoSet));
         };
         if let Some(refusal) = self.contents.text_fault(address, id, text) {
-            refuse(outputs, OperatorFault::from(refusal));
-            return Ok(());
+            return Ok(Output::Refused(OperatorFault::from(refusal)));
         }
         let message = text_message(ObjectId::from_raw(id), text);
         match self.node.start(self.time, address, message.as_slice()) {
             Ok(request) => {
                 let _done = self.contents.act(address, &Action::Text(id, text));
                 self.redraws = true;
-                send(outputs, request);
-                Ok(())
+                Ok(Output::Frame(request))
             }
-            Err(SendFault::Busy) => {
-                refuse(outputs, OperatorFault::Busy);
-                Ok(())
-            }
+            Err(SendFault::Busy) => Ok(Output::Refused(OperatorFault::Busy)),
             Err(SendFault::OutOfMemory) => Err(std::alloc::AllocError),
             Err(SendFault::Size) => unreachable!(),
         }

@@ -1,11 +1,12 @@
 -- The effect of a frame on the view of its source address, and the frames sent.
-use Rattle.std.proofs.Common.{◌≡◌, ◌≢◌, ℕ, cond, List, [], ◌∷◌, ◌++◌, map, None, refl, sym, ap, subst, ◌∙◌, eq-eqb, ne_eqb, append_assoc, append-nil}
+use Rattle.std.proofs.Common.{◌≡◌, ◌≢◌, ℕ, cond, List, [], ◌∷◌, ◌++◌, map, Option, None, refl, sym, ap, subst, ◌∙◌, eq-eqb, ne_eqb, append_assoc, append-nil}
 use Rattle.std.proofs.lemmas.List.{map-append}
+use Rattle.std.specs.Option.{option_to_list}
 use Rattle.vt_can.specs.declared.frames.frame.Frame.{Frame}
 use Rattle.vt_can.specs.frames.Frame.{source_of}
 use Rattle.vt_names.specs.Registry.{set_at}
 use Rattle.vt_server.specs.Findings.{IsJudged, ends_transfer}
-use Rattle.vt_server.specs.frame.FrameContracts.{TakesNotice, TakesMessage, TakesFrame, IsNoClaim}
+use Rattle.vt_server.specs.frame.FrameContracts.{Handles, TakesNotice, TakesFrame, IsNoClaim}
 use Rattle.vt_server.specs.Outputs.{frames_of, outputs_of}
 use Rattle.vt_server.specs.state.AddressViews.{AddressView, AddressOutcome, Hears, after_message, after_came, after_notice, behind}
 use Rattle.vt_server.specs.state.AddressStates.{AddressState, heard_at}
@@ -58,8 +59,9 @@ module _ (s : State) (frame : Frame) (notice : FrameMeaning) (c : Came) (is : ca
       after-is (part a s) v ∙ ap (after_came a (part a s) v) is
       ∙ ap (λ (p : AddressView). behind c.frames (after_message a p v p.set c.message)) (sym (part-at a c.place s))
 
-  pub takes-came : (t : State) (before after : List Output) → TakesMessage u a c.frames c.message t before after → TakesNotice s notice frame t before after
-  takes-came t before after takes =
+  pub takes-came : (t : State) (reply : Option Frame) (before after : List Output) → Handles u a c.message reply t
+      → after ≡ (before ++ frames_of c.frames) ++ frames_of (option_to_list reply) → TakesNotice s notice frame t before after
+  takes-came t reply before after takes sent =
       let v = takes.verdict in record {
         verdict = v;
         judged = λ ends.
@@ -69,7 +71,7 @@ module _ (s : State) (frame : Frame) (notice : FrameMeaning) (c : Came) (is : ca
             takes.state ∙ put-over a c.place s (after_message a (part a u) v (part a u).set c.message)
             ∙ ap (λ (o : AddressOutcome). put a o s) (sym (after-came v));
         sent =
-            takes.sent
+            sent ∙ ap (λ l. (before ++ frames_of c.frames) ++ frames_of l) takes.reply_is
             ∙ append_assoc before (frames_of c.frames) (frames_of (after_message a (part a u) v (part a u).set c.message).frames)
             ∙ ap (λ l. before ++ l) (sym (frames-append c.frames (after_message a (part a u) v (part a u).set c.message).frames))
             ∙ ap (λ (o : AddressOutcome). before ++ frames_of o.frames) (sym (after-came v));

@@ -1,5 +1,5 @@
 -- The calls that handle a message from the master of a set meet their contracts.
-use Rattle.std.proofs.Common.{◌≡◌, ℕ, true, false, List, [], ◌∷◌, ◌++◌, drop, Option, Some, None, is_some, true≢false, refl, sym, ap, subst, ◌∙◌, append_assoc, append-nil}
+use Rattle.std.proofs.Common.{◌≡◌, ℕ, true, false, List, [], ◌++◌, drop, Option, Some, None, is_some, true≢false, refl, sym, ap, subst, ◌∙◌, append_assoc, append-nil}
 use Rattle.std.specs.FinMap as finite
 use Rattle.std.specs.Option.{option_map, option_to_list}
 use Rattle.vt_can.specs.declared.frames.frame.Frame.{Frame}
@@ -13,7 +13,7 @@ use Rattle.vt_transport.specs.Wire.{tp_frame}
 use Rattle.vt_server.specs.message.Judgements.{IsEnded}
 use Rattle.vt_server.specs.Findings.{ends_transfer}
 use Rattle.vt_server.specs.message.MessageEffects.{asked, transferred, end_handled, TRANSFER, END_OF_POOL}
-use Rattle.vt_server.specs.frame.FrameContracts.{HandlesMessage, IsReplyTo, TakesMessage, TakesNotice, begins_with, is_other, with_content_at}
+use Rattle.vt_server.specs.frame.FrameContracts.{HandlesMessage, Handles, IsReplyTo, TakesNotice, begins_with, is_other, with_content_at}
 use Rattle.vt_node.specs.Messages.{message_to, technical_reply}
 use Rattle.vt_node.specs.Nodes.{NodeState, HasTaken, HasAnswered, tp_taken, etp_taken, sender_answer}
 use Rattle.vt_server.specs.Outputs.{frames_of}
@@ -31,13 +31,11 @@ use Rattle.vt_server.specs.declared.pools.PoolTable.{PoolTable}
 use Rattle.vt_server.specs.declared.message.end_of_pool.Judgement.{Judgement}
 use Rattle.vt_node.specs.declared.bus.FrameMeaning.TheVariants as notices
 use Rattle.vt_server.specs.declared.output.Output.{Output}
-use Rattle.vt_server.specs.declared.output.Output.TheVariants as declared
 use Rattle.vt_server.specs.declared.terminal.Terminal.{Terminal}
 use Rattle.vt_server.proofs.lemmas.message.EffectsAndReplies.{answers-by, other-handled, piece-handled, end-handled, piece-ends_none, other-ends_none}
-use Rattle.vt_server.proofs.lemmas.frame.FrameEffect.{any_verdict, with_place_at, takes-came}
+use Rattle.vt_server.proofs.lemmas.frame.FrameEffect.{any_verdict, frames-append, with_place_at, takes-came}
 use Rattle.vt_server.proofs.lemmas.state.WritesByAddress.{content-placed, put-kept}
 use Rattle.vt_node.proofs.ByAddress.{places-written}
-use Rattle.vt_names.proofs.AddressesAfterClaim.{none-some}
 
 -- ---- the content of one address
 
@@ -74,30 +72,25 @@ module _ (s : State) (a : ℕ) (bytes : List ℕ) (some : true ≡ is_some (set_
       (option_map (message_to s.claims.own a) reply) (λ ends. other-ends_none (set_at a s.sets) bytes other ends _) is.state
       (ap (λ (r : Option (List ℕ)). option_to_list (option_map (message_to s.claims.own a) r)) is.reply_is)
 
--- ---- the frames of a session without a message for the terminal
+-- ---- no message for the terminal
 
-module _ (s : State) (a : ℕ) (frames : List Frame) where
-  -- Without a message nothing changes.
-  quiet : (set : Option Set) (message : Option (List ℕ)) → message ≡ None
-      → (after_message a (part a s) any_verdict set message ≡ unchanged (part a s)) × (ends_transfer set message ≡ false)
-  quiet None None none = (refl, refl)
-  quiet (Some set) None none = (refl, refl)
-  quiet set (Some bytes) none = none-some (sym none)
+module _ (s : State) (a : ℕ) where
+  quiet : (set : Option Set) → (after_message a (part a s) any_verdict set None ≡ unchanged (part a s)) × (ends_transfer set None ≡ false)
+  quiet None = (refl, refl)
+  quiet (Some set) = (refl, refl)
 
-  pub none-taken : (message : Option (List ℕ)) (before after : List Output) → message ≡ None → after ≡ before ++ frames_of frames → TakesMessage s a frames message s before after
-  none-taken message before after none sent =
-      let same = quiet (set_at a s.sets) message none in record {
+  pub none-handled : Handles s a None None s
+  none-handled =
+      let same = quiet (set_at a s.sets) in record {
         verdict = any_verdict;
         judged = λ ends. absurd (true≢false (sym ends ∙ same.1));
         state = sym (ap (λ o. put a o s) same.0 ∙ put-kept a s (unchanged (part a s)) refl refl);
-        sent = sent ∙ sym (append-nil (before ++ frames_of frames)) ∙ ap (λ o. (before ++ frames_of frames) ++ frames_of o.frames) (sym same.0);
+        reply_is = ap (λ o. o.frames) (sym same.0);
       }
 
--- The outputs are a reply, then the frames of the sender.
-pub sent-both : (before middle after : List Output) (reply : Frame) (sent : List Frame) → middle ≡ before ++ declared.Frame reply ∷ []
-    → after ≡ middle ++ frames_of sent → after ≡ before ++ frames_of (reply ∷ sent)
-sent-both before middle after reply sent first second =
-    second ∙ ap (λ l. l ++ frames_of sent) first ∙ append_assoc before (declared.Frame reply ∷ []) (frames_of sent)
+-- the frames of a receiver and then those of the sender
+pub sent-both : (before : List Output) (xs ys : List Frame) → (before ++ frames_of xs) ++ frames_of ys ≡ before ++ frames_of (xs ++ ys)
+sent-both before xs ys = append_assoc before (frames_of xs) (frames_of ys) ∙ ap (λ l. before ++ l) (sym (frames-append xs ys))
 
 -- ---- frames of sessions
 
@@ -134,16 +127,15 @@ module _ (t : Terminal) (frame : Frame) (heard : Heard) (first second : NodeStat
     places = tp-placed i;
   }
 
-  pub tp-takes : (u : State) (q : ℕ) (before after : List Output) → q ≡ source_of frame
-      → TakesMessage (state_of (record t { node = second })) q (frames_in heard ++ frames) (message_to_terminal (message_in heard)) u before after
-      → TakesNotice (state_of t) notices.Tp frame u before after
-  tp-takes u q before after is takes =
-      takes-came (state_of t) frame notices.Tp tp_came refl (λ p v. refl) refl u before after
-      (subst (λ s. TakesMessage s (source_of frame) tp_came.frames tp_came.message u before after) tp-state
-      (subst (λ l. TakesMessage (state_of (record t { node = second })) (source_of frame) l tp_came.message u before after)
-      (λ i. taken.frames i ++ (answered.frames_are ∙ ap (λ g. g.frames) tp-given) i)
-      (subst (λ m. TakesMessage (state_of (record t { node = second })) (source_of frame) (frames_in heard ++ frames) m u before after) (ap message_to_terminal taken.message)
-      (subst (λ a. TakesMessage (state_of (record t { node = second })) a (frames_in heard ++ frames) (message_to_terminal (message_in heard)) u before after) is takes))))
+  pub tp-takes : (u : State) (q : ℕ) (message : Option (List ℕ)) (reply : Option Frame) (before after : List Output) → q ≡ source_of frame
+      → message ≡ message_to_terminal (message_in heard) → Handles (state_of (record t { node = second })) q message reply u
+      → after ≡ (before ++ frames_of (frames_in heard ++ frames)) ++ frames_of (option_to_list reply) → TakesNotice (state_of t) notices.Tp frame u before after
+  tp-takes u q message reply before after is message-is handles sent =
+      takes-came (state_of t) frame notices.Tp tp_came refl (λ p v. refl) refl u reply before after
+      (subst (λ s. Handles s (source_of frame) tp_came.message reply u) tp-state
+      (subst (λ m. Handles (state_of (record t { node = second })) (source_of frame) m reply u) (message-is ∙ ap message_to_terminal taken.message)
+      (subst (λ a. Handles (state_of (record t { node = second })) a message reply u) is handles)))
+      (sent ∙ (λ i. (before ++ frames_of (taken.frames i ++ (answered.frames_are ∙ ap (λ g. g.frames) tp-given) i)) ++ frames_of (option_to_list reply)))
 
 -- A sender without a session sends nothing to the address.
 none-is : {X : Type 0} (o : Option X) → is_some o ≡ false → o ≡ None
@@ -163,12 +155,12 @@ none-answered node now frame none =
 
 pub tp-takes-alone : (t : Terminal) (frame : Frame) (heard : Heard) (node : NodeState) → node ≡ record t.node { tp = node.tp; tp_room = node.tp_room }
     → HasTaken (tp_taken t.node t.time frame) (source_of frame) t.node.tp node.tp heard → is_some (finite.get node.sending (source_of frame)) ≡ false
-    → (u : State) (q : ℕ) (before after : List Output) → q ≡ source_of frame
-    → TakesMessage (state_of (record t { node = node })) q (frames_in heard) (message_to_terminal (message_in heard)) u before after
-    → TakesNotice (state_of t) notices.Tp frame u before after
-tp-takes-alone t frame heard node rest taken none u q before after is takes =
-    tp-takes t frame heard node node [] rest taken refl (none-answered node t.time frame none) u q before after is
-    (subst (λ l. TakesMessage (state_of (record t { node = node })) q l (message_to_terminal (message_in heard)) u before after) (sym (append-nil (frames_in heard))) takes)
+    → (u : State) (q : ℕ) (message : Option (List ℕ)) (reply : Option Frame) (before after : List Output) → q ≡ source_of frame
+    → message ≡ message_to_terminal (message_in heard) → Handles (state_of (record t { node = node })) q message reply u
+    → after ≡ (before ++ frames_of (frames_in heard)) ++ frames_of (option_to_list reply) → TakesNotice (state_of t) notices.Tp frame u before after
+tp-takes-alone t frame heard node rest taken none u q message reply before after is message-is handles sent =
+    tp-takes t frame heard node node [] rest taken refl (none-answered node t.time frame none) u q message reply before after is message-is handles
+    (sent ∙ ap (λ l. (before ++ frames_of l) ++ frames_of (option_to_list reply)) (sym (append-nil (frames_in heard))))
 
 -- A frame of the extended transport protocol goes to its receiver.
 module _ (t : Terminal) (frame : Frame) (heard : Heard) (node : NodeState)
@@ -195,12 +187,12 @@ module _ (t : Terminal) (frame : Frame) (heard : Heard) (node : NodeState)
   etp-state : state_of (record t { node = node }) ≡ with_place_at (source_of frame) etp_came.place (state_of t)
   etp-state = λ i. record (state_of t) { claims = ap (λ (n : NodeState). n.claims) rest i; places = etp-placed i }
 
-  pub etp-takes : (u : State) (q : ℕ) (before after : List Output) → q ≡ source_of frame
-      → TakesMessage (state_of (record t { node = node })) q (frames_in heard) (message_to_terminal (message_in heard)) u before after
-      → TakesNotice (state_of t) notices.Etp frame u before after
-  etp-takes u q before after is takes =
-      takes-came (state_of t) frame notices.Etp etp_came refl (λ p v. refl) refl u before after
-      (subst (λ s. TakesMessage s (source_of frame) etp_came.frames etp_came.message u before after) etp-state
-      (subst (λ l. TakesMessage (state_of (record t { node = node })) (source_of frame) l etp_came.message u before after) taken.frames
-      (subst (λ m. TakesMessage (state_of (record t { node = node })) (source_of frame) (frames_in heard) m u before after) (ap message_to_terminal taken.message)
-      (subst (λ a. TakesMessage (state_of (record t { node = node })) a (frames_in heard) (message_to_terminal (message_in heard)) u before after) is takes))))
+  pub etp-takes : (u : State) (q : ℕ) (message : Option (List ℕ)) (reply : Option Frame) (before after : List Output) → q ≡ source_of frame
+      → message ≡ message_to_terminal (message_in heard) → Handles (state_of (record t { node = node })) q message reply u
+      → after ≡ (before ++ frames_of (frames_in heard)) ++ frames_of (option_to_list reply) → TakesNotice (state_of t) notices.Etp frame u before after
+  etp-takes u q message reply before after is message-is handles sent =
+      takes-came (state_of t) frame notices.Etp etp_came refl (λ p v. refl) refl u reply before after
+      (subst (λ s. Handles s (source_of frame) etp_came.message reply u) etp-state
+      (subst (λ m. Handles (state_of (record t { node = node })) (source_of frame) m reply u) (message-is ∙ ap message_to_terminal taken.message)
+      (subst (λ a. Handles (state_of (record t { node = node })) a message reply u) is handles)))
+      (sent ∙ ap (λ l. (before ++ frames_of l) ++ frames_of (option_to_list reply)) taken.frames)

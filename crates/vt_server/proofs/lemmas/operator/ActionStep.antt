@@ -368,6 +368,12 @@ takes-same s a b t u before first out last e f g h takes =
     (subst (λ (x : State). TakesAction s a x first last) f
     (subst (λ (x : List Output). TakesAction s a t x last) g (subst (λ (x : List Output). TakesAction s a t before x) h takes)))
 
+-- what an action sends, after what was sent before it
+pub takes-after : {s t : State} {action : ActionValue} {before after sent : List Output} → TakesAction s action t [] sent → after ≡ before ++ sent
+    → TakesAction s action t before after
+takes-after {before = before} takes is =
+    record { shown = takes.shown; seen = takes.seen; state = takes.state; sent = is ∙ ap (λ l. before ++ l) takes.sent }
+
 pub takes-lost : (s : State) (action : line.Action) (before : List Output) → s.lost ≡ true → TakesInput s (inputs.Operator action) s before before
 takes-lost s action before lost = record {
   event = ActionAt (action_value action) false;

@@ -7,6 +7,6 @@ use Rattle.vt_shown.proofs.showing.mark_behind.Goals as goal
 
 pub returns-in-Some-place : goal.returns-in-Some-place
 returns-in-Some-place g c =
-    let found = c.in-Some.ensures.some in
-    marks_one (g.S.Store.contents c.args.store.now) c.args.name c.in-Some.id c.in-Some-place.place c.args.marks.now c.requires found.0
-    (subst (λ (o : Option Seen). IsTrue (is_element o)) (sym found.1) (sym c.if-not-is_element.ensures)) c.in-Some-place.ensures.some
+    let facts = c.in-Some.ensures.some in
+    marks_one (g.S.Store.contents c.args.store.now) c.args.name c.in-Some.found.0 c.in-Some-place.place c.args.marks.now c.requires facts.0
+    (subst (λ (o : Option Seen). IsTrue (is_element o)) (sym facts.1) (sym c.if-not-is_element.ensures)) c.in-Some-place.ensures.some

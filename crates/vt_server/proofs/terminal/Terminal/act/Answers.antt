@@ -1,4 +1,4 @@
-use Rattle.std.proofs.Common.{◌≡◌, ◌++◌, [], ◌∷◌, Option, Some, true, false, length, sym, ap, subst, refl, ◌∙◌, append-nil}
+use Rattle.std.proofs.Common.{◌≡◌, [], ◌∷◌, Option, Some, true, false, length, ap, subst, refl, ◌∙◌}
 use Rattle.std.specs.Prelude.{◌==◌, Result}
 use Rattle.vt_can.specs.lines.Actions.{action_value}
 use Rattle.vt_machine.specs.declared.operator.Acted.{Acted}
@@ -22,18 +22,18 @@ use Rattle.vt_server.proofs.terminal.Terminal.act.Goals as goal
 pub returns-in_default-clause-takes : goal.returns-in_default-clause-takes
 returns-in_default-clause-takes c =
     let s = state_of c.args.self.now in let action = action_value c.args.action.now in
-    takes-none s action (short-selects s action c.requires.short) c.in_default.ensures c.args.outputs.now.items c.refuse.new.outputs.items c.refuse.ensures.items
+    takes-none s action (short-selects s action c.requires.short) c.in_default.ensures [] _ refl
 
 pub returns-in-Some-Err-clause-takes : goal.returns-in-Some-Err-clause-takes
 returns-in-Some-Err-clause-takes c =
     let s = state_of c.args.self.now in let action = action_value c.args.action.now in
     takes-act-refused s (content_of c.args.self.now.contents) (content_of c.act.new.self) c.args.self.now.node (heard_of c.args.self.now.registry.watch) refl action c.requires.short
     c.in-Some.address (shown-at (pool_of s) s.shown c.in-Some.address c.in-Some.ensures) c.act.result c.act.ensures
-    c.in-Some-Err.refusal (c.in-Some-Err.is ∙ ap Some c.in-Some-Err.field-0-is) c.args.outputs.now.items c.refuse-in-Some-Err.new.outputs.items
-    (c.refuse-in-Some-Err.ensures.items ∙ ap (λ (f : OperatorFault). c.args.outputs.now.items ++ declared.Refused f ∷ []) c.from.ensures)
+    c.in-Some-Err.refusal (c.in-Some-Err.is ∙ ap Some c.in-Some-Err.field-0-is) [] _
+    (ap (λ (f : OperatorFault). declared.Refused f ∷ []) c.from.ensures)
 
-pub returns-then-not-is_empty-clause-takes : goal.returns-then-not-is_empty-clause-takes
-returns-then-not-is_empty-clause-takes c =
+pub returns-else-is_empty-clause-takes : goal.returns-else-is_empty-clause-takes
+returns-else-is_empty-clause-takes c =
     let s = state_of c.args.self.now in let action = action_value c.args.action.now in
     let a = c.in-Some.address in
     let some : (length c.in-Some-Ok.acted.message.items == 0) ≡ false = cc in
@@ -43,17 +43,17 @@ returns-then-not-is_empty-clause-takes c =
     (λ short.
     ap (λ (f : Frame). f ∷ []) (c.message_to.ensures ∙ (λ i. message_to (c.own.ensures i) a ((c.filled-bytes.ensures ∙ ap filled c.as_slice.ensures.value) i)))
     ∙ one-frame s.claims.own a c.in-Some-Ok.acted.message.items short some)
-    c.args.outputs.now.items c.send.new.outputs.items c.send.ensures.items
+    [] _ refl
 
-pub returns-else-not-is_empty-clause-takes : goal.returns-else-not-is_empty-clause-takes
-returns-else-not-is_empty-clause-takes c =
+pub returns-then-is_empty-clause-takes : goal.returns-then-is_empty-clause-takes
+returns-then-is_empty-clause-takes c =
     let s = state_of c.args.self.now in let action = action_value c.args.action.now in
     let a = c.in-Some.address in
     let none : (length c.in-Some-Ok.acted.message.items == 0) ≡ true = cc in
     takes-act-done s (content_of c.args.self.now.contents) (content_of c.act.new.self) c.args.self.now.node (heard_of c.args.self.now.registry.watch) refl action c.requires.short
     a (shown-at (pool_of s) s.shown a c.in-Some.ensures) c.act.result c.act.ensures
     c.in-Some-Ok.acted (c.in-Some-Ok.is ∙ ap Some c.in-Some-Ok.field-0-is) [] (λ short. no-frame s.claims.own a c.in-Some-Ok.acted.message.items none)
-    c.args.outputs.now.items c.args.outputs.now.items (sym (append-nil c.args.outputs.now.items))
+    [] [] refl
 
 pub returns-in-Some-Err-clause-tells : goal.returns-in-Some-Err-clause-tells
 returns-in-Some-Err-clause-tells c none =

@@ -1,4 +1,4 @@
-use Rattle.std.proofs.Common.{◌≡◌, ◌++◌, ℕ, List, [], ◌∷◌, length, Option, Err, is_some, refl, sym, ap, subst, ◌∙◌}
+use Rattle.std.proofs.Common.{◌≡◌, ℕ, List, [], ◌∷◌, length, Option, Err, is_some, refl, sym, ap, subst, ◌∙◌}
 use Rattle.std.specs.FinMap as finite
 use Rattle.vt_can.specs.Assigned.{VT_TO_ECU}
 use Rattle.vt_can.specs.lines.Actions as actions
@@ -18,7 +18,7 @@ use Rattle.vt_server.proofs.terminal.Terminal.enter_long_text.Goals as goal
 
 pub returns-in_default-clause-takes : goal.returns-in_default-clause-takes
 returns-in_default-clause-takes c =
-    takes-none (state_of c.args.self.now) (actions.Text c.args.id c.args.text.now) (refl, refl) c.in_default.ensures c.args.outputs.now.items c.refuse.new.outputs.items c.refuse.ensures.items
+    takes-none (state_of c.args.self.now) (actions.Text c.args.id c.args.text.now) (refl, refl) c.in_default.ensures [] _ refl
 
 pub returns-in-Some-text_fault-clause-takes : goal.returns-in-Some-text_fault-clause-takes
 returns-in-Some-text_fault-clause-takes c =
@@ -27,8 +27,7 @@ returns-in-Some-text_fault-clause-takes c =
     takes-fault s a (shown-at (pool_of s) s.shown a c.in-Some.ensures) c.args.id c.args.text.now c.in-Some-text_fault.refusal c.in-Some-text_fault.ensures.fault
     (record s { places = places_by (content_of c.text_fault.new.self) c.args.self.now.node (heard_of c.args.self.now.registry.watch) })
     (ap (λ (k : ℕ → SetPool). record s { places = places_by k c.args.self.now.node (heard_of c.args.self.now.registry.watch) }) c.text_fault.ensures.same)
-    c.args.outputs.now.items c.refuse-in-Some-text_fault.new.outputs.items
-    (c.refuse-in-Some-text_fault.ensures.items ∙ ap (λ (f : OperatorFault). c.args.outputs.now.items ++ declared.Refused f ∷ []) c.from.ensures)
+    [] _ (ap (λ (f : OperatorFault). declared.Refused f ∷ []) c.from.ensures)
 
 pub text_message-message-requires : goal.text_message-message-requires
 text_message-message-requires c =
@@ -55,7 +54,7 @@ returns-in-Ok-clause-takes c =
     (started-places s (content_of c.text_fault.new.self) (content_of c.act-done.new.self) node heard (ap (λ (k : ℕ → SetPool). places_by k node heard) (sym c.text_fault.ensures.same)) a pool c.act-done.ensures.content
     (record { last = s.now; session = record { pgn = VT_TO_ECU; bytes = _ } })))
     c.in-Ok.request (c.in-Ok.ensures.ok.2 ∙ ap (λ (m : List ℕ). rts_frame s.claims.own a (length m) VT_TO_ECU) bytes)
-    c.args.outputs.now.items c.send.new.outputs.items c.send.ensures.items
+    [] _ refl
 
 pub returns-in-Err-Busy-clause-takes : goal.returns-in-Err-Busy-clause-takes
 returns-in-Err-Busy-clause-takes c =
@@ -66,4 +65,4 @@ returns-in-Err-Busy-clause-takes c =
     (c.in-Err-Busy.ensures.busy.0 (λ i. Err (c.in-Err-Busy.field-0-is i)))
     (record s { claims = c.start.new.self.claims; places = places_by (content_of c.text_fault.new.self) c.start.new.self heard })
     (λ i. record s { claims = (c.in-Err-Busy.ensures.err i).claims; places = places_by (c.text_fault.ensures.same i) (c.in-Err-Busy.ensures.err i) heard })
-    c.args.outputs.now.items c.refuse-in-Err-Busy.new.outputs.items c.refuse-in-Err-Busy.ensures.items
+    [] _ refl

@@ -1,14 +1,15 @@
-use Rattle.std.proofs.Common.{false, refl, sym, ap}
+use Rattle.std.proofs.Common.{[], ◌++◌, false, Some, refl, sym, ap, ◌∙◌}
+use Rattle.std.specs.Option.{option_to_list}
 use Rattle.vt_can.specs.lines.Actions.{action_value}
 use Rattle.vt_can.specs.lines.Actions as actions
 use Rattle.vt_server.specs.operator.ActionContracts.{TakesAction}
 use Rattle.vt_server.specs.shown.Screens.{ShowsSame}
 use Rattle.vt_server.specs.States.{state_of}
 use Rattle.vt_server.specs.declared.terminal.Terminal.{Terminal}
-use Rattle.vt_server.proofs.lemmas.operator.ActionStep.{takes-lost, takes-input, takes-same}
+use Rattle.vt_server.proofs.lemmas.operator.ActionStep.{takes-after, takes-lost, takes-input, takes-same}
 use Rattle.vt_server.proofs.lemmas.shown.SameScreen.{same-text, shows-then, told-through}
 use Rattle.vt_server.proofs.terminal.Terminal.operate.Goals as goal
-use Rattle.vt_server.proofs.terminal.Terminal.operate.Goals.{in-Set, in-Text+in_default-enter_long_text, in_default}
+use Rattle.vt_server.proofs.terminal.Terminal.operate.Goals.{in-Set, in-Text+in-Ok, in_default}
 
 pub returns-then-self-clause-ok : goal.returns-then-self-clause-ok
 returns-then-self-clause-ok c = takes-lost (state_of c.args.self.now) c.args.action.now c.args.outputs.now.items c.if-self.true
@@ -17,22 +18,24 @@ pub returns-clause-ok : goal.returns-clause-ok
 returns-clause-ok c =
     let s = state_of c.args.self.now in
     let t = state_of c.match-action.self in
-    let taken : TakesAction s (action_value c.args.action.now) t c.args.outputs.now.items c.match-action.outputs.items =
+    let action = action_value c.args.action.now in
+    let taken : TakesAction s action t [] (option_to_list c.match-action.answer) =
     elim c.match-action.branch [
       | in-Set w ↦
-          takes-same s (actions.Set w.in-Set.address) (action_value c.args.action.now) (state_of w.select_set.new.self) t c.reserve.new.self.items c.args.outputs.now.items
-          w.select_set.new.outputs.items c.match-action.outputs.items (sym (ap action_value w.in-Set.is)) (ap (λ (x : Terminal). state_of x) (sym w.self-is)) c.reserve.ensures.items
-          (sym (λ i. (w.outputs-is i).items)) w.select_set.ensures.takes
-      | in-Text+in_default-enter_long_text w ↦
-          takes-same s (actions.Text w.in-Text.id w.in-Text.text.now) (action_value c.args.action.now) (state_of w.enter_long_text.new.self) t c.reserve.new.self.items c.args.outputs.now.items
-          w.enter_long_text.new.outputs.items c.match-action.outputs.items (sym (ap action_value w.in-Text.is)) (ap (λ (x : Terminal). state_of x) (sym w.self-is)) c.reserve.ensures.items
-          (sym (λ i. (w.outputs-is i).items)) w.in_default-enter_long_text.ensures.takes
+          takes-same s (actions.Set w.in-Set.address) action (state_of w.select_set-answer.new.self) t [] []
+          (option_to_list w.select_set-answer.result) (option_to_list c.match-action.answer) (sym (ap action_value w.in-Set.is)) (ap (λ (x : Terminal). state_of x) (sym w.self-is)) refl
+          (ap option_to_list (sym w.answer-is)) w.select_set-answer.ensures.takes
+      | in-Text+in-Ok w ↦
+          takes-same s (actions.Text w.in-Text.id w.in-Text.text.now) action (state_of w.enter_long_text.new.self) t [] []
+          (option_to_list (Some w.in-Ok.output)) (option_to_list c.match-action.answer) (sym (ap action_value w.in-Text.is)) (ap (λ (x : Terminal). state_of x) (sym w.self-is)) refl
+          (ap option_to_list (sym w.answer-is)) w.in-Ok.ensures.takes
       | in_default w ↦
-          takes-same s (action_value c.args.action.now) (action_value c.args.action.now) (state_of w.act.new.self) t c.reserve.new.self.items c.args.outputs.now.items
-          w.act.new.outputs.items c.match-action.outputs.items refl (ap (λ (x : Terminal). state_of x) (sym w.self-is)) c.reserve.ensures.items
-          (sym (λ i. (w.outputs-is i).items)) w.act.ensures.takes
+          takes-same s action action (state_of w.act-answer.new.self) t [] []
+          (option_to_list w.act-answer.result) (option_to_list c.match-action.answer) refl (ap (λ (x : Terminal). state_of x) (sym w.self-is)) refl
+          (ap option_to_list (sym w.answer-is)) w.act-answer.ensures.takes
     ] in
-    takes-input s t (state_of c.settle.new.self) c.args.action.now c.args.outputs.now.items c.match-action.outputs.items c.settle.new.outputs.items c.if-self.false taken
+    takes-input s t (state_of c.settle.new.self) c.args.action.now c.args.outputs.now.items c.append.new.outputs.items c.settle.new.outputs.items c.if-self.false
+    (takes-after taken (c.append.ensures.items ∙ ap (λ l. l ++ option_to_list c.match-action.answer) c.reserve.ensures.items))
     c.settle.ensures.state (c.settle.ensures.sent s c.display-before.ensures)
 
 pub returns-clause-same : goal.returns-clause-same
@@ -42,8 +45,8 @@ returns-clause-same c none =
     let settles = c.settle.ensures.tells none in
     let acted : ShowsSame (state_of t) (state_of m) =
     elim c.match-action.branch [
-      | in-Set w ↦ told-through t m w.select_set.new.self w.self-is w.select_set.ensures.tells settles.0
-      | in-Text+in_default-enter_long_text w ↦ told-through t m w.enter_long_text.new.self w.self-is w.enter_long_text.ensures.tells settles.0
-      | in_default w ↦ told-through t m w.act.new.self w.self-is w.act.ensures.tells settles.0
+      | in-Set w ↦ told-through t m w.select_set-answer.new.self w.self-is w.select_set-answer.ensures.tells settles.0
+      | in-Text+in-Ok w ↦ told-through t m w.enter_long_text.new.self w.self-is w.enter_long_text.ensures.tells settles.0
+      | in_default w ↦ told-through t m w.act-answer.new.self w.self-is w.act-answer.ensures.tells settles.0
     ] in
     same-text (state_of t) (state_of c.settle.new.self) (shows-then (state_of t) (state_of m) (state_of c.settle.new.self) acted settles.1)

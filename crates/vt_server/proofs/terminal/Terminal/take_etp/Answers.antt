@@ -1,10 +1,16 @@
+use Rattle.std.proofs.Common.{◌++◌, ap, ◌∙◌}
+use Rattle.std.specs.Option.{option_to_list}
+use Rattle.vt_server.specs.Outputs.{frames_of}
 use Rattle.vt_server.specs.States.{state_of}
 use Rattle.vt_server.proofs.lemmas.message.MessageCalls.{etp-takes}
 use Rattle.vt_server.proofs.terminal.Terminal.take_etp.Goals as goal
 
 pub returns-clause-takes : goal.returns-clause-takes
 returns-clause-takes c =
-    let received = c.hear_etp-heard in
-    etp-takes c.args.self.now c.args.frame.now received.result received.new.self
-    received.ensures.rest received.ensures.taken
-    (state_of c.receive_alone.new.self) c.source.result c.args.outputs.now.items c.receive_alone.new.outputs.items c.source.ensures c.receive_alone.ensures.takes
+    let before = c.args.outputs.now.items in
+    let received = c.hear_etp in
+    etp-takes c.args.self.now c.args.frame.now received.result received.new.self received.ensures.rest received.ensures.taken
+    (state_of c.take_whole-reply.new.self) c.source.result c.parts_of-reply.result.1 c.take_whole-reply.result before c.send_reply-2.new.outputs.items c.source.ensures
+    c.parts_of-reply.ensures.message c.take_whole-reply.ensures.handles
+    (c.send_reply-2.ensures.items
+    ∙ ap (λ l. l ++ frames_of (option_to_list c.take_whole-reply.result)) (c.send_reply.ensures.items ∙ ap (λ l. before ++ frames_of l) c.parts_of-reply.ensures.reply))
