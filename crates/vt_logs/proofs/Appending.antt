@@ -1,4 +1,4 @@
--- What several writes append, one after the other.
+-- The text that several writes append, one after the other.
 use Rattle.std.proofs.Common.{◌≡◌, ℕ, ◌+◌, ◌<◌, List, [], ◌∷◌, ◌++◌, length, get_or, take, drop, Option, Result, sym, ap, subst, ◌∙◌, append_assoc, take-append-drop}
 use Rattle.std.specs.Prelude.{OnOk}
 use Rattle.std.specs.List.{flat_map}
@@ -27,7 +27,7 @@ appends_five a b c d e f s t u v w p1 p2 p3 p4 p5 = Appends-trans a e f (s ++ t 
 pub appends_six : (a b c d e f g : Option (List ℕ)) (s t u v w x : List ℕ) → Appends a b s → Appends b c t → Appends c d u → Appends d e v → Appends e f w → Appends f g x → Appends a g (s ++ t ++ u ++ v ++ w ++ x)
 appends_six a b c d e f g s t u v w x p1 p2 p3 p4 p5 p6 = Appends-trans a f g (s ++ t ++ u ++ v ++ w) x (appends_five a b c d e f s t u v w p1 p2 p3 p4 p5) p6
 
--- six writes and a last one
+-- Six writes and a last one append their texts in order.
 pub seven_writes : {T E : Type 0} (r : Result T E) (a b c d e f g h : Option (List ℕ)) (s t u v w x y : List ℕ)
     → Appends a b s → Appends b c t → Appends c d u → Appends d e v → Appends e f w → Appends f g x → OnOk r (Appends g h y)
     → OnOk r (Appends a h (s ++ t ++ u ++ v ++ w ++ x ++ y))
@@ -36,21 +36,21 @@ seven_writes r a b c d e f g h s t u v w x y p1 p2 p3 p4 p5 p6 p7 =
 
 -- ---- where one of several writes fails
 
--- a text with what follows it, part by part
+-- A text, followed by the parts after it.
 abbrev pub followed_by : List ℕ → List (List ℕ) → List ℕ
 followed_by text [] = text
 followed_by text (part ∷ parts) = followed_by (text ++ part) parts
 
--- the first of some parts is begun
+-- The first part of a text is written in part.
 pub begun_first : (a b : Option (List ℕ)) (text : List ℕ) (parts : List (List ℕ)) → Begins a b text → Begins a b (followed_by text parts)
 begun_first a b text [] p = p
 begun_first a b text (part ∷ parts) p = begun_first a b (text ++ part) parts (begins_more a b text part p)
 
--- some parts are written, and the next is begun
+-- The first parts of a text are written, and the next one in part.
 pub begun_after : (a b c : Option (List ℕ)) (done text : List ℕ) (parts : List (List ℕ)) → Appends a b done → Begins b c text → Begins a c (followed_by (done ++ text) parts)
 begun_after a b c done text parts p q = begun_first a c (done ++ text) parts (begins_later a b c done text p q)
 
--- the texts of the first items are written, and that of the next is begun
+-- The texts of the first items are written, and that of the next one in part.
 pub begun_item : {X : Type 0} (f : X → List ℕ) (xs : List X) (i : ℕ) (x : X) (a b c : Option (List ℕ)) → i < length xs → x ≡ get_or xs i x → Appends a b (flat_map f (take i xs))
     → Begins b c (f x) → Begins a c (flat_map f xs)
 begun_item f xs i x a b c lt is done item =

@@ -1,5 +1,4 @@
--- Where a replay ends before its end, the terminal has taken the first lines, what they print is written, and one line more at most is
--- taken in part.
+-- A replay that ends early in lines: the first lines are taken with their text written, and at most one more, with its text in part.
 use Rattle.std.proofs.Common.{◌≡◌, ℕ, ◌+◌, ◌≤◌, length, List, [], ◌∷◌, ◌++◌, inl, inr, Option, Some, None, refl, sym, ap, subst, ◌∙◌, append_assoc}
 use Rattle.std.specs.Prelude.{Result, Ok, Err, OnErr}
 use Rattle.std.proofs.lemmas.List.{append-nil}
@@ -22,7 +21,7 @@ keeps-appends None b p = tt
 keeps-appends (Some x) None p = absurd p
 keeps-appends (Some x) (Some y) p = p ∙ sym (append-nil x)
 
--- a part of a text is written, and the next is begun
+-- One text is written, and the next in part.
 pub begins_later : (a b c : Option (List ℕ)) (done text : List ℕ) → Appends a b done → Begins b c text → Begins a c (done ++ text)
 begins_later a b c done text p q = record {
   front = done ++ q.front;
@@ -31,7 +30,7 @@ begins_later a b c done text p q = record {
   written = Appends-trans a b c done q.front p q.written;
 }
 
--- a longer text is begun too
+-- The first bytes of a text are also the first of a longer one.
 pub begins_more : (a b : Option (List ℕ)) (text more : List ℕ) → Begins a b text → Begins a b (text ++ more)
 begins_more a b text more p = record {
   front = p.front;
@@ -42,7 +41,7 @@ begins_more a b text more p = record {
 
 -- ---- where not all lines are taken
 
--- none is
+-- No line is taken, and nothing is written.
 pub stops_none : (a : ReplayPoint) (lines : List (List ℕ)) (held : Option (List ℕ)) → Keeps a.held held → Stops a lines a.scene.state held
 stops_none a lines held keeps = record {
   front = [];
@@ -61,7 +60,7 @@ leaves_one s n line r t text reads short (inl none) = inl none
 leaves_one s n line r t text reads short (inr part) =
     inr (record { line = line; after = []; reading = r; next = refl; read = reads; short = short; part = part })
 
--- a line that is not taken, or in part
+-- One line is not taken, or its text is written in part.
 pub stops_one : (a : ReplayPoint) (t : State) (line : List ℕ) (r : LineReading) (held : Option (List ℕ)) → Reads line r → length line ≤ 4096
     → Writes (BreaksOff a.scene.state (Follows a.scene.state r) (TakesReading a.scene (a.counts.lines + 1) r) t) a.held held → Stops a (line ∷ []) t held
 stops_one a t line r held reads short off = record {
@@ -119,7 +118,7 @@ later_bytes a b t held before bytes pending taken rest later =
 
 -- ---- in a chunk
 
--- its next line is not taken to its end
+-- A replay ends in the next line of a chunk.
 pub midway_stops : (a b : ReplayPoint) (t : State) (held : Option (List ℕ)) (before chunk pending rest line after : List ℕ) → IsMidway a before chunk b pending rest → HasNoNewline line → rest ≡ line ++ 10 ∷ after
     → Stops b ((pending ++ line) ∷ []) t held → (r : List ℕ) → Stops a (lines_of (before ++ chunk ++ r)) t held
 midway_stops a b t held before chunk pending rest line after mid lacks cut one r =
@@ -132,7 +131,7 @@ midway_stops a b t held before chunk pending rest line after mid lacks cut one r
     ap (λ (text : List ℕ). before ++ text ++ r) (mid.parts ∙ ap (λ (text : List ℕ). mid.front ++ text) cut) ∙ simp append_assoc in
     subst (λ (text : List ℕ). Stops a (lines_of text) t held) (sym joined) all
 
--- its rest is not kept
+-- A replay ends where the rest of a chunk cannot be kept.
 pub midway_stop : (a b : ReplayPoint) (held : Option (List ℕ)) (before chunk pending rest : List ℕ) → IsMidway a before chunk b pending rest → Keeps b.held held → (r : List ℕ)
     → Stops a (lines_of (before ++ chunk ++ r)) b.scene.state held
 midway_stop a b held before chunk pending rest mid keeps r =

@@ -1,14 +1,17 @@
--- Where a replay ends before its end: in the whole log.
-use Rattle.std.proofs.Common.{◌≡◌, ℕ, ◌+◌, List, [], ◌++◌, length, inl, inr, Option, Some, None, refl, sym, ap, subst, ◌∙◌, append_assoc, arith}
-use Rattle.std.specs.Prelude.{IfSome}
+-- A replay that ends early, as a statement on the whole log.
+use Rattle.std.proofs.Common.{◌≡◌, ℕ, ◌+◌, List, [], ◌++◌, length, inl, inr, Bool, Option, Some, None, refl, sym, ap, subst, ◌∙◌, append_assoc, arith}
+use Rattle.std.specs.Prelude.{Result, Ok, Err, IfSome, IfErr, IsErrAnd}
 use Rattle.std.proofs.lemmas.List.{append-nil}
 use Rattle.std.specs.Io.KnownBytes.{Appends, Consumes, IsAtEnd, Keeps}
 use Rattle.std.proofs.KnownBytes.{Appends-trans, Consumes-trans, Consumes-whole}
 use Rattle.vt_can.specs.lines.Line.{Reads}
 use Rattle.vt_logs.specs.declared.counts.Counts.{Counts}
-use Rattle.vt_logs.specs.Begun.{Begins, MayBegin, LeavesLines, Stops, HasStopped}
+use Rattle.vt_logs.specs.declared.fault.ReplayFault.{ReplayFault}
+use Rattle.vt_logs.specs.declared.fault.ReplayFault.TheVariants.{Memory, Read, TooLong, Write}
+use Rattle.vt_logs.specs.Begun.{Begins, MayBegin, LeavesLines, Stops, HasStopped, HasStoppedAtLong}
 use Rattle.vt_logs.specs.Lines.{lines_of}
-use Rattle.vt_logs.specs.Progress.{ReplayPoint, Takes, TakesBytes}
+use Rattle.vt_logs.specs.Progress.{ReplayPoint, Takes, TakesBytes, IsLineFault}
+use Rattle.vt_logs.specs.Replays.{HasLongLine, MayEndWith}
 use Rattle.vt_logs.specs.Taken.{TakesReadings}
 use Rattle.vt_logs.specs.Texts.{no_counts, counts_text, with_lines}
 use Rattle.vt_logs.proofs.Begun.{stops_none, later_bytes}
@@ -29,13 +32,13 @@ begun_none given s old new keeps = begun_first given s old new (inl keeps)
 
 -- ---- after it
 
--- the number of the next line
+-- The number of the line after those taken.
 next_place : (a b : ReplayPoint) (lines : List (List ℕ)) (takes : Takes a lines b) → a.counts ≡ no_counts → b.counts.lines + 1 ≡ length lines + 1
 next_place a b lines takes none =
     let zero : a.counts.lines ≡ 0 = ap (λ (k : Counts). k.lines) none in
     omega (arith, takes-lines a b lines takes, length-zip Reads lines takes.readings takes.read, zero)
 
--- where not all lines are taken
+-- A replay ends early in the lines of a log.
 stopped : (a : ReplayPoint) (t : State) (old held : Option (List ℕ)) (input : List ℕ) → a.counts ≡ no_counts → IsScreenOf a.scene.state a.scene.screen → Appends old a.held a.scene.screen
     → Stops a (lines_of input) t held → HasStopped a.scene.state input t old held
 stopped a t old held input none drawn first stops =
@@ -61,7 +64,7 @@ stopped a t old held input none drawn first stops =
           (Appends-trans old a.held to.held a.scene.screen takes.printed first takes.text) stops.written;
     })
 
--- nothing more is read
+-- A replay ends between two chunks.
 pub way_stop : (a b : ReplayPoint) (given left old held : Option (List ℕ)) (pending : List ℕ) (reads : ℕ) → a.counts ≡ no_counts → IsScreenOf a.scene.state a.scene.screen
     → Appends old a.held a.scene.screen → IsUnderWay a given left b pending reads → Keeps b.held held
     → IfSome given (λ input. HasStopped a.scene.state input b.scene.state old held)
@@ -70,7 +73,7 @@ way_stop a b given left old held pending reads none drawn first way keeps =
     stopped a b.scene.state old held (way.input ++ rest) none drawn first
     (later_bytes a b b.scene.state held [] way.input pending way.taken rest (stops_none b (lines_of (pending ++ rest)) held keeps)))
 
--- a chunk is not taken to its end
+-- A replay ends in a chunk.
 pub way_stops : (a b : ReplayPoint) (t : State) (given left after old held : Option (List ℕ)) (pending chunk : List ℕ) (reads : ℕ) → a.counts ≡ no_counts → IsScreenOf a.scene.state a.scene.screen
     → Appends old a.held a.scene.screen → IsUnderWay a given left b pending reads → Consumes left after chunk
     → ((rest : List ℕ) → Stops b (lines_of (pending ++ chunk ++ rest)) t held) → IfSome given (λ input. HasStopped a.scene.state input t old held)
@@ -81,7 +84,7 @@ way_stops a b t given left after old held pending chunk reads none drawn first w
     subst P (sym (append_assoc way.input chunk rest))
     (stopped a t old held (way.input ++ (chunk ++ rest)) none drawn first (later_bytes a b t held [] way.input pending way.taken (chunk ++ rest) here)))
 
--- the reader is at its end, and what is pending is not taken to its end
+-- A replay ends in the last line of a log, which lacks its newline.
 pub way_last : (a b : ReplayPoint) (t : State) (given left after old held : Option (List ℕ)) (pending chunk : List ℕ) (reads : ℕ) → a.counts ≡ no_counts → IsScreenOf a.scene.state a.scene.screen
     → Appends old a.held a.scene.screen → IsUnderWay a given left b pending reads → Consumes left after chunk → chunk ≡ [] → IsAtEnd after
     → Stops b (lines_of pending) t held → IfSome given (λ input. HasStopped a.scene.state input t old held)
@@ -92,7 +95,7 @@ way_last a b t given left after old held pending chunk reads none drawn first wa
     Consumes-whole given after (way.input ++ chunk) P (Consumes-trans given left after way.input chunk way.consumed consumed) end
     (subst (λ (c : List ℕ). P (way.input ++ c)) (sym empty) all)
 
--- all lines are taken, and the counts are begun
+-- All lines of a log are taken, and the counts are written in part.
 counting : (a b c : ReplayPoint) (old held : Option (List ℕ)) (pending input : List ℕ) → a.counts ≡ no_counts → IsScreenOf a.scene.state a.scene.screen → Appends old a.held a.scene.screen
     → TakesBytes a [] input b pending → Takes b (lines_of pending) c → Begins c.held held (counts_text c.counts) → HasStopped a.scene.state input c.scene.state old held
 counting a b c old held pending input none drawn first taken last counted =
@@ -127,3 +130,25 @@ way_counts a b c given left after old held pending chunk reads none drawn first 
     let joined : way.input ≡ way.input ++ chunk = sym (append-nil way.input) ∙ ap (λ (text : List ℕ). way.input ++ text) (sym empty) in
     Consumes-whole given after (way.input ++ chunk) P (Consumes-trans given left after way.input chunk way.consumed consumed) end
     (subst P joined (counting a b c old held pending way.input none drawn first way.taken last counted))
+
+-- ---- the faults
+
+pub stopped_long : (s t : State) (log old held : Option (List ℕ)) → IfSome log (λ input. HasStoppedAtLong s input t old held) → IfSome log HasLongLine
+stopped_long s t None old held stopped = tt
+stopped_long s t (Some input) old held stopped = stopped.long
+
+ends_with : (source sink : Bool) (log : Option (List ℕ)) (fault : ReplayFault) → IsLineFault sink fault → (fault ≡ TooLong → IfSome log HasLongLine) → MayEndWith source sink log fault
+ends_with source sink log Read (inl e) long = absurd cc
+ends_with source sink log Read (inr (inl e)) long = absurd cc
+ends_with source sink log Read (inr (inr e)) long = absurd (let is = e.0 in cc)
+ends_with source sink log Write (inl e) long = absurd cc
+ends_with source sink log Write (inr (inl e)) long = absurd cc
+ends_with source sink log Write (inr (inr e)) long = e.1
+ends_with source sink log Memory line long = tt
+ends_with source sink log TooLong line long = long refl
+
+-- A fault at a line is one that may end the replay of the log.
+pub ends_in_line : {T : Type 0} (r : Result T ReplayFault) (source sink : Bool) (log : Option (List ℕ)) (fault : ReplayFault) → IsErrAnd r (λ other. other ≡ fault) → IsLineFault sink fault
+    → (fault ≡ TooLong → IfSome log HasLongLine) → IfErr r (MayEndWith source sink log)
+ends_in_line (Ok x) source sink log fault same line long = tt
+ends_in_line (Err other) source sink log fault same line long = subst (MayEndWith source sink log) (sym same) (ends_with source sink log fault line long)

@@ -1,4 +1,4 @@
--- Where a line is too long, it is the first such line of the input, and the lines before it are taken.
+-- A replay that ends with TooLong: the line is the first such line of the log, and the lines before it are taken.
 use Rattle.std.proofs.Common.{◌≡◌, ℕ, ◌<◌, cond, List, [], ◌∷◌, ◌++◌, length, Option, Some, None, refl, sym, ap, subst, ◌∙◌, append_assoc, arith, length-append}
 use Rattle.std.specs.Prelude.{IfSome}
 use Rattle.std.specs.List.{onto_first}
@@ -15,7 +15,7 @@ use Rattle.vt_logs.proofs.Midway.{IsMidway, IsUnderWay}
 use Rattle.vt_server.specs.shown.Screens.{IsScreenOf}
 use Rattle.vt_server.specs.Terminals.{State}
 
--- the first line begins with the bytes before the first newline
+-- The first line of a text begins with these bytes.
 record BeginsWith (p text : List ℕ) : Type 0 where
   more : List ℕ
   others : List (List ℕ)
@@ -38,7 +38,7 @@ begins_with (x ∷ y ∷ ys) rest lacks some =
       lines = ap (λ b. cond b ([] ∷ lines_of (y ∷ ys ++ rest)) (onto_first x (lines_of (y ∷ ys ++ rest)))) (no_newline x (y ∷ ys) lacks) ∙ ap (onto_first x) later.lines;
     }
 
--- the first line is too long, and nothing is taken
+-- The first line is too long, and nothing is taken.
 long_first : (a : ReplayPoint) (t : State) (held : Option (List ℕ)) (pending : List ℕ) → HasNoNewline pending → 4096 < length pending → t ≡ a.scene.state → held ≡ a.held
     → (rest : List ℕ) → StopsAtLong a (lines_of (pending ++ rest)) t held
 long_first a t held pending lacks long same_state same_held rest =
@@ -51,7 +51,7 @@ long_first a t held pending lacks long same_state same_held rest =
       held_is = same_held;
     }
 
--- the lines before are taken too
+-- A line is too long after lines that are taken.
 long_later : (a b : ReplayPoint) (t : State) (held : Option (List ℕ)) (before bytes pending : List ℕ) → TakesBytes a before bytes b pending
     → (rest : List ℕ) → StopsAtLong b (lines_of (pending ++ rest)) t held → StopsAtLong a (lines_of (before ++ bytes ++ rest)) t held
 long_later a b t held before bytes pending taken rest later = record {
@@ -68,7 +68,7 @@ long_later a b t held before bytes pending taken rest later = record {
   held_is = later.held_is;
 }
 
--- a part of a line in the middle of a chunk
+-- A line that ends in the middle of a chunk is too long.
 pub midway_long : (a b : ReplayPoint) (t : State) (held : Option (List ℕ)) (before chunk pending rest part tail : List ℕ) → IsMidway a before chunk b pending rest
     → rest ≡ part ++ tail → HasNoNewline part → 4096 < length (pending ++ part) → t ≡ b.scene.state → held ≡ b.held
     → (r : List ℕ) → StopsAtLong a (lines_of (before ++ chunk ++ r)) t held
@@ -107,7 +107,7 @@ stopped_at_long a t old held input none drawn first stops =
           (Appends-trans old a.held stops.to.held a.scene.screen takes.printed first takes.text);
     }
 
--- a chunk with a part of a line that is too long, after those before it
+-- A replay ends in a chunk with a line that is too long.
 pub way_long : (a b : ReplayPoint) (t : State) (given left after old held : Option (List ℕ)) (pending chunk : List ℕ) (reads : ℕ) → a.counts ≡ no_counts
     → IsScreenOf a.scene.state a.scene.screen → Appends old a.held a.scene.screen → IsUnderWay a given left b pending reads → Consumes left after chunk
     → ((rest : List ℕ) → StopsAtLong b (lines_of (pending ++ chunk ++ rest)) t held) → IfSome given (λ input. HasStoppedAtLong a.scene.state input t old held)
@@ -119,7 +119,7 @@ way_long a b t given left after old held pending chunk reads none drawn first wa
     subst P (sym (append_assoc way.input chunk rest))
     (stopped_at_long a t old held (way.input ++ (chunk ++ rest)) none drawn first (long_later a b t held [] way.input pending way.taken (chunk ++ rest) here)))
 
--- the same of what is pending at the end
+-- A replay ends in its last line, which is too long.
 pub end_long : (a b : ReplayPoint) (t : State) (given left old held : Option (List ℕ)) (pending : List ℕ) (reads : ℕ) → a.counts ≡ no_counts
     → IsScreenOf a.scene.state a.scene.screen → Appends old a.held a.scene.screen → IsUnderWay a given left b pending reads → 4096 < length pending
     → t ≡ b.scene.state → held ≡ b.held → IfSome given (λ input. HasStoppedAtLong a.scene.state input t old held)

@@ -1,5 +1,5 @@
--- What holds between two lines of a chunk, and between two chunks.
-use Rattle.std.proofs.Common.{◌≡◌, ℕ, zero, suc, false, eqb, ◌+◌, ◌*◌, ◌≤◌, ◌<◌, ◌^◌, List, [], ◌∷◌, ◌++◌, length, take, drop, Option, refl, sym, ap, subst, ◌∙◌, append_assoc, arith, length-append}
+-- The invariants of a replay between two lines of a chunk and between two chunks.
+use Rattle.std.proofs.Common.{◌≡◌, ℕ, zero, suc, false, eqb, ◌+◌, ◌*◌, ◌≤◌, ◌<◌, ◌^◌, List, [], ◌∷◌, ◌++◌, length, take, drop, Option, Some, None, refl, sym, ap, subst, ◌∙◌, append_assoc, arith, length-append}
 use Rattle.std.specs.Prelude.{IfSome}
 use Rattle.std.proofs.lemmas.List.{append-nil, take_at}
 use Rattle.std.specs.List.{AllZip, AllByRecursion}
@@ -17,7 +17,7 @@ use Rattle.vt_server.specs.shown.Screens.{IsScreenOf}
 
 -- ---- between two lines of a chunk
 
--- the front of a chunk is taken
+-- The first bytes of a chunk are taken.
 pub record IsMidway (from : ReplayPoint) (before chunk : List ℕ) (to : ReplayPoint) (pending rest : List ℕ) : Type 0 where
   pub front : List ℕ
   pub parts : chunk ≡ front ++ rest
@@ -56,13 +56,14 @@ midway_end a b before chunk pending rest left mid lacks kept = (
 
 -- ---- between two chunks
 
--- the reader gave these bytes, and they are taken
+-- The bytes read so far, at least one at each read, are taken.
 pub record IsUnderWay (start : ReplayPoint) (given left : Option (List ℕ)) (now : ReplayPoint) (pending : List ℕ) (reads : ℕ) : Type 0 where
   pub input : List ℕ
   pub consumed : Consumes given left input
   pub taken : TakesBytes start [] input now pending
   pub whole : HasNoNewline pending
   pub few : AtMost (reads * 65536) now.counts
+  pub each : reads ≤ length input
 
 pub way_start : (s : ReplayState) (held given : Option (List ℕ)) (counts : Counts) (pending : List ℕ) → counts ≡ no_counts → pending ≡ []
     → IsUnderWay (record { scene = s; counts = no_counts; held = held }) given given (record { scene = s; counts = counts; held = held }) pending 0
@@ -74,6 +75,7 @@ way_start s held given counts pending none empty =
       taken = bytes_none start [];
       whole = λ k d lt. absurd (omega arith);
       few = record { lines = omega arith; frames = omega arith; operator = omega arith; skipped = omega arith; comments = omega arith; faults = omega arith };
+      each = omega arith;
     } in
     subst (λ (c : Counts). IsUnderWay start given given (record { scene = s; counts = c; held = held }) pending 0) (sym none)
     (subst (λ (p : List ℕ). IsUnderWay start given given start p 0) (sym empty) begun)
@@ -82,7 +84,7 @@ pub way_drawn : (a b : ReplayPoint) (given left : Option (List ℕ)) (pending : 
     → IsScreenOf a.scene.state a.scene.screen → IsScreenOf b.scene.state b.scene.screen
 way_drawn a b given left pending reads way drawn = takes_drawn a b way.taken.lines way.taken.takes drawn
 
--- what was printed is written out
+-- Flushing the writer keeps a replay under way.
 pub way_flushed : (a : ReplayPoint) (s : ReplayState) (counts : Counts) (held written given left : Option (List ℕ)) (pending : List ℕ) (reads : ℕ)
     → IsUnderWay a given left (record { scene = s; counts = counts; held = held }) pending reads → Keeps held written
     → IsUnderWay a given left (record { scene = s; counts = counts; held = written }) pending reads
@@ -106,29 +108,37 @@ way_flushed a s counts held written given left pending reads way keeps =
       };
       whole = way.whole;
       few = way.few;
+      each = way.each;
     }
 
-pub way_more : (a b c : ReplayPoint) (given left after : Option (List ℕ)) (pending kept chunk : List ℕ) (reads : ℕ) → IsUnderWay a given left b pending reads → Consumes left after chunk → length chunk ≤ 65536
-    → TakesBytes b pending chunk c kept → HasNoNewline kept → IsUnderWay a given after c kept (reads + 1)
-way_more a b c given left after pending kept chunk reads way consumed short taken whole = record {
+pub way_more : (a b c : ReplayPoint) (given left after : Option (List ℕ)) (pending kept chunk : List ℕ) (reads : ℕ) → IsUnderWay a given left b pending reads → Consumes left after chunk
+    → 0 < length chunk → length chunk ≤ 65536 → TakesBytes b pending chunk c kept → HasNoNewline kept → IsUnderWay a given after c kept (reads + 1)
+way_more a b c given left after pending kept chunk reads way consumed some short taken whole = record {
   input = way.input ++ chunk;
   consumed = Consumes-trans given left after way.input chunk way.consumed consumed;
   taken = bytes_more a b c [] way.input pending chunk kept way.taken taken;
   whole = whole;
   few = AtMost-more (reads * 65536 + 65536) ((reads + 1) * 65536) c.counts (omega arith) (bytes-AtMost (reads * 65536) 65536 b c pending chunk kept taken way.few short);
+  each = simp length-append (omega (arith, way.each, some));
 }
+
+-- A log that a number of reads have not ended has at least as many bytes.
+pub way_reads : (a b : ReplayPoint) (given left : Option (List ℕ)) (pending : List ℕ) (reads most : ℕ) → IsUnderWay a given left b pending reads → most ≤ reads → IfSome given (λ input. most ≤ length input)
+way_reads a b None left pending reads most way le = tt
+way_reads a b (Some xs) None pending reads most way le = absurd way.consumed
+way_reads a b (Some xs) (Some ys) pending reads most way le = omega (arith, way.each, ap length way.consumed, length-append way.input ys, le)
 
 -- ---- the end
 
-above_zero : (n : ℕ) → false ≡ eqb n 0 → 0 < n
+pub above_zero : (n : ℕ) → false ≡ eqb n 0 → 0 < n
 above_zero zero e = absurd cc
 above_zero (suc n) e = omega arith
 
--- what is pending at the end is the last line
+-- The bytes pending at the end of a log are its last line.
 pub last_line : (pending : List ℕ) → HasNoNewline pending → false ≡ eqb (length pending) 0 → (pending ++ []) ∷ [] ≡ lines_of pending
 last_line pending lacks some = ap (λ (t : List ℕ). t ∷ []) (append-nil pending) ∙ sym (lines_of-last pending lacks (above_zero (length pending) some))
 
--- all that the reader gave is replayed, after the first screen
+-- After the first screen all bytes of the log are replayed.
 pub replayed : (a b c : ReplayPoint) (pending input : List ℕ) → a.counts ≡ no_counts → IsScreenOf a.scene.state a.scene.screen → TakesBytes a [] input b pending → Takes b (lines_of pending) c
     → (text : List ℕ) × Appends a.held c.held text × ((last : List ℕ) → last ≡ counts_text c.counts → IsReplay a.scene.state input (a.scene.screen ++ text ++ last) c.counts c.scene.state)
 replayed a b c pending input none drawn taken at_end =
@@ -154,7 +164,7 @@ replayed a b c pending input none drawn taken at_end =
       },
     )
 
--- the reader is at its end, the last line is taken, and the counts are written, after the first screen
+-- The replay is whole where the log is at its end, the last line is taken and the counts are written.
 pub way_end : (a b c : ReplayPoint) (given left after old written : Option (List ℕ)) (pending chunk : List ℕ) (reads : ℕ) → a.counts ≡ no_counts → IsScreenOf a.scene.state a.scene.screen
     → Appends old a.held a.scene.screen → IsUnderWay a given left b pending reads
     → Consumes left after chunk → chunk ≡ [] → IsAtEnd after → Takes b (lines_of pending) c → Appends c.held written (counts_text c.counts)
@@ -167,6 +177,6 @@ way_end a b c given left after old written pending chunk reads none drawn first 
     Consumes-whole given after (way.input ++ chunk) P (Consumes-trans given left after way.input chunk way.consumed consumed) end
     (subst P joined (a.scene.screen ++ done.0 ++ counts_text c.counts, Appends-trans old c.held written (a.scene.screen ++ done.0) (counts_text c.counts) lines counted, done.2 (counts_text c.counts) refl))
 
--- a buffer's front is what was read into it
+-- The first bytes of a buffer are those read into it.
 pub read_front : (n len : ℕ) (buffer items got : List ℕ) → got ≡ take len (buffer ++ drop (length buffer) items) → length buffer ≡ len → take n buffer ≡ take n got
 read_front n len buffer items got is full = ap (take n) (sym (is ∙ take_at buffer (drop (length buffer) items) len full))

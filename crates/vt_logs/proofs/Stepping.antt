@@ -1,4 +1,4 @@
--- What a line says is taken and printed, or in part.
+-- The input of a line: taken with its text written whole or in part, or not taken.
 use Rattle.std.proofs.Common.{◌≡◌, ℕ, List, [], ◌++◌, Option, Ok, Err, ◌⊎◌, inl, inr, refl, sym, ap, subst, ◌∙◌}
 use Rattle.std.specs.List.{flat_map}
 use Rattle.std.specs.Io.KnownBytes.{Appends}
@@ -31,7 +31,7 @@ event_of_line (inputs.Frame time frame) (steps.ActionAt action shown) is = absur
 event_of_line (inputs.Operator action) (steps.FrameAt at heard verdict) is = absurd is
 event_of_line (inputs.Operator action) (steps.ActionAt action_taken shown) is = is
 
--- The terminal took it: this is what its line prints.
+-- The text of a line whose input the terminal took.
 pub input_prints : (a b : ReplayState) (input : Input) (before after : List Output) → before ≡ [] → TakesInput a.state input b.state before after → IsScreenOf b.state b.screen
     → TakesInputLine a (input_line input) b (flat_map output_text after ++ new_screen a.screen b.screen)
 input_prints a b input before after none taken drawn =
@@ -47,7 +47,7 @@ input_prints a b input before after none taken drawn =
       };
     }
 
--- What it sent was written, and its screen, where that is new.
+-- The terminal took an input, and its outputs and its new screen are written.
 pub input_taken : (a b : ReplayState) (input : Input) (after : List Output) (old mid new : Option (List ℕ))
     → TakesInputLine a (input_line input) b (flat_map output_text after ++ new_screen a.screen b.screen) → Appends old mid (flat_map output_text after)
     → Appends mid new (new_screen a.screen b.screen) → Writes (TakesInputLine a (input_line input) b) old new
@@ -59,12 +59,12 @@ input_taken a b input after old mid new prints sent shown = record {
 
 -- ---- where that is not done, or not written whole
 
--- The terminal did not take it.
+-- The terminal did not take an input, and nothing is written.
 pub input_refused : (a : ReplayState) (t : State) (input : Input) (held : Option (List ℕ)) → t ≡ a.state
     → Writes (BreaksOff a.state (FollowsInput a.state (input_line input)) (TakesInputLine a (input_line input)) t) held held
 input_refused a t input held same = record { text = []; text_is = inl (same, refl); written = Appends-nil held }
 
--- The terminal took it, and nothing is printed.
+-- The terminal took an input, and nothing is written.
 pub input_unprinted : (a : ReplayState) (t : State) (input : Input) (before after : List Output) (held : Option (List ℕ)) → TakesInput a.state input t before after
     → Writes (BreaksOff a.state (FollowsInput a.state (input_line input)) (TakesInputLine a (input_line input)) t) held held
 input_unprinted a t input before after held taken = record {
@@ -76,7 +76,7 @@ input_unprinted a t input before after held taken = record {
   written = Appends-nil held;
 }
 
--- The terminal took it, and what it prints is begun.
+-- The terminal took an input, and the first bytes of its text are written.
 input_begun : (a b : ReplayState) (input : Input) (text : List ℕ) (old new : Option (List ℕ)) → TakesInputLine a (input_line input) b text → Begins old new text
     → Writes (BreaksOff a.state (FollowsInput a.state (input_line input)) (TakesInputLine a (input_line input)) b.state) old new
 input_begun a b input text old new prints begun = record {

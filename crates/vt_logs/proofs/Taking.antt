@@ -1,4 +1,4 @@
--- Lines that are taken one after the other, and bytes that are cut into lines.
+-- Lines taken one after the other, and bytes cut into lines.
 use Rattle.std.proofs.Common.{◌≡◌, ℕ, suc, ◌+◌, ◌≤◌, ◌<◌, Bool, true, false, cond, eqb, List, [], ◌∷◌, ◌++◌, length, refl, sym, ap, subst, ◌∙◌, append_assoc, arith, length-append, add-zero}
 use Rattle.std.specs.Prelude.{Ok, Err, not}
 use Rattle.std.proofs.lemmas.List.Elements.{All-head, All-tail, All-append}
@@ -44,7 +44,7 @@ with_lines-lines c (r ∷ rs) =
     let first = with_line-lines c r in
     omega arith
 
--- the next line is line n + 1, after n others
+-- Lines are taken after other lines, and their numbers go on from those.
 pub readings-append : (a b c : ReplayState) (n m : ℕ) (rs qs : List LineReading) (t u : List ℕ) → TakesReadings a n rs b t → m ≡ n + length rs → TakesReadings b m qs c u
     → TakesReadings a n (rs ++ qs) c (t ++ u)
 readings-append a b c n m [] qs t u p place q =
@@ -93,7 +93,7 @@ takes_one a b line r reads short one = record {
   text = one.text;
 }
 
--- the lines taken are counted
+-- The count of lines grows by the lines taken.
 pub takes-lines : (a b : ReplayPoint) (lines : List (List ℕ)) (takes : Takes a lines b) → b.counts.lines ≡ a.counts.lines + length takes.readings
 takes-lines a b lines takes = ap (λ (k : Counts). k.lines) takes.counts ∙ with_lines-lines a.counts takes.readings
 
@@ -140,7 +140,7 @@ HasNoNewline-append xs ys p q = All-append (λ byte. not (eqb byte 10) ≡ true)
 pub bytes_none : (a : ReplayPoint) (pending : List ℕ) → TakesBytes a pending [] a pending
 bytes_none a pending = record { lines = []; takes = takes_none a; few = omega arith; split = λ rest. ap (λ (t : List ℕ). lines_of (t ++ rest)) (append-nil pending) }
 
--- a part of a line is kept
+-- Bytes of a line whose newline is still to come are pending.
 pub bytes_kept : (a b : ReplayPoint) (before bytes pending part : List ℕ) → TakesBytes a before bytes b pending → TakesBytes a before (bytes ++ part) b (pending ++ part)
 bytes_kept a b before bytes pending part so_far = record {
   lines = so_far.lines;
@@ -151,7 +151,7 @@ bytes_kept a b before bytes pending part so_far = record {
       ap lines_of regrouped ∙ so_far.split (part ++ rest) ∙ ap (λ (t : List ℕ). so_far.lines ++ lines_of t) (sym (append_assoc pending part rest));
 }
 
--- a line ends
+-- A line that ends is taken, and no bytes are pending.
 pub bytes_line : (a b c : ReplayPoint) (before bytes pending part : List ℕ) → TakesBytes a before bytes b pending → HasNoNewline (pending ++ part) → Takes b ((pending ++ part) ∷ []) c
     → TakesBytes a before (bytes ++ (part ++ 10 ∷ [])) c []
 bytes_line a b c before bytes pending part so_far lacks one = record {
@@ -166,7 +166,7 @@ bytes_line a b c before bytes pending part so_far lacks one = record {
       ∙ sym (append_assoc so_far.lines ((pending ++ part) ∷ []) (lines_of rest));
 }
 
--- one piece after another
+-- Bytes taken after other bytes are taken together with them.
 pub bytes_more : (a b c : ReplayPoint) (before xs pending ys left : List ℕ) → TakesBytes a before xs b pending → TakesBytes b pending ys c left → TakesBytes a before (xs ++ ys) c left
 bytes_more a b c before xs pending ys left p q = record {
   lines = p.lines ++ q.lines;
@@ -209,7 +209,7 @@ takes-AtMost n a b ls takes most =
     subst (AtMost (n + length ls)) (sym takes.counts)
     (subst (λ (k : ℕ). AtMost (n + k) (with_lines a.counts takes.readings)) (sym (length-zip Reads ls takes.readings takes.read)) (AtMost-lines n a.counts takes.readings most))
 
--- no more lines were taken than there were bytes
+-- Taking bytes adds at most one to each count for each byte.
 pub bytes-AtMost : (n k : ℕ) (a b : ReplayPoint) (before bytes pending : List ℕ) → TakesBytes a before bytes b pending → AtMost n a.counts → length bytes ≤ k → AtMost (n + k) b.counts
 bytes-AtMost n k a b before bytes pending so_far most le =
     AtMost-more (n + length so_far.lines) (n + k) b.counts (omega (arith, so_far.few)) (takes-AtMost n a b so_far.lines so_far.takes most)

@@ -1,4 +1,4 @@
--- What stands written where a replay ends before its end (docs/PROFILE.md, "Output of a replay").
+-- The terminal and the output after a replay that ends early (docs/PROFILE.md, "Output of a replay").
 use Rattle.std.specs.Prelude.{◌≡◌, ◌⊎◌, ◌≤◌, ℕ, ◌+◌, List, [], ◌∷◌, ◌++◌, length, Option}
 use Rattle.std.specs.List.{AllZip, AllByRecursion}
 use Rattle.std.specs.Io.KnownBytes.{Appends, Keeps}
@@ -11,20 +11,20 @@ use Rattle.vt_logs.specs.Texts.{LineReading, with_lines, no_counts, counts_text}
 use Rattle.vt_server.specs.shown.Screens.{IsScreenOf}
 use Rattle.vt_server.specs.Terminals.{State}
 
--- The first bytes of a text are written, none, some or all.
+-- The first bytes of a text are written: none, some or all.
 pub record Begins (old new : Option (List ℕ)) (text : List ℕ) : Type 0 where
   pub front : List ℕ
   pub rest : List ℕ
   pub parts : text ≡ front ++ rest
   pub written : Appends old new front
 
--- Nothing is written, or the first bytes of a text of this kind.
+-- Nothing is written, or the first bytes of a text that has the property Is.
 abbrev pub MayBegin : (List ℕ → Type 0) → Option (List ℕ) → Option (List ℕ) → Type 0
 MayBegin Is old new = Keeps old new ⊎ ((text : List ℕ) × Is text × Begins old new text)
 
 -- ---- a line
 
--- the first bytes of what is printed on the way to this state
+-- These bytes are the first of a text that is printed when the terminal comes to this state.
 pub record IsFrontOfPrint (Takes : ReplayState → List ℕ → Type 0) (now : State) (front : List ℕ) : Type 0 where
   pub to : ReplayState
   pub text : List ℕ
@@ -33,18 +33,18 @@ pub record IsFrontOfPrint (Takes : ReplayState → List ℕ → Type 0) (now : S
   pub now_is : now ≡ to.state
   pub parts : text ≡ front ++ rest
 
--- The terminal has taken what a line says, and of what is printed for it nothing is written, or the first bytes.
+-- The terminal has taken the input of a line, and of the line's text nothing or the first bytes are written.
 pub record TakesInPart (Does : State → Type 0) (Takes : ReplayState → List ℕ → Type 0) (now : State) (text : List ℕ) : Type 0 where
   pub done : Does now
   pub printed : (text ≡ []) ⊎ IsFrontOfPrint Takes now text
 
--- The terminal has not taken it, and nothing is written; or it has taken it in part.
+-- A line ends early: the terminal has not taken its input and nothing is written, or it has, and the line's text is written in part.
 abbrev pub BreaksOff : State → (State → Type 0) → (ReplayState → List ℕ → Type 0) → State → List ℕ → Type 0
 BreaksOff from Does Takes now text = ((now ≡ from) × (text ≡ [])) ⊎ TakesInPart Does Takes now text
 
 -- ---- lines
 
--- The first of these lines, line n, is taken in part.
+-- The terminal has taken the input of the first line of these, line n, and its text is written in part.
 pub record TakesNextInPart (from : ReplayState) (n : ℕ) (lines : List (List ℕ)) (now : State) (text : List ℕ) : Type 0 where
   pub line : List ℕ
   pub after : List (List ℕ)
@@ -54,11 +54,11 @@ pub record TakesNextInPart (from : ReplayState) (n : ℕ) (lines : List (List �
   pub short : length line ≤ 4096
   pub part : TakesInPart (Follows from.state reading) (TakesReading from n reading) now text
 
--- None of these lines is taken, and nothing is written; or the first of them is taken in part.
+-- None of these lines is taken and nothing is written, or the first one is taken and its text is written in part.
 abbrev pub LeavesLines : ReplayState → ℕ → List (List ℕ) → State → List ℕ → Type 0
 LeavesLines from n lines now text = ((now ≡ from.state) × (text ≡ [])) ⊎ TakesNextInPart from n lines now text
 
--- Not all of these lines are taken: the first of them are, and what they print is written; and one more at most, in part.
+-- The first of these lines are taken and their text is written; at most one more is taken, with its text written in part.
 pub record Stops (from : ReplayPoint) (lines : List (List ℕ)) (now : State) (held : Option (List ℕ)) : Type 0 where
   pub front : List (List ℕ)
   pub back : List (List ℕ)
@@ -69,7 +69,7 @@ pub record Stops (from : ReplayPoint) (lines : List (List ℕ)) (now : State) (h
   pub leaves : LeavesLines to.scene (to.counts.lines + 1) back now text
   pub written : Appends to.held held text
 
--- The lines before the first that is longer than 4,096 bytes are taken, and what they print is written.
+-- The lines before the first one longer than 4,096 bytes are taken, and their text is written.
 pub record StopsAtLong (from : ReplayPoint) (lines : List (List ℕ)) (state : State) (held : Option (List ℕ)) : Type 0 where
   pub long : HasLong lines
   pub to : ReplayPoint
@@ -79,16 +79,16 @@ pub record StopsAtLong (from : ReplayPoint) (lines : List (List ℕ)) (state : S
 
 -- ---- a replay
 
--- No line is left, and of the counts the first bytes are written.
+-- All lines are taken, and the first bytes of the counts are written.
 pub record BeginsCounts (last : ReplayState) (readings : List LineReading) (lines : List (List ℕ)) (now : State) (text : List ℕ) : Type 0 where
   pub none_left : lines ≡ []
   pub now_is : now ≡ last.state
   pub rest : List ℕ
   pub parts : counts_text (with_lines no_counts readings) ≡ text ++ rest
 
--- A replay ended before its end, behind its first screen: the terminal has taken the first of the lines, none, some or all, and the
--- first screen is written and what these lines print. Behind that it has taken one line more at most, and the first bytes are written
--- of what that prints; or no line is left, and those of the counts are written. No line taken is longer than 4,096 bytes.
+-- A replay ended early, after its first screen. The terminal has taken the first lines (none, some or all), and the first screen and the
+-- text of these lines are written. Either at most one more line is taken, with its text written in part, or all lines are taken, and the
+-- counts are written in part. No line taken is longer than 4,096 bytes.
 pub record StopsInLines (start : State) (input : List ℕ) (now : State) (old new : Option (List ℕ)) : Type 0 where
   pub front : List (List ℕ)
   pub back : List (List ℕ)
@@ -106,13 +106,12 @@ pub record StopsInLines (start : State) (input : List ℕ) (now : State) (old ne
   pub leaves : LeavesLines last (length front + 1) back now text ⊎ BeginsCounts last readings back now text
   pub written : Appends old new (first.screen ++ printed ++ text)
 
--- A replay ended before its end: before the first line, when the first bytes of the first screen are written at most, or behind
--- its first screen.
+-- A replay ended early: before the first line, with at most the first bytes of the first screen written, or after its first screen.
 abbrev pub HasStopped : State → List ℕ → State → Option (List ℕ) → Option (List ℕ) → Type 0
 HasStopped start input now old new = ((now ≡ start) × MayBegin (IsScreenOf start) old new) ⊎ StopsInLines start input now old new
 
--- A replay ended at the first line that is longer than 4,096 bytes: the terminal has taken the lines before it, and what stands
--- written are the first screen and what they print.
+-- A replay ended at the first line longer than 4,096 bytes: the terminal has taken the lines before it, and the first screen and the
+-- text of these lines are written.
 pub record HasStoppedAtLong (start : State) (input : List ℕ) (now : State) (old new : Option (List ℕ)) : Type 0 where
   pub long : HasLongLine input
   pub readings : List LineReading

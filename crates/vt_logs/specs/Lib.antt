@@ -1,4 +1,4 @@
--- What the contracts of this crate cite.
+-- Definitions of the replay of a log.
 pub mod Begun
 pub mod Lines
 pub mod Progress

@@ -1,4 +1,4 @@
--- How far a replay has come.
+-- The progress of a replay: the lines and the bytes that it takes.
 use Rattle.std.specs.Prelude.{◌≡◌, ◌≢◌, ◌⊎◌, ◌≤◌, Bool, true, ◌==◌, ◌+◌, ℕ, not, List, ◌++◌, length, Option}
 use Rattle.std.specs.List.{AllZip, AllByRecursion, AllPass}
 use Rattle.std.specs.Io.KnownBytes.{Appends}
@@ -12,7 +12,7 @@ use Rattle.vt_logs.specs.Texts.{LineReading, with_line, with_lines}
 use Rattle.vt_server.specs.declared.terminal.Terminal.{Terminal}
 use Rattle.vt_server.specs.States.{state_of}
 
--- no count is above this number
+-- No count is above this number.
 pub record AtMost (most : ℕ) (c : Counts) : Type 0 where
   pub lines : c.lines ≤ most
   pub frames : c.frames ≤ most
@@ -21,7 +21,7 @@ pub record AtMost (most : ℕ) (c : Counts) : Type 0 where
   pub comments : c.comments ≤ most
   pub faults : c.faults ≤ most
 
--- where a replay stands: the terminal with the screen that was printed last, the counts, and what the writer holds
+-- The point that a replay has reached: the terminal, the screen printed last, the counts, and the text in the writer.
 pub record ReplayPoint : Type 0 where
   pub scene : ReplayState
   pub counts : Counts
@@ -33,20 +33,20 @@ scene terminal screen = record { state = state_of terminal; screen = screen }
 abbrev pub stand : Terminal → List ℕ → Counts → Option (List ℕ) → ReplayPoint
 stand terminal screen counts held = record { scene = scene terminal screen; counts = counts; held = held }
 
--- A text of this kind is written.
+-- A text that has the property Is is written.
 pub record Writes (Is : List ℕ → Type 0) (old new : Option (List ℕ)) : Type 0 where
   pub text : List ℕ
   pub text_is : Is text
   pub written : Appends old new text
 
--- a line is taken, as it was read
+-- One line is taken, as it was read.
 pub record TakesOne (from : ReplayPoint) (reading : LineReading) (to : ReplayPoint) : Type 0 where
   pub printed : List ℕ
   pub takes : TakesReading from.scene (from.counts.lines + 1) reading to.scene printed
   pub counts : to.counts ≡ with_line from.counts reading
   pub text : Appends from.held to.held printed
 
--- the lines are taken one after the other
+-- Lines are taken, one after the other.
 pub record Takes (from : ReplayPoint) (lines : List (List ℕ)) (to : ReplayPoint) : Type 0 where
   pub readings : List LineReading
   pub read : AllZip Reads lines readings
@@ -56,19 +56,18 @@ pub record Takes (from : ReplayPoint) (lines : List (List ℕ)) (to : ReplayPoin
   pub counts : to.counts ≡ with_lines from.counts readings
   pub text : Appends from.held to.held printed
 
--- Why what a line says is not taken to its end. No write to a steady sink fails.
+-- The faults at the input of a line: Memory, and Write where the sink is not steady.
 abbrev pub IsStepFault : (steady : Bool) → ReplayFault → Type 0
 IsStepFault steady fault = (fault ≡ Memory) ⊎ ((fault ≡ Write) × (steady ≢ true))
 
--- Why a line is not taken to its end.
+-- The faults at a line: TooLong, and those at its input.
 abbrev pub IsLineFault : (steady : Bool) → ReplayFault → Type 0
 IsLineFault steady fault = (fault ≡ TooLong) ⊎ IsStepFault steady fault
 
 abbrev pub HasNoNewline : List ℕ → Type 0
 HasNoNewline text = AllPass (λ byte. not (byte == 10)) text
 
--- Some bytes are taken after those that were pending: their whole lines, no more than there are bytes, and
--- the rest is pending.
+-- Bytes are taken after the pending ones: the lines that end in them, at most one for each byte, and the rest is pending.
 pub record TakesBytes (from : ReplayPoint) (before bytes : List ℕ) (to : ReplayPoint) (pending : List ℕ) : Type 0 where
   pub lines : List (List ℕ)
   pub takes : Takes from lines to

@@ -1,4 +1,4 @@
--- A whole replay.
+-- The whole replay of a log, and the faults that may end it.
 use Rattle.std.specs.Prelude.{◌≡◌, ◌≢◌, ◌≤◌, ◌<◌, ℕ, Bool, true, List, ◌∷◌, ◌++◌, length, Option, IfSome}
 use Rattle.std.specs.List.{AllZip, AllByRecursion}
 use Rattle.vt_can.specs.lines.Line.{Reads}
@@ -11,8 +11,8 @@ use Rattle.vt_logs.specs.Texts.{LineReading, with_lines, no_counts, counts_text}
 use Rattle.vt_server.specs.shown.Screens.{IsScreenOf}
 use Rattle.vt_server.specs.Terminals.{State}
 
--- The text and the counts of a replay of these bytes by a terminal, and the terminal after it: first its screen, then what each
--- line prints, and the counts. A line is at most 4,096 bytes long.
+-- The replay of a log by a terminal, with the terminal after it. Its text is the first screen, the text of each line, and the counts.
+-- No line is longer than 4,096 bytes.
 pub record IsReplay (start : State) (input : List ℕ) (text : List ℕ) (counts : Counts) (now : State) : Type 0 where
   pub readings : List LineReading
   pub read : AllZip Reads (lines_of input) readings
@@ -38,8 +38,8 @@ pub record HasLong (lines : List (List ℕ)) : Type 0 where
 abbrev pub HasLongLine : List ℕ → Type 0
 HasLongLine input = HasLong (lines_of input)
 
--- The faults with which the replay of a log may end. No read of a steady source fails, and no write to a steady sink; 1,000,000,000
--- reads end any log of fewer bytes.
+-- The faults that may end the replay of a log: Read from a steady source only where the log has 1,000,000,000 bytes or more, Write only
+-- to a sink that is not steady, TooLong only where the log has such a line, and Memory.
 abbrev pub MayEndWith : (source sink : Bool) → (log : Option (List ℕ)) → ReplayFault → Type 0
 MayEndWith source sink log Read = source ≡ true → IfSome log (λ input. 1000000000 ≤ length input)
 MayEndWith source sink log Write = sink ≢ true

@@ -13,13 +13,13 @@ use Rattle.vt_server.specs.Terminals.{State}
 use Rattle.vt_server.specs.declared.input.Input.{Input}
 use Rattle.vt_server.specs.declared.input.Input.TheVariants as inputs
 
--- where a replay stands between two lines: the terminal, and the screen that was printed last
+-- A replay between two lines: the terminal, and the screen printed last.
 pub record ReplayState : Type 0 where
   pub state : State
   pub screen : List ℕ
 
--- The terminal takes an event, with what is found of pools in its course, and what it sends is printed; then its screen, where
--- that is another than the one printed last.
+-- The terminal takes an input with the findings on pools in it, and its outputs are printed, then its screen, where that differs from
+-- the one printed last.
 pub record TakesJudged (from : ReplayState) (event : JudgedInput) (to : ReplayState) (text : List ℕ) : Type 0 where
   pub found : IsFound from.state event
   pub state : to.state ≡ (step from.state event).after
@@ -28,12 +28,12 @@ pub record TakesJudged (from : ReplayState) (event : JudgedInput) (to : ReplaySt
 
 -- ---- lines
 
--- the line that says an input
+-- The line of an input.
 abbrev pub input_line : Input → ParsedLine
 input_line (inputs.Frame time frame) = FrameAt time frame
 input_line (inputs.Operator action) = OperatorAction (action_value action)
 
--- an event of a line: a frame or an action of the operator
+-- The input is that of this line, a frame or an action of the operator.
 abbrev pub IsInputOfLine : ParsedLine → JudgedInput → Type 0
 IsInputOfLine (FrameAt time frame) (steps.FrameAt at heard verdict) = (at ≡ time) × (heard ≡ frame)
 IsInputOfLine (OperatorAction action) (steps.ActionAt value shown) = value ≡ action
@@ -44,11 +44,11 @@ pub record TakesInputLine (from : ReplayState) (line : ParsedLine) (to : ReplayS
   pub of_line : IsInputOfLine line event
   pub takes : TakesJudged from event to text
 
--- nothing happens, and this is printed
+-- The terminal and the screen stay as they are, and this text is printed.
 abbrev pub Prints : ReplayState → ReplayState → List ℕ → List ℕ → Type 0
 Prints from to printed text = (to ≡ from) × (text ≡ printed)
 
--- line n, as it was read
+-- Line n is taken, as it was read.
 abbrev pub TakesReading : ReplayState → ℕ → LineReading → ReplayState → List ℕ → Type 0
 TakesReading from n (Ok (FrameAt time frame)) to text = TakesInputLine from (FrameAt time frame) to text
 TakesReading from n (Ok (OperatorAction action)) to text = TakesInputLine from (OperatorAction action) to text
@@ -56,7 +56,7 @@ TakesReading from n (Ok (SkippedFrame why)) to text = Prints from to [] text
 TakesReading from n (Ok CommentLine) to text = Prints from to [] text
 TakesReading from n (Err fault) to text = Prints from to (fault_text n fault) text
 
--- lines one after the other, the first of them after n others
+-- A line is taken after n others, and the lines after it follow.
 pub record TakesFirst (from : ReplayState) (n : ℕ) (reading : LineReading) (Then : ReplayState → List ℕ → Type 0) (text : List ℕ) : Type 0 where
   pub middle : ReplayState
   pub first : List ℕ

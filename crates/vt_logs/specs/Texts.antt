@@ -1,4 +1,4 @@
--- What a replay prints and counts (docs/PROFILE.md, "Output of a replay").
+-- The text and the counts of a replay (docs/PROFILE.md, "Output of a replay").
 use Rattle.std.specs.Prelude.{ℕ, ◌+◌, if◌then◌else◌, List, [], ◌∷◌, ◌++◌, codes, Result, Ok, Err}
 use Rattle.std.specs.Str.{bytes_eq}
 use Rattle.std.specs.Fmt.{decimal}
@@ -13,7 +13,7 @@ use Rattle.vt_server.specs.declared.output.OperatorFault.TheVariants as faults
 use Rattle.vt_server.specs.declared.output.Output.{Output}
 use Rattle.vt_server.specs.declared.output.Output.TheVariants as outputs
 
--- how a line was read
+-- A line as it was read, or its fault.
 abbrev pub LineReading : Type 0
 LineReading = Result ParsedLine LineFault
 
@@ -27,7 +27,7 @@ fault_name Hex = codes "Hex"
 fault_name Length = codes "Length"
 fault_name Operator = codes "Operator"
 
--- the number and the name of a refusal to the operator
+-- The number and the name of a refusal to the operator.
 abbrev pub refusal_name : OperatorFault → List ℕ
 refusal_name (faults.Refused refusals.NotShown) = codes "1 NotShown"
 refusal_name (faults.Refused refusals.Disabled) = codes "2 Disabled"
@@ -43,18 +43,18 @@ abbrev pub output_text : Output → List ℕ
 output_text (outputs.Frame frame) = frame_text frame ++ newline
 output_text (outputs.Refused fault) = codes "operator " ++ refusal_name fault ++ newline
 
--- a screen that is another than the one printed last
+-- The text of a screen: nothing where it is the one printed last.
 abbrev pub new_screen : List ℕ → List ℕ → List ℕ
 new_screen last screen = if bytes_eq screen last then [] else screen
 
--- that line n is faulty
+-- The text of the fault of line n.
 abbrev pub fault_text : ℕ → LineFault → List ℕ
 fault_text n fault = codes "line " ++ decimal n ++ codes " " ++ fault_name fault ++ newline
 
 abbrev pub no_counts : Counts
 no_counts = record { lines = 0; frames = 0; operator = 0; skipped = 0; comments = 0; faults = 0 }
 
--- each line is one of the five
+-- The counts after one more line, which is of one of the five sorts.
 abbrev pub with_line : Counts → LineReading → Counts
 with_line c (Ok (FrameAt time frame)) = record c { lines = c.lines + 1; frames = c.frames + 1 }
 with_line c (Ok (OperatorAction action)) = record c { lines = c.lines + 1; operator = c.operator + 1 }
@@ -69,7 +69,7 @@ with_lines c (r ∷ rs) = with_lines (with_line c r) rs
 abbrev pub count_text : List ℕ → ℕ → List ℕ
 count_text label n = label ++ decimal n
 
--- the last line
+-- The text of the counts, which is the last line of a replay.
 abbrev pub counts_text : Counts → List ℕ
 counts_text c =
     count_text (codes "lines ") c.lines ++ count_text (codes " frames ") c.frames ++ count_text (codes " operator ") c.operator

@@ -1,12 +1,12 @@
-//! How many lines of each sort a log had.
+//! The numbers of lines of a log, by sort.
 
 ghost use Rattle.std.specs.Prelude.{◌≡◌};
 ghost use Rattle.vt_logs.specs.Texts.{no_counts};
 
-/// Each line read is a frame, an operator line, a skipped line, a comment or a fault.
+/// The numbers of lines read. Each line is a frame, an operator line, a skipped line, a comment or a fault.
 #[derive(Clone, Copy, Debug, PartialEq, Eq)]
 pub struct Counts {
-    /// All lines, of whatever sort.
+    /// All lines.
     pub lines: u64,
     /// Frames.
     pub frames: u64,

@@ -1,4 +1,4 @@
-//! Why a replay ended before its end.
+//! The faults of a replay.
 
 ghost use Rattle.std.specs.Prelude.{◌≡◌};
 ghost use Rattle.vt_logs.specs.declared.fault.ReplayFault.TheVariants.{Memory};
@@ -6,16 +6,16 @@ ghost use Rattle.vt_logs.specs.declared.fault.ReplayFault.TheVariants.{Memory};
 use std::alloc::AllocError;
 use thiserror::Error;
 
-/// Why a replay ended before its end. What was written before is a front of its text.
+/// A fault that ends a replay early. The bytes written by then are the first of its text.
 #[derive(Clone, Copy, Debug, PartialEq, Eq, Error)]
 pub enum ReplayFault {
-    /// The reader failed, or 1,000,000,000 reads have not ended it.
+    /// A read failed, or 1,000,000,000 reads did not reach the end of the log.
     #[error("the log could not be read to its end")]
     Read,
-    /// The writer failed.
+    /// A write failed or took no bytes, or 1,000,000,000 writes did not write a text whole.
     #[error("the output could not be written")]
     Write,
-    /// A growth was refused.
+    /// An allocation was refused, to the replay or to its writer.
     #[error("the memory for the replay was refused")]
     Memory,
     /// A line is longer than 4,096 bytes.

@@ -1,8 +1,10 @@
-//! Logs replayed to a terminal: bytes in, text out.
+//! Replays logs to a terminal: reads bytes and writes text.
 //!
-//! `replay` takes the bytes of a log to a `Terminal`, and writes what it answers, its screens and the `Counts`, or ends with a
-//! `ReplayFault`. It reads a `Source` and writes to a `Sink`: slices of bytes and vectors are some, and `Stream` makes one of any
-//! other reader or writer. `Notes` are for messages to people. docs/PROFILE.md, "Log lines", "The program", has the output.
+//! `replay` reads a log from a `Source`, gives its lines to a `Terminal`, and writes the terminal's outputs, its screens and the
+//! `Counts` to a `Sink`; it returns the counts, or a `ReplayFault`. A slice of bytes is a source and a vector is a sink: between
+//! these two the faults Read and Write never occur for a log of fewer than 1,000,000,000 bytes. `Stream` makes a source or a sink
+//! of any other reader or writer, of which nothing like this is promised. `Notes` are for messages to people. docs/PROFILE.md,
+//! "Log lines" and "The program", has the output.
 #![tactic(auto)]
 
 mod counts;

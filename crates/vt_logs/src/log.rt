@@ -1,4 +1,4 @@
-//! Replaying a log: bytes in, text out.
+//! The replay of a log, from its bytes to the text written.
 
 ghost use Rattle.std.specs.Prelude.{◌≡◌, [], length, IfOk, IfErr, IfSome, OnOk, OnErr, IsErrOf, List, ℕ};
 ghost use Rattle.std.specs.Io.KnownBytes.{Appends, IsAtEnd};
@@ -16,42 +16,41 @@ use crate::streams::{Sink, Source};
 use std::alloc::{AllocError, Global};
 use vt_server::Terminal;
 
-/// How many bytes one read may give.
+/// The most bytes of one read.
 const CHUNK: usize = 65_536;
 
-/// After how many reads a reader that has not ended is given up.
+/// The most reads of a log. A log that they do not read to its end is the fault Read.
 const READS: u32 = 1_000_000_000;
 
-/// Replays a log: reads it to its end, line by line, and writes the first screen, what the terminal sends, the
-/// screens that are new, the faulty lines and at last the counts. What the lines read so far print is written
-/// out before the next read. After an error the terminal has taken the first of the lines, the reader and the
-/// writer are where they stopped, and what stands written is the first screen, what these lines print, and of the
-/// line that was taken last or of the counts the first bytes.
+/// Replays a log to its end, line by line, and returns its counts. It writes the first screen, the terminal's outputs, each new
+/// screen, the faulty lines and, at the end, the counts. The text of the lines read is flushed before the next read. After an
+/// error the terminal has taken the first lines of the log, the first screen and the text of these lines are written, and of the
+/// last line's text or of the counts perhaps only the first bytes.
 pub fn replay<R: Source, W: Sink>(
     alloc: Global,
     reader: &mut R,
     writer: &mut W,
     terminal: &mut Terminal,
 ) -> Result<Counts, ReplayFault>
-    // What is written and counted is the replay of the bytes read, however the reader cut them.
+    // The text and the counts are the replay of the log's bytes, however the reads cut them.
     ensures text { IfOk result (λ counts. IfSome (R.remaining reader.old) (λ input. (text : List ℕ)
         × Appends (W.contents writer.old) (W.contents writer.new) text
         × IsReplay (state_of terminal.old) input text counts (state_of terminal.new))) }
     ensures end { OnOk result (IsAtEnd (R.remaining reader.new)) }
-    // After an error the first of the lines are taken, none of which is too long, and what they print is written, but that of the
-    // last one or the counts may be written in part. Before the first line this holds of the first screen.
+    // After an error the terminal has taken the first lines, none of them too long, and their text is written, that of the last one
+    // or the counts perhaps in part. After an error before the first line the first screen is written at most, perhaps in part.
     ensures stopped { OnErr result (IfSome (R.remaining reader.old) (λ input.
         HasStopped (state_of terminal.old) input (state_of terminal.new) (W.contents writer.old) (W.contents writer.new))) }
-    // TooLong is answered at the first line that is too long, when the lines before it are taken and what they print is written.
+    // TooLong is returned at the first line that is too long; the lines before it are taken, and their text is written.
     ensures too_long { IsErrOf result ReplayFault.TooLong → IfSome (R.remaining reader.old) (λ input.
         HasStoppedAtLong (state_of terminal.old) input (state_of terminal.new) (W.contents writer.old) (W.contents writer.new)) }
-    // Over memory the faults are TooLong and Memory alone, where the log has fewer than 1,000,000,000 bytes.
+    // From a steady source to a steady sink, a log of fewer than 1,000,000,000 bytes has the faults TooLong and Memory alone.
     ensures cause { IfErr result (MayEndWith R.steady W.steady (R.remaining reader.old)) }
 {
     replay_with_notes(alloc, reader, writer, terminal, &mut Notes::new())
 }
 
-/// Replays a log as `replay` does, and notes what people want to know of its lines, also after an error.
+/// Replays a log as `replay` does, and returns notes on its lines for messages to people, also after an error.
 pub fn replay_with_notes<R: Source, W: Sink>(
     alloc: Global,
     reader: &mut R,
@@ -59,19 +58,19 @@ pub fn replay_with_notes<R: Source, W: Sink>(
     terminal: &mut Terminal,
     notes: &mut Notes,
 ) -> Result<Counts, ReplayFault>
-    // What is written and counted is the replay of the bytes read, however the reader cut them.
+    // The text and the counts are the replay of the log's bytes, however the reads cut them.
     ensures text { IfOk result (λ counts. IfSome (R.remaining reader.old) (λ input. (text : List ℕ)
         × Appends (W.contents writer.old) (W.contents writer.new) text
         × IsReplay (state_of terminal.old) input text counts (state_of terminal.new))) }
     ensures end { OnOk result (IsAtEnd (R.remaining reader.new)) }
-    // After an error the first of the lines are taken, none of which is too long, and what they print is written, but that of the
-    // last one or the counts may be written in part. Before the first line this holds of the first screen.
+    // After an error the terminal has taken the first lines, none of them too long, and their text is written, that of the last one
+    // or the counts perhaps in part. After an error before the first line the first screen is written at most, perhaps in part.
     ensures stopped { OnErr result (IfSome (R.remaining reader.old) (λ input.
         HasStopped (state_of terminal.old) input (state_of terminal.new) (W.contents writer.old) (W.contents writer.new))) }
-    // TooLong is answered at the first line that is too long, when the lines before it are taken and what they print is written.
+    // TooLong is returned at the first line that is too long; the lines before it are taken, and their text is written.
     ensures too_long { IsErrOf result ReplayFault.TooLong → IfSome (R.remaining reader.old) (λ input.
         HasStoppedAtLong (state_of terminal.old) input (state_of terminal.new) (W.contents writer.old) (W.contents writer.new)) }
-    // Over memory the faults are TooLong and Memory alone, where the log has fewer than 1,000,000,000 bytes.
+    // From a steady source to a steady sink, a log of fewer than 1,000,000,000 bytes has the faults TooLong and Memory alone.
     ensures cause { IfErr result (MayEndWith R.steady W.steady (R.remaining reader.old)) }
 {
     let mut progress = Progress::new(alloc);
@@ -90,19 +89,19 @@ fn take_log<R: Source, W: Sink>(
     requires counts { progress.old.counts ≡ no_counts }
     requires pending { progress.old.pending.items ≡ [] }
     requires screen { progress.old.screen.items ≡ [] }
-    // What is written and counted is the replay of the bytes read, however the reader cut them.
+    // The text and the counts are the replay of the log's bytes, however the reads cut them.
     ensures text { IfOk result (λ counts. IfSome (R.remaining reader.old) (λ input. (text : List ℕ)
         × Appends (W.contents writer.old) (W.contents writer.new) text
         × IsReplay (state_of terminal.old) input text counts (state_of terminal.new))) }
     ensures end { OnOk result (IsAtEnd (R.remaining reader.new)) }
-    // After an error the first of the lines are taken, none of which is too long, and what they print is written, but that of the
-    // last one or the counts may be written in part. Before the first line this holds of the first screen.
+    // After an error the terminal has taken the first lines, none of them too long, and their text is written, that of the last one
+    // or the counts perhaps in part. After an error before the first line the first screen is written at most, perhaps in part.
     ensures stopped { OnErr result (IfSome (R.remaining reader.old) (λ input.
         HasStopped (state_of terminal.old) input (state_of terminal.new) (W.contents writer.old) (W.contents writer.new))) }
-    // TooLong is answered at the first line that is too long, when the lines before it are taken and what they print is written.
+    // TooLong is returned at the first line that is too long; the lines before it are taken, and their text is written.
     ensures too_long { IsErrOf result ReplayFault.TooLong → IfSome (R.remaining reader.old) (λ input.
         HasStoppedAtLong (state_of terminal.old) input (state_of terminal.new) (W.contents writer.old) (W.contents writer.new)) }
-    // Over memory the faults are TooLong and Memory alone, where the log has fewer than 1,000,000,000 bytes.
+    // From a steady source to a steady sink, a log of fewer than 1,000,000,000 bytes has the faults TooLong and Memory alone.
     ensures cause { IfErr result (MayEndWith R.steady W.steady (R.remaining reader.old)) }
 {
     let mut chunk = zeros(alloc, CHUNK)?;

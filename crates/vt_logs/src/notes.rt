@@ -7,20 +7,20 @@ use vt_server::{OperatorFault, Output};
 /// The first faulty line of a log.
 #[derive(Clone, Copy, Debug, PartialEq, Eq)]
 pub struct FaultyLine {
-    /// Its number, from 1.
+    /// The line's number, from 1.
     pub line: u64,
-    /// Its fault.
+    /// The line's fault.
     pub fault: LineFault,
-    /// A likely cause.
+    /// A likely cause of the fault.
     pub hint: Option<Hint>,
 }
 
 /// A likely cause of a faulty line.
 #[derive(Clone, Copy, Debug, PartialEq, Eq)]
 pub enum Hint {
-    /// The line has bytes that are no text.
+    /// The line has bytes that are not text.
     Binary,
-    /// `candump` printed it to be looked at, and not as a log.
+    /// The line has the form that `candump` prints to a screen, and not that of a log.
     Candump,
     /// `candump` put blanks before the name of an interface, to align it.
     Padded,
@@ -42,7 +42,7 @@ impl fmt::Display for Hint {
             Hint::Padded => {
                 write!(
                     f,
-                    "candump aligns the names of several interfaces by blanks; one interface, or names of one length, give none"
+                    "candump puts blanks before interface names of unequal lengths; README.md has a command that takes them out"
                 )
             }
         }
@@ -52,29 +52,29 @@ impl fmt::Display for Hint {
 /// The operator's actions of a replay that were refused for one reason.
 #[derive(Clone, Copy, Debug, PartialEq, Eq)]
 pub struct RefusedActions {
-    /// The line of the first of them, from 1.
+    /// The line of the first of these actions, from 1.
     pub line: u64,
-    /// The reason.
+    /// The reason of the refusals.
     pub fault: OperatorFault,
-    /// How many there are.
+    /// The number of these actions.
     pub count: u64,
 }
 
 /// Notes of a replay, for messages to people.
 #[derive(Clone, Copy, Debug, PartialEq, Eq)]
 pub struct Notes {
-    /// The lines taken, of whatever sort.
+    /// The number of lines taken.
     pub lines: u64,
-    /// The faulty lines.
+    /// The number of faulty lines.
     pub faults: u64,
-    /// The first of them.
+    /// The first faulty line.
     pub first_fault: Option<FaultyLine>,
-    /// The operator's actions that were refused, one place a reason, in the order in which the reasons came.
+    /// The operator's refused actions, one entry for each reason, in the order of their first lines.
     pub refused: [Option<RefusedActions>; 9],
 }
 
 impl Notes {
-    /// Notes of no line.
+    /// The notes before the first line.
     pub fn new() -> Notes {
         Notes {
             lines: 0,
@@ -84,7 +84,7 @@ impl Notes {
         }
     }
 
-    /// Adds a faulty line.
+    /// Notes a faulty line, if it is the first.
     pub(crate) fn add_fault(&mut self, line: u64, fault: LineFault, text: &[u8]) {
         if self.first_fault.is_none() {
             let hint = hint_of(fault, text);
@@ -92,7 +92,7 @@ impl Notes {
         }
     }
 
-    /// Adds the refusals among what the terminal sent at a line.
+    /// Adds the refusals among the terminal's outputs at a line.
     pub(crate) fn add_refusals(&mut self, line: u64, outputs: &[Output]) {
         for output in outputs {
             if let Output::Refused(fault) = output {
@@ -125,24 +125,23 @@ fn hint_of(fault: LineFault, line: &[u8]) -> Option<Hint> {
         return Some(Hint::Binary);
     }
     match fault {
-        LineFault::Time if line.contains(&b'[') && line.contains(&b']') => Some(Hint::Candump),
-        LineFault::Shape if has_two_blanks(line) => Some(Hint::Padded),
+        LineFault::Time | LineFault::Shape if line.contains(&b'[') && line.contains(&b']') => {
+            Some(Hint::Candump)
+        }
+        LineFault::Shape if is_padded(line) => Some(Hint::Padded),
         _ => None,
     }
 }
 
-/// Whether a byte stands in a text: a printed character, a tab or a carriage return.
+/// Whether a byte is text: 20 hex or above, a tab, a carriage return or an escape.
 fn is_text(byte: u8) -> bool {
-    matches!(byte, b' '..=b'~' | b'\t' | b'\r')
+    byte >= b' ' || matches!(byte, b'\t' | b'\r' | 0x1B)
 }
 
-fn has_two_blanks(line: &[u8]) -> bool {
-    let mut last = 0;
-    for byte in line {
-        if last == b' ' && *byte == b' ' {
-            return true;
-        }
-        last = *byte;
+/// Whether two blanks follow the time of a line.
+fn is_padded(line: &[u8]) -> bool {
+    match line.iter().position(|byte| *byte == b')') {
+        Some(index) => line[index..].starts_with(b")  "),
+        None => false,
     }
-    false
 }

@@ -1,4 +1,4 @@
-//! What a replay writes.
+//! The text of a replay: the terminal's outputs, the faulty lines and the counts.
 
 ghost use Rattle.std.specs.Prelude.{◌≡◌, ◌++◌, OnOk, OnErr, IfErr};
 ghost use Rattle.std.specs.Fmt.{decimal};
@@ -16,10 +16,10 @@ use std::io::ErrorKind;
 use vt_can::{LineFault, write_frame};
 use vt_server::{OperatorFault, OperatorRefusal, Output};
 
-/// After how many writes a text that is not written whole is given up.
+/// The most writes of one text. A text that they do not write whole is the fault Write.
 const WRITES: u32 = 1_000_000_000;
 
-/// Writes what the terminal sends, in its order.
+/// Writes the terminal's outputs, in order.
 pub fn put_outputs<W: Sink>(outputs: &[Output], writer: &mut W) -> Result<(), ReplayFault>
     ensures text { OnOk result (Appends (W.contents writer.old) (W.contents writer.new) (flat_map output_text outputs.now)) }
     ensures front { OnErr result (Begins (W.contents writer.old) (W.contents writer.new) (flat_map output_text outputs.now)) }
@@ -67,7 +67,7 @@ fn refusal_name(fault: OperatorFault) -> &'static str
     }
 }
 
-/// Writes that line `number` is faulty.
+/// Writes the fault of line `number`.
 pub fn put_fault<W: Sink>(number: u64, fault: LineFault, writer: &mut W) -> Result<(), ReplayFault>
     ensures text { OnOk result (Appends (W.contents writer.old) (W.contents writer.new) (fault_text number fault)) }
     ensures front { OnErr result (Begins (W.contents writer.old) (W.contents writer.new) (fault_text number fault)) }
@@ -112,8 +112,8 @@ fn put_number<W: Sink>(number: u64, writer: &mut W) -> Result<(), ReplayFault>
     put(Buffer::new().format(number).as_bytes(), writer)
 }
 
-/// Writes bytes as they are. It writes piece by piece, so that also after a fault it is known what stands written: the
-/// first of them.
+/// Writes bytes as they are, with several writes where one does not take them all. After a fault the first of the bytes are
+/// written, none, some or all.
 pub fn put<W: Sink>(bytes: &[u8], writer: &mut W) -> Result<(), ReplayFault>
     ensures text { OnOk result (Appends (W.contents writer.old) (W.contents writer.new) bytes.now) }
     ensures front { OnErr result (Begins (W.contents writer.old) (W.contents writer.new) bytes.now) }
@@ -137,7 +137,7 @@ pub fn put<W: Sink>(bytes: &[u8], writer: &mut W) -> Result<(), ReplayFault>
     Err(ReplayFault::Write)
 }
 
-/// Writes out what the writer holds back.
+/// Flushes the writer.
 pub fn flush<W: Sink>(writer: &mut W) -> Result<(), ReplayFault>
     ensures kept { Keeps (W.contents writer.old) (W.contents writer.new) }
     ensures fault { IfErr result (IsStepFault W.steady) }
@@ -145,7 +145,7 @@ pub fn flush<W: Sink>(writer: &mut W) -> Result<(), ReplayFault>
     writer.write_out().map_err(|_| ReplayFault::Write)
 }
 
-/// The name of a fault.
+/// The name of a line's fault.
 fn fault_name(fault: LineFault) -> &'static str
     ensures { result.now ≡ fault_name fault }
 {

@@ -1,4 +1,4 @@
-//! How far a replay has come, and the lines that it takes.
+//! The progress of a replay through the lines of a log.
 
 ghost use Rattle.std.specs.Prelude.{◌≡◌, ◌^◌, ◌+◌, ◌++◌, [], ◌∷◌, ◌≤◌, ◌<◌, length, false, List, ℕ, OnOk, OnErr, IfOk, IfErr, IsErrOf, MatchOption, if◌then◌else◌};
 ghost use Rattle.std.specs.Io.KnownBytes.{Appends};
@@ -25,25 +25,25 @@ use vt_server::{Input, Output, Terminal};
 /// The longest line, without its newline.
 const LONGEST: usize = 4096;
 
-/// How far a replay has come.
+/// The progress of a replay.
 #[derive(Drop)]
 pub struct Progress {
-    /// The lines taken.
+    /// The counts of the lines taken.
     pub counts: Counts,
-    /// What has come of a line whose end has not.
+    /// The bytes read of a line whose newline is still to come.
     pub pending: ArrayVec<u8, 4096>,
-    /// What the terminal sent at the last input.
+    /// The terminal's outputs at the last input.
     pub outputs: Vec<Output>,
     /// The screen that was printed last.
     pub screen: Vec<u8>,
-    /// Room for the next one.
+    /// The buffer for the next screen.
     pub drawn: Vec<u8>,
-    /// What is noted for messages to people.
+    /// The notes for messages to people.
     pub notes: Notes,
 }
 
 impl Progress {
-    /// Before the first line. It takes no memory.
+    /// The progress before the first line. It allocates nothing.
     pub fn new(alloc: Global) -> Progress
         ensures counts { result.counts ≡ no_counts }
         ensures pending { result.pending.items ≡ [] }
@@ -59,7 +59,7 @@ impl Progress {
         }
     }
 
-    /// The notes of the lines taken.
+    /// Returns the notes of the lines taken.
     pub fn into_notes(self) -> Notes {
         let mut notes = self.notes;
         notes.lines = self.counts.lines;
@@ -81,7 +81,7 @@ impl Progress {
         put(&self.screen, writer)
     }
 
-    /// Takes the lines that end in a chunk, and keeps what has come of the next.
+    /// Takes the lines that end in a chunk, and keeps the bytes of the next line as pending.
     pub fn take_chunk<W: Sink>(
         &mut self,
         chunk: &[u8],
@@ -134,7 +134,7 @@ impl Progress {
         self.end_line(&[], terminal, writer)
     }
 
-    /// Keeps a part of a line whose end has not come.
+    /// Appends bytes to the pending ones, which are at most 4,096.
     fn keep(&mut self, part: &[u8]) -> Result<(), ReplayFault>
         ensures kept { OnOk result (self.new.pending.items ≡ self.old.pending.items ++ part.now) }
         ensures short { OnOk result (length self.new.pending.items ≤ 4096) }
@@ -148,7 +148,7 @@ impl Progress {
             .map_err(|_| ReplayFault::TooLong)
     }
 
-    /// Takes the line that ends with a part. Nothing is pending then.
+    /// Takes the line of the pending bytes and `part`. No bytes are pending then.
     fn end_line<W: Sink>(
         &mut self,
         part: &[u8],
@@ -202,8 +202,7 @@ impl Progress {
         self.take_reading(reading, terminal, writer)
     }
 
-    /// What a line does: the terminal takes a frame or an action of the operator, a fault is written, and all lines
-    /// are counted.
+    /// Takes a line as it was read: counts it, and gives its frame or its operator's action to the terminal, or writes its fault.
     fn take_reading<W: Sink>(
         &mut self,
         reading: Result<Line<'_>, LineFault>,
@@ -247,7 +246,7 @@ impl Progress {
         }
     }
 
-    /// The terminal takes an input, and what it sends is written, and its screen, where that is new.
+    /// Gives an input to the terminal, and writes its outputs and then its screen, if that is new.
     fn take_input<W: Sink>(
         &mut self,
         input: &Input<'_>,
@@ -275,8 +274,8 @@ impl Progress {
         Ok(())
     }
 
-    /// Draws the screen of the terminal, and tells whether it is another than the one before. It is drawn only where the
-    /// terminal tells that it may be.
+    /// Draws the terminal's screen, and returns whether it differs from the one before. A screen that cannot have changed is not
+    /// drawn again.
     fn draw(&mut self, terminal: &Terminal) -> Result<bool, ReplayFault>
         requires kept { redraws terminal.now ≡ false → IsScreenOf (state_of terminal.now) self.old.screen.items }
         ensures drawn { OnOk result (IsScreenOf (state_of terminal.now) self.new.screen.items) }
@@ -299,7 +298,7 @@ impl Progress {
     }
 }
 
-/// What stands before the first newline, and what stands after it.
+/// Returns the text before the first newline and the text after it.
 fn cut_line(text: &[u8]) -> Option<(&[u8], &[u8])>
     ensures { MatchOption result (HasNoNewline text.now) (λ p. HasNoNewline p.0.now × (text.now ≡ p.0.now ++ 10 ∷ p.1.now)) }
 {

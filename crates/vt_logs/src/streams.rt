@@ -1,6 +1,6 @@
-//! Readers of logs and writers of replays: those in memory promise more than those of the system.
+//! Sources of logs and sinks of replays. Those over memory promise more than those of the system.
 
-ghost use Rattle.std.specs.Prelude.{◌≡◌, true, false, length, Option, IsOk, IfOk, IfErr};
+ghost use Rattle.std.specs.Prelude.{◌≡◌, Bool, true, false, length, IsOk, IfOk, IfErr};
 ghost use Rattle.std.specs.Io.{ReadsAtMost, WritesAtMost};
 ghost use Rattle.std.specs.Io.KnownBytes.{Keeps, ReadConsumes, WriteAppends};
 ghost use Rattle.std.specs.IoError.{error_kind};
@@ -12,7 +12,7 @@ pub trait Source: Read {
     // Whether no read fails.
     ghost steady: { Bool } = { false };
 
-    /// Reads the next bytes of the log into a buffer, and returns their number: 0 at the end alone.
+    /// Reads the next bytes of the log into a buffer, and returns their number: 0 at the end, or for an empty buffer.
     fn next_bytes(&mut self, buf: &mut [u8]) -> io::Result<usize>
         ensures bound { ReadsAtMost result buf.new }
         ensures bytes { ReadConsumes (Self.remaining self.old) (Self.remaining self.new) result buf.new }
@@ -21,22 +21,22 @@ pub trait Source: Read {
 
 /// A writer of the text of a replay.
 pub trait Sink: Write {
-    // Whether each write takes all its bytes, or is refused memory.
+    // Whether each write takes all its bytes, or fails with OutOfMemory.
     ghost steady: { Bool } = { false };
 
-    /// The cause of the last failure, if it is kept.
+    /// Returns the cause of the last failure, if the sink keeps it.
     fn cause(&self) -> Option<&Error> {
         None
     }
 
-    /// Writes the first of some bytes, and returns their number.
+    /// Writes the first bytes of a slice, and returns their number.
     fn write_some(&mut self, bytes: &[u8]) -> io::Result<usize>
         ensures bound { WritesAtMost result bytes.now }
         ensures bytes { WriteAppends (Self.contents self.old) (Self.contents self.new) result bytes.now }
         ensures whole { steady ≡ true → IfOk result (λ count. count ≡ length bytes.now) }
         ensures refused { steady ≡ true → IfErr result (λ error. error_kind error ≡ ErrorKind.OutOfMemory) };
 
-    /// Writes out what the writer holds back.
+    /// Flushes the writer.
     fn write_out(&mut self) -> io::Result<()>
         ensures bytes { Keeps (Self.contents self.old) (Self.contents self.new) }
         ensures steady { steady ≡ true → IsOk result };
@@ -77,12 +77,24 @@ impl<T> Stream<T> {
         Stream { inner, cause: None }
     }
 
-    /// The cause of the last failure.
+    /// Returns the cause of the last failure.
     pub fn failure(&self) -> Option<&Error> {
         self.cause.as_ref()
     }
 
-    /// The reader or the writer.
+    /// Keeps the cause of a failure, and returns an error of its kind. An interruption is not kept, since the call is repeated.
+    fn keep(&mut self, cause: Error) -> Error
+        ensures inner { self.new.inner ≡ self.old.inner }
+        ensures kind { error_kind result ≡ error_kind cause }
+    {
+        let kind = cause.kind();
+        if kind != ErrorKind::Interrupted {
+            self.cause = Some(cause);
+        }
+        Error::from(kind)
+    }
+
+    /// Returns the reader or the writer.
     pub fn get_ref(&self) -> &T
         ensures { result.now ≡ self.now.inner }
     {
@@ -91,7 +103,7 @@ impl<T> Stream<T> {
 }
 
 impl<T: Drop> Stream<T> {
-    /// Returns the cause of the last failure, and lets go of the reader or the writer.
+    /// Drops the reader or the writer, and returns the cause of the last failure.
     pub fn into_failure(self) -> Option<Error> {
         self.cause
     }
@@ -103,11 +115,7 @@ impl<R: Read> Read for Stream<R> {
     fn read(&mut self, buf: &mut [u8]) -> io::Result<usize> {
         match self.inner.read(buf) {
             Ok(count) => Ok(count),
-            Err(cause) => {
-                let kind = cause.kind();
-                self.cause = Some(cause);
-                Err(Error::from(kind))
-            }
+            Err(cause) => Err(self.keep(cause)),
         }
     }
 }
@@ -124,22 +132,14 @@ impl<W: Write> Write for Stream<W> {
     fn write(&mut self, bytes: &[u8]) -> io::Result<usize> {
         match self.inner.write(bytes) {
             Ok(count) => Ok(count),
-            Err(cause) => {
-                let kind = cause.kind();
-                self.cause = Some(cause);
-                Err(Error::from(kind))
-            }
+            Err(cause) => Err(self.keep(cause)),
         }
     }
 
     fn flush(&mut self) -> io::Result<()> {
         match self.inner.flush() {
             Ok(()) => Ok(()),
-            Err(cause) => {
-                let kind = cause.kind();
-                self.cause = Some(cause);
-                Err(Error::from(kind))
-            }
+            Err(cause) => Err(self.keep(cause)),
         }
     }
 }

@@ -76,7 +76,7 @@ fn write_all(
     out: &mut Vec<u8>,
 ) -> Result<(), AllocError> {
     for (id, object) in objects {
-        if !id.is_null() {
+        if id.raw() < 0xFFFF {
             write_object(alloc, *id, object, out)?;
         }
     }

@@ -1,4 +1,4 @@
--- What clap asks of the arguments of the application, to say that one of them has a value.
+-- Clap's conditions on the arguments of the program, under which FILE has a value.
 use Rattle.std.proofs.Common.{◌≡◌, ◌<◌, ◌∙◌, ◌==◌, ℕ, zero, suc, [], ◌∷◌, false, sym, ap, inl, inr, codes, slice_index, if◌then◌else◌, arith}
 use Rattle.std.specs.List.{All, slice_index_or}
 use Rattle.std.proofs.lemmas.Slice.Eq.{bytes_eq-Decides}
@@ -6,7 +6,7 @@ use Rattle.clap.specs.Words.{IsPlainArg, Text}
 use Rattle.clap.specs.Built.{FitsChain, HasDistinctIds}
 use Rattle.clap.specs.declared.builder.arg.Arg.{Arg}
 
--- an ID that is neither empty nor that of a flag that clap adds, by its first byte
+-- An argument fits where the first byte of its ID shows that the ID is neither empty nor one of the flags that clap adds.
 pub fits_chain : (a : Arg) (id : Text) → a.id.now ≡ id → IsPlainArg a → a.global ≡ false
     → (slice_index id 0 ≡ 0 → ⊥) → (slice_index id 0 ≡ 104 → ⊥) → (slice_index id 0 ≡ 118 → ⊥) → FitsChain a
 fits_chain a id named plain local some no_help no_version = (
@@ -19,7 +19,7 @@ fits_chain a id named plain local some no_help no_version = (
   ],
 )
 
--- the place of each ID, by its first byte, and of the two that begin with the same by their fourth
+-- The index of each ID, by its first byte, and by the fourth for the two IDs with the same first byte.
 abbrev place : Text → ℕ
 place id =
     if slice_index id 0 == 70 then 0 else (if slice_index id 0 == 110 then 2 else (if slice_index id 0 == 112 then 3

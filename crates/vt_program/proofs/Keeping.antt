@@ -1,4 +1,4 @@
--- The terminal of the options has its pool in force, and whatever log it then replays, it keeps its promise.
+-- Proof of the headline of a replay: the terminal of the options has its pool in force, and keeps its promise over any log.
 use Rattle.std.proofs.Common.{◌≡◌, ◌∙◌, ◌+◌, ◌⊎◌, inl, inr, ℕ, List, [], ◌∷◌, ◌++◌, length, Option, Some, None, Ok, Err, refl, sym, ap, subst}
 use Rattle.std.specs.FinMap as finite
 use Rattle.vt_can.specs.lines.Readings.{FrameAt, OperatorAction, SkippedFrame, CommentLine}
@@ -42,18 +42,18 @@ start-in-force laws files options s is = cases options.preload is
 
 -- ---- the events of a log
 
--- a terminal comes from a state to another by events that are such
+-- A terminal comes from one state to another by inputs with the property AreSuch.
 record TakesEvents (AreSuch : List JudgedInput → Type 0) (from to : State) : Type 0 where
   pub events : List JudgedInput
   pub are_such : AreSuch events
   pub found : AreFound from events
   pub after : to ≡ after_all from events
 
--- nothing happens before them
+-- The inputs are taken from the same state.
 taken-later : (AreSuch : List JudgedInput → Type 0) (from middle : ReplayState) (to : State) → middle ≡ from → TakesEvents AreSuch middle.state to → TakesEvents AreSuch from.state to
 taken-later AreSuch from middle to same later = subst (λ (scene : ReplayState). TakesEvents AreSuch scene.state to) same later
 
--- what lines do to a terminal their events do
+-- Lines change a terminal as their inputs do.
 taken-events : (readings : List LineReading) (n : ℕ) (from to : ReplayState) (text : List ℕ) → TakesReadings from n readings to text
     → TakesEvents (AreInputsOfLines readings) from.state to.state
 taken-events [] n from to text t = record { events = []; are_such = tt; found = tt; after = ap (λ (scene : ReplayState). scene.state) t.0 }
@@ -85,7 +85,7 @@ replay-keeps laws pools start now input text counts is r =
       keeps = laws.events pools start taken.events is taken.found;
     }
 
--- ---- the lines that a replay has taken which stopped
+-- ---- the lines taken by a replay that ended early
 
 lines-append : (rs qs : List LineReading) (es fs : List JudgedInput) → AreInputsOfLines rs es → AreInputsOfLines qs fs → AreInputsOfLines (rs ++ qs) (es ++ fs)
 lines-append [] qs [] fs p q = q
@@ -115,7 +115,7 @@ taken-more rs qs from middle to p q = record {
   after = q.after ∙ ap (λ (s : State). after_all s q.events) p.after ∙ sym (after-append from p.events q.events);
 }
 
--- what a line does to a terminal alone its event does
+-- A line changes a terminal as its input does, whatever is printed.
 followed-event : (r : LineReading) (from to : State) → Follows from r to → TakesEvents (AreInputsOfLines (r ∷ [])) from to
 followed-event (Err fault) from to same = record { events = []; are_such = tt; found = tt; after = same }
 followed-event (Ok (SkippedFrame why)) from to same = record { events = []; are_such = tt; found = tt; after = same }

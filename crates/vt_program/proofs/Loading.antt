@@ -1,4 +1,4 @@
--- From a pool's file to the terminal that a replay begins with, and from its log to what is written.
+-- Lemmas on loading: from a pool's file to the first terminal of a replay, and from a log to the text written.
 use Rattle.std.proofs.Common.{◌≡◌, ◌∙◌, ℕ, nat_cmp, false, List, [], inr, Option, Some, None, IfSome, refl, sym, ap, subst}
 use Rattle.std.specs.Io.KnownBytes.{Appends, Keeps}
 use Rattle.std.proofs.KnownBytes.{Appends-kept}
@@ -26,28 +26,28 @@ use Rattle.vt_server.specs.state.AddressStates.{empty}
 use Rattle.vt_server.specs.Steps.{preloading}
 use Rattle.vt_server.specs.Terminals.{State}
 
--- a map is that of its entries
+-- The contents of the entries of a map are the map.
 pub entries_again : (m : ObjectMap) → contents (finite.entries m) ≡ m
 entries_again m =
     finite.same_map nat_cmp_total nat_cmp-IsAntisymmetric (contents (finite.entries m)) m
     (λ q. finite.get-from_entries nat_cmp_total (finite.entries m) q ∙ sym (finite.get-entries m q))
 
--- the entries of a map are sorted, and are that map
+-- The map of the entries of a map is the map.
 pub map_again : (m : ObjectMap) → map_of (finite.entries m) ≡ m
 map_again m =
     finite.same_map nat_cmp_total nat_cmp-IsAntisymmetric (map_of (finite.entries m)) m
     (λ q. finite.get-from_sorted nat_cmp (finite.entries m) q (finite.entries_sorted m) ∙ sym (finite.get-entries m q))
 
--- and so is a list of them
+-- The map of a list that is the entries of its contents is these contents.
 map_is : (pool : List Entry) → pool ≡ finite.entries (contents pool) → map_of pool ≡ contents pool
 map_is pool is = ap map_of is ∙ map_again (contents pool)
 
--- what is accepted of a pool has its objects
+-- An accepted pool has the objects of the pool that was read.
 pub same_objects : (pool accepted : List Entry) → accepted ≡ by_rising_id pool → contents accepted ≡ contents pool
 unfolding by_rising_id
 same_objects pool accepted is = ap contents is ∙ entries_again (contents pool)
 
--- and these objects stand in it by rising ID
+-- An accepted pool has its objects by rising ID.
 pub accepted_rising : (pool accepted : List Entry) → accepted ≡ by_rising_id pool → accepted ≡ finite.entries (contents accepted)
 unfolding by_rising_id
 accepted_rising pool accepted is = is ∙ ap finite.entries (sym (same_objects pool accepted is))
@@ -68,12 +68,12 @@ pub refused_pool : (read : List ℕ) (pool : List Entry) (why : Refusal) → (re
 unfolding by_rising_id
 refused_pool read pool why p refused named = record { objects = contents pool; pool = pool_of read pool p; refused = refused; named = named }
 
--- the pool of a file, where it is accepted
+-- An accepted pool of a file is a pool of the file.
 pool_of_file : (file : Option (List ℕ)) (objects : ObjectMap) → IfSome file (λ bytes. IsAcceptedPoolOf bytes objects) → IfSome file (λ bytes. IsPoolOf bytes objects)
 pool_of_file None objects is = tt
 pool_of_file (Some bytes) objects is = is.0
 
--- the set of an accepted pool is loaded
+-- The set of an accepted pool is loaded.
 pub loaded_with : (files : Files) (p : Preload) (before after : State) (pool : List Entry)
     → IfSome (files p.pool.now) (λ bytes. IsAcceptedPoolOf bytes (contents pool)) → IsVerified pool → pool ≡ finite.entries (contents pool)
     → after ≡ preloading before p.owner (map_of pool) → IsLoaded files p before after
@@ -84,7 +84,7 @@ loaded_with files p before after pool accepted verified rising state = record {
   state = state ∙ ap (preloading before p.owner) (map_is pool rising);
 }
 
--- the text of a report is that of the file's pool
+-- The text of a report is that of the pool in the file.
 pub report_of_file : (file : Option (List ℕ)) (pool : List Entry) (text : List ℕ) → IfSome file (λ bytes. IsAcceptedPoolOf bytes (contents pool))
     → pool ≡ finite.entries (contents pool) → text ≡ report_text pool → IfSome file (λ bytes. IsReportOf bytes text)
 report_of_file None pool text is rising same = tt
@@ -114,9 +114,9 @@ replay_written (Some bytes) remaining old mid new start end counts same replay k
     let r = rw same at replay in
     record { text = r.0; counts = counts; end = end; replay = r.2; written = Appends-kept old mid new r.0 r.1 keeps }
 
--- ---- what stands written where a log is not replayed
+-- ---- the output where a log is not replayed to its end
 
--- the text of a whole replay stands written
+-- A whole replay whose text is written is also one that ended early.
 whole_stands : (start end : State) (input text : List ℕ) (counts : Counts) (old new : Option (List ℕ)) → IsReplay start input text counts end
     → Appends old new text → HasStopped start input end old new
 whole_stands start end input text counts old new r written =
@@ -143,7 +143,7 @@ whole_stands start end input text counts old new r written =
       written = subst (Appends old new) r.text_is written;
     })
 
--- all of it is written, but it could not be written out
+-- A replay is written whole, and its flush fails.
 pub whole_written : (file remaining old mid new : Option (List ℕ)) (start end : State) (counts : Counts)
     → IfSome file (λ bytes. remaining ≡ Some bytes)
     → IfSome remaining (λ input. (text : List ℕ) × Appends old mid text × IsReplay start input text counts end)
@@ -157,7 +157,7 @@ whole_written (Some bytes) remaining old mid new start end counts same replay ke
       at_long = λ e. absurd cc;
     }
 
--- the replay ended before its end
+-- A replay of a file ended early.
 pub front_written : (file remaining old new : Option (List ℕ)) (start end : State) (why : ReplayFault) → IfSome file (λ bytes. remaining ≡ Some bytes)
     → IfSome remaining (λ input. HasStopped start input end old new)
     → (why ≡ TooLong → IfSome remaining (λ input. HasStoppedAtLong start input end old new))
@@ -166,13 +166,13 @@ front_written None remaining old new start end why same stopped at_long = tt
 front_written (Some bytes) remaining old new start end why same stopped at_long =
     record { now = end; stopped = rw same at stopped; at_long = λ e. rw same at (at_long e) }
 
--- the line that was too long is one of the file's
+-- The line that is too long is one of the file.
 pub long_written : (file remaining old new : Option (List ℕ)) (start end : State) (why : ReplayFault) → IfSome file (λ bytes. remaining ≡ Some bytes)
     → (why ≡ TooLong → IfSome remaining (λ input. HasStoppedAtLong start input end old new)) → IfSome file (λ input. why ≡ TooLong → HasLongLine input)
 long_written None remaining old new start end why same stopped = tt
 long_written (Some bytes) remaining old new start end why same stopped = λ e. let s = rw same at (stopped e) in s.long
 
--- the writer's fault is no line that is too long
+-- The fault Write is not TooLong.
 pub never_long : (file : Option (List ℕ)) → IfSome file (λ input. Write ≡ TooLong → HasLongLine input)
 never_long None = tt
 never_long (Some bytes) = λ e. absurd cc

@@ -1,4 +1,4 @@
--- A log has one replay.
+-- Proof that a log has one replay.
 use Rattle.std.proofs.Common.{◌≡◌, ◌∙◌, ◌+◌, ℕ, List, [], ◌∷◌, ◌++◌, length, Option, Some, None, Ok, Err, refl, sym, ap, ap₂, subst, arith}
 use Rattle.std.specs.Prelude.{IfSome, reverse}
 use Rattle.std.specs.List.{AllZip, flat_map}
@@ -47,7 +47,7 @@ action-event : (action : Action) (value : ActionValue) (e : JudgedInput) → act
 action-event action value (steps.FrameAt at heard verdict) same is = absurd is
 action-event action value (steps.ActionAt other shown) same is = is ∙ sym same
 
--- an action with this value
+-- There is an action with this value.
 action-of : (value : ActionValue) → (action : Action) × (action_value action ≡ value)
 action-of (Press id) = (actions.Press id, refl)
 action-of (Release id) = (actions.Release id, refl)
@@ -112,7 +112,7 @@ module _ (laws : Laws) where
   events-one s (SkippedFrame why) e f is too found alike = absurd is
   events-one s CommentLine e f is too found alike = absurd is
 
-  -- two ways on from a scene lead to one, with one text, and the pools there are in force
+  -- Two steps from one scene lead to one scene with one text, and the pools are in force there.
   record IsOneWay (b c : ReplayState) (t u : List ℕ) : Type 0 where
     pub scene : b ≡ c
     pub text : t ≡ u

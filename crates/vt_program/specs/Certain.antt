@@ -1,4 +1,4 @@
--- A log has one replay: what is written for it is a function of the log and of what the options give.
+-- The law that a log has one replay: the text written is a function of the log and of the options with their pool.
 use Rattle.std.specs.Prelude.{◌≡◌, ℕ, List, Option, Some, None}
 use Rattle.std.specs.Io.KnownBytes.{Appends}
 use Rattle.vt_laws.specs.Headline.{Pools, AreInForce}
@@ -13,18 +13,17 @@ use Rattle.vt_server.specs.Terminals.{State}
 abbrev pub IsKnown : Option (List ℕ) → Type 0
 IsKnown file = (bytes : List ℕ) × (file ≡ Some bytes)
 
--- so are those of the pool, where one is given
+-- The bytes of the pool's file are known, where the options give a pool.
 abbrev pub IsPoolKnown : Files → Option Preload → Type 0
 IsPoolKnown files None = Unit {0}
 IsPoolKnown files (Some p) = IsKnown (files p.pool.now)
 
--- one text is added to both
+-- The same text is appended in both cases.
 abbrev pub AppendSame : Option (List ℕ) → Option (List ℕ) → Option (List ℕ) → Type 0
 AppendSame old new other = (text : List ℕ) × Appends old new text × Appends old other text
 
--- From a terminal whose pools are in force a log has one replay: the text, the counts and the terminal after it are one. The options
--- give one terminal, where the bytes of their pool are known, and so what is written where the log of the options is replayed is one,
--- where its bytes are known too.
+-- From a terminal whose pools are in force a log has one replay: one text, one list of counts and one terminal after it. Options give
+-- one terminal, where the bytes of their pool are known. The text written for their log is then one, where its bytes are known too.
 pub record ReplaysAreOne : Type 0 where
   pub replay : (pools : Pools) (start now later : State) (input text other : List ℕ) (counts more : Counts) → AreInForce pools start
       → IsReplay start input text counts now → IsReplay start input other more later → (text ≡ other) × (counts ≡ more) × (now ≡ later)

@@ -1,4 +1,4 @@
--- What the contracts of this crate cite.
+-- Definitions of the program, its words and its runs.
 pub mod Certain
 pub mod Promises
 pub mod Runs

@@ -1,4 +1,4 @@
--- The headline of a replay: whatever log is replayed, the terminal keeps its promise over all the inputs of that log
+-- The headline of a replay: whatever log is replayed, the terminal keeps its promise over all the inputs of the log
 -- (docs/PROOFS.md, "The headline").
 use Rattle.std.proofs.Common.{inl, inr}
 use Rattle.std.specs.Prelude.{◌≡◌, ◌⊎◌, List, [], ◌∷◌, ◌++◌, ◌+◌, length, Option, Some, None, Ok, Err, ℕ}
@@ -17,7 +17,7 @@ use Rattle.vt_server.specs.Findings.{AreFound}
 use Rattle.vt_server.specs.Steps.{JudgedInput, after_all}
 use Rattle.vt_server.specs.Terminals.{State}
 
--- The events are those of the lines, in their order: one of each frame and of each action of the operator.
+-- The inputs of lines, in their order: one for each frame and one for each action of the operator.
 abbrev pub AreInputsOfLines : List LineReading → List JudgedInput → Type 0
 AreInputsOfLines [] [] = Unit {0}
 AreInputsOfLines [] (e ∷ events) = ⊥
@@ -29,7 +29,7 @@ AreInputsOfLines (Ok (FrameAt time frame) ∷ readings) (e ∷ events) = IsInput
 AreInputsOfLines (Ok (OperatorAction action) ∷ readings) [] = ⊥
 AreInputsOfLines (Ok (OperatorAction action) ∷ readings) (e ∷ events) = IsInputOfLine (OperatorAction action) e × AreInputsOfLines readings events
 
--- From a state a terminal takes the events of these lines, and keeps its promise.
+-- A terminal takes the inputs of lines from a state on, and keeps its promise.
 pub record LinesKeep (pools : Pools) (start : State) (readings : List LineReading) (now : State) : Type 0 where
   pub events : List JudgedInput
   pub of_lines : AreInputsOfLines readings events
@@ -37,32 +37,32 @@ pub record LinesKeep (pools : Pools) (start : State) (readings : List LineReadin
   pub now_is : now ≡ after_all start events
   pub keeps : EventsKeep pools start events
 
--- the pools that options give: that of the file, at its owner
+-- The pools that options give: the pool of the file, at its owner.
 abbrev pub given_pools : (files : Files) (preload : Option Preload) (before after : State) → IsPreloaded files preload before after → Pools
 given_pools files None before after is = λ address. None
 given_pools files (Some p) before after loaded = with_at p.owner (Some loaded.objects) (λ address. None)
 
--- ---- the lines that a replay has taken which stopped
+-- ---- the lines taken by a replay that ended early
 
--- the one that is taken in part
+-- The reading of the line whose text is written in part, if there is one.
 abbrev pub reading_in_part : (last : ReplayState) (n : ℕ) (lines : List (List ℕ)) (now : State) (text : List ℕ) → LeavesLines last n lines now text → List LineReading
 reading_in_part last n lines now text (inl none) = []
 reading_in_part last n lines now text (inr part) = part.reading ∷ []
 
--- the one behind those that are taken to their end
+-- The reading of the line after those whose text is written whole, if it is taken.
 abbrev pub reading_behind : (last : ReplayState) (n : ℕ) (readings : List LineReading) (lines : List (List ℕ)) (now : State) (text : List ℕ)
     → LeavesLines last n lines now text ⊎ BeginsCounts last readings lines now text → List LineReading
 reading_behind last n readings lines now text (inl leaves) = reading_in_part last n lines now text leaves
 reading_behind last n readings lines now text (inr counts) = []
 
--- how they were read
+-- The readings of the lines that a replay took before it ended early.
 abbrev pub readings_taken : (start : State) (input : List ℕ) (now : State) (old new : Option (List ℕ)) → HasStopped start input now old new → List LineReading
 readings_taken start input now old new (inl before) = []
 readings_taken start input now old new (inr s) =
     s.readings ++ reading_behind s.last (length s.front + 1) s.readings s.back now s.text s.leaves
 
--- The terminal of the options has the pool that they give in force; and from any terminal whose pools are in force a replay keeps
--- the promise, and so does one that stopped, over the lines that it has taken.
+-- The terminal of the options has their pool in force. From any terminal whose pools are in force a replay keeps the promise, and a
+-- replay that ended early keeps it over the lines that it took.
 pub record ReplaysNeverStick : Type 0 where
   pub start : (files : Files) (options : Options) (s : State) → (is : IsStart files options s)
       → AreInForce (given_pools files options.preload (new_state options.own options.name) s is) s

@@ -35,36 +35,36 @@ use Rattle.vt_server.specs.state.AddressStates.{empty}
 use Rattle.vt_server.specs.Steps.{preloading}
 use Rattle.vt_server.specs.Terminals.{State}
 
--- the bytes of the file under each path, where they are known
+-- The bytes of the file under each path, where they are known.
 abbrev pub Files : Type 0
 Files = Text → Option (List ℕ)
 
--- ---- what stands before the first line
+-- ---- the terminal before the first line
 
--- the objects of a pool's bytes: of each ID the last record's
+-- The objects of a pool's bytes. The last record of an ID gives its object.
 pub record IsPoolOf (bytes : List ℕ) (objects : ObjectMap) : Type 0 where
   pub records : List Entry
   pub whole : AreRecords records
   pub spelled : bytes ≡ joined records
   pub in_force : objects ≡ contents (reverse records)
 
--- the same of a pool that is verified
+-- The objects of a pool's bytes, where they are verified.
 abbrev pub IsAcceptedPoolOf : List ℕ → ObjectMap → Type 0
 IsAcceptedPoolOf bytes objects = IsPoolOf bytes objects × IsVerified (finite.entries objects)
 
--- The bytes are no pool, by a fault of theirs. Want of memory is none.
+-- The bytes are not a pool, by this fault, which is not want of memory.
 pub record IsNoPool (bytes : List ℕ) (why : PoolFault) : Type 0 where
   pub faulty : IsFault bytes why
   pub named : pools.IsWantOfMemory why → ⊥
 
--- The bytes are a pool that is refused by a rule. Want of memory is none.
+-- The bytes are a pool that a rule refuses, by this refusal, which is not want of memory.
 pub record IsRefusedPool (bytes : List ℕ) (why : PoolRefusal) : Type 0 where
   pub objects : ObjectMap
   pub pool : IsPoolOf bytes objects
   pub refused : IsRefused terminal (finite.entries objects) why
   pub named : rules.IsWantOfMemory why → ⊥
 
--- a terminal that has heard nothing, with its address and NAME
+-- A new terminal with its address and NAME, before its first input.
 abbrev pub new_state : ℕ → ℕ → State
 new_state own name = record {
   claims = record { own = own; name = name; addresses = [] };
@@ -76,7 +76,7 @@ new_state own name = record {
   now = 0;
 }
 
--- A set with the pool of the file is preloaded at the owner. It is verified, also where the bytes of the file are not known.
+-- A set with the pool of the file is preloaded at the owner. The pool is verified, also where the bytes of the file are not known.
 pub record IsLoaded (files : Files) (p : Preload) (before after : State) : Type 0 where
   pub objects : ObjectMap
   pub verified : IsVerified (finite.entries objects)
@@ -87,7 +87,7 @@ abbrev pub IsPreloaded : Files → Option Preload → State → State → Type 0
 IsPreloaded files None before after = after ≡ before
 IsPreloaded files (Some p) before after = IsLoaded files p before after
 
--- the terminal that the options give
+-- The terminal that the options give.
 abbrev pub IsStart : Files → Options → State → Type 0
 IsStart files options s = IsPreloaded files options.preload (new_state options.own options.name) s
 
@@ -101,7 +101,7 @@ pub record WritesReplay (start : State) (input : List ℕ) (old new : Option (Li
   pub replay : IsReplay start input text counts end
   pub written : Appends old new text
 
--- The log of the options is replayed, by the terminal that they give.
+-- The terminal that the options give has replayed their log.
 pub record HasReplayed (files : Files) (options : Options) (old new : Option (List ℕ)) : Type 0 where
   pub start : State
   pub given : IsStart files options start
@@ -121,57 +121,56 @@ pub record WritesReport (bytes : List ℕ) (old new : Option (List ℕ)) : Type 
 
 -- ---- why a pool has no report, or a log is not replayed
 
--- the file of this path could not be read
+-- The file under this path could not be read.
 abbrev pub IsFileFault : Bor Text → Fault → Type 0
 IsFileFault path (fault.File other cause) = other ≡ path
 IsFileFault path (fault.Pool why) = ⊥
 IsFileFault path (fault.Refused why named) = ⊥
 IsFileFault path fault.Memory = ⊥
-IsFileFault path (fault.Replay why) = ⊥
+IsFileFault path (fault.Replay why cause) = ⊥
 
--- why the bytes of a pool give no accepted pool
+-- The faults of bytes that are not an accepted pool.
 abbrev pub IsFaultOfPool : List ℕ → Fault → Type 0
 IsFaultOfPool bytes (fault.File path cause) = ⊥
 IsFaultOfPool bytes (fault.Pool why) = IsNoPool bytes why
 IsFaultOfPool bytes (fault.Refused why named) = IsRefusedPool bytes why
 IsFaultOfPool bytes fault.Memory = Unit {0}
-IsFaultOfPool bytes (fault.Replay why) = ⊥
+IsFaultOfPool bytes (fault.Replay why cause) = ⊥
 
--- why the file of this path gives no accepted pool
+-- The faults of a file that does not give an accepted pool.
 abbrev pub IsPoolFileFault : Files → Bor Text → Fault → Type 0
 IsPoolFileFault files path (fault.File other cause) = other ≡ path
 IsPoolFileFault files path (fault.Pool why) = IfSome (files path.now) (λ bytes. IsNoPool bytes why)
 IsPoolFileFault files path (fault.Refused why named) = IfSome (files path.now) (λ bytes. IsRefusedPool bytes why)
 IsPoolFileFault files path fault.Memory = Unit {0}
-IsPoolFileFault files path (fault.Replay why) = ⊥
+IsPoolFileFault files path (fault.Replay why cause) = ⊥
 
--- of the replay itself; where Read and Write are answered, std does not say
+-- The faults of a log: its file, or its replay. Read and Write are possible for any log, since it is read through a stream.
 abbrev pub IsLogFault : Files → Text → Fault → Type 0
 IsLogFault files log (fault.File path cause) = path.now ≡ log
 IsLogFault files log (fault.Pool why) = ⊥
 IsLogFault files log (fault.Refused why named) = ⊥
 IsLogFault files log fault.Memory = ⊥
-IsLogFault files log (fault.Replay why) = IfSome (files log) (λ input. why ≡ replay_fault.TooLong → HasLongLine input)
+IsLogFault files log (fault.Replay why cause) = IfSome (files log) (λ input. why ≡ replay_fault.TooLong → HasLongLine input)
 
 abbrev pub IsReplayFault : Files → Options → Fault → Type 0
 IsReplayFault files options why =
     IsSomeAnd options.preload (λ p. IsPoolFileFault files p.pool why) ⊎ IsLogFault files options.file.now why
 
--- What stands written where the replay of a log has a fault, and the terminal then: the first of the lines are taken, and what they
--- print is written, of the last one maybe in part. Where a line is too long, all lines before it are taken, and what they print is
--- written whole.
+-- The output after a fault of a log's replay, with the terminal then: the first lines are taken and their text is written, that of the
+-- last one perhaps in part. Where a line is too long, all lines before it are taken and their text is written whole.
 pub record StandsReplayed (start : State) (input : List ℕ) (why : ReplayFault) (old new : Option (List ℕ)) : Type 0 where
   pub now : State
   pub stopped : HasStopped start input now old new
   pub at_long : why ≡ replay_fault.TooLong → HasStoppedAtLong start input now old new
 
--- what stands written where the log has a fault: nothing where it could not be opened, else of the text of its replay
+-- The output after a fault of a log: nothing where it could not be opened, or the first bytes of its replay.
 abbrev pub StandsWritten : State → Option (List ℕ) → Fault → Option (List ℕ) → Option (List ℕ) → Type 0
 StandsWritten start log (fault.File path cause) old new = Keeps old new
 StandsWritten start log (fault.Pool why) old new = ⊥
 StandsWritten start log (fault.Refused why named) old new = ⊥
 StandsWritten start log fault.Memory old new = ⊥
-StandsWritten start log (fault.Replay why) old new = IfSome log (λ input. StandsReplayed start input why old new)
+StandsWritten start log (fault.Replay why cause) old new = IfSome log (λ input. StandsReplayed start input why old new)
 
 -- The terminal is the one that the options give, and the log has a fault.
 pub record HasLogFault (files : Files) (options : Options) (why : Fault) (old new : Option (List ℕ)) : Type 0 where
@@ -180,41 +179,41 @@ pub record HasLogFault (files : Files) (options : Options) (why : Fault) (old ne
   pub faulty : IsLogFault files options.file.now why
   pub written : StandsWritten start (files options.file.now) why old new
 
--- Why a log is not replayed, and what is written before that is told. The pool comes first: where its file gives none that is
--- accepted, nothing is written.
+-- The faults of a replay, with the output before they are printed. The pool comes first: where its file does not give an accepted
+-- pool, nothing is written.
 abbrev pub FailsReplay : Files → Options → Fault → Option (List ℕ) → Option (List ℕ) → Type 0
 FailsReplay files options why old new =
     (IsSomeAnd options.preload (λ p. IsPoolFileFault files p.pool why) × Keeps old new) ⊎ HasLogFault files options why old new
 
--- why what the options ask for is not done
+-- The faults of a report or of a replay, whichever the options ask for.
 abbrev pub IsFaultOf : Files → Options → Fault → Type 0
 IsFaultOf files options why =
     ((options.report ≡ true) × IsPoolFileFault files options.file why)
     ⊎ ((options.report ≡ false) × IsReplayFault files options why)
 
--- the line of the fault is printed to the output: that of a pool, or of a pool that is refused
+-- The fault is printed to the output: it is that of a pool or a refusal of one.
 abbrev pub IsPrinted : Fault → Type 0
 IsPrinted (fault.File path cause) = ⊥
 IsPrinted (fault.Pool why) = Unit {0}
 IsPrinted (fault.Refused why named) = Unit {0}
 IsPrinted fault.Memory = ⊥
-IsPrinted (fault.Replay why) = ⊥
+IsPrinted (fault.Replay why cause) = ⊥
 
--- what is printed to the output of a fault
+-- The text that a fault prints to the output.
 abbrev pub Prints : Fault → Option (List ℕ) → Option (List ℕ) → Type 0
 Prints (fault.File path cause) old new = Keeps old new
 Prints (fault.Pool why) old new = Appends old new (fault_text why ++ newline)
 Prints (fault.Refused why named) old new = Appends old new (report.refusal_text why ++ newline)
 Prints fault.Memory old new = Keeps old new
-Prints (fault.Replay why) old new = Keeps old new
+Prints (fault.Replay why cause) old new = Keeps old new
 
 -- ---- statuses
 
--- help, or the version
+-- Help or the version is asked for.
 abbrev pub IsHelp : ErrorKind → Type 0
 IsHelp kind = (kind ≡ DisplayHelp) ⊎ (kind ≡ DisplayVersion)
 
--- the status after a refusal
+-- The status after a refusal of the words.
 abbrev pub EndsBy : UsageError → Status → Type 0
 EndsBy (Words error) status.Done = IsHelp (kind_of error)
 EndsBy (Words error) status.Usage = IsHelp (kind_of error) → ⊥
@@ -245,13 +244,13 @@ pub record Reports (words : List Text) (files : Files) (old new : Option (List �
   pub asked : options.report ≡ true
   pub written : IfSome (files options.file.now) (λ bytes. WritesReport bytes old new)
 
--- What the options ask for is not done, and this is written before the fault is told: of a report nothing.
+-- A report or a replay has a fault, with the output before the fault is printed: before that of a report it is empty.
 abbrev pub Fails : Files → Options → Fault → Option (List ℕ) → Option (List ℕ) → Type 0
 Fails files options why old new =
     ((options.report ≡ true) × IsPoolFileFault files options.file why × Keeps old new)
     ⊎ ((options.report ≡ false) × FailsReplay files options why old new)
 
--- The words give options, what they ask for has a fault, and after what is written by then the fault is printed.
+-- The words give options, their report or replay has a fault, and the fault is printed after the output before it.
 pub record HasFault (words : List Text) (files : Files) (old new : Option (List ℕ)) : Type 0 where
   pub options : Options
   pub given : WordsGive words options
@@ -280,7 +279,7 @@ pub record HasReport (words : List Text) (files : Files) : Type 0 where
 abbrev pub HasToPrint : List Text → Files → Type 0
 HasToPrint words files = Refuses words status.Done ⊎ HasReport words files ⊎ HasBadPool words files
 
--- Which status a run ends with. Memory may run out at any words, and then it is Fault.
+-- The status of a run. Memory may run out at any words, and the status is then Fault.
 abbrev pub Ends : List Text → Files → Option (List ℕ) → Option (List ℕ) → Status → Type 0
 Ends words files old new status.Done = Refuses words status.Done ⊎ Replays words files old new ⊎ Reports words files old new
 Ends words files old new status.Usage = Refuses words status.Usage × Keeps old new
@@ -288,19 +287,19 @@ Ends words files old new status.Fault = (Refuses words status.Fault × Keeps old
 
 -- ---- the report alone, of the pool in the file of a path
 
--- its fault
+-- The report of the pool in a file has a fault, which is printed.
 pub record HasNoReport (files : Files) (path : Bor Text) (old new : Option (List ℕ)) : Type 0 where
   pub why : Fault
   pub faulty : IsPoolFileFault files path why
   pub prints : Prints why old new
 
--- which status it ends with
+-- The status of the report of the pool in a file.
 abbrev pub EndsReport : Files → Bor Text → Option (List ℕ) → Option (List ℕ) → Status → Type 0
 EndsReport files path old new status.Done = IfSome (files path.now) (λ bytes. WritesReport bytes old new)
 EndsReport files path old new status.Usage = ⊥
 EndsReport files path old new status.Fault = HasNoReport files path old new
 
--- The report is to be printed, or the fault or the refusal of the pool.
+-- The report of the pool in a file is to be printed, or the pool's fault or refusal.
 abbrev pub HasPoolToPrint : Files → Bor Text → Type 0
 HasPoolToPrint files path =
     ((text : List ℕ) × IfSome (files path.now) (λ bytes. IsReportOf bytes text))
@@ -308,10 +307,10 @@ HasPoolToPrint files path =
 
 -- ---- the texts of faults
 
--- what is printed of a fault; what the system and the fault of a replay print no contract says
+-- The text of a fault. The texts of a file's fault and of a replay's fault are not stated.
 abbrev pub fault_line : Fault → Option Text
 fault_line (fault.File path cause) = None
 fault_line (fault.Pool why) = Some (fault_text why)
 fault_line (fault.Refused why named) = Some (report.refusal_text why)
 fault_line fault.Memory = Some (codes "out of memory")
-fault_line (fault.Replay why) = None
+fault_line (fault.Replay why cause) = None

@@ -15,15 +15,15 @@ use Rattle.vt_program.specs.declared.program.Status.TheVariants.{Done, Fault, Us
 
 -- ---- what the program takes
 
--- the file, which has to be there
+-- The rule of the file, which is required.
 abbrev pub file_word : Rule
 file_word = record (new_rule (codes "FILE")) { required = true; action = Some Set }
 
--- an option with one value
+-- The rule of an option with one value.
 abbrev pub valued_option : Text → Rule
 valued_option name = record (new_rule name) { long = Some name; action = Some Set; value_names = 1 }
 
--- the flag that asks for a report
+-- The rule of the flag that asks for a report.
 abbrev pub report_flag : Rule
 report_flag = record (new_rule (codes "report")) { long = Some (codes "report"); action = Some SetTrue }
 
@@ -38,7 +38,7 @@ app = record (new_app (codes "vt_replay")) {
 
 -- ---- what words give
 
--- the text that stands for each, where there is one; that of a flag is "true" or "false"
+-- The text given for each word and option, if there is one. The text of a flag is "true" or "false".
 pub record Given : Type 0 where
   pub file : Option Text
   pub own : Option Text
@@ -47,7 +47,7 @@ pub record Given : Type 0 where
   pub owner : Option Text
   pub report : Option Text
 
--- from the values and the flags by their names
+-- The texts given, by the names of the values and of the flag.
 abbrev pub given_in : (Text → Option Text) → (Text → Option Text) → Given
 given_in value flag = record {
   file = value (codes "FILE");
@@ -58,62 +58,62 @@ given_in value flag = record {
   report = flag (codes "report");
 }
 
--- what clap finds in the words
+-- The texts that clap finds in the words.
 unfoldable pub given_by : List Text → Given
 given_by words = given_in (λ name. first_of name (matches_of app words)) (λ name. one_of name (matches_of app words))
 
--- what clap finds wrong with the words: no kind of fault, or one
+-- The kinds of fault that clap finds in the words, none or one.
 unfoldable pub faults_in : List Text → Kinds
 faults_in words = fault_of app words
 
 -- ---- addresses
 
--- two hex digits write the number n, up to FD
+-- Two hex digits write the number n, up to FD.
 abbrev pub IsAddress : Text → ℕ → Type 0
 IsAddress text n = (decode_of text ≡ Ok (n ∷ [])) × (n ≤ 253)
 
--- no text gives no address, and a text gives the one that it is
+-- A text gives the address that it writes, and no text gives none.
 abbrev pub GivesAddress : Option Text → Option ℕ → Type 0
 GivesAddress None address = address ≡ None
 GivesAddress (Some text) address = IsSomeAnd address (IsAddress text)
 
--- there is a text, and it is no address
+-- The text is given and is not an address.
 abbrev pub GivesNoAddress : Option Text → Type 0
 GivesNoAddress value = IsSomeAnd value (λ text. (n : ℕ) → IsAddress text n → ⊥)
 
--- the terminal's own address: 26 where none is given
+-- The terminal's own address, which is 26 where none is given.
 abbrev pub IsOwn : Option Text → ℕ → Type 0
 IsOwn None n = n ≡ 0x26
 IsOwn (Some text) n = IsAddress text n
 
 -- ---- NAMEs
 
--- 16 hex digits write the NAME n, the highest byte first
+-- 16 hex digits write the NAME n, the highest byte first.
 pub record IsName (text : Text) (n : ℕ) : Type 0 where
   pub bytes : List ℕ
   pub digits : decode_of text ≡ Ok bytes
   pub long : length bytes ≡ 8
   pub number : n ≡ big_number 8 bytes
 
--- there is a text, and it is no NAME
+-- The text is given and is not a NAME.
 abbrev pub GivesNoName : Option Text → Type 0
 GivesNoName value = IsSomeAnd value (λ text. (n : ℕ) → IsName text n → ⊥)
 
--- the terminal's NAME: 20001D0000000001 where none is given
+-- The terminal's NAME, which is 20001D0000000001 where none is given.
 abbrev pub IsOwnName : Option Text → ℕ → Type 0
 IsOwnName None n = n ≡ 0x20001D0000000001
 IsOwnName (Some text) n = IsName text n
 
 -- ---- which words give which options
 
--- a pool and its owner, or neither
+-- A pool and its owner are given, or neither.
 abbrev pub GivesPreload : Option Text → Option Text → Option Preload → Type 0
 GivesPreload None None preload = preload ≡ None
 GivesPreload (Some pool) (Some owner) preload = IsSomeAnd preload (λ p. (p.pool.now ≡ pool) × IsAddress owner p.owner)
 GivesPreload None (Some owner) preload = ⊥
 GivesPreload (Some pool) None preload = ⊥
 
--- whether a flag is set
+-- The value of a flag by its text: false where it is absent.
 pub record IsFlag (text : Option Text) (set : Bool) : Type 0 where
   pub absent : text ≡ None → set ≡ false
   pub there : text ≡ Some (codes "true") → set ≡ true
@@ -126,7 +126,7 @@ pub record Gives (given : Given) (options : Options) : Type 0 where
   pub preload : GivesPreload given.pool given.owner options.preload
   pub report : IsFlag given.report options.report
 
--- the addresses are a node's, and the owner is not the terminal
+-- The addresses are at most 253, and the owner's is not the terminal's own.
 pub record AreApart (options : Options) : Type 0 where
   pub own : options.own ≤ 253
   pub owner : IfSome options.preload (λ p. p.owner ≤ 253)
@@ -140,24 +140,24 @@ pub record WordsGive (words : List Text) (options : Options) : Type 0 where
 
 -- ---- which words are refused
 
--- the value of an option is no address, and stands in the refusal
+-- The value of an option is not an address; the refusal has the value.
 abbrev pub IsBadAddress : Text → Option Text → UsageError → Type 0
 IsBadAddress name given (Address option value) = (option.now ≡ name) × (given ≡ Some value.now) × GivesNoAddress given
 IsBadAddress name given refusal = ⊥
 
--- the value of --name is no NAME, and stands in the refusal
+-- The value of --name is not a NAME; the refusal has the value.
 abbrev pub IsBadName : Option Text → UsageError → Type 0
 IsBadName given (Name value) = (given ≡ Some value.now) × GivesNoName given
 IsBadName given refusal = ⊥
 
--- a pool is given, and its owner is the terminal itself
+-- A pool is given, and its owner has the terminal's own address.
 pub record HasOwnOwner (given : Given) : Type 0 where
   pub pool : IsSome given.pool
   pub address : ℕ
   pub own : IsOwn given.own address
   pub owner : GivesAddress given.owner (Some address)
 
--- what is wrong with words in which clap finds no fault
+-- A mistake in the texts given.
 abbrev pub IsMistake : Given → UsageError → Type 0
 IsMistake given (Address option value) =
     IsBadAddress (codes "own") given.own (Address option value) ⊎ IsBadAddress (codes "owner") given.owner (Address option value)
@@ -167,11 +167,11 @@ IsMistake given Alone = is_some given.pool ≢ is_some given.owner
 IsMistake given (Words error) = ⊥
 IsMistake given Memory = ⊥
 
--- a mistake in words in which clap finds no fault
+-- A mistake in words in which clap finds no fault.
 abbrev pub IsMistakeIn : List Text → UsageError → Type 0
 IsMistakeIn words refusal = (faults_in words ≡ []) × IsMistake (given_by words) refusal
 
--- Why these words give no options. Memory may run out at any words.
+-- The refusals of words. Memory may run out at any words.
 abbrev pub IsRefusalOf : List Text → UsageError → Type 0
 IsRefusalOf words (Words error) = IsAmong (kind_of error) (faults_in words)
 IsRefusalOf words (Address option value) = IsMistakeIn words (Address option value)
@@ -180,7 +180,7 @@ IsRefusalOf words OwnerIsOwn = IsMistakeIn words OwnerIsOwn
 IsRefusalOf words Alone = IsMistakeIn words Alone
 IsRefusalOf words Memory = Unit {0}
 
--- what an error of clap's is to the program
+-- The refusal for an error of clap.
 abbrev pub IsRefusalFor : Error → UsageError → Type 0
 IsRefusalFor error Memory = kind_of error ≡ OutOfMemory
 IsRefusalFor error (Words other) = (other ≡ error) × (kind_of error ≢ OutOfMemory)
@@ -189,7 +189,7 @@ IsRefusalFor error (Name value) = ⊥
 IsRefusalFor error OwnerIsOwn = ⊥
 IsRefusalFor error Alone = ⊥
 
--- what is printed of a refusal; what clap prints no contract says
+-- The text of a refusal. The text of an error of clap is not stated.
 abbrev pub refusal_text : UsageError → Option Text
 refusal_text (Words error) = None
 refusal_text (Address option value) = Some (codes "error: --" ++ option.now ++ codes " " ++ value.now ++ codes ": two hex digits up to FD are wanted\n")
@@ -200,7 +200,7 @@ refusal_text Memory = Some (codes "vt_replay: out of memory\n")
 
 -- ---- statuses
 
--- the exit status
+-- The exit status of the process.
 abbrev pub status_code : Status → ℕ
 status_code Done = 0
 status_code Fault = 1

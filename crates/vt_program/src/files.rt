@@ -6,13 +6,13 @@ use crate::program::Open;
 use std::fs::{self, File};
 use std::io::{self, Error, ErrorKind, Read, Stdin};
 
-/// The files of the system. The path `-` is that of the standard input.
+/// The files of the system. The path `-` is the standard input.
 #[derive(Drop)]
 pub struct Files<'a> {
     rt: &'a HostRuntime,
 }
 
-/// A file that is open, or the standard input.
+/// An open file, or the standard input.
 #[derive(Drop)]
 pub enum Opened {
     /// A file.
@@ -22,7 +22,7 @@ pub enum Opened {
 }
 
 impl<'a> Files<'a> {
-    /// Those of a runtime.
+    /// Returns the files of the system, by its runtime.
     pub fn new(rt: &'a HostRuntime) -> Files<'a>
         ensures { result.rt ≡ rt.entry }
     {
@@ -42,7 +42,7 @@ impl Read for Opened {
 impl Open for Files<'_> {
     type Reader = Opened;
 
-    // The system opens a directory too, and refuses to read it.
+    // The system opens a directory but does not read it, so a directory is refused here.
     fn open(&mut self, path: &str) -> io::Result<Opened> {
         if path == "-" {
             return Ok(Opened::Input(self.rt.stdin()));

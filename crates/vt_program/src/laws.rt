@@ -1,19 +1,19 @@
-//! What is promised of whole runs: each function is a law, and calling it changes nothing.
+//! Laws on whole runs of the program. Each function is a law, and calling it changes nothing.
 
 ghost use Rattle.vt_program.specs.Certain.{ReplaysAreOne};
 ghost use Rattle.vt_program.specs.Promises.{ReplaysNeverStick};
 
-/// The headline of a replay: the terminal that the options give has the pool of their file in force; and whatever log is replayed, to
-/// its end or to a fault, each run of the machine ends unstuck within the budgets of its events, and no drawing sticks. `run` promises
-/// that what it writes is such a replay, where the file and the writer tell their bytes.
+/// The headline of a replay. The terminal that the options give has the pool of their file in force. Whatever log is replayed, to its
+/// end or to a fault, each run of the machine ends unstuck within the budgets of its events, and no drawing gets stuck. `run` promises
+/// that it writes such a replay, where the bytes of the file and of the writer are known.
 pub fn replays_never_stick()
     ensures { ReplaysNeverStick }
 {
     vt_laws::the_machine_never_sticks();
 }
 
-/// The law that a log has one replay, from a terminal whose pools are in force: one text, one list of counts, and one terminal after
-/// it. So what is written for options is one, where the bytes of their files are known.
+/// The law that a log has one replay from a terminal whose pools are in force: one text, one list of counts, and one terminal after
+/// it. The text written for options is therefore one, where the bytes of their files are known.
 pub fn replays_are_one()
     ensures { ReplaysAreOne }
 {

@@ -1,7 +1,8 @@
-//! The program over words, files and writers: logs replayed, and the reports of pools printed.
+//! The program over words, files and writers: replays logs, and prints the reports of object pools.
 //!
-//! `run` takes the words of the program, and opens their files by `Open`, as `Files` does by the system; it answers a `Status`.
-//! `Options` are words that were read, or a `UsageError`. docs/PROFILE.md, "The program", has the words and the statuses.
+//! `run` takes the words of the command line, opens files by an `Open`, such as the `Files` of the system, and returns a `Status`.
+//! `Options::parse` reads the words, and returns `Options` or a `UsageError`. docs/PROFILE.md, "The program", has the words and the
+//! statuses.
 #![tactic(auto)]
 
 mod files;

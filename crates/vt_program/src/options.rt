@@ -1,4 +1,4 @@
-//! The words of the command line.
+//! The words of the command line, and the options that they give.
 
 ghost use Rattle.std.specs.Prelude.{◌≡◌, ℕ, IfOk, IfErr, MatchOption, codes, false, is_some, map, true};
 ghost use Rattle.clap.specs.Words.{IsParsedFrom, IsPlainArg, app_of, first_value, found_of, one_text, rule_of};
@@ -16,55 +16,55 @@ use std::convert::AsStr;
 use std::fmt;
 use vt_names::Name;
 
-/// The terminal's address where no other is given.
+/// The terminal's default address.
 const OWN_ADDRESS: u8 = 0x26;
 
-/// The terminal's NAME where no other is given.
+/// The terminal's default NAME.
 const OWN_NAME: u64 = 0x2000_1D00_0000_0001;
 
-/// What the words ask for.
+/// The options that the words give.
 #[derive(Drop)]
 pub struct Options<'a> {
-    /// The file of the log, or of the pool of which a report is asked for.
+    /// The file of the log, or of the object pool to report on.
     pub file: &'a str,
     /// The terminal's own address, at most 253.
     pub own: u8,
     /// The terminal's NAME.
     pub name: Name,
-    /// The working set that is there from the start.
+    /// The working set that is present from the start.
     pub preload: Option<Preload<'a>>,
     /// Whether a report is asked for in place of a replay.
     pub report: bool,
 }
 
-/// A working set that is there from the start.
+/// A working set that is present from the start.
 #[derive(Drop)]
 pub struct Preload<'a> {
-    /// The file of its pool.
+    /// The file of the set's object pool.
     pub pool: &'a str,
-    /// Its address, at most 253.
+    /// The set's address, at most 253.
     pub owner: u8,
 }
 
-/// Why the words give no options, or that help is asked for.
+/// A refusal of the words, or a request for help or the version.
 #[derive(Drop)]
 pub enum UsageError<'a> {
-    /// What `clap` says of the words.
+    /// An error of `clap`: a fault of the words, or a request for help or the version.
     Words(Error),
-    /// The value of an option is no address: two hex digits up to FD.
+    /// The value of an option is not an address, which is two hex digits up to FD.
     Address {
         /// The option's name.
         option: &'static str,
-        /// Its value.
+        /// The option's value.
         value: &'a str,
     },
-    /// The value of `--name` is no NAME: 16 hex digits.
+    /// The value of `--name` is not a NAME, which is 16 hex digits.
     Name(&'a str),
     /// The owner's address is the terminal's own.
     OwnerIsOwn,
     /// A pool is given without its owner, or an owner without a pool.
     Alone,
-    /// A growth was refused.
+    /// An allocation was refused.
     Memory,
 }
 
@@ -130,7 +130,7 @@ impl<'a> Options<'a> {
     }
 }
 
-/// What help says behind the options.
+/// The text of help after the options.
 const AFTER_HELP: &str = "\
 Lines of the log, beside frames and comments (#):
   ! press ID, ! release ID   presses and releases a soft key or a button
@@ -146,10 +146,10 @@ Status: 0 done, 1 a fault of a file, a pool or the replay, 2 the words
   candump -L can0 | vt_replay -                      listens to a bus
   vt_replay my.iop --report                          checks a pool (docs/POOLS.md)";
 
-/// The words that the program takes.
+/// The command line of the program, for `clap`.
 fn command<'a>(alloc: Global) -> Result<Command<'a>, AllocError>
     ensures app { IfOk result (λ command. app_of command ≡ app) }
-    // What it parses has a value of FILE.
+    // The matches of the command have a value of FILE.
     ensures file { IfOk result (λ command. (matches : ArgMatches) → IsParsedFrom command matches
         → is_some (first_value (found_of matches) (codes "FILE")) ≡ true) }
 {
@@ -226,7 +226,7 @@ fn report_flag<'a>(alloc: Global) -> Arg<'a>
         .action(ArgAction::SetTrue)
 }
 
-/// The options that parsed words give. They have a FILE.
+/// The options that matches give. The matches have a value of FILE.
 fn options_of<'a>(matches: &ArgMatches<'a>) -> Result<Options<'a>, UsageError<'a>>
     requires { is_some (first_value (found_of matches.now) (codes "FILE")) ≡ true }
     ensures gives { IfOk result (Gives (given_in (first_value (found_of matches.now)) (one_text (found_of matches.now)))) }
@@ -253,7 +253,7 @@ fn options_of<'a>(matches: &ArgMatches<'a>) -> Result<Options<'a>, UsageError<'a
     })
 }
 
-/// The address that an option gives, if it is there.
+/// The address that an option gives, if the option is present.
 fn address_given<'a>(
     matches: &ArgMatches<'a>,
     option: &'static str,
@@ -278,7 +278,7 @@ pub fn address(text: &str) -> Option<u8>
     if address <= 0xFD { Some(address) } else { None }
 }
 
-/// The terminal's NAME.
+/// The terminal's NAME, the one given or the default.
 fn name_given<'a>(matches: &ArgMatches<'a>) -> Result<Name, UsageError<'a>>
     ensures given { IfOk result (IsOwnName (first_value (found_of matches.now) (codes "name"))) }
     ensures refused { IfErr result (IsBadName (first_value (found_of matches.now) (codes "name"))) }

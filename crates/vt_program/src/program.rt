@@ -1,4 +1,4 @@
-//! The program, over words, files and writers.
+//! A run of the program, from its words to its status.
 
 ghost use Rattle.std.specs.Prelude.{◌≡◌, ◌≢◌, ◌≤◌, ℕ, List, Option, Some, None, IfOk, IfErr, IfSome, OnOk, OnErr, map};
 ghost use Rattle.std.specs.FinMap as finite;
@@ -24,7 +24,7 @@ use vt_pool::{Pool, PoolFault, read_pool};
 use vt_server::Terminal;
 use vt_verify::{Accepted, verify};
 
-/// What opens files by their paths.
+/// Opens files by their paths.
 pub trait Open {
     type Reader: Read + Drop;
 
@@ -36,19 +36,19 @@ pub trait Open {
         ensures stay { file self.new ≡ file self.old };
 }
 
-/// How the program ends.
+/// The status with which a run ends.
 #[derive(Clone, Copy, Debug, PartialEq, Eq)]
 pub enum Status {
     /// The log was replayed, or a report or help was printed.
     Done,
     /// A file, the pool or the replay has a fault.
     Fault,
-    /// The words are not understood.
+    /// The words are refused.
     Usage,
 }
 
 impl Status {
-    /// The exit status.
+    /// The exit status of the process.
     pub fn code(self) -> u8
         ensures { result ≡ status_code self }
     {
@@ -60,7 +60,7 @@ impl Status {
     }
 }
 
-/// Why a log was not replayed to its end, or a pool has no report.
+/// A fault of a replay or of a report.
 #[derive(Drop)]
 enum Fault<'a> {
     File {
@@ -101,16 +101,18 @@ impl From<AllocError> for Fault<'_> {
     }
 }
 
-/// The names of the files for messages, and the lines of the log that were taken.
+/// Facts for messages: the files, the lines of the log that were taken, and whether a report was asked for.
 #[derive(Clone, Copy)]
 struct About<'a> {
     pool: &'a str,
     log: &'a str,
     lines: u64,
+    in_report: bool,
 }
 
-/// Runs the program on its words, of which the first is its name. The fault or the refusal of a pool is printed to `out`;
-/// every other fault is named on `errors`, and the status is the same where that cannot be written.
+/// Runs the program on its words, of which the first is its name. The fault or the refusal of a pool is printed to `out`.
+/// `errors` gets a sentence for each fault, for the faulty lines of a log and for refused actions of the operator; the status
+/// is the same if that cannot be written.
 pub fn run<S: AsStr, F: Open, W: Sink, E: Write>(
     alloc: Global,
     words: &[S],
@@ -119,7 +121,7 @@ pub fn run<S: AsStr, F: Open, W: Sink, E: Write>(
     errors: &mut E,
 ) -> io::Result<Status>
     ensures ends { IfOk result (Ends (map S.text words.now) (F.file files.old) (W.contents out.old) (W.contents out.new)) }
-    // It fails only where it has to print help, a report, or the fault or refusal of a pool.
+    // A run returns an error only where it has to print help, a report, or the fault or the refusal of a pool.
     ensures fails { OnErr result (HasToPrint (map S.text words.now) (F.file files.old)) }
 {
     let options = match Options::parse(alloc, words) {
@@ -139,6 +141,7 @@ pub fn run<S: AsStr, F: Open, W: Sink, E: Write>(
                 pool: options.preload.as_ref().map_or("", |preload| preload.pool),
                 log: options.file,
                 lines: notes.lines,
+                in_report: false,
             };
             print_fault(&fault, &about, out, errors)
         }
@@ -152,7 +155,7 @@ fn refuse<W: Sink, E: Write>(
 ) -> io::Result<Status>
     ensures status { IfOk result (EndsBy refusal.now) }
     ensures out { IfOk result (λ status. status ≢ Status.Done → Keeps (W.contents out.old) (W.contents out.new)) }
-    // It fails only where help is printed.
+    // An error is returned only where help or the version is printed.
     ensures fails { OnErr result (EndsBy refusal.now Status.Done) }
 {
     let status = match refusal {
@@ -168,7 +171,7 @@ fn refuse<W: Sink, E: Write>(
     Ok(status)
 }
 
-/// Prints the fault or the refusal of the pool of a path, and says it in words on `errors`, as any other fault.
+/// Prints the fault or the refusal of a pool to `out`, and a sentence on any fault to `errors`.
 fn print_fault<W: Sink, E: Write>(
     fault: &Fault<'_>,
     about: &About<'_>,
@@ -183,7 +186,10 @@ fn print_fault<W: Sink, E: Write>(
         Fault::Pool(fault) => {
             writeln!(out, "{fault}")?;
             out.flush()?;
-            let sentence = FaultSentence { fault };
+            let sentence = FaultSentence {
+                fault,
+                in_report: about.in_report,
+            };
             let _ = writeln!(errors, "vt_replay: {}: {sentence}", about.pool);
         }
         Fault::Refused { why, named } => {
@@ -200,9 +206,14 @@ fn print_fault<W: Sink, E: Write>(
                 why: *why,
                 log: about.log,
                 lines: about.lines,
-                cause: cause.as_ref().or(out.cause()),
             };
-            let _ = writeln!(errors, "vt_replay: {sentence}");
+            match why {
+                ReplayFault::Read => print_replay_fault(&sentence, cause.as_ref(), errors),
+                ReplayFault::Write => print_replay_fault(&sentence, out.cause(), errors),
+                ReplayFault::Memory | ReplayFault::TooLong => {
+                    print_replay_fault(&sentence, None, errors);
+                }
+            }
         }
         _ => {
             let _ = writeln!(errors, "vt_replay: {fault}");
@@ -211,7 +222,19 @@ fn print_fault<W: Sink, E: Write>(
     Ok(Status::Fault)
 }
 
-/// Says which lines of a log are faulty, and which actions of the operator were refused.
+/// Prints the sentence of a replay that ended early, with the failure of the system if it is known.
+fn print_replay_fault<E: Write>(
+    sentence: &ReplaySentence<'_>,
+    cause: Option<&io::Error>,
+    errors: &mut E,
+) {
+    let _ = match cause {
+        Some(cause) => writeln!(errors, "vt_replay: {sentence}: {cause}"),
+        None => writeln!(errors, "vt_replay: {sentence}"),
+    };
+}
+
+/// Prints sentences on the faulty lines of a log and on the refused actions of the operator.
 fn print_notes<E: Write>(notes: &Notes, log: &str, errors: &mut E) {
     if let Some(first) = notes.first_fault {
         let sentence = FaultyLines { notes, first };
@@ -248,6 +271,7 @@ fn print_report<F: Open, W: Sink, E: Write>(
                 pool: path,
                 log: path,
                 lines: 0,
+                in_report: true,
             };
             print_fault(&fault, &about, out, errors)
         }
@@ -275,7 +299,7 @@ fn replay_log<'a, F: Open, W: Sink>(
     requires { AreApart options.now }
     ensures replayed { OnOk result (HasReplayed (F.file files.old) options.now (W.contents out.old) (W.contents out.new)) }
     ensures fault { IfErr result (IsReplayFault (F.file files.old) options.now) }
-    // What is written by then: the pool's file is read first, then the log is opened, and then the first screen is drawn.
+    // The output before a fault: the pool's file is read first, then the log is opened, and then the first screen is drawn.
     ensures before { IfErr result (λ why. FailsReplay (F.file files.old) options.now why (W.contents out.old) (W.contents out.new)) }
 {
     let mut terminal = Terminal::new(alloc, options.own, options.name);
@@ -337,7 +361,7 @@ fn read_accepted<'a, F: Open>(
     accepted(alloc, &bytes)
 }
 
-/// The pool of these bytes, where it is accepted.
+/// Reads a pool from bytes and verifies it.
 fn accepted<'a>(alloc: Global, bytes: &[u8]) -> Result<Accepted, Fault<'a>>
     ensures pool { IfOk result (λ pool. IsAcceptedPoolOf bytes.now (contents pool)) }
     ensures rising { IfOk result (λ pool. pool ≡ finite.entries (contents pool)) }
@@ -358,7 +382,7 @@ fn accepted<'a>(alloc: Global, bytes: &[u8]) -> Result<Accepted, Fault<'a>>
     }
 }
 
-/// The kinds of the objects that a refusal of a pool names.
+/// The kinds of the objects in a refusal of a pool.
 fn named_in(pool: &Pool<'_>, why: &vt_verify::Refusal) -> Named {
     match why {
         vt_verify::Refusal::Missing { parent, id }

@@ -1,4 +1,4 @@
-//! Sentences for the error output: the place in a file, the cause, and where the cure stands.
+//! Sentences for the error output: a position in a file, the cause of a fault, and the document with the cure.
 
 use std::{fmt, io};
 use vt_kinds::{Kind, ObjectId};
@@ -6,19 +6,21 @@ use vt_logs::{FaultyLine, Notes, RefusedActions, ReplayFault};
 use vt_records::PoolFault;
 use vt_verify::Refusal;
 
-/// The kinds of the objects that a refusal names, where they are in the pool.
+/// The kinds of the objects in a refusal, where the pool has these objects.
 #[derive(Clone, Copy, Debug, Default, PartialEq, Eq)]
 pub struct Named {
-    /// That of the parent, or of the only object.
+    /// The kind of the parent, or of the only object.
     pub parent: Option<Kind>,
-    /// That of the object that the parent names.
+    /// The kind of the object that the parent refers to.
     pub object: Option<Kind>,
 }
 
-/// A fault of a pool.
+/// The sentence on a fault of an object pool.
 #[derive(Drop)]
 pub(crate) struct FaultSentence<'a> {
     pub(crate) fault: &'a PoolFault,
+    /// Whether a report was asked for, so that the file may be a log by mistake.
+    pub(crate) in_report: bool,
 }
 
 impl fmt::Display for FaultSentence<'_> {
@@ -35,16 +37,14 @@ impl fmt::Display for FaultSentence<'_> {
                     f,
                     "the record at byte {at} has a type above 33, which VT version 3 does not have (fault 2; docs/POOLS.md)"
                 )?;
-                if *at == 0 {
-                    write!(f, "; a log is replayed without --report")?;
-                }
-                Ok(())
+                write_log_hint(f, self.in_report && *at == 0)
             }
             PoolFault::LeftOutType { at } => {
                 write!(
                     f,
                     "the record at byte {at} is an auxiliary function or input, which this terminal does not have (fault 3; docs/POOLS.md)"
-                )
+                )?;
+                write_log_hint(f, self.in_report && *at == 0)
             }
             PoolFault::Scale { at } => {
                 write!(
@@ -74,7 +74,15 @@ impl fmt::Display for FaultSentence<'_> {
     }
 }
 
-/// A refusal of a pool, with the kinds of what it names.
+/// Writes that the file may be a log, where that is likely.
+fn write_log_hint<W: fmt::Write>(f: &mut fmt::Formatter<W>, is_likely: bool) -> fmt::Result {
+    if is_likely {
+        write!(f, "; if it is a log, leave out --report")?;
+    }
+    Ok(())
+}
+
+/// The sentence on a refusal of an object pool, with the kinds of its objects.
 #[derive(Drop)]
 pub(crate) struct RefusalSentence<'a> {
     pub(crate) refusal: &'a Refusal,
@@ -118,7 +126,7 @@ impl fmt::Display for RefusalSentence<'_> {
                 };
                 write!(
                     f,
-                    "the {holder} names the {object}, which may not stand there (refusal 4; docs/POOLS.md)"
+                    "the {holder} names, itself or by a pointer, the {object}, which may not stand there (refusal 4; docs/POOLS.md)"
                 )
             }
             Refusal::TooDeep { chain } => write_chain(f, chain.as_slice()),
@@ -132,7 +140,7 @@ impl fmt::Display for RefusalSentence<'_> {
             Refusal::MacroCommand { id, at } => {
                 write!(
                     f,
-                    "the Macro {} has at byte {at} a command that may not stand in a macro (refusal 7; docs/POOLS.md)",
+                    "the Macro {} has at byte {at} of its commands one that may not stand in a macro (refusal 7; docs/POOLS.md)",
                     id.raw()
                 )
             }
@@ -172,7 +180,7 @@ impl fmt::Display for RefusalSentence<'_> {
             Refusal::MacroValue { id, at } => {
                 write!(
                     f,
-                    "the Macro {} changes at byte {at} an attribute that its object does not have (refusal 10; docs/POOLS.md)",
+                    "the Macro {} has at byte {at} of its commands one that changes an attribute that its object does not have (refusal 10; docs/POOLS.md)",
                     id.raw()
                 )
             }
@@ -192,7 +200,7 @@ impl fmt::Display for RefusalSentence<'_> {
     }
 }
 
-/// An object by its kind and ID, and by its ID alone where it is not in the pool.
+/// An object by its kind and ID, or by its ID alone where the pool does not have it.
 #[derive(Drop)]
 struct WithKind {
     kind: Option<Kind>,
@@ -208,7 +216,7 @@ impl fmt::Display for WithKind {
     }
 }
 
-/// What is missing: an object, or any object where NULL may not stand.
+/// Writes what is missing: an object, or any object in a reference that may not be NULL.
 fn write_missing<W: fmt::Write>(f: &mut fmt::Formatter<W>, id: ObjectId) -> fmt::Result {
     if id.is_null() {
         write!(f, " names no object where one has to be")
@@ -217,7 +225,7 @@ fn write_missing<W: fmt::Write>(f: &mut fmt::Formatter<W>, id: ObjectId) -> fmt:
     }
 }
 
-/// A chain of too many inclusions, or an object within itself.
+/// Writes a chain of too many inclusions, or an object that includes itself.
 fn write_chain<W: fmt::Write>(f: &mut fmt::Formatter<W>, ids: &[ObjectId]) -> fmt::Result {
     match (repeated(ids), ids.first()) {
         (Some(id), _) => write!(f, "object {} includes itself", id.raw())?,
@@ -227,7 +235,7 @@ fn write_chain<W: fmt::Write>(f: &mut fmt::Formatter<W>, ids: &[ObjectId]) -> fm
     write!(f, " (refusal 5; docs/POOLS.md)")
 }
 
-/// The first ID that stands twice.
+/// The first ID that occurs twice, by its second occurrence.
 fn repeated(ids: &[ObjectId]) -> Option<ObjectId> {
     for (index, id) in ids.iter().enumerate() {
         if ids[..index].contains(id) {
@@ -237,7 +245,7 @@ fn repeated(ids: &[ObjectId]) -> Option<ObjectId> {
     None
 }
 
-/// Macros of which each triggers the next, and the last the first.
+/// Writes a circle of macros: each triggers the next, and the last the first.
 fn write_circle<W: fmt::Write>(f: &mut fmt::Formatter<W>, ids: &[u8]) -> fmt::Result {
     if let [id] = ids {
         return write!(
@@ -255,42 +263,43 @@ fn write_circle<W: fmt::Write>(f: &mut fmt::Formatter<W>, ids: &[u8]) -> fmt::Re
     )
 }
 
-/// The end of a replay before the end of its log.
+/// The sentence on a replay that ended before the end of its log.
 #[derive(Drop)]
 pub(crate) struct ReplaySentence<'a> {
     pub(crate) why: ReplayFault,
     /// The file of the log.
     pub(crate) log: &'a str,
-    /// The lines taken, with the one whose text could not be written.
+    /// The number of lines taken.
     pub(crate) lines: u64,
-    /// The failure of the system, where it is known.
-    pub(crate) cause: Option<&'a io::Error>,
 }
 
 impl fmt::Display for ReplaySentence<'_> {
     fn fmt<W: fmt::Write>(&self, f: &mut fmt::Formatter<W>) -> fmt::Result {
         let ReplaySentence { log, lines, .. } = *self;
         match self.why {
-            ReplayFault::Read => write!(f, "{log}: the log could not be read behind line {lines}")?,
-            ReplayFault::Write => {
-                write!(f, "{log}: the output could not be written at line {lines}")?;
-            }
-            ReplayFault::Memory => {
-                write!(f, "{log}: the memory for line {lines} was refused")?;
-            }
-            ReplayFault::TooLong => {
-                let line = lines.saturating_add(1);
-                write!(f, "{log}: line {line} is longer than 4096 bytes")?;
-            }
+            ReplayFault::Read => write!(f, "{log}: the log could not be read")?,
+            ReplayFault::Write => write!(f, "{log}: the output could not be written")?,
+            ReplayFault::Memory => write!(f, "{log}: the memory for the replay was refused")?,
+            ReplayFault::TooLong => return write_long_line(f, log, lines),
         }
-        match self.cause {
-            Some(cause) => write!(f, ": {cause}"),
-            None => Ok(()),
+        if lines > 0 {
+            write!(f, " after line {lines}")?;
         }
+        Ok(())
     }
 }
 
-/// The faulty lines of a log.
+/// Writes that the line after `lines` others is too long.
+fn write_long_line<W: fmt::Write>(f: &mut fmt::Formatter<W>, log: &str, lines: u64) -> fmt::Result {
+    let line = lines.saturating_add(1);
+    write!(f, "{log}: line {line} is longer than 4096 bytes")?;
+    if lines == 0 {
+        write!(f, "; an object pool is checked with --report")?;
+    }
+    Ok(())
+}
+
+/// The sentence on the faulty lines of a log.
 #[derive(Drop)]
 pub(crate) struct FaultyLines<'a> {
     pub(crate) notes: &'a Notes,
@@ -309,7 +318,7 @@ impl fmt::Display for FaultyLines<'_> {
     }
 }
 
-/// The operator's actions that were refused for one reason.
+/// The sentence on the operator's actions that were refused for one reason.
 #[derive(Drop)]
 pub(crate) struct RefusedAction<'a> {
     pub(crate) refused: &'a RefusedActions,

@@ -20,12 +20,18 @@ fn main(rt: HostRuntime) -> io::Result<ExitCode> {
         Err(error) => return Err(error),
     };
     let mut out = Stream::new(BufWriter::new(alloc, io::writer(&rt))?);
-    let status = run(
-        alloc,
-        words.as_slice(),
-        &mut Files::new(&rt),
-        &mut out,
-        &mut errors,
-    )?;
-    Ok(ExitCode::from(status.code()))
+    let mut files = Files::new(&rt);
+    match run(alloc, words.as_slice(), &mut files, &mut out, &mut errors) {
+        Ok(status) => Ok(ExitCode::from(status.code())),
+        Err(error) => {
+            let Some(cause) = out.failure() else {
+                return Err(error);
+            };
+            let _ = writeln!(
+                errors,
+                "vt_replay: the output could not be written: {cause}"
+            );
+            Ok(ExitCode::from(Status::Fault.code()))
+        }
+    }
 }

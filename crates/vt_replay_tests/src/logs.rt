@@ -1,3 +1,5 @@
+//! Runs of the program on logs and pools: output, status, and whether a fault is reported.
+
 ghost use Rattle.std.specs.Prelude.{Some, None, codes, if◌then◌else◌};
 ghost use Rattle.std.specs.Str.{bytes_eq};
 
@@ -40,7 +42,7 @@ impl<'a> Open for Shelf<'a> {
     }
 }
 
-/// A run: its words, its log and its pool; then its status, its text, and whether messages name a fault.
+/// A run: its words, its log and its pool, then its status, its text, and whether messages report a fault.
 type Run<'a> = (&'a [&'a str], (&'a [u8], &'a [u8]), (Status, &'a str, bool));
 
 fn expect_run(rt: &(impl Abort + AllocGlobal), wanted: &Run<'_>) -> Result<(), Fail> {
@@ -235,7 +237,7 @@ fn a_set_registers(rt: HostRuntime) -> Result<(), Fail> {
     expect_runs(&rt, &REGISTRATIONS)
 }
 
-/// Logs, the text of each, and whether messages name a fault.
+/// Logs, the text of each, and whether messages report a fault.
 const LINES: [(&[u8], &str, bool); 4] = [
     (
         b"",
@@ -285,7 +287,7 @@ fn lines_are_counted(rt: HostRuntime) -> Result<(), Fail> {
     expect_lines(&rt, &LINES)
 }
 
-/// A comment of this many bytes, between these bytes.
+/// A comment line of `count` bytes between two texts.
 fn commented(alloc: Global, front: &[u8], count: u16, back: &[u8]) -> Result<Vec<u8>, AllocError> {
     let mut log = Vec::new(alloc);
     log.extend_from_slice(front)?;

@@ -19,8 +19,8 @@ abbrev pub outputs_of : List Sent → List Output
 outputs_of sent = map output_of sent
 
 -- The outputs have spare capacity for n more. What a function of the step leaves is mostly one place, for the status.
-abbrev pub HasCapacity : {X A : Type 0} → ℕ → Vec X A → Type 0
-HasCapacity n outputs = vec_len outputs + n ≤ vec_capacity outputs
+abbrev pub HasSpare : {X A : Type 0} → ℕ → Vec X A → Type 0
+HasSpare n outputs = vec_len outputs + n ≤ vec_capacity outputs
 
 -- The spare capacity of the new outputs is that of the old ones less at most n.
 abbrev pub UsesAtMost : {X A : Type 0} → ℕ → Vec X A → Vec X A → Type 0

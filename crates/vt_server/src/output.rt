@@ -2,7 +2,7 @@
 
 ghost use Rattle.std.specs.Prelude.{◌≡◌, ◌++◌, [], ◌∷◌, length};
 ghost use Rattle.std.specs.Option.{option_to_list};
-ghost use Rattle.vt_server.specs.Outputs.{frames_of, HasCapacity, UsesAtMost};
+ghost use Rattle.vt_server.specs.Outputs.{frames_of, HasSpare, UsesAtMost};
 ghost use Rattle.vt_server.specs.declared.output.Output.TheVariants as declared;
 
 use arrayvec::ArrayVec;
@@ -35,7 +35,7 @@ pub enum Output {
 
 /// Appends a frame for which there is spare capacity.
 pub(crate) fn send(outputs: &mut Vec<Output>, frame: Frame)
-    requires capacity { HasCapacity 1 outputs.old }
+    requires capacity { HasSpare 1 outputs.old }
     ensures items { outputs.new.items ≡ outputs.old.items ++ declared.Frame frame ∷ [] }
     ensures capacity { UsesAtMost 1 outputs.old outputs.new }
 {
@@ -44,7 +44,7 @@ pub(crate) fn send(outputs: &mut Vec<Output>, frame: Frame)
 
 /// Appends a reply, if there is one, for which there is spare capacity.
 pub(crate) fn send_reply(outputs: &mut Vec<Output>, reply: Option<Frame>)
-    requires capacity { HasCapacity 1 outputs.old }
+    requires capacity { HasSpare 1 outputs.old }
     ensures items { outputs.new.items ≡ outputs.old.items ++ frames_of (option_to_list reply) }
     ensures capacity { UsesAtMost 1 outputs.old outputs.new }
 {
@@ -55,7 +55,7 @@ pub(crate) fn send_reply(outputs: &mut Vec<Output>, reply: Option<Frame>)
 
 /// Appends an output, if there is one, for which there is spare capacity.
 pub(crate) fn append(outputs: &mut Vec<Output>, output: Option<Output>)
-    requires capacity { HasCapacity 1 outputs.old }
+    requires capacity { HasSpare 1 outputs.old }
     ensures items { outputs.new.items ≡ outputs.old.items ++ option_to_list output }
     ensures capacity { UsesAtMost 1 outputs.old outputs.new }
 {
@@ -66,7 +66,7 @@ pub(crate) fn append(outputs: &mut Vec<Output>, output: Option<Output>)
 
 /// Appends frames for which there is spare capacity.
 pub(crate) fn send_all(outputs: &mut Vec<Output>, frames: ArrayVec<Frame, 255>)
-    requires capacity { HasCapacity (length frames.items) outputs.old }
+    requires capacity { HasSpare (length frames.items) outputs.old }
     ensures items { outputs.new.items ≡ outputs.old.items ++ frames_of frames.items }
     ensures capacity { UsesAtMost (length frames.items) outputs.old outputs.new }
 {

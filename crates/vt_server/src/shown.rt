@@ -6,7 +6,7 @@ ghost use Rattle.std.specs.Option.{option_map};
 ghost use Rattle.vt_kinds.specs.Records.{seen};
 ghost use Rattle.vt_server.specs.shown.ShownSet as choosing;
 ghost use Rattle.vt_server.specs.shown.DisplayValues.{display_value, found_pool};
-ghost use Rattle.vt_server.specs.Outputs.{outputs_of, HasCapacity};
+ghost use Rattle.vt_server.specs.Outputs.{outputs_of, HasSpare};
 ghost use Rattle.vt_server.specs.shown.Screens.{TellsChanges, redraws};
 ghost use Rattle.vt_server.specs.States.{state_of};
 ghost use Rattle.vt_server.specs.Steps.{settled, sent_by_settling};
@@ -37,8 +37,8 @@ pub(crate) struct ShownMasks {
 impl Terminal {
     /// Chooses the shown set, raises the events of its change, and sends the status if the display differs from the one before
     /// the input.
-    pub(crate) fn settle(&mut self, before: &ShownMasks, outputs: &mut Vec<Output>)
-        requires capacity { HasCapacity 1 outputs.old }
+    pub(crate) fn update_shown(&mut self, before: &ShownMasks, outputs: &mut Vec<Output>)
+        requires capacity { HasSpare 1 outputs.old }
         ensures state { state_of self.new ≡ settled (state_of self.old) }
         ensures sent { (s : spec.State) → display_value before.now ≡ choosing.display s
             → outputs.new.items ≡ outputs.old.items ++ outputs_of (sent_by_settling s (state_of self.old)) }

@@ -71,7 +71,7 @@ fn expect_written(
 ) -> Result<(), AllocError> {
     let mut out = Vec::new(rt.alloc());
     for (id, object) in pool.objects() {
-        if !id.is_null() {
+        if id.raw() < 0xFFFF {
             let copy = copied_again(rt.alloc(), object)?;
             write_again(rt, *id, &copy, &mut out)?;
         }

@@ -1,8 +1,10 @@
+//! The messages on the error output: faults, faulty lines and refused actions.
+
 use super::streams::{Narrow, Pieces};
-use super::{HIDE, LOG, Shelf, commented};
+use super::{HIDE, LOG, Shelf, WITH_POOL, commented};
 use std::alloc::Global;
 use std::fmt::Display;
-use std::io;
+use std::io::{self, Error, ErrorKind, Write};
 use std::process::Abort;
 use std::test::Fail;
 use vt_logs::{ReplayFault, Stream};
@@ -12,7 +14,7 @@ use vt_testing::POOL;
 const ABOUT: &str = "Replays a CAN log to a virtual terminal and prints what it answers, or checks \
     an object pool and prints its report\n";
 
-/// Whether a run of the program on one word succeeds, with a text that begins like this.
+/// Whether a run of the program on one word succeeds, with a text that begins with `wanted`.
 fn prints(rt: &impl AllocGlobal, word: &str, wanted: &str) -> Result<bool, Fail> {
     let mut out = Vec::new(rt.alloc());
     let mut errors = Vec::new(rt.alloc());
@@ -69,7 +71,7 @@ fn has_errors(
     Ok(errors.as_slice() == wanted.as_bytes())
 }
 
-/// Whether the error output of a run begins like this, and nothing else is written.
+/// Whether the error output of a run begins with `start`, and nothing else is written.
 fn names_file(rt: &impl AllocGlobal, words: &[&str], start: &str) -> Result<bool, Fail> {
     let mut out = Vec::new(rt.alloc());
     let mut errors = Vec::new(rt.alloc());
@@ -161,7 +163,7 @@ fn faults_of_a_replay_are_named(rt: HostRuntime) -> Result<(), Fail> {
 }
 
 /// Logs with faulty lines or refused actions, and the messages of each.
-const NOTES: [(&[u8], &str); 8] = [
+const NOTES: [(&[u8], &str); 11] = [
     (
         b"# one\n(1.0\n(1.000000) can0 1G#\n",
         "vt_replay: log: 2 of 3 lines are faulty; line 2: the line does not begin with a time, as (1.000000)\n",
@@ -186,12 +188,25 @@ const NOTES: [(&[u8], &str); 8] = [
     (
         b"(1.000000)   can0 14E72680#\n",
         "vt_replay: log: 1 of 1 lines is faulty; line 1: after the time there is no interface with ID#DATA, and at most R or T\n\
-        vt_replay: log: candump aligns the names of several interfaces by blanks; one interface, or names of one length, give none\n",
+        vt_replay: log: candump puts blanks before interface names of unequal lengths; README.md has a command that takes them out\n",
     ),
     (
         POOL,
         "vt_replay: log: 2 of 2 lines are faulty; line 1: the line does not begin with a time, as (1.000000)\n\
         vt_replay: log: the line has bytes that are no text; an object pool is checked with --report\n",
+    ),
+    (
+        b"(1.000000) can0  14E72680   [3]  A0 64 00\n",
+        "vt_replay: log: 1 of 1 lines is faulty; line 1: after the time there is no interface with ID#DATA, and at most R or T\n\
+        vt_replay: log: the line looks as candump prints it to a screen; candump -L prints a log\n",
+    ),
+    (
+        b"(1.000000) can0 14E72680 A064\n",
+        "vt_replay: log: 1 of 1 lines is faulty; line 1: after the time there is no interface with ID#DATA, and at most R or T\n",
+    ),
+    (
+        b"\xEF\xBB\xBF(1.000000) can0 14E72680#\n",
+        "vt_replay: log: 1 of 1 lines is faulty; line 1: the line does not begin with a time, as (1.000000)\n",
     ),
     (
         b"! press 1\n! press 2\n# three\n! set 80\n",
@@ -212,11 +227,24 @@ fn faulty_lines_and_refused_actions_are_named(rt: HostRuntime) -> Result<(), Fai
     expect_notes(&rt, &NOTES)
 }
 
+/// Refusals for two reasons, with a pool present from the start.
+const TWO_REASONS: &str =
+    "vt_replay: log: line 1: the operator's action is refused: the object is not shown, and so is 1 later action\n\
+    vt_replay: log: line 2: the operator's action is refused: no working set is shown, or there is none with a pool at the address\n";
+
+#[test]
+fn each_reason_of_a_refusal_is_named(rt: HostRuntime) -> Result<(), Fail> {
+    let log = b"! press 1\n! set 81\n! press 2\n";
+    let same = has_errors(&rt, &WITH_POOL, log, TWO_REASONS)?;
+    assert!(&rt; same);
+    Ok(())
+}
+
 #[test]
 fn a_log_is_no_pool(rt: HostRuntime) -> Result<(), Fail> {
     let message =
         "vt_replay: log: the record at byte 0 has a type above 33, which VT version 3 does not have \
-        (fault 2; docs/POOLS.md); a log is replayed without --report\n";
+        (fault 2; docs/POOLS.md); if it is a log, leave out --report\n";
     let named = has_errors(&rt, &["vt_replay", "log", "--report"], HIDE, message)?;
     assert!(&rt; named);
     Ok(())
@@ -231,7 +259,7 @@ fn a_long_line_is_named(rt: HostRuntime) -> Result<(), Fail> {
     Ok(())
 }
 
-/// A file whose first line is read, and then no more.
+/// A file of which only the first line can be read.
 #[derive(Drop)]
 struct Torn;
 
@@ -253,7 +281,7 @@ fn a_failing_read_is_named(rt: HostRuntime) -> Result<(), Fail> {
     let mut errors = Vec::new(rt.alloc());
     let status = run(rt.alloc(), &LOG, &mut Torn, &mut out, &mut errors)?;
     assert!(&rt; status == Status::Fault);
-    let message = "vt_replay: log: the log could not be read behind line 1: other error\n";
+    let message = "vt_replay: log: the log could not be read after line 1: other error\n";
     assert_eq!(&rt; errors.as_slice(), message.as_bytes());
     Ok(())
 }
@@ -271,7 +299,50 @@ fn a_failing_write_is_named(rt: HostRuntime) -> Result<(), Fail> {
     assert!(&rt; status == Status::Fault);
     let message =
         "vt_replay: log: 1 of 2 lines is faulty; line 2: the line does not begin with a time, as (1.000000)\n\
-        vt_replay: log: the output could not be written at line 2: other error\n";
+        vt_replay: log: the output could not be written after line 2: other error\n";
     assert_eq!(&rt; errors.as_slice(), message.as_bytes());
+    Ok(())
+}
+
+/// A writer that is interrupted at its first write, takes one text, and then takes no bytes.
+#[derive(Drop)]
+struct Stubborn {
+    writes: u32,
+}
+
+impl Write for Stubborn {
+    fn write(&mut self, buf: &[u8]) -> io::Result<usize> {
+        self.writes = self.writes.saturating_add(1);
+        match self.writes {
+            1 => Err(Error::from(ErrorKind::Interrupted)),
+            2 => Ok(buf.len()),
+            _ => Ok(0),
+        }
+    }
+
+    fn flush(&mut self) -> io::Result<()> {
+        Ok(())
+    }
+}
+
+/// Whether a run on a log, whose writer is interrupted and then takes one text, has this message.
+fn has_message(rt: &impl AllocGlobal, log: &[u8], wanted: &str) -> Result<bool, Fail> {
+    let mut out = Stream::new(Stubborn { writes: 0 });
+    let mut errors = Vec::new(rt.alloc());
+    let mut shelf = Shelf { log, pool: b"" };
+    let status = run(rt.alloc(), &LOG, &mut shelf, &mut out, &mut errors)?;
+    Ok(status == Status::Fault && errors.as_slice() == wanted.as_bytes())
+}
+
+// An interruption and a write of no bytes have no cause to report.
+#[test]
+fn interrupted_writes_are_no_cause(rt: HostRuntime) -> Result<(), Fail> {
+    let message = "vt_replay: log: the output could not be written\n";
+    let none = has_message(&rt, b"", message)?;
+    let long = commented(rt.alloc(), b"", 4097, b"")?;
+    let message =
+        "vt_replay: log: line 1 is longer than 4096 bytes; an object pool is checked with --report\n";
+    let too_long = has_message(&rt, &long, message)?;
+    assert!(&rt; none && too_long);
     Ok(())
 }

@@ -1,3 +1,5 @@
+//! Readers that return a few bytes or fail, and writers that fail.
+
 use super::Shelf;
 use std::alloc::Global;
 use std::io::{self, Error, ErrorKind, Read, Write};
@@ -150,7 +152,7 @@ impl Write for Holding {
     }
 }
 
-/// Whether a replay whose reader fails at the end returns this fault, with this text written by then.
+/// Whether a replay whose reader fails at the end returns a fault, with a text written by then.
 fn is_written_out(alloc: Global, fails: bool, fault: ReplayFault, wanted: &[u8]) -> bool {
     let mut reader = Stream::new(Pieces {
         rest: FAULTY,

@@ -4,7 +4,7 @@ ghost use Rattle.std.specs.Prelude.{◌≡◌, IfOk, OnOk, OnErr};
 ghost use Rattle.vt_names.specs.Claims.{address_of};
 ghost use Rattle.vt_server.specs.frame.FrameContracts.{TakesClaim};
 ghost use Rattle.vt_node.specs.Messages as messages;
-ghost use Rattle.vt_server.specs.Outputs.{HasCapacity};
+ghost use Rattle.vt_server.specs.Outputs.{HasSpare};
 ghost use Rattle.vt_server.specs.state.AddressViews.{after_claim_heard, stays_under};
 ghost use Rattle.vt_server.specs.shown.Screens.{redraws};
 ghost use Rattle.vt_server.specs.States.{state_of};
@@ -42,9 +42,9 @@ impl Terminal {
         former: &FormerHolders,
         outputs: &mut Vec<Output>,
     )
-        requires capacity { HasCapacity 2 outputs.old }
+        requires capacity { HasSpare 2 outputs.old }
         ensures takes { TakesClaim former.now source (state_of self.old) (state_of self.new) outputs.old.items outputs.new.items }
-        ensures capacity { HasCapacity 1 outputs.new }
+        ensures capacity { HasSpare 1 outputs.new }
     {
         if former.is_defended {
             send(outputs, self.own_claim());

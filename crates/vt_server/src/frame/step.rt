@@ -6,7 +6,7 @@ ghost use Rattle.vt_node.specs.Bus.{notice_of};
 ghost use Rattle.vt_server.specs.shown.ShownSet.{display};
 ghost use Rattle.vt_server.specs.shown.DisplayValues.{display_value};
 ghost use Rattle.vt_server.specs.frame.FrameContracts.{FitsBeforeTimeouts, FitsAfterTimeouts, IsNoClaim, HasRoom, HasUpload, Hears, TakesFrame, TakesNotice};
-ghost use Rattle.vt_server.specs.Outputs.{outputs_of, HasCapacity};
+ghost use Rattle.vt_server.specs.Outputs.{outputs_of, HasSpare};
 ghost use Rattle.vt_server.specs.state.AddressViews as parts;
 ghost use Rattle.vt_server.specs.shown.Screens.{KeepsScreen, ShowsWhatIsLeft, TellsChanges, redraws};
 ghost use Rattle.vt_server.specs.States.{state_of, TakesInput};
@@ -122,7 +122,7 @@ impl Terminal {
         before: &ShownMasks,
         outputs: &mut Vec<Output>,
     )
-        requires capacity { HasCapacity 258 outputs.old }
+        requires capacity { HasSpare 258 outputs.old }
         requires ready { (s : spec.State) × FitsAfterTimeouts s self.old notice.now frame.now ready }
         ensures hears { (old s : spec.State) → display_value before.now ≡ display old → FitsAfterTimeouts s self.old notice.now frame.now ready
             → Hears old s notice.now frame.now (state_of self.new) outputs.old.items outputs.new.items }
@@ -137,19 +137,19 @@ impl Terminal {
                 self.take_claim(frame.id.source(), &former, outputs);
                 // A claim may close a set, but changes no pool.
                 self.redraws = false;
-                self.settle(before, outputs);
+                self.update_shown(before, outputs);
             }
             PreparedFrame::Prepared(upload) => {
                 self.redraws = false;
                 self.take(notice, frame, upload, outputs);
-                self.settle(before, outputs);
+                self.update_shown(before, outputs);
             }
         }
     }
 
     /// Loses the own address: sends Cannot Claim, and nothing after it. If the shown set was closed, none is shown.
     fn lose(&mut self, outputs: &mut Vec<Output>)
-        requires capacity { HasCapacity 1 outputs.old }
+        requires capacity { HasSpare 1 outputs.old }
         ensures state { state_of self.new ≡ (steps.losing (state_of self.old)).after }
         ensures sent { outputs.new.items ≡ outputs.old.items ++ outputs_of (steps.losing (state_of self.old)).sent }
     {
@@ -168,13 +168,13 @@ impl Terminal {
         upload: PreparedMessage,
         outputs: &mut Vec<Output>,
     )
-        requires capacity { HasCapacity 258 outputs.old }
+        requires capacity { HasSpare 258 outputs.old }
         requires no_claim { IsNoClaim notice.now }
         requires rooms { HasRoom self.old notice.now frame.now }
         requires upload { HasUpload self.old notice.now frame.now upload }
         ensures takes { TakesFrame (state_of self.old) notice.now frame.now (state_of self.new) outputs.old.items outputs.new.items }
         ensures tells { TellsChanges self.old self.new }
-        ensures capacity { HasCapacity 1 outputs.new }
+        ensures capacity { HasSpare 1 outputs.new }
     {
         if matches!(*notice, FrameMeaning::ClaimRequest) {
             self.answer_request(frame, outputs);
@@ -190,10 +190,10 @@ impl Terminal {
 
     /// Answers a request for the terminal's address claim.
     fn answer_request(&mut self, frame: &Frame, outputs: &mut Vec<Output>)
-        requires capacity { HasCapacity 2 outputs.old }
+        requires capacity { HasSpare 2 outputs.old }
         ensures takes { TakesFrame (state_of self.old) notices.ClaimRequest frame.now (state_of self.new) outputs.old.items outputs.new.items }
         ensures tells { TellsChanges self.old self.new }
-        ensures capacity { HasCapacity 1 outputs.new }
+        ensures capacity { HasSpare 1 outputs.new }
     {
         send(outputs, self.own_claim());
         let source = frame.id.source();
@@ -211,13 +211,13 @@ impl Terminal {
         upload: PreparedMessage,
         outputs: &mut Vec<Output>,
     )
-        requires capacity { HasCapacity 258 outputs.old }
+        requires capacity { HasSpare 258 outputs.old }
         requires no_claim { IsNoClaim notice.now }
         requires rooms { HasRoom self.old notice.now frame.now }
         requires upload { HasUpload self.old notice.now frame.now upload }
         ensures takes { TakesNotice (state_of self.old) notice.now frame.now (state_of self.new) outputs.old.items outputs.new.items }
         ensures tells { TellsChanges self.old self.new }
-        ensures capacity { HasCapacity 1 outputs.new }
+        ensures capacity { HasSpare 1 outputs.new }
     {
         let source = frame.id.source();
         match *notice {

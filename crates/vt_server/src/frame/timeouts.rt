@@ -2,7 +2,7 @@
 
 ghost use Rattle.std.specs.Prelude.{◌≡◌, ◌≤◌, ◌++◌, ℕ, Option, None, Some};
 ghost use Rattle.vt_server.specs.frame.TimeoutActs as lapses;
-ghost use Rattle.vt_server.specs.Outputs.{outputs_of, HasCapacity};
+ghost use Rattle.vt_server.specs.Outputs.{outputs_of, HasSpare};
 ghost use Rattle.std.specs.FinMap as finite;
 ghost use Rattle.vt_can.specs.transport.Sessions.{alive};
 ghost use Rattle.vt_server.specs.frame.TimeoutContracts.{HasLapsed, ClosesSets};
@@ -16,11 +16,11 @@ impl Terminal {
     /// Moves the time on to `now`, not before the latest. Aborts overdue sessions by address, then closes silent sets in the
     /// order of their registration.
     pub(crate) fn lapse(&mut self, now: u64, outputs: &mut Vec<Output>)
-        requires capacity { HasCapacity 1026 outputs.old }
+        requires capacity { HasSpare 1026 outputs.old }
         requires later { (state_of self.old).now ≤ now }
         ensures state { state_of self.new ≡ lapses.lapsed (lapses.at_time (state_of self.old) now) }
         ensures sent { outputs.new.items ≡ outputs.old.items ++ outputs_of (lapses.sent_by_lapses (lapses.at_time (state_of self.old) now)) }
-        ensures capacity { HasCapacity 258 outputs.new }
+        ensures capacity { HasSpare 258 outputs.new }
         ensures lapsed { HasLapsed self.old self.new now }
     {
         self.time = now;
@@ -32,10 +32,10 @@ impl Terminal {
     }
 
     fn expire_tp(&mut self, outputs: &mut Vec<Output>)
-        requires capacity { HasCapacity 1026 outputs.old }
+        requires capacity { HasSpare 1026 outputs.old }
         ensures state { state_of self.new ≡ lapses.after_tp_timeouts (state_of self.old) }
         ensures sent { outputs.new.items ≡ outputs.old.items ++ outputs_of (spec.sent_by_acts (state_of self.old) (lapses.tp_due (state_of self.old))) }
-        ensures capacity { HasCapacity 770 outputs.new }
+        ensures capacity { HasSpare 770 outputs.new }
         ensures timely { (address : ℕ) → finite.get self.new.node.tp address ≡ alive self.old.time (finite.get self.old.node.tp address) }
         ensures rest { self.new ≡ record self.old { node = record self.old.node { tp = self.new.node.tp } } }
     {
@@ -45,10 +45,10 @@ impl Terminal {
     }
 
     fn expire_etp(&mut self, outputs: &mut Vec<Output>)
-        requires capacity { HasCapacity 770 outputs.old }
+        requires capacity { HasSpare 770 outputs.old }
         ensures state { state_of self.new ≡ spec.after_acts (state_of self.old) (lapses.etp_due (state_of self.old)) }
         ensures sent { outputs.new.items ≡ outputs.old.items ++ outputs_of (spec.sent_by_acts (state_of self.old) (lapses.etp_due (state_of self.old))) }
-        ensures capacity { HasCapacity 514 outputs.new }
+        ensures capacity { HasSpare 514 outputs.new }
         ensures timely { (address : ℕ) → finite.get self.new.node.etp address ≡ alive self.old.time (finite.get self.old.node.etp address) }
         ensures rest { self.new ≡ record self.old { node = record self.old.node { etp = self.new.node.etp } } }
     {
@@ -58,10 +58,10 @@ impl Terminal {
     }
 
     fn expire_sending(&mut self, outputs: &mut Vec<Output>)
-        requires capacity { HasCapacity 514 outputs.old }
+        requires capacity { HasSpare 514 outputs.old }
         ensures state { state_of self.new ≡ spec.after_acts (state_of self.old) (lapses.sending_due (state_of self.old)) }
         ensures sent { outputs.new.items ≡ outputs.old.items ++ outputs_of (spec.sent_by_acts (state_of self.old) (lapses.sending_due (state_of self.old))) }
-        ensures capacity { HasCapacity 258 outputs.new }
+        ensures capacity { HasSpare 258 outputs.new }
         ensures timely { (address : ℕ) → finite.get self.new.node.sending address ≡ alive self.old.time (finite.get self.old.node.sending address) }
         ensures rest { self.new ≡ record self.old { node = record self.old.node { sending = self.new.node.sending } } }
     {

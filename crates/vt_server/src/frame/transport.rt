@@ -11,7 +11,7 @@ ghost use Rattle.vt_extended.specs.Protocol as etp;
 ghost use Rattle.vt_extended.specs.Wire.{etp_frame};
 ghost use Rattle.vt_server.specs.frame.FrameContracts.{FitsCompleted, FitsOneFrame, HandlesMessage, begins_with, TakesNotice, Handles, message_by};
 ghost use Rattle.vt_server.specs.message.MessageEffects.{TRANSFER};
-ghost use Rattle.vt_server.specs.Outputs.{HasCapacity};
+ghost use Rattle.vt_server.specs.Outputs.{HasSpare};
 ghost use Rattle.vt_node.specs.ReceiverResults.{frames_in, message_in};
 ghost use Rattle.vt_server.specs.frame.SessionEffects.{message_to_terminal};
 ghost use Rattle.vt_server.specs.shown.Screens.{TellsChanges};
@@ -34,12 +34,12 @@ impl Terminal {
         upload: PreparedMessage,
         outputs: &mut Vec<Output>,
     )
-        requires capacity { HasCapacity 2 outputs.old }
+        requires capacity { HasSpare 2 outputs.old }
         requires ready { is_some (set_at (source_of frame.now) (state_of self.old).sets) ≡ true
             → FitsOneFrame (content_of self.old.contents (source_of frame.now)) (room_of self.old.contents (source_of frame.now)) frame.now.bytes.items upload }
         ensures takes { TakesNotice (state_of self.old) notices.Message frame.now (state_of self.new) outputs.old.items outputs.new.items }
         ensures tells { TellsChanges self.old self.new }
-        ensures capacity { HasCapacity 1 outputs.new }
+        ensures capacity { HasSpare 1 outputs.new }
     {
         let reply = self.answer(frame.id.source(), frame.bytes.as_slice(), upload);
         send_reply(outputs, reply);
@@ -52,14 +52,14 @@ impl Terminal {
         upload: PreparedMessage,
         outputs: &mut Vec<Output>,
     )
-        requires capacity { HasCapacity 258 outputs.old }
+        requires capacity { HasSpare 258 outputs.old }
         requires session { HasCapacityFor tp.protocol (tp_frame self.old.node.claims.own frame.now) self.old.node.tp_room }
         requires ready { is_some (set_at (source_of frame.now) (state_of self.old).sets) ≡ true
             → FitsCompleted (content_of self.old.contents (source_of frame.now)) (room_of self.old.contents (source_of frame.now))
             (message_by self.old self.old.time ((state_of self.old).places (source_of frame.now)) notices.Tp frame.now) upload }
         ensures takes { TakesNotice (state_of self.old) notices.Tp frame.now (state_of self.new) outputs.old.items outputs.new.items }
         ensures tells { TellsChanges self.old self.new }
-        ensures capacity { HasCapacity 1 outputs.new }
+        ensures capacity { HasSpare 1 outputs.new }
     {
         let source = frame.id.source();
         if self.node.is_sending(source) {
@@ -80,14 +80,14 @@ impl Terminal {
         upload: PreparedMessage,
         outputs: &mut Vec<Output>,
     )
-        requires capacity { HasCapacity 258 outputs.old }
+        requires capacity { HasSpare 258 outputs.old }
         requires session { HasCapacityFor tp.protocol (tp_frame self.old.node.claims.own frame.now) self.old.node.tp_room }
         requires ready { is_some (set_at (source_of frame.now) (state_of self.old).sets) ≡ true
             → FitsCompleted (content_of self.old.contents (source_of frame.now)) (room_of self.old.contents (source_of frame.now))
             (message_by self.old self.old.time ((state_of self.old).places (source_of frame.now)) notices.Tp frame.now) upload }
         ensures tells { TellsChanges self.old self.new }
         ensures takes { TakesNotice (state_of self.old) notices.Tp frame.now (state_of self.new) outputs.old.items outputs.new.items }
-        ensures capacity { HasCapacity 1 outputs.new }
+        ensures capacity { HasSpare 1 outputs.new }
     {
         let source = frame.id.source();
         let (reply, message) = parts_of(self.node.hear_tp(self.time, frame));
@@ -104,14 +104,14 @@ impl Terminal {
         upload: PreparedMessage,
         outputs: &mut Vec<Output>,
     )
-        requires capacity { HasCapacity 3 outputs.old }
+        requires capacity { HasSpare 3 outputs.old }
         requires session { HasCapacityFor etp.protocol (etp_frame self.old.node.claims.own frame.now) self.old.node.etp_room }
         requires ready { is_some (set_at (source_of frame.now) (state_of self.old).sets) ≡ true
             → FitsCompleted (content_of self.old.contents (source_of frame.now)) (room_of self.old.contents (source_of frame.now))
             (message_by self.old self.old.time ((state_of self.old).places (source_of frame.now)) notices.Etp frame.now) upload }
         ensures takes { TakesNotice (state_of self.old) notices.Etp frame.now (state_of self.new) outputs.old.items outputs.new.items }
         ensures tells { TellsChanges self.old self.new }
-        ensures capacity { HasCapacity 1 outputs.new }
+        ensures capacity { HasSpare 1 outputs.new }
     {
         let (reply, message) = parts_of(self.node.hear_etp(self.time, frame));
         send_reply(outputs, reply);

@@ -61,7 +61,7 @@ impl Terminal {
             _ => self.act(action),
         };
         append(outputs, answer);
-        self.settle(&before, outputs);
+        self.update_shown(&before, outputs);
         Ok(())
     }
 

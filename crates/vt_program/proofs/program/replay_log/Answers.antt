@@ -1,4 +1,4 @@
-use Rattle.std.proofs.Common.{◌≡◌, ◌∙◌, Err, inr, refl, ap, rules}
+use Rattle.std.proofs.Common.{◌≡◌, ◌∙◌, Err, inr, refl, sym, ap, rules}
 use Rattle.std.proofs.KnownBytes.{Keeps-refl}
 use Rattle.vt_program.specs.Runs.{IsStart}
 use Rattle.vt_server.specs.States.{state_of}
@@ -30,8 +30,8 @@ returns-in-Ok-flush-clause-replayed g c =
     record {
       start = state_of terminal;
       given = begun;
-      writes = replay_written (files options.file.now) _ (held c.args.out.now) (held c.replay.new.writer) (held c.flush.new.self) (state_of terminal)
-          (state_of c.replay.new.terminal) c.in-Ok-replay._counts (rw same at c.in-Ok.ensures.bytes) c.in-Ok-replay.ensures.text c.flush.ensures.bytes;
+      writes = replay_written (files options.file.now) _ (held c.args.out.now) (held c.replay_with_notes.new.writer) (held c.flush.new.self) (state_of terminal)
+          (state_of c.replay_with_notes.new.terminal) c.in-Ok-replay_with_notes._counts (rw (same, sym c.new-log.ensures) at c.in-Ok.ensures.bytes) c.in-Ok-replay_with_notes.ensures.text c.flush.ensures.bytes;
     }
 
 pub returns-in-Err-clause-before : goal.returns-in-Err-clause-before
@@ -52,8 +52,8 @@ returns-in-Err-clause-before g c =
     ] in
     inr (record { start = state_of terminal; given = begun; faulty = refl; written = Keeps-refl (held c.args.out.now) })
 
-pub returns-in-Err-replay-clause-before : goal.returns-in-Err-replay-clause-before
-returns-in-Err-replay-clause-before g c =
+pub returns-in-Err-replay_with_notes-clause-before : goal.returns-in-Err-replay_with_notes-clause-before
+returns-in-Err-replay_with_notes-clause-before g c =
     let files = g.F.Open.file c.args.files.now in
     let options = c.args.options.now in
     let held = g.W.Write.contents in
@@ -72,16 +72,16 @@ returns-in-Err-replay-clause-before g c =
       | in-Some+in_ok-load w ↦ ap g.F.Open.file w.files-is ∙ w.load.ensures.stay
       | in_default w ↦ ap g.F.Open.file w.files-is
     ] in
-    let end = state_of c.replay.new.terminal in
+    let end = state_of c.replay_with_notes.new.terminal in
     let old = held c.args.out.now in
-    let now = held c.replay.new.writer in
+    let now = held c.replay_with_notes.new.writer in
     inr (record {
       start = state_of terminal;
       given = begun;
-      faulty = long_written (files options.file.now) _ old now (state_of terminal) end c.in-Err-replay.fault (rw same at c.in-Ok.ensures.bytes)
-          (λ e. c.in-Err-replay.ensures.too_long (ap Err e));
-      written = front_written (files options.file.now) _ old now (state_of terminal) end c.in-Err-replay.fault (rw same at c.in-Ok.ensures.bytes)
-          c.in-Err-replay.ensures.stopped (λ e. c.in-Err-replay.ensures.too_long (ap Err e));
+      faulty = long_written (files options.file.now) _ old now (state_of terminal) end c.in-Err-replay_with_notes.why (rw (same, sym c.new-log.ensures) at c.in-Ok.ensures.bytes)
+          (λ e. c.in-Err-replay_with_notes.ensures.too_long (ap Err e));
+      written = front_written (files options.file.now) _ old now (state_of terminal) end c.in-Err-replay_with_notes.why (rw (same, sym c.new-log.ensures) at c.in-Ok.ensures.bytes)
+          c.in-Err-replay_with_notes.ensures.stopped (λ e. c.in-Err-replay_with_notes.ensures.too_long (ap Err e));
     })
 
 pub returns-clause-before : goal.returns-clause-before
@@ -108,6 +108,6 @@ returns-clause-before g c =
       start = state_of terminal;
       given = begun;
       faulty = never_long (files options.file.now);
-      written = whole_written (files options.file.now) _ (held c.args.out.now) (held c.replay.new.writer) (held c.flush.new.self) (state_of terminal)
-          (state_of c.replay.new.terminal) c.in-Ok-replay._counts (rw same at c.in-Ok.ensures.bytes) c.in-Ok-replay.ensures.text c.flush.ensures.bytes;
+      written = whole_written (files options.file.now) _ (held c.args.out.now) (held c.replay_with_notes.new.writer) (held c.flush.new.self) (state_of terminal)
+          (state_of c.replay_with_notes.new.terminal) c.in-Ok-replay_with_notes._counts (rw (same, sym c.new-log.ensures) at c.in-Ok.ensures.bytes) c.in-Ok-replay_with_notes.ensures.text c.flush.ensures.bytes;
     })

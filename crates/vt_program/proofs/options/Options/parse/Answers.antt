@@ -11,7 +11,7 @@ use Rattle.vt_program.specs.declared.options.UsageError.TheVariants.{Words, Addr
 use Rattle.vt_program.specs.Words.{AreApart, Given, Gives, IsMistake, IsRefusalFor, IsRefusalOf, WordsGive, app, faults_in, given_by, given_in}
 use Rattle.vt_program.proofs.options.Options.parse.Goals as goal
 
--- what the matches give is what the words give
+-- The matches of clap give the same texts as the words.
 given_same : (m : ArgMatches) (words : List Text) → HasMatchesOf app words m
     → given_in (first_value (found_of m)) (one_text (found_of m)) ≡ given_by words
 unfolding given_by

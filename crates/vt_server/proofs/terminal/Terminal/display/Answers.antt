@@ -8,8 +8,7 @@ use Rattle.vt_server.proofs.terminal.Terminal.display.Goals as goal
 pub returns-in-None : goal.returns-in-None
 unfolding display
 returns-in-None c =
-    (λ i. record { address = 254; mask = c.from_raw.ensures i; soft_keys = c.from_raw-in-None.ensures i })
-    ∙ sym (shown-none (pool_of (state_of c.args.self.now)) c.args.self.now.shown c.in-None.ensures)
+    sym (shown-none (pool_of (state_of c.args.self.now)) c.args.self.now.shown c.in-None.ensures)
 
 pub returns-in-Some : goal.returns-in-Some
 unfolding display

@@ -2,6 +2,7 @@ use Rattle.std.proofs.Common.{◌≡◌, ℕ, List, [], ◌∷◌, length, Optio
 use Rattle.std.specs.FinMap as finite
 use Rattle.vt_can.specs.Assigned.{VT_TO_ECU}
 use Rattle.vt_can.specs.lines.Actions as actions
+use Rattle.vt_machine.specs.OperatorEntries.{text_message}
 use Rattle.vt_machine.specs.SetStates.{SetState}
 use Rattle.vt_transport.specs.Wire.{rts_frame}
 use Rattle.vt_server.specs.operator.ActionContracts.{PerformsAt}
@@ -42,7 +43,7 @@ returns-in-Ok-clause-takes c =
     let node = c.args.self.now.node in
     let heard = heard_of c.args.self.now.registry.watch in
     let there = shown-at (pool_of s) s.shown a c.in-Some.ensures in
-    let bytes : c.as_slice.result.now ≡ _ = c.as_slice.ensures.value ∙ c.text_message-message.ensures in
+    let bytes : c.as_slice.result.now ≡ _ = c.as_slice.ensures.value ∙ c.text_message-message.ensures ∙ ap (λ (n : ℕ). text_message n c.args.text.now) c.from_raw.ensures in
     let pool = c.act-done.ensures.pool in
     takes-long s a there c.args.id c.args.text.now c.in_default-text_fault.ensures.fault c.requires.long c.in-Ok.ensures.ok.0
     c.act-done.result pool

@@ -41,18 +41,18 @@ returns-in-Claimed-clause-hears c old s display ready =
     let t = c.args.self.now in
     let u = c.take_claim.new.self in
     let it = subst (λ (r : PreparedFrame). FitsAfterTimeouts s t n frame r) c.in-Claimed.is ready in
-    hears-claim old s n frame it.0 (state_of u) (state_of c.settle.new.self) c.args.outputs.now.items c.take_claim.new.outputs.items c.settle.new.outputs.items it.1 it.2
+    hears-claim old s n frame it.0 (state_of u) (state_of c.update_shown.new.self) c.args.outputs.now.items c.take_claim.new.outputs.items c.update_shown.new.outputs.items it.1 it.2
     (claim-takes old s n frame (state_of t) (state_of u) c.source.result it.0 c.in-Claimed.former c.args.outputs.now.items c.take_claim.new.outputs.items
     c.take_claim.ensures.takes c.source.ensures it.1 it.3 it.4 it.5)
-    c.settle.ensures.state (c.settle.ensures.sent old display)
+    c.update_shown.ensures.state (c.update_shown.ensures.sent old display)
 
 pub returns-in-Prepared-clause-hears : goal.returns-in-Prepared-clause-hears
 returns-in-Prepared-clause-hears c old s display ready =
     let n = c.args.notice.now in
     let frame = c.args.frame.now in
     let it = subst (λ (r : PreparedFrame). FitsAfterTimeouts s c.args.self.now n frame r) c.in-Prepared.is ready in
-    hears-other old s n frame (state_of c.args.self.now) (state_of c.take.new.self) (state_of c.settle-in-Prepared.new.self) c.args.outputs.now.items c.take.new.outputs.items c.settle-in-Prepared.new.outputs.items
-    it.1 it.0 c.take.ensures.takes c.settle-in-Prepared.ensures.state (c.settle-in-Prepared.ensures.sent old display)
+    hears-other old s n frame (state_of c.args.self.now) (state_of c.take.new.self) (state_of c.update_shown-in-Prepared.new.self) c.args.outputs.now.items c.take.new.outputs.items c.update_shown-in-Prepared.new.outputs.items
+    it.1 it.0 c.take.ensures.takes c.update_shown-in-Prepared.ensures.state (c.update_shown-in-Prepared.ensures.sent old display)
 
 pub returns-in-Claimed-clause-tells : goal.returns-in-Claimed-clause-tells
 returns-in-Claimed-clause-tells c none =
@@ -64,11 +64,11 @@ returns-in-Claimed-clause-tells c none =
     let it = subst (λ (r : PreparedFrame). FitsAfterTimeouts s t n frame r) c.in-Claimed.is c.requires.ready.1 in
     let took = claim-takes s s n frame (state_of t) (state_of u) c.source.result it.0 c.in-Claimed.former c.args.outputs.now.items c.take_claim.new.outputs.items
     c.take_claim.ensures.takes c.source.ensures it.1 it.3 it.4 it.5 in
-    claimed-left s (state_of t) (state_of u) (state_of c.settle.new.self) frame n it.0 it.5 took.0 (c.settle.ensures.tells none).1
+    claimed-left s (state_of t) (state_of u) (state_of c.update_shown.new.self) frame n it.0 it.5 took.0 (c.update_shown.ensures.tells none).1
 
 pub returns-in-Prepared-clause-tells : goal.returns-in-Prepared-clause-tells
 returns-in-Prepared-clause-tells c none =
-    let settles = c.settle-in-Prepared.ensures.tells none in
+    let settles = c.update_shown-in-Prepared.ensures.tells none in
     let takes = c.take.ensures.tells settles.0 in
-    left-same (state_of c.args.self.now) (state_of c.settle-in-Prepared.new.self)
-    (shows-then (state_of c.args.self.now) (state_of c.take.new.self) (state_of c.settle-in-Prepared.new.self) takes.1 settles.1)
+    left-same (state_of c.args.self.now) (state_of c.update_shown-in-Prepared.new.self)
+    (shows-then (state_of c.args.self.now) (state_of c.take.new.self) (state_of c.update_shown-in-Prepared.new.self) takes.1 settles.1)

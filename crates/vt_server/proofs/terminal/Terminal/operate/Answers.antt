@@ -34,19 +34,19 @@ returns-clause-ok c =
           (option_to_list w.act-answer.result) (option_to_list c.match-action.answer) refl (ap (λ (x : Terminal). state_of x) (sym w.self-is)) refl
           (ap option_to_list (sym w.answer-is)) w.act-answer.ensures.takes
     ] in
-    takes-input s t (state_of c.settle.new.self) c.args.action.now c.args.outputs.now.items c.append.new.outputs.items c.settle.new.outputs.items c.if-self.false
+    takes-input s t (state_of c.update_shown.new.self) c.args.action.now c.args.outputs.now.items c.append.new.outputs.items c.update_shown.new.outputs.items c.if-self.false
     (takes-after taken (c.append.ensures.items ∙ ap (λ l. l ++ option_to_list c.match-action.answer) c.reserve.ensures.items))
-    c.settle.ensures.state (c.settle.ensures.sent s c.display-before.ensures)
+    c.update_shown.ensures.state (c.update_shown.ensures.sent s c.display-before.ensures)
 
 pub returns-clause-same : goal.returns-clause-same
 returns-clause-same c none =
     let t : Terminal = record c.args.self.now { redraws = false } in
     let m : Terminal = c.match-action.self in
-    let settles = c.settle.ensures.tells none in
+    let settles = c.update_shown.ensures.tells none in
     let acted : ShowsSame (state_of t) (state_of m) =
     elim c.match-action.branch [
       | in-Set w ↦ told-through t m w.select_set-answer.new.self w.self-is w.select_set-answer.ensures.tells settles.0
       | in-Text+in-Ok w ↦ told-through t m w.enter_long_text.new.self w.self-is w.enter_long_text.ensures.tells settles.0
       | in_default w ↦ told-through t m w.act-answer.new.self w.self-is w.act-answer.ensures.tells settles.0
     ] in
-    same-text (state_of t) (state_of c.settle.new.self) (shows-then (state_of t) (state_of m) (state_of c.settle.new.self) acted settles.1)
+    same-text (state_of t) (state_of c.update_shown.new.self) (shows-then (state_of t) (state_of m) (state_of c.update_shown.new.self) acted settles.1)

@@ -6,7 +6,7 @@ use Rattle.vt_server.specs.States.{state_of}
 use Rattle.vt_server.specs.Terminals.{State, after_acts}
 use Rattle.vt_server.proofs.lemmas.acts.HolderChanges.{claims-acts}
 use Rattle.vt_server.proofs.lemmas.shown.EventsOfChange.{not-false, not-true, settled-is, status-none, status-sent}
-use Rattle.vt_server.proofs.terminal.Terminal.settle.Goals as goal
+use Rattle.vt_server.proofs.terminal.Terminal.update_shown.Goals as goal
 
 pub returns-then-ne-clause-state : goal.returns-then-ne-clause-state
 returns-then-ne-clause-state c =
