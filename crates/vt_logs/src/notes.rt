@@ -1,5 +1,7 @@
 //! Notes of a replay for messages to people: its first faulty line, and the refusals to the operator.
 
+ghost use Rattle.std.specs.Prelude.{◌≡◌, None, replicate};
+
 use std::fmt;
 use vt_can::LineFault;
 use vt_server::{OperatorFault, Output};
@@ -75,7 +77,12 @@ pub struct Notes {
 
 impl Notes {
     /// The notes before the first line.
-    pub fn new() -> Notes {
+    pub fn new() -> Notes
+        ensures lines { result.lines ≡ 0 }
+        ensures faults { result.faults ≡ 0 }
+        ensures first_fault { result.first_fault ≡ None }
+        ensures refused { result.refused ≡ replicate 9 None }
+    {
         Notes {
             lines: 0,
             faults: 0,

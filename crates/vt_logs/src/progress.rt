@@ -60,7 +60,9 @@ impl Progress {
     }
 
     /// Returns the notes of the lines taken.
-    pub fn into_notes(self) -> Notes {
+    pub fn into_notes(self) -> Notes
+        ensures { result ≡ record self.notes { lines = self.counts.lines; faults = self.counts.faults } }
+    {
         let mut notes = self.notes;
         notes.lines = self.counts.lines;
         notes.faults = self.counts.faults;

@@ -1,6 +1,6 @@
 //! Sources of logs and sinks of replays. Those over memory promise more than those of the system.
 
-ghost use Rattle.std.specs.Prelude.{◌≡◌, Bool, true, false, length, IsOk, IfOk, IfErr};
+ghost use Rattle.std.specs.Prelude.{◌≡◌, ◌≢◌, Bool, true, false, length, Some, None, IsOk, IfOk, IfErr, MatchOption};
 ghost use Rattle.std.specs.Io.{ReadsAtMost, WritesAtMost};
 ghost use Rattle.std.specs.Io.KnownBytes.{Keeps, ReadConsumes, WriteAppends};
 ghost use Rattle.std.specs.IoError.{error_kind};
@@ -78,7 +78,9 @@ impl<T> Stream<T> {
     }
 
     /// Returns the cause of the last failure.
-    pub fn failure(&self) -> Option<&Error> {
+    pub fn failure(&self) -> Option<&Error>
+        ensures { MatchOption result (self.now.cause ≡ None) (λ cause. self.now.cause ≡ Some cause.now) }
+    {
         self.cause.as_ref()
     }
 
@@ -86,6 +88,8 @@ impl<T> Stream<T> {
     fn keep(&mut self, cause: Error) -> Error
         ensures inner { self.new.inner ≡ self.old.inner }
         ensures kind { error_kind result ≡ error_kind cause }
+        ensures kept { error_kind cause ≢ ErrorKind.Interrupted → self.new.cause ≡ Some cause }
+        ensures interrupted { error_kind cause ≡ ErrorKind.Interrupted → self.new.cause ≡ self.old.cause }
     {
         let kind = cause.kind();
         if kind != ErrorKind::Interrupted {
@@ -104,7 +108,9 @@ impl<T> Stream<T> {
 
 impl<T: Drop> Stream<T> {
     /// Drops the reader or the writer, and returns the cause of the last failure.
-    pub fn into_failure(self) -> Option<Error> {
+    pub fn into_failure(self) -> Option<Error>
+        ensures { result ≡ self.cause }
+    {
         self.cause
     }
 }

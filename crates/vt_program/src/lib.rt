@@ -7,6 +7,7 @@
 
 mod files;
 pub mod laws;
+mod messages;
 mod options;
 mod program;
 mod sentences;

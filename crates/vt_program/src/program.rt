@@ -10,10 +10,9 @@ ghost use Rattle.vt_program.specs.Runs.{Ends, EndsBy, EndsReport, FailsReplay, H
 ghost use Rattle.vt_pool.specs.Pools.{contents};
 ghost use Rattle.vt_server.specs.States.{state_of};
 
+use crate::messages::{print_notes, print_replay_fault};
 use crate::options::{Options, Preload, UsageError};
-use crate::sentences::{
-    FaultSentence, FaultyLines, Named, RefusalSentence, RefusedAction, ReplaySentence,
-};
+use crate::sentences::{FaultSentence, Named, RefusalSentence, ReplaySentence};
 use std::alloc::{AllocError, Global};
 use std::convert::AsStr;
 use std::fmt;
@@ -220,33 +219,6 @@ fn print_fault<W: Sink, E: Write>(
         }
     }
     Ok(Status::Fault)
-}
-
-/// Prints the sentence of a replay that ended early, with the failure of the system if it is known.
-fn print_replay_fault<E: Write>(
-    sentence: &ReplaySentence<'_>,
-    cause: Option<&io::Error>,
-    errors: &mut E,
-) {
-    let _ = match cause {
-        Some(cause) => writeln!(errors, "vt_replay: {sentence}: {cause}"),
-        None => writeln!(errors, "vt_replay: {sentence}"),
-    };
-}
-
-/// Prints sentences on the faulty lines of a log and on the refused actions of the operator.
-fn print_notes<E: Write>(notes: &Notes, log: &str, errors: &mut E) {
-    if let Some(first) = notes.first_fault {
-        let sentence = FaultyLines { notes, first };
-        let _ = writeln!(errors, "vt_replay: {log}: {sentence}");
-        if let Some(hint) = first.hint {
-            let _ = writeln!(errors, "vt_replay: {log}: {hint}");
-        }
-    }
-    for refused in notes.refused.iter().flatten() {
-        let sentence = RefusedAction { refused };
-        let _ = writeln!(errors, "vt_replay: {log}: {sentence}");
-    }
 }
 
 /// Prints the report of the pool in a file.
