@@ -6,7 +6,7 @@ use Rattle.std.proofs.lemmas.Bool.{cases_lt, cases_eq}
 use Rattle.std.specs.Prelude.{slice_get, slice_index, Contains}
 use Rattle.vt_kinds.specs.declared.slot.Slot.{Slot}
 use Rattle.vt_chains.specs.Inclusions.{includes, IsChain, IsShallow, IsTooDeep}
-use Rattle.vt_chains.specs.Depths.{IsIdAt, IsAt, IsBelow, AreDepths, unset, IsDepth, AreFound, Keeps, BeginsChain, IncludesChain}
+use Rattle.vt_chains.specs.Depths.{IsIdAt, IsAtDepth, IsBelow, AreDepths, unset, IsDepth, AreDepthsSoFar, KeepsDepths, BeginsChain, IncludesChain}
 use Rattle.vt_chains.proofs.InclusionsInStore.{IsSourced}
 use Rattle.vt_chains.proofs.Elements.{Contains-nil}
 use Rattle.vt_chains.proofs.IdIndices.{same_id, within}
@@ -39,27 +39,27 @@ show_shallow ids included most depths sourced are (a ∷ b ∷ rest) chain =
 
 -- ---- found depths stay
 
-kept : (old new : List ℕ) (place depth : ℕ) → Keeps old new → slice_index old place ≡ depth → depth < unset → slice_index new place ≡ depth
+kept : (old new : List ℕ) (place depth : ℕ) → KeepsDepths old new → slice_index old place ≡ depth → depth < unset → slice_index new place ≡ depth
 kept old new place depth keeps is lt = keeps place (λ e. absurd (omega (arith, e, is, lt))) ∙ is
 
-pub still_at : (ids old new : List ℕ) (id depth : ℕ) → Keeps old new → depth < unset → IsAt ids old id depth → IsAt ids new id depth
+pub still_at : (ids old new : List ℕ) (id depth : ℕ) → KeepsDepths old new → depth < unset → IsAtDepth ids old id depth → IsAtDepth ids new id depth
 still_at ids old new id depth keeps lt at = record { place = at.place; there = at.there; is = kept old new at.place depth keeps at.is lt }
 
-pub still_below : (ids old new : List ℕ) (id most more : ℕ) → Keeps old new → most ≤ unset → most ≤ more → IsBelow ids old id most → IsBelow ids new id more
+pub still_below : (ids old new : List ℕ) (id most more : ℕ) → KeepsDepths old new → most ≤ unset → most ≤ more → IsBelow ids old id most → IsBelow ids new id more
 still_below ids old new id most more keeps le greater lower =
     let less = lower.less in
     let same = kept old new lower.place (slice_index old lower.place) keeps refl (omega arith) in
     record { place = lower.place; there = lower.there; less = omega (arith, same) }
 
-still_depth : (ids : List ℕ) (included : ℕ → List ℕ) (old new : List ℕ) (id depth : ℕ) → Keeps old new → depth ≤ unset → IsDepth ids included old id depth
+still_depth : (ids : List ℕ) (included : ℕ → List ℕ) (old new : List ℕ) (id depth : ℕ) → KeepsDepths old new → depth ≤ unset → IsDepth ids included old id depth
     → IsDepth ids included new id depth
 still_depth ids included old new id depth keeps le is = record {
   above = λ other h. still_below ids old new other depth depth keeps le (omega arith) (is.above other h);
   reached = λ less e. let one = is.reached less e in (one.0, one.1, still_at ids old new one.0 less keeps (omega (arith, e)) one.2);
 }
 
-pub Keeps-trans : (a b c : List ℕ) → Keeps a b → Keeps b c → Keeps a c
-Keeps-trans a b c first second place found = second place (λ e. found (sym (first place found) ∙ e)) ∙ first place found
+pub KeepsDepths-trans : (a b c : List ℕ) → KeepsDepths a b → KeepsDepths b c → KeepsDepths a c
+KeepsDepths-trans a b c first second place found = second place (λ e. found (sym (first place found) ∙ e)) ∙ first place found
 
 -- ---- the depth of an ID is unique
 
@@ -84,7 +84,7 @@ module _ (ids : List ℕ) (included : ℕ → List ℕ) (depths : List ℕ) (onc
 
 -- ---- one more depth
 
-module _ (ids : List ℕ) (included : ℕ → List ℕ) (depths : List ℕ) (once : AreOnce ids) (found : AreFound ids included depths)
+module _ (ids : List ℕ) (included : ℕ → List ℕ) (depths : List ℕ) (once : AreOnce ids) (found : AreDepthsSoFar ids included depths)
     (place id depth : ℕ) (there : IsIdAt ids place id) (low : depth < unset) (is : IsDepth ids included depths id depth) where
   abbrev after : List ℕ
   after = set depths place depth
@@ -101,7 +101,7 @@ module _ (ids : List ℕ) (included : ℕ → List ℕ) (depths : List ℕ) (onc
   index_there : (other : ℕ) → other ≢ place → slice_index after other ≡ slice_index depths other
   index_there other apart = get_or-set_other depths place other depth 0 apart
 
-  pub put_keeps : Keeps depths after
+  pub put_keeps : KeepsDepths depths after
   put_keeps other settled = elim (cases_eq other place) [
     | inl same ↦
         let at = subst (λ (k : ℕ). slice_index depths k ≢ unset) same settled in
@@ -130,20 +130,20 @@ module _ (ids : List ℕ) (included : ℕ → List ℕ) (depths : List ℕ) (onc
         (found.found at other stands (λ e. settled (stays ∙ e))))
   ]
 
-  pub put_depth : AreFound ids included after
+  pub put_depth : AreDepthsSoFar ids included after
   put_depth = record { each = length-set depths place depth ∙ found.each; within = put_within; found = put_found }
 
 -- ---- the loop over the slots of an object
 
 pub record IsSearch (ids : List ℕ) (included : ℕ → List ℕ) (first now : List ℕ) (id deepest most : ℕ) (left : List Slot) : Type 0 where
   pub among : (other : ℕ) → Contains (included_in left) other → Contains (included id) other
-  pub found : AreFound ids included now
-  pub keeps : Keeps first now
+  pub found : AreDepthsSoFar ids included now
+  pub keeps : KeepsDepths first now
   pub done : (other : ℕ) → Contains (included id) other → IsBelow ids now other deepest ⊎ Contains (included_in left) other
-  pub reached : (less : ℕ) → deepest ≡ suc less → (other : ℕ) × Contains (included id) other × IsAt ids now other less
+  pub reached : (less : ℕ) → deepest ≡ suc less → (other : ℕ) × Contains (included id) other × IsAtDepth ids now other less
   pub within : deepest ≤ most
 
-pub search_begins : (ids : List ℕ) (included : ℕ → List ℕ) (depths : List ℕ) (id most : ℕ) (slots : List Slot) → AreFound ids included depths → included id ≡ included_in slots
+pub search_begins : (ids : List ℕ) (included : ℕ → List ℕ) (depths : List ℕ) (id most : ℕ) (slots : List Slot) → AreDepthsSoFar ids included depths → included id ≡ included_in slots
     → IsSearch ids included depths depths id 0 most slots
 search_begins ids included depths id most slots found are = record {
   among = λ other h. subst (λ (l : List ℕ). Contains l other) (sym are) h;
@@ -175,7 +175,7 @@ max_case P a b lower greater = elim (cases_lt a b) [
 ]
 
 pub search_goes_on : (ids : List ℕ) (included : ℕ → List ℕ) (first now next : List ℕ) (id deepest most : ℕ) (slot : Slot) (left : List Slot) (depth : ℕ) → most ≤ 32
-    → includes slot ≡ true → AreFound ids included next → Keeps now next → IsAt ids next slot.id depth → depth < most
+    → includes slot ≡ true → AreDepthsSoFar ids included next → KeepsDepths now next → IsAtDepth ids next slot.id depth → depth < most
     → IsSearch ids included first now id deepest most (slot ∷ left) → IsSearch ids included first next id (max deepest (depth + 1)) most left
 search_goes_on ids included first now next id deepest most slot left depth high is found keeps at lt search =
     let le = search.within in
@@ -184,15 +184,15 @@ search_goes_on ids included first now next id deepest most slot left depth high 
     record {
       among = λ other h. search.among other (in_more slot left other h);
       found = found;
-      keeps = Keeps-trans first now next search.keeps keeps;
+      keeps = KeepsDepths-trans first now next search.keeps keeps;
       done = λ other h. elim (search.done other h) as (λ _. IsBelow ids next other (max deepest (depth + 1)) ⊎ Contains (included_in left) other) [
         | inl lower ↦ inl (still_below ids now next other deepest (max deepest (depth + 1)) keeps (omega arith) (omega arith) lower)
         | inr there ↦ slot_case (IsBelow ids next other (max deepest (depth + 1)) ⊎ Contains (included_in left) other) slot left other there
             (λ one same. inl (subst (λ (k : ℕ). IsBelow ids next k (max deepest (depth + 1))) same (record { place = at.place; there = at.there; less = omega (arith, is_at) })))
             (λ later. inr later)
       ];
-      reached = max_case (λ (n : ℕ). (less : ℕ) → n ≡ suc less → (other : ℕ) × Contains (included id) other × IsAt ids next other less) deepest (depth + 1)
-          (λ le less e. let same : depth ≡ less = omega (arith, e) in (slot.id, search.among slot.id (in_first slot left is), subst (IsAt ids next slot.id) same at))
+      reached = max_case (λ (n : ℕ). (less : ℕ) → n ≡ suc less → (other : ℕ) × Contains (included id) other × IsAtDepth ids next other less) deepest (depth + 1)
+          (λ le less e. let same : depth ≡ less = omega (arith, e) in (slot.id, search.among slot.id (in_first slot left is), subst (IsAtDepth ids next slot.id) same at))
           (λ ge less e. let one = search.reached less e in (one.0, one.1, still_at ids now next one.0 less keeps (omega (arith, e)) one.2));
       within = omega arith;
     }
@@ -238,7 +238,7 @@ chain_push included (x ∷ y ∷ xs) a b chain h = (chain.0, chain_push included
 abbrev pub IsDeep : List ℕ → List ℕ → ℕ → ℕ → Type 0
 IsDeep ids depths id depth = (place : ℕ) → IsIdAt ids place id → depth ≤ slice_index depths place
 
-pub deep_next : (ids : List ℕ) (included : ℕ → List ℕ) (depths : List ℕ) → AreOnce ids → AreFound ids included depths → (place id depth : ℕ) → IsIdAt ids place id
+pub deep_next : (ids : List ℕ) (included : ℕ → List ℕ) (depths : List ℕ) → AreOnce ids → AreDepthsSoFar ids included depths → (place id depth : ℕ) → IsIdAt ids place id
     → slice_index depths place ≢ unset → depth < slice_index depths place → (other : ℕ) × Contains (included id) other × IsDeep ids depths other depth
 deep_next ids included depths once found place id depth there settled deep = from (slice_index depths place) refl (found.found place id there settled)
   where
@@ -249,7 +249,7 @@ deep_next ids included depths once found place id depth there settled deep = fro
         (one.0, one.1, λ at stands. let same = ap (slice_index depths) (once at one.2.place one.0 stands one.2.there) in let here = one.2.is in omega (arith, e, same))
 
 -- an object included by one with a found depth has a found depth too
-pub next_is_found : (ids : List ℕ) (included : ℕ → List ℕ) (depths : List ℕ) → AreOnce ids → AreFound ids included depths → (place id other at : ℕ) → IsIdAt ids place id
+pub next_is_found : (ids : List ℕ) (included : ℕ → List ℕ) (depths : List ℕ) → AreOnce ids → AreDepthsSoFar ids included depths → (place id other at : ℕ) → IsIdAt ids place id
     → slice_index depths place ≢ unset → Contains (included id) other → IsIdAt ids at other → slice_index depths at ≢ unset
 next_is_found ids included depths once found place id other at there settled h stands e =
     let lower = (found.found place id there settled).above other h in
@@ -317,7 +317,7 @@ growing_ends ids included depths first place step count chain end grows id stand
 -- ---- the start and the end of the search
 
 pub none_found : (ids : List ℕ) (included : ℕ → List ℕ) (depths : List ℕ) → length depths ≡ length ids → ((place : ℕ) → place < length depths → slice_index depths place ≡ unset)
-    → AreFound ids included depths
+    → AreDepthsSoFar ids included depths
 none_found ids included depths each are = record {
   each = each;
   within = λ place. elim (cases_lt place (length depths)) [
@@ -327,7 +327,7 @@ none_found ids included depths each are = record {
   found = λ place id stands settled. let lt = within ids place id stands in absurd (settled (are place (omega (arith, lt, each))));
 }
 
-pub all_found : (ids : List ℕ) (included : ℕ → List ℕ) (depths : List ℕ) (most : ℕ) → most < unset → AreFound ids included depths
+pub all_found : (ids : List ℕ) (included : ℕ → List ℕ) (depths : List ℕ) (most : ℕ) → most < unset → AreDepthsSoFar ids included depths
     → ((place : ℕ) → place < length depths → slice_index depths place ≤ most) → AreDepths ids included most depths
 all_found ids included depths most lt found settled = record {
   each = found.each;

@@ -17,7 +17,7 @@ abbrev pub IsIdAt : List ℕ → ℕ → ℕ → Type 0
 IsIdAt ids place id = slice_get ids place ≡ Some id
 
 -- an ID is at an index with this depth
-pub record IsAt (ids depths : List ℕ) (id depth : ℕ) : Type 0 where
+pub record IsAtDepth (ids depths : List ℕ) (id depth : ℕ) : Type 0 where
   pub place : ℕ
   pub there : IsIdAt ids place id
   pub is : slice_index depths place ≡ depth
@@ -35,7 +35,7 @@ IsClosed ids included = (id other : ℕ) → Contains (included id) other → (p
 -- the depth of an ID: one more than the greatest depth of its inclusions
 pub record IsDepth (ids : List ℕ) (included : ℕ → List ℕ) (depths : List ℕ) (id depth : ℕ) : Type 0 where
   pub above : (other : ℕ) → Contains (included id) other → IsBelow ids depths other depth
-  pub reached : (less : ℕ) → depth ≡ suc less → (other : ℕ) × Contains (included id) other × IsAt ids depths other less
+  pub reached : (less : ℕ) → depth ≡ suc less → (other : ℕ) × Contains (included id) other × IsAtDepth ids depths other less
 
 -- the depths of all IDs, at most this
 pub record AreDepths (ids : List ℕ) (included : ℕ → List ℕ) (most : ℕ) (depths : List ℕ) : Type 0 where
@@ -54,14 +54,14 @@ abbrev pub unset : ℕ
 unset = 255
 
 -- the depths found so far
-pub record AreFound (ids : List ℕ) (included : ℕ → List ℕ) (depths : List ℕ) : Type 0 where
+pub record AreDepthsSoFar (ids : List ℕ) (included : ℕ → List ℕ) (depths : List ℕ) : Type 0 where
   pub each : length depths ≡ length ids
   pub within : (place : ℕ) → slice_index depths place ≤ unset
   pub found : (place id : ℕ) → IsIdAt ids place id → slice_index depths place ≢ unset → IsDepth ids included depths id (slice_index depths place)
 
 -- found depths are unchanged
-abbrev pub Keeps : List ℕ → List ℕ → Type 0
-Keeps old new = (place : ℕ) → slice_index old place ≢ unset → slice_index new place ≡ slice_index old place
+abbrev pub KeepsDepths : List ℕ → List ℕ → Type 0
+KeepsDepths old new = (place : ℕ) → slice_index old place ≢ unset → slice_index new place ≡ slice_index old place
 
 -- a chain of `count` inclusions that begins with an ID
 pub record BeginsChain (included : ℕ → List ℕ) (id count : ℕ) (chain : List ℕ) : Type 0 where

@@ -5,7 +5,7 @@ ghost use Rattle.std.specs.FinMap as finite;
 ghost use Rattle.vt_kinds.specs.Records.{seen};
 ghost use Rattle.vt_stores.specs.Stores.{Objects};
 ghost use Rattle.vt_chains.specs.Inclusions.{IsShallow, IsTooDeep, includes};
-ghost use Rattle.vt_chains.specs.Depths.{ids_of, inclusions_of, IsIdAt, IsAt, IsBelow, IsClosed, AreDepths, unset, IsDepth, AreFound, Keeps, BeginsChain, IncludesChain};
+ghost use Rattle.vt_chains.specs.Depths.{ids_of, inclusions_of, IsIdAt, IsAtDepth, IsBelow, IsClosed, AreDepths, unset, IsDepth, AreDepthsSoFar, KeepsDepths, BeginsChain, IncludesChain};
 
 use arrayvec::ArrayVec;
 use vt_kinds::{Object, ObjectId, Place, Slot, slots};
@@ -38,12 +38,12 @@ pub fn find_depths<S: Store>(store: &S, depths: &mut [u8], most: u8) -> Result<(
 /// Finds the depth of the object at an index, or a chain of `most` + 1 inclusions that begins with it.
 #[cycle(settle)]
 fn settle<S: Store>(store: &S, depths: &mut [u8], place: usize, most: u8) -> Result<u8, Chain>
-    requires found { AreFound (ids_of (S.contents store.now)) (inclusions_of (S.contents store.now)) depths.old }
+    requires found { AreDepthsSoFar (ids_of (S.contents store.now)) (inclusions_of (S.contents store.now)) depths.old }
     requires closed { IsClosed (ids_of (S.contents store.now)) (inclusions_of (S.contents store.now)) }
     requires place { place < length depths.old }
     requires most { most ≤ 32 }
-    ensures found { AreFound (ids_of (S.contents store.now)) (inclusions_of (S.contents store.now)) depths.new }
-    ensures keeps { Keeps depths.old depths.new }
+    ensures found { AreDepthsSoFar (ids_of (S.contents store.now)) (inclusions_of (S.contents store.now)) depths.new }
+    ensures keeps { KeepsDepths depths.old depths.new }
     ensures within { IfOk result (λ depth. depth ≤ most) }
     ensures ok { IfOk result (λ depth. slice_index depths.new place ≡ depth) }
     ensures err { IfErr result (λ chain. (id : ℕ) → IsIdAt (ids_of (S.contents store.now)) place id → BeginsChain (inclusions_of (S.contents store.now)) id (most + 1) chain.items) }
@@ -61,12 +61,12 @@ fn settle<S: Store>(store: &S, depths: &mut [u8], place: usize, most: u8) -> Res
 /// Finds the depth of the object at an index from the depths of its inclusions.
 #[cycle(settle)]
 fn settle_entry<S: Store>(store: &S, depths: &mut [u8], place: usize, most: u8) -> Result<u8, Chain>
-    requires found { AreFound (ids_of (S.contents store.now)) (inclusions_of (S.contents store.now)) depths.old }
+    requires found { AreDepthsSoFar (ids_of (S.contents store.now)) (inclusions_of (S.contents store.now)) depths.old }
     requires closed { IsClosed (ids_of (S.contents store.now)) (inclusions_of (S.contents store.now)) }
     requires place { place < length depths.old }
     requires most { most ≤ 32 }
-    ensures found { AreFound (ids_of (S.contents store.now)) (inclusions_of (S.contents store.now)) depths.new }
-    ensures keeps { Keeps depths.old depths.new }
+    ensures found { AreDepthsSoFar (ids_of (S.contents store.now)) (inclusions_of (S.contents store.now)) depths.new }
+    ensures keeps { KeepsDepths depths.old depths.new }
     ensures within { IfOk result (λ depth. depth ≤ most) }
     ensures ok { IfOk result (λ depth. slice_index depths.new place ≡ depth) }
     ensures err { IfErr result (λ chain. (id : ℕ) → IsIdAt (ids_of (S.contents store.now)) place id → BeginsChain (inclusions_of (S.contents store.now)) id (most + 1) chain.items) }
@@ -95,11 +95,11 @@ fn deepest<S: Store>(
     most: u8,
 ) -> Result<u8, Chain>
     requires object { finite.get (S.contents store.now) id ≡ Some (seen object.now) }
-    requires found { AreFound (ids_of (S.contents store.now)) (inclusions_of (S.contents store.now)) depths.old }
+    requires found { AreDepthsSoFar (ids_of (S.contents store.now)) (inclusions_of (S.contents store.now)) depths.old }
     requires closed { IsClosed (ids_of (S.contents store.now)) (inclusions_of (S.contents store.now)) }
     requires most { most ≤ 32 }
-    ensures found { AreFound (ids_of (S.contents store.now)) (inclusions_of (S.contents store.now)) depths.new }
-    ensures keeps { Keeps depths.old depths.new }
+    ensures found { AreDepthsSoFar (ids_of (S.contents store.now)) (inclusions_of (S.contents store.now)) depths.new }
+    ensures keeps { KeepsDepths depths.old depths.new }
     ensures within { IfOk result (λ depth. depth ≤ most) }
     ensures ok { IfOk result (IsDepth (ids_of (S.contents store.now)) (inclusions_of (S.contents store.now)) depths.new id) }
     ensures err { IfErr result (λ chain. IncludesChain (inclusions_of (S.contents store.now)) id most chain.items) }
@@ -123,13 +123,13 @@ fn settle_included<S: Store>(
     most: u8,
 ) -> Result<u8, Chain>
     requires there { (place : ℕ) × IsIdAt (ids_of (S.contents store.now)) place id }
-    requires found { AreFound (ids_of (S.contents store.now)) (inclusions_of (S.contents store.now)) depths.old }
+    requires found { AreDepthsSoFar (ids_of (S.contents store.now)) (inclusions_of (S.contents store.now)) depths.old }
     requires closed { IsClosed (ids_of (S.contents store.now)) (inclusions_of (S.contents store.now)) }
     requires most { most ≤ 32 }
-    ensures found { AreFound (ids_of (S.contents store.now)) (inclusions_of (S.contents store.now)) depths.new }
-    ensures keeps { Keeps depths.old depths.new }
+    ensures found { AreDepthsSoFar (ids_of (S.contents store.now)) (inclusions_of (S.contents store.now)) depths.new }
+    ensures keeps { KeepsDepths depths.old depths.new }
     ensures within { IfOk result (λ depth. depth < most) }
-    ensures ok { IfOk result (λ depth. IsAt (ids_of (S.contents store.now)) depths.new id depth) }
+    ensures ok { IfOk result (λ depth. IsAtDepth (ids_of (S.contents store.now)) depths.new id depth) }
     ensures err { IfErr result (λ chain. BeginsChain (inclusions_of (S.contents store.now)) id most chain.items) }
 {
     if most == 0 {
@@ -165,7 +165,7 @@ pub fn entry<S: Store>(store: &S, place: usize) -> (ObjectId, &Object<Vec<u8>>)
 
 /// The chain of `count` inclusions that begins with the object at an index, whose depth is at least `count`.
 fn chain_from<S: Store>(store: &S, depths: &[u8], place: usize, count: u8) -> Chain
-    requires found { AreFound (ids_of (S.contents store.now)) (inclusions_of (S.contents store.now)) depths.now }
+    requires found { AreDepthsSoFar (ids_of (S.contents store.now)) (inclusions_of (S.contents store.now)) depths.now }
     requires closed { IsClosed (ids_of (S.contents store.now)) (inclusions_of (S.contents store.now)) }
     requires place { place < length depths.now }
     requires is_found { slice_index depths.now place ≢ unset }
@@ -185,7 +185,7 @@ fn chain_from<S: Store>(store: &S, depths: &[u8], place: usize, count: u8) -> Ch
 
 /// The index of an inclusion of the object at an index, with at least this depth.
 fn next<S: Store>(store: &S, depths: &[u8], place: usize, depth: u8) -> usize
-    requires found { AreFound (ids_of (S.contents store.now)) (inclusions_of (S.contents store.now)) depths.now }
+    requires found { AreDepthsSoFar (ids_of (S.contents store.now)) (inclusions_of (S.contents store.now)) depths.now }
     requires closed { IsClosed (ids_of (S.contents store.now)) (inclusions_of (S.contents store.now)) }
     requires place { place < length depths.now }
     requires is_found { slice_index depths.now place ≢ unset }

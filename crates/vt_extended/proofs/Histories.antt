@@ -1,6 +1,6 @@
 -- ETP histories with one more session event. Every history has the latest first.
 use Rattle.std.proofs.Common.{◌≡◌, ℕ, ◌+◌, ◌≤◌, ◌<◌, true, List, [], ◌∷◌, ◌++◌, length, ap, subst, ◌∙◌, refl, arith}
-use Rattle.vt_can.specs.transport.Histories.{Came, AreQuiet, Sent}
+use Rattle.vt_can.specs.transport.Histories.{Came, AreQuiet, HasBrought}
 use Rattle.vt_can.proofs.lemmas.transport.Standing.{sent_more, Last, AtRequest, Later}
 use Rattle.vt_extended.specs.declared.messages.Opening.{Opening}
 use Rattle.vt_extended.specs.declared.messages.Part.{Part}
@@ -10,21 +10,21 @@ use Rattle.vt_extended.specs.Messages.{SessionEvent, Group, Announced, opens, re
 
 -- a history with one more DPO or DT, which extends the groups
 sent_part : (hs : List SessionEvent) (part : Part) (o : Opening) (groups groups' : List Group) → part ∷ parts_of groups ≡ parts_of groups'
-    → (AreSound o groups → AreSound o groups') → Sent spelling hs o groups → Sent spelling (Came (etp.Part part) ∷ hs) o groups'
+    → (AreSound o groups → AreSound o groups') → HasBrought spelling hs o groups → HasBrought spelling (Came (etp.Part part) ∷ hs) o groups'
 sent_part hs part o groups groups' is sound =
     sent_more spelling hs (Came (etp.Part part)) o groups groups' tt
     (λ later brought. record { in_order = ap (λ ys. part ∷ ys) brought.in_order ∙ is; sound = sound brought.sound })
 
 pub sent_offset : (hs : List SessionEvent) (count offset : ℕ) (o : Opening) (groups : List Group) → 1 ≤ count → received groups + count ≤ edge o groups
-    → offset ≡ received groups → Sent spelling hs o groups → Sent spelling (Came (etp.Part (Offset count offset)) ∷ hs) o (Announced count [] ∷ groups)
+    → offset ≡ received groups → HasBrought spelling hs o groups → HasBrought spelling (Came (etp.Part (Offset count offset)) ∷ hs) o (Announced count [] ∷ groups)
 sent_offset hs count offset o groups one within next =
     sent_part hs (Offset count offset) o groups (Announced count [] ∷ groups)
     (ap (λ (k : ℕ). Offset count k ∷ parts_of groups) next)
     (λ sound. (one, within, omega arith, sound))
 
 pub sent_packet : (hs : List SessionEvent) (number : ℕ) (packet : List ℕ) (o : Opening) (count : ℕ) (packets : List (List ℕ)) (groups : List Group)
-    → number ≡ length packets + 1 → length packets < count → Sent spelling hs o (Announced count packets ∷ groups)
-    → Sent spelling (Came (etp.Part (Packet number packet)) ∷ hs) o (Announced count (packet ∷ packets) ∷ groups)
+    → number ≡ length packets + 1 → length packets < count → HasBrought spelling hs o (Announced count packets ∷ groups)
+    → HasBrought spelling (Came (etp.Part (Packet number packet)) ∷ hs) o (Announced count (packet ∷ packets) ∷ groups)
 sent_packet hs number packet o count packets groups next more =
     sent_part hs (Packet number packet) o (Announced count packets ∷ groups) (Announced count (packet ∷ packets) ∷ groups)
     (ap (λ (k : ℕ). Packet k packet ∷ parts_of (Announced count packets ∷ groups)) next)
@@ -45,7 +45,7 @@ pub record IsAnnounced (hs : List SessionEvent) (count offset : ℕ) (o : Openin
   pub next : offset ≡ received before
   pub one : 1 ≤ count
   pub within : received before + count ≤ edge o before
-  pub sent : Sent spelling hs o before
+  pub sent : HasBrought spelling hs o before
 
 offset_of : (hs later earlier : List SessionEvent) (count offset : ℕ) (o : Opening) (groups : List Group) → hs ≡ later ++ Came (etp.Rts o) ∷ earlier
     → opens o ≡ true → AreQuiet spelling later → Offset count offset ∷ parts_in later ≡ parts_of groups → AreSound o groups → IsAnnounced hs count offset o groups
@@ -76,7 +76,7 @@ pub record IsNext (hs : List SessionEvent) (number : ℕ) (packet : List ℕ) (o
   pub all : groups ≡ Announced count (packet ∷ packets) ∷ before
   pub next : number ≡ length packets + 1
   pub more : length packets < count
-  pub sent : Sent spelling hs o (Announced count packets ∷ before)
+  pub sent : HasBrought spelling hs o (Announced count packets ∷ before)
 
 packet_of : (hs later earlier : List SessionEvent) (number : ℕ) (packet : List ℕ) (o : Opening) (groups : List Group) → hs ≡ later ++ Came (etp.Rts o) ∷ earlier
     → opens o ≡ true → AreQuiet spelling later → Packet number packet ∷ parts_in later ≡ parts_of groups → AreSound o groups → IsNext hs number packet o groups

@@ -8,7 +8,7 @@ use Rattle.vt_commands.specs.declared.raising.Raised.{Raised}
 use Rattle.vt_server.specs.Findings.{IsFound}
 use Rattle.vt_server.specs.Steps.{JudgedInput}
 use Rattle.vt_server.specs.Terminals.{State}
-use Rattle.vt_laws.specs.Headline.{Pools, AreInForce, Run, accepted_after, runs}
+use Rattle.vt_laws.specs.Headline.{Pools, ArePoolsInForce, Run, accepted_after, runs}
 
 -- the steps used out of those at the start of a run; a run that sticks uses more than it has
 abbrev pub used : ℕ → End → ℕ
@@ -43,4 +43,4 @@ pub record IsWithinCosts (pools : Pools) (s : State) (e : JudgedInput) : Type 0 
   pub whole : steps_in s e ≤ cost_of pools s e
 
 abbrev pub CostsAreWithin : Type 0
-CostsAreWithin = (pools : Pools) (s : State) (e : JudgedInput) → AreInForce pools s → IsFound s e → IsWithinCosts (accepted_after s e pools) s e
+CostsAreWithin = (pools : Pools) (s : State) (e : JudgedInput) → ArePoolsInForce pools s → IsFound s e → IsWithinCosts (accepted_after s e pools) s e

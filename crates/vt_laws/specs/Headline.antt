@@ -49,14 +49,14 @@ Pools = ℕ → Option ObjectMap
 
 -- The objects come from the pool accepted last: they have the same IDs, kinds, macro entries and macro bytes, one working set,
 -- and valid references and chains.
-pub record IsInForce (last : Option ObjectMap) (state : SetState) : Type 0 where
+pub record IsPoolInForce (last : Option ObjectMap) (state : SetState) : Type 0 where
   pub accepted : Objects
   pub is_last : last ≡ Some (map_of accepted)
   pub verified : IsVerified accepted
   pub ready : IsReady accepted state.objects
 
-abbrev pub AreInForce : Pools → State → Type 0
-AreInForce pools s = (address : ℕ) → IfSome (pool_of s address) (IsInForce (pools address))
+abbrev pub ArePoolsInForce : Pools → State → Type 0
+ArePoolsInForce pools s = (address : ℕ) → IfSome (pool_of s address) (IsPoolInForce (pools address))
 
 -- ---- pools accepted during an input
 
@@ -189,13 +189,13 @@ pub record EndsInTime (last : Option ObjectMap) (run : Run) : Type 0 where
 
 -- An input begins at most three runs, so its cost is bounded: one for its command, the budgets of its events, and those of the
 -- two events of a change of the shown set. A pool accepted during the input counts for the runs at its address.
-pub record RunsEnd (pools : Pools) (s : State) (e : JudgedInput) : Type 0 where
+pub record RunsOfInputEnd (pools : Pools) (s : State) (e : JudgedInput) : Type 0 where
   pub each : AllByRecursion (λ run. EndsInTime (pools run.address) run) (runs s e)
   pub few : length (runs s e) ≤ 3
 
 abbrev pub AllEnd : Pools → State → List JudgedInput → Type 0
 AllEnd pools s [] = Unit {0}
-AllEnd pools s (e ∷ events) = RunsEnd (accepted_after s e pools) s e × AllEnd (accepted_after s e pools) (step s e).after events
+AllEnd pools s (e ∷ events) = RunsOfInputEnd (accepted_after s e pools) s e × AllEnd (accepted_after s e pools) (step s e).after events
 
 -- No drawing of the objects sticks. Each shown reference leads to an object of a kind allowed there, or is NULL where that is
 -- allowed. Every object that a drawing looks up is there. The path to each element has few objects.
@@ -211,20 +211,20 @@ pub record DrawsWhatIsThere (store : ObjectMap) : Type 0 where
 -- stick.
 pub record EventsKeep (pools : Pools) (old : State) (events : List JudgedInput) : Type 0 where
   pub runs_end : AllEnd pools old events
-  pub in_force : AreInForce (accepted_after_all old events pools) (after_all old events)
+  pub in_force : ArePoolsInForce (accepted_after_all old events pools) (after_all old events)
   pub drawn : (address : ℕ) → IfSome (pool_of (after_all old events) address) (λ state. DrawsWhatIsThere state.objects)
 
 -- After inputs the sets and outputs are those of the written machine, and the machine keeps the promise.
-pub record Keeps (pools : Pools) (old : State) (inputs : List Input) (new : State) (sent_before sent_after : List Output) : Type 0 where
+pub record KeepsPromise (pools : Pools) (old : State) (inputs : List Input) (new : State) (sent_before sent_after : List Output) : Type 0 where
   pub takes : TakesInputs old inputs new sent_before sent_after
   pub keeps : EventsKeep pools old takes.events
 
 -- A terminal has no pool at first. An accepted pool that is preloaded is in force beside those in force already. Any events, and
 -- any inputs, then keep the promise.
 pub record NeverSticks : Type 0 where
-  pub first : (s : State) → ((address : ℕ) → s.places address ≡ empty) → AreInForce (λ address. None) s
-  pub preloaded : (pools : Pools) (s : State) (address : ℕ) (pool : Objects) → IsVerified pool → AreInForce pools s
-      → AreInForce (with_at address (Some (map_of pool)) pools) (preloading s address (map_of pool))
-  pub events : (pools : Pools) (old : State) (events : List JudgedInput) → AreInForce pools old → AreFound old events → EventsKeep pools old events
-  pub inputs : (pools : Pools) (old : State) (inputs : List Input) (new : State) (sent_before sent_after : List Output) → AreInForce pools old
-      → TakesInputs old inputs new sent_before sent_after → Keeps pools old inputs new sent_before sent_after
+  pub first : (s : State) → ((address : ℕ) → s.places address ≡ empty) → ArePoolsInForce (λ address. None) s
+  pub preloaded : (pools : Pools) (s : State) (address : ℕ) (pool : Objects) → IsVerified pool → ArePoolsInForce pools s
+      → ArePoolsInForce (with_at address (Some (map_of pool)) pools) (preloading s address (map_of pool))
+  pub events : (pools : Pools) (old : State) (events : List JudgedInput) → ArePoolsInForce pools old → AreFound old events → EventsKeep pools old events
+  pub inputs : (pools : Pools) (old : State) (inputs : List Input) (new : State) (sent_before sent_after : List Output) → ArePoolsInForce pools old
+      → TakesInputs old inputs new sent_before sent_after → KeepsPromise pools old inputs new sent_before sent_after

@@ -52,8 +52,8 @@ pub record IsFirstWithPool (s : State) (address : ℕ) : Type 0 where
   pub first : (later next : ℕ) → IsRegisteredAt s later next → HasPool s next → place ≤ later
 
 -- No set has an alarm.
-abbrev pub IsQuiet : State → Type 0
-IsQuiet s = (place address priority : ℕ) → IsRegisteredAt s place address → HasAlarm s address priority → ⊥
+abbrev pub HasNoAlarm : State → Type 0
+HasNoAlarm s = (place address priority : ℕ) → IsRegisteredAt s place address → HasAlarm s address priority → ⊥
 
 -- the former selected set, if it has a pool; else the first set with a pool
 abbrev pub IsSelected : State → ℕ → Type 0
@@ -62,7 +62,7 @@ IsSelected s address =
     ⊎ (((old : ℕ) → s.selected ≡ Some old → HasPool s old → ⊥) × IsFirstWithPool s address)
 
 abbrev pub IsChosen : State → ℕ → Type 0
-IsChosen s address = IsLoudest s address ⊎ (IsQuiet s × IsSelected s address)
+IsChosen s address = IsLoudest s address ⊎ (HasNoAlarm s × IsSelected s address)
 
 -- ---- invariants of every input
 

@@ -28,8 +28,8 @@ use Rattle.vt_shown.specs.ShownElements.{behind, is_element, number_in, number_s
 use Rattle.vt_shown.proofs.MarksByLevel.{shown_element}
 use Rattle.vt_layout.specs.Drawings.{entries_in, key_entries}
 use Rattle.vt_layout.specs.Lines.{text_in}
-use Rattle.vt_layout.specs.LookUps.{kinds_listed, null_listed, IsFound, AreFoundIn, HasNumber, HasText, HasValues, DrawingsFindAll}
-use Rattle.vt_layout.specs.LookUps.IsFound.{Null, NullPointer, StandsFor}
+use Rattle.vt_layout.specs.LookUps.{kinds_listed, null_listed, Resolves, AllResolveIn, HasNumber, HasText, HasLineValues, DrawingsFindAll}
+use Rattle.vt_layout.specs.LookUps.Resolves.{Null, NullPointer, StandsFor}
 use Rattle.vt_layout.proofs.ShownAreDrawn.{names_of, names_of_keys}
 
 -- a slot that is in order
@@ -57,26 +57,26 @@ not_pointer _ is = refl
 
 -- the value of a pointer is NULL, or an object of an allowed kind that is no pointer
 value_found : (store : ObjectMap) (s : Slot) (p : ObjectPointer) → finite.get store s.id ≡ Some (objects.ObjectPointer p) → IsTrue (allows store s p.value)
-    → IsRight store (slot kinds.ObjectPointer places.Value p.value) → IsFound store s.kinds s.null s.id
+    → IsRight store (slot kinds.ObjectPointer places.Value p.value) → Resolves store s.kinds s.null s.id
 value_found store s p at fits right =
-    slot_case (IsFound store s.kinds s.null s.id) store (slot kinds.ObjectPointer places.Value p.value) right
+    slot_case (Resolves store s.kinds s.null s.id) store (slot kinds.ObjectPointer places.Value p.value) right
     (λ is null. NullPointer (ap pointer_value at ∙ ap Some (eqb-true p.value null_id is)))
     (λ is other more.
     there (finite.get store p.value) refl (subst (λ (b : Bool). IsTrue (cond b true (is_one_of s.kinds (kind_in store p.value)))) is fits) other)
   where
     there : (o : Option Seen) → finite.get store p.value ≡ o → IsTrue (is_one_of s.kinds (option_map kind_of o)) → IsTrue (is_one_of sets.AllButPointers (option_map kind_of o))
-        → IsFound store s.kinds s.null s.id
+        → Resolves store s.kinds s.null s.id
     there None is fits other = absurd cc
     there (Some o) is fits other =
         StandsFor p.value (kind_of o) (ap (behind store s.id) at ∙ ap (option_map (λ value. p.value)) is) (ap (option_map kind_of) is) fits (not_pointer (kind_of o) other)
 
 -- the ID of a slot is found
-slot_found : (store : ObjectMap) (s : Slot) → IsSound store → IsRight store s → IsFound store s.kinds s.null s.id
+slot_found : (store : ObjectMap) (s : Slot) → IsSound store → IsRight store s → Resolves store s.kinds s.null s.id
 slot_found store s sound right =
-    slot_case (IsFound store s.kinds s.null s.id) store s right (λ is null. Null (eqb-true s.id null_id is) null) (λ other. named (finite.get store s.id) refl)
+    slot_case (Resolves store s.kinds s.null s.id) store s right (λ is null. Null (eqb-true s.id null_id is) null) (λ other. named (finite.get store s.id) refl)
   where
     named : (o : Option Seen) → finite.get store s.id ≡ o → IsTrue (is_one_of s.kinds (option_map kind_of o)) → IsTrue (value_fits store s (pointer_value o))
-        → IsFound store s.kinds s.null s.id
+        → Resolves store s.kinds s.null s.id
     named None at is fits = absurd cc
     named (Some (objects.ObjectPointer p)) at is fits = value_found store s p at fits (sound.slots s.id (objects.ObjectPointer p) at).0
     named (Some o) at is fits = StandsFor s.id (kind_of o) (ap (behind store s.id) at) (ap (option_map kind_of) at) is refl
@@ -86,17 +86,17 @@ slot_found store s sound right =
 -- each ID of a list of slots is found
 listed_found : (store : ObjectMap) (kind : Kind) (place : ℕ → Place) (may_stand : Kinds) (null : Bool) (index : ℕ) (names : List ℕ) → IsSound store
     → ((i : ℕ) → allowed kind (place i) ≡ may_stand) → ((i : ℕ) → may_be_null (place i) ≡ null) → AllByRecursion (IsRight store) (listed kind place index names)
-    → AllByRecursion (IsFound store may_stand null) names
+    → AllByRecursion (Resolves store may_stand null) names
 listed_found store kind place may_stand null index [] sound are nulls right = tt
 listed_found store kind place may_stand null index (name ∷ names) sound are nulls right = (
-  subst (λ (k : Kinds). IsFound store k null name) (are index)
-      (subst (λ (b : Bool). IsFound store (allowed kind (place index)) b name) (nulls index) (slot_found store (slot kind (place index) name) sound right.0)),
+  subst (λ (k : Kinds). Resolves store k null name) (are index)
+      (subst (λ (b : Bool). Resolves store (allowed kind (place index)) b name) (nulls index) (slot_found store (slot kind (place index) name) sound right.0)),
   listed_found store kind place may_stand null (suc index) names sound are nulls right.1,
 )
 
 -- each child is found
 children_found : (store : ObjectMap) (kind : Kind) (may_stand : Kinds) (children : List Child) → IsSound store → ((i : ℕ) → allowed kind (places.Child i) ≡ may_stand)
-    → AllByRecursion (IsRight store) (children_of kind children) → AllByRecursion (IsFound store may_stand false) (ids_in children)
+    → AllByRecursion (IsRight store) (children_of kind children) → AllByRecursion (Resolves store may_stand false) (ids_in children)
 children_found store kind may_stand children sound are right = listed_found store kind places.Child may_stand false 0 (ids_in children) sound are (λ i. refl) right
 
 -- the item at an index is one of the items
@@ -111,7 +111,7 @@ item_all P items (Some index) all = at items index all
 
 -- each ID that an object draws is found
 names_found : (store : ObjectMap) (id : ℕ) (o : Option Seen) → IsSound store → finite.get store id ≡ o
-    → AllByRecursion (IsFound store (kinds_listed (option_map kind_of o)) (null_listed (option_map kind_of o))) (drawn_in store o)
+    → AllByRecursion (Resolves store (kinds_listed (option_map kind_of o)) (null_listed (option_map kind_of o))) (drawn_in store o)
 names_found store id None sound at = tt
 names_found store id (Some (objects.WorkingSet o)) sound at =
     children_found store kinds.WorkingSet sets.DrawnInWorkingSet o.children sound (λ i. refl) (sound.slots id (objects.WorkingSet o) at).1
@@ -121,7 +121,7 @@ names_found store id (Some (objects.AlarmMask o)) sound at =
     children_found store kinds.AlarmMask sets.Drawn o.children sound (λ i. refl) (sound.slots id (objects.AlarmMask o) at).1
 names_found store id (Some (objects.Container o)) sound at = shown (eqb o.hidden 0)
   where
-    shown : (b : Bool) → AllByRecursion (IsFound store sets.Drawn false) (cond b (ids_in o.children) [])
+    shown : (b : Bool) → AllByRecursion (Resolves store sets.Drawn false) (cond b (ids_in o.children) [])
     shown true = children_found store kinds.Container sets.Drawn o.children sound (λ i. refl) (sound.slots id (objects.Container o) at)
     shown false = tt
 names_found store id (Some (objects.Key o)) sound at =
@@ -129,12 +129,12 @@ names_found store id (Some (objects.Key o)) sound at =
 names_found store id (Some (objects.Button o)) sound at =
     children_found store kinds.Button sets.Drawn o.children sound (λ i. refl) (sound.slots id (objects.Button o) at)
 names_found store id (Some (objects.InputList o)) sound at =
-    item_all (IsFound store sets.Drawn true) o.items (number_shown store o.variable o.value)
+    item_all (Resolves store sets.Drawn true) o.items (number_shown store o.variable o.value)
     (listed_found store kinds.InputList places.Item sets.Drawn true 0 o.items sound (λ i. refl) (λ i. refl) (sound.slots id (objects.InputList o) at).1)
 names_found store id (Some _) sound at = tt
 
 -- each key of a soft key mask is found
-keys_found : (store : ObjectMap) (id : ℕ) (o : Option Seen) → IsSound store → finite.get store id ≡ o → AllByRecursion (IsFound store sets.Keys true) (keys_of o)
+keys_found : (store : ObjectMap) (id : ℕ) (o : Option Seen) → IsSound store → finite.get store id ≡ o → AllByRecursion (Resolves store sets.Keys true) (keys_of o)
 keys_found store id (Some (objects.SoftKeyMask o)) sound at =
     listed_found store kinds.SoftKeyMask places.Key sets.Keys true 0 o.keys sound (λ i. refl) (λ i. refl) (sound.slots id (objects.SoftKeyMask o) at)
 keys_found store id _ sound at = tt
@@ -145,18 +145,18 @@ by_names P [] all = tt
 by_names P (entry ∷ entries) all = (all.0, by_names P entries all.1)
 
 -- each entry drawn within an object is found
-entries_found : (store : ObjectMap) (id : ℕ) → IsSound store → AreFoundIn store id
+entries_found : (store : ObjectMap) (id : ℕ) → IsSound store → AllResolveIn store id
 entries_found store id sound =
-    let is_found : ℕ → Type 0 = IsFound store (kinds_listed (kind_in store id)) (null_listed (kind_in store id)) in
+    let is_found : ℕ → Type 0 = Resolves store (kinds_listed (kind_in store id)) (null_listed (kind_in store id)) in
     by_names is_found (entries_in store (finite.get store id))
     (subst (AllByRecursion is_found) (sym (names_of store (finite.get store id))) (names_found store id (finite.get store id) sound refl))
 
 -- each entry of the soft key mask of a mask is found
-key_entries_found : (store : ObjectMap) (mask : ℕ) → IsSound store → AllByRecursion (λ entry. IsFound store sets.Keys true entry.id) (key_entries store mask)
+key_entries_found : (store : ObjectMap) (mask : ℕ) → IsSound store → AllByRecursion (λ entry. Resolves store sets.Keys true entry.id) (key_entries store mask)
 key_entries_found store mask sound =
     let id = soft_key_mask_of (finite.get store mask) in
-    by_names (IsFound store sets.Keys true) (key_entries store mask)
-    (subst (AllByRecursion (IsFound store sets.Keys true)) (sym (names_of_keys store mask)) (keys_found store id (finite.get store id) sound refl))
+    by_names (Resolves store sets.Keys true) (key_entries store mask)
+    (subst (AllByRecursion (Resolves store sets.Keys true)) (sym (names_of_keys store mask)) (keys_found store id (finite.get store id) sound refl))
 
 -- ---- masks
 
@@ -219,7 +219,7 @@ has_text = has_value text_in sets.StringVariables reads
     reads _ is = absurd cc
 
 -- an existing element has its values
-values_there : (store : ObjectMap) (id : ℕ) (o : Option Seen) → IsSound store → finite.get store id ≡ o → IsTrue (is_element o) → HasValues store o
+values_there : (store : ObjectMap) (id : ℕ) (o : Option Seen) → IsSound store → finite.get store id ≡ o → IsTrue (is_element o) → HasLineValues store o
 values_there store id None sound at is = absurd cc
 values_there store id (Some (objects.InputBoolean o)) sound at is =
     has_number store (slot kinds.InputBoolean places.Variable o.variable) o.value refl (sound.slots id (objects.InputBoolean o) at).1.0

@@ -9,7 +9,7 @@ use Rattle.vt_chains.proofs.Elements.{Contains-nil, Contains-head, Contains-tail
 use Rattle.vt_shown.specs.ShownElements.{stands_for}
 use Rattle.vt_layout.specs.declared.element.Element.{Element}
 use Rattle.vt_layout.specs.declared.element.Position.{Position}
-use Rattle.vt_layout.specs.Drawings.{Placed, shifted, element, entries_in, IsBefore, IsInOrder, AreAll, IsDrawing, mask_entries, key_entries}
+use Rattle.vt_layout.specs.Drawings.{Placed, shifted, element, entries_in, IsBefore, IsInDrawingOrder, AreAll, IsDrawing, mask_entries, key_entries}
 use Rattle.vt_layout.proofs.EntryWalk.{Places, under, placed_with, placed_from, all_placed}
 use Rattle.vt_macros.proofs.MacroTargetsExist.{all_append}
 
@@ -39,20 +39,20 @@ after_is path (p ∷ ps) after q h =
     cons_case (IsBefore path q.path) p q ps h (λ same. subst (λ (r : Placed). IsBefore path r.path) same after.0) (after_is path ps after.1 q)
 
 -- the first elements are equal
-first_same : (p q : Placed) (ps qs : List Placed) → IsInOrder (p ∷ ps) → IsInOrder (q ∷ qs) → Contains (q ∷ qs) p → Contains (p ∷ ps) q → p ≡ q
+first_same : (p q : Placed) (ps qs : List Placed) → IsInDrawingOrder (p ∷ ps) → IsInDrawingOrder (q ∷ qs) → Contains (q ∷ qs) p → Contains (p ∷ ps) q → p ≡ q
 first_same p q ps qs one two there here =
     cons_case (p ≡ q) q p qs there sym
     (λ later. cons_case (p ≡ q) p q ps here (λ same. same)
     (λ after. absurd (never_both p.path q.path (after_is p.path ps one.0 q after) (after_is q.path qs two.0 p later))))
 
 -- the rests have the same elements
-rest_has : (p q : Placed) (ps qs : List Placed) → IsInOrder (p ∷ ps) → p ≡ q → ((r : Placed) → Contains (p ∷ ps) r → Contains (q ∷ qs) r) → (r : Placed) → Contains ps r → Contains qs r
+rest_has : (p q : Placed) (ps qs : List Placed) → IsInDrawingOrder (p ∷ ps) → p ≡ q → ((r : Placed) → Contains (p ∷ ps) r → Contains (q ∷ qs) r) → (r : Placed) → Contains ps r → Contains qs r
 rest_has p q ps qs one same has r h =
     cons_case (Contains qs r) q r qs (has r (Contains-tail p r ps h))
     (λ is. absurd (never_itself p.path (subst (λ (s : Placed). IsBefore p.path s.path) (sym (same ∙ is)) (after_is p.path ps one.0 r h))))
     (λ later. later)
 
-pub same_elements : (ps qs : List Placed) → IsInOrder ps → IsInOrder qs → ((r : Placed) → Contains ps r → Contains qs r) → ((r : Placed) → Contains qs r → Contains ps r) → ps ≡ qs
+pub same_elements : (ps qs : List Placed) → IsInDrawingOrder ps → IsInDrawingOrder qs → ((r : Placed) → Contains ps r → Contains qs r) → ((r : Placed) → Contains qs r → Contains ps r) → ps ≡ qs
 same_elements [] [] one two left right = refl
 same_elements [] (q ∷ qs) one two left right = absurd (Contains-nil q (right q (Contains-head q qs)))
 same_elements (p ∷ ps) [] one two left right = absurd (Contains-nil p (left p (Contains-head p ps)))
@@ -98,7 +98,7 @@ under_after : (place : ℕ) (path : List ℕ) (ps : List Placed) → AreAfter pa
 under_after place path [] after = after
 under_after place path (p ∷ ps) after = (inr (refl, after.0), under_after place path ps after.1)
 
-under_in_order : (place : ℕ) (ps : List Placed) → IsInOrder ps → IsInOrder (map (under place) ps)
+under_in_order : (place : ℕ) (ps : List Placed) → IsInDrawingOrder ps → IsInDrawingOrder (map (under place) ps)
 under_in_order place [] in_order = in_order
 under_in_order place (p ∷ ps) in_order = (under_after place p.path ps in_order.0, under_in_order place ps in_order.1)
 
@@ -118,17 +118,17 @@ earlier place path qs starts from = all_more (λ q. StartsFrom (suc place) q.pat
     before [] none = none
     before (q ∷ other) le = subst (λ (p : List ℕ). IsBefore p (q ∷ other)) (sym starts.1) (inl (omega (arith, le)))
 
-joined_in_order : (place : ℕ) (ps qs : List Placed) → IsInOrder ps → StartAt place ps → IsInOrder qs → StartFrom (suc place) qs → IsInOrder (ps ++ qs)
+joined_in_order : (place : ℕ) (ps qs : List Placed) → IsInDrawingOrder ps → StartAt place ps → IsInDrawingOrder qs → StartFrom (suc place) qs → IsInDrawingOrder (ps ++ qs)
 joined_in_order place [] qs one at two from = two
 joined_in_order place (p ∷ ps) qs one at two from =
     (all_append (λ q. IsBefore p.path q.path) ps qs one.0 (earlier place p.path qs at.0 from), joined_in_order place ps qs one.1 at.1 two from)
 
 -- the paths of a walk are in order and not empty
 pub record GoesInOrder (inner : Places) : Type 0 where
-  pub in_order : (entries : List Child) (from : Position) → IsInOrder (inner entries from)
+  pub in_order : (entries : List Child) (from : Position) → IsInDrawingOrder (inner entries from)
   pub some : (entries : List Child) (from : Position) → StartFrom 0 (inner entries from)
 
-with_in_order : (inner : Places) (store : ObjectMap) → GoesInOrder inner → (place : ℕ) (e : Option Element) → IsInOrder (placed_with inner store place e)
+with_in_order : (inner : Places) (store : ObjectMap) → GoesInOrder inner → (place : ℕ) (e : Option Element) → IsInDrawingOrder (placed_with inner store place e)
 with_in_order inner store goes place None = tt
 with_in_order inner store goes place (Some e) =
     let within = entries_in store (finite.get store e.id) in
@@ -150,7 +150,7 @@ from_starts inner store least place (entry ∷ entries) from le =
     (at_from place least (placed_with inner store place first) le (with_starts inner store place first))
     (from_starts inner store least (suc place) entries from (omega (arith, le)))
 
-from_in_order : (inner : Places) (store : ObjectMap) → GoesInOrder inner → (place : ℕ) (entries : List Child) (from : Position) → IsInOrder (placed_from inner store place entries from)
+from_in_order : (inner : Places) (store : ObjectMap) → GoesInOrder inner → (place : ℕ) (entries : List Child) (from : Position) → IsInDrawingOrder (placed_from inner store place entries from)
 from_in_order inner store goes place [] from = tt
 from_in_order inner store goes place (entry ∷ entries) from =
     let first = element store place (shifted from entry) (stands_for store entry.id) in
@@ -168,5 +168,5 @@ goes_in_order (suc depth) store =
       some = λ entries from. from_starts inner store 0 0 entries from (omega arith);
     }
 
-pub walk_in_order : (depth : ℕ) (store : ObjectMap) (entries : List Child) (from : Position) → IsInOrder (all_placed depth store entries from)
+pub walk_in_order : (depth : ℕ) (store : ObjectMap) (entries : List Child) (from : Position) → IsInDrawingOrder (all_placed depth store entries from)
 walk_in_order depth store = (goes_in_order depth store).in_order

@@ -88,13 +88,13 @@ IsBefore [] (place ∷ path) = Unit {0}
 IsBefore (place ∷ path) (other ∷ others) = (place < other) ⊎ ((place ≡ other) × IsBefore path others)
 
 -- each element is before all later ones
-abbrev pub IsInOrder : List Placed → Type 0
-IsInOrder [] = Unit {0}
-IsInOrder (p ∷ ps) = AllByRecursion (λ q. IsBefore p.path q.path) ps × IsInOrder ps
+abbrev pub IsInDrawingOrder : List Placed → Type 0
+IsInDrawingOrder [] = Unit {0}
+IsInDrawingOrder (p ∷ ps) = AllByRecursion (λ q. IsBefore p.path q.path) ps × IsInDrawingOrder ps
 
 -- the elements at all paths from a list of entries, in lexicographic order
 pub record AreAll (store : ObjectMap) (entries : List Child) (drawn : List Placed) : Type 0 where
-  pub in_order : IsInOrder drawn
+  pub in_order : IsInDrawingOrder drawn
   pub are : (p : Placed) → Contains drawn p ↔ (at_path store entries origin p.path ≡ Some p.element)
 
 -- The drawing of a mask: the elements of its own entries, and then those of its soft key mask.

@@ -33,16 +33,16 @@ null_listed (Some kinds.InputList) = true
 null_listed _ = false
 
 -- A listed ID resolves to an object of these kinds, or is NULL, where NULL is allowed, or a pointer with NULL.
-pub data IsFound (store : ObjectMap) (allowed : Kinds) (null : Bool) (name : ℕ) : Type 0 where
-  Null : name ≡ null_id → null ≡ true → IsFound store allowed null name
-  NullPointer : pointer_value (finite.get store name) ≡ Some null_id → IsFound store allowed null name
+pub data Resolves (store : ObjectMap) (allowed : Kinds) (null : Bool) (name : ℕ) : Type 0 where
+  Null : name ≡ null_id → null ≡ true → Resolves store allowed null name
+  NullPointer : pointer_value (finite.get store name) ≡ Some null_id → Resolves store allowed null name
   StandsFor : (id : ℕ) (kind : Kind) → stands_for store name ≡ Some id → kind_in store id ≡ Some kind
-      → is_member allowed kind ≡ true → is_pointer kind ≡ false → IsFound store allowed null name
+      → is_member allowed kind ≡ true → is_pointer kind ≡ false → Resolves store allowed null name
 
 -- all IDs that an object draws within itself are found
-abbrev pub AreFoundIn : ObjectMap → ℕ → Type 0
-AreFoundIn store id =
-    AllByRecursion (λ entry. IsFound store (kinds_listed (kind_in store id)) (null_listed (kind_in store id)) entry.id)
+abbrev pub AllResolveIn : ObjectMap → ℕ → Type 0
+AllResolveIn store id =
+    AllByRecursion (λ entry. Resolves store (kinds_listed (kind_in store id)) (null_listed (kind_in store id)) entry.id)
     (entries_in store (finite.get store id))
 
 -- ---- values
@@ -55,29 +55,29 @@ abbrev pub HasText : ObjectMap → ℕ → List ℕ → Type 0
 HasText store variable own = (text : List ℕ) × (text_shown store variable own ≡ Some text)
 
 -- The element exists, with each value of its line. The lines of all other kinds have no values.
-abbrev pub HasValues : ObjectMap → Option Seen → Type 0
-HasValues store None = ⊥
-HasValues store (Some (objects.InputBoolean o)) = HasNumber store o.variable o.value
-HasValues store (Some (objects.InputString o)) = HasText store o.variable o.text
-HasValues store (Some (objects.InputNumber o)) = HasNumber store o.variable o.value
-HasValues store (Some (objects.InputList o)) = HasNumber store o.variable o.value
-HasValues store (Some (objects.OutputString o)) = HasText store o.variable o.text
-HasValues store (Some (objects.OutputNumber o)) = HasNumber store o.variable o.value
-HasValues store (Some (objects.Meter o)) = HasNumber store o.variable o.value
-HasValues store (Some (objects.LinearBar o)) = HasNumber store o.variable o.value × HasNumber store o.target_variable o.target
-HasValues store (Some (objects.ArchedBar o)) = HasNumber store o.variable o.value × HasNumber store o.target_variable o.target
-HasValues store (Some o) = Unit {0}
+abbrev pub HasLineValues : ObjectMap → Option Seen → Type 0
+HasLineValues store None = ⊥
+HasLineValues store (Some (objects.InputBoolean o)) = HasNumber store o.variable o.value
+HasLineValues store (Some (objects.InputString o)) = HasText store o.variable o.text
+HasLineValues store (Some (objects.InputNumber o)) = HasNumber store o.variable o.value
+HasLineValues store (Some (objects.InputList o)) = HasNumber store o.variable o.value
+HasLineValues store (Some (objects.OutputString o)) = HasText store o.variable o.text
+HasLineValues store (Some (objects.OutputNumber o)) = HasNumber store o.variable o.value
+HasLineValues store (Some (objects.Meter o)) = HasNumber store o.variable o.value
+HasLineValues store (Some (objects.LinearBar o)) = HasNumber store o.variable o.value × HasNumber store o.target_variable o.target
+HasLineValues store (Some (objects.ArchedBar o)) = HasNumber store o.variable o.value × HasNumber store o.target_variable o.target
+HasLineValues store (Some o) = Unit {0}
 
 -- ---- the look-ups of a drawing
 
 -- All that the drawing of a mask looks up exists, and is of an allowed kind.
 pub record FindsAll (store : ObjectMap) (mask : ℕ) : Type 0 where
   pub active : IsActive store mask → (mask ≡ null_id) ⊎ IsTrue (is_one_of sets.Masks (kind_in store mask))
-  pub in_mask : AreFoundIn store mask
+  pub in_mask : AllResolveIn store mask
   pub soft_key_mask : (soft_key_mask_of (finite.get store mask) ≡ null_id) ⊎ (kind_in store (soft_key_mask_of (finite.get store mask)) ≡ Some kinds.SoftKeyMask)
-  pub keys : AllByRecursion (λ entry. IsFound store sets.Keys true entry.id) (key_entries store mask)
-  pub in_elements : (id : ℕ) → IsShown store mask id → AreFoundIn store id
-  pub values : (id : ℕ) → IsShown store mask id → HasValues store (finite.get store id)
+  pub keys : AllByRecursion (λ entry. Resolves store sets.Keys true entry.id) (key_entries store mask)
+  pub in_elements : (id : ℕ) → IsShown store mask id → AllResolveIn store id
+  pub values : (id : ℕ) → IsShown store mask id → HasLineValues store (finite.get store id)
 
 -- A drawing of a store in order finds all that it looks up.
 abbrev pub DrawingsFindAll : Type 0

@@ -2,7 +2,7 @@
 use Rattle.std.specs.Prelude.{◌≡◌, ◌⊎◌, ◌≤◌, ℕ, ◌+◌, List, [], ◌∷◌, ◌++◌, length, Option}
 use Rattle.std.specs.List.{AllZip, AllByRecursion}
 use Rattle.std.specs.Io.KnownBytes.{Appends, Keeps}
-use Rattle.vt_can.specs.lines.Line.{Reads}
+use Rattle.vt_can.specs.lines.Line.{ReadsAs}
 use Rattle.vt_logs.specs.Lines.{lines_of}
 use Rattle.vt_logs.specs.Progress.{ReplayPoint, Takes}
 use Rattle.vt_logs.specs.Replays.{HasLong, HasLongLine}
@@ -50,7 +50,7 @@ pub record TakesNextInPart (from : ReplayState) (n : ℕ) (lines : List (List �
   pub after : List (List ℕ)
   pub reading : LineReading
   pub next : lines ≡ line ∷ after
-  pub read : Reads line reading
+  pub read : ReadsAs line reading
   pub short : length line ≤ 4096
   pub part : TakesInPart (Follows from.state reading) (TakesReading from n reading) now text
 
@@ -98,7 +98,7 @@ pub record StopsInLines (start : State) (input : List ℕ) (now : State) (old ne
   pub printed : List ℕ
   pub text : List ℕ
   pub whole : lines_of input ≡ front ++ back
-  pub read : AllZip Reads front readings
+  pub read : AllZip ReadsAs front readings
   pub short : AllByRecursion (λ line. length line ≤ 4096) front
   pub starts : first.state ≡ start
   pub shown : IsScreenOf start first.screen
@@ -115,7 +115,7 @@ HasStopped start input now old new = ((now ≡ start) × MayBegin (IsScreenOf st
 pub record HasStoppedAtLong (start : State) (input : List ℕ) (now : State) (old new : Option (List ℕ)) : Type 0 where
   pub long : HasLongLine input
   pub readings : List LineReading
-  pub read : AllZip Reads long.before readings
+  pub read : AllZip ReadsAs long.before readings
   pub short : AllByRecursion (λ line. length line ≤ 4096) long.before
   pub first : ReplayState
   pub last : ReplayState

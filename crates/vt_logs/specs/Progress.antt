@@ -2,7 +2,7 @@
 use Rattle.std.specs.Prelude.{◌≡◌, ◌≢◌, ◌⊎◌, ◌≤◌, Bool, true, ◌==◌, ◌+◌, ℕ, not, List, ◌++◌, length, Option}
 use Rattle.std.specs.List.{AllZip, AllByRecursion, AllPass}
 use Rattle.std.specs.Io.KnownBytes.{Appends}
-use Rattle.vt_can.specs.lines.Line.{Reads}
+use Rattle.vt_can.specs.lines.Line.{ReadsAs}
 use Rattle.vt_logs.specs.declared.counts.Counts.{Counts}
 use Rattle.vt_logs.specs.declared.fault.ReplayFault.{ReplayFault}
 use Rattle.vt_logs.specs.declared.fault.ReplayFault.TheVariants.{Memory, TooLong, Write}
@@ -49,7 +49,7 @@ pub record TakesOne (from : ReplayPoint) (reading : LineReading) (to : ReplayPoi
 -- Lines are taken, one after the other.
 pub record Takes (from : ReplayPoint) (lines : List (List ℕ)) (to : ReplayPoint) : Type 0 where
   pub readings : List LineReading
-  pub read : AllZip Reads lines readings
+  pub read : AllZip ReadsAs lines readings
   pub short : AllByRecursion (λ line. length line ≤ 4096) lines
   pub printed : List ℕ
   pub takes : TakesReadings from.scene from.counts.lines readings to.scene printed

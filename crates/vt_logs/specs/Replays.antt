@@ -1,7 +1,7 @@
 -- The whole replay of a log, and the faults that may end it.
 use Rattle.std.specs.Prelude.{◌≡◌, ◌≢◌, ◌≤◌, ◌<◌, ℕ, Bool, true, List, ◌∷◌, ◌++◌, length, Option, IfSome}
 use Rattle.std.specs.List.{AllZip, AllByRecursion}
-use Rattle.vt_can.specs.lines.Line.{Reads}
+use Rattle.vt_can.specs.lines.Line.{ReadsAs}
 use Rattle.vt_logs.specs.declared.counts.Counts.{Counts}
 use Rattle.vt_logs.specs.declared.fault.ReplayFault.{ReplayFault}
 use Rattle.vt_logs.specs.declared.fault.ReplayFault.TheVariants.{Memory, Read, TooLong, Write}
@@ -15,7 +15,7 @@ use Rattle.vt_server.specs.Terminals.{State}
 -- No line is longer than 4,096 bytes.
 pub record IsReplay (start : State) (input : List ℕ) (text : List ℕ) (counts : Counts) (now : State) : Type 0 where
   pub readings : List LineReading
-  pub read : AllZip Reads (lines_of input) readings
+  pub read : AllZip ReadsAs (lines_of input) readings
   pub short : AllByRecursion (λ line. length line ≤ 4096) (lines_of input)
   pub first : ReplayState
   pub last : ReplayState

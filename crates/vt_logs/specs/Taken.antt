@@ -45,16 +45,16 @@ pub record TakesInputLine (from : ReplayState) (line : ParsedLine) (to : ReplayS
   pub takes : TakesJudged from event to text
 
 -- The terminal and the screen stay as they are, and this text is printed.
-abbrev pub Prints : ReplayState → ReplayState → List ℕ → List ℕ → Type 0
-Prints from to printed text = (to ≡ from) × (text ≡ printed)
+abbrev pub OnlyPrints : ReplayState → ReplayState → List ℕ → List ℕ → Type 0
+OnlyPrints from to printed text = (to ≡ from) × (text ≡ printed)
 
 -- Line n is taken, as it was read.
 abbrev pub TakesReading : ReplayState → ℕ → LineReading → ReplayState → List ℕ → Type 0
 TakesReading from n (Ok (FrameAt time frame)) to text = TakesInputLine from (FrameAt time frame) to text
 TakesReading from n (Ok (OperatorAction action)) to text = TakesInputLine from (OperatorAction action) to text
-TakesReading from n (Ok (SkippedFrame why)) to text = Prints from to [] text
-TakesReading from n (Ok CommentLine) to text = Prints from to [] text
-TakesReading from n (Err fault) to text = Prints from to (fault_text n fault) text
+TakesReading from n (Ok (SkippedFrame why)) to text = OnlyPrints from to [] text
+TakesReading from n (Ok CommentLine) to text = OnlyPrints from to [] text
+TakesReading from n (Err fault) to text = OnlyPrints from to (fault_text n fault) text
 
 -- A line is taken after n others, and the lines after it follow.
 pub record TakesFirst (from : ReplayState) (n : ℕ) (reading : LineReading) (Then : ReplayState → List ℕ → Type 0) (text : List ℕ) : Type 0 where
@@ -66,7 +66,7 @@ pub record TakesFirst (from : ReplayState) (n : ℕ) (reading : LineReading) (Th
   pub whole : text ≡ first ++ rest
 
 abbrev pub TakesReadings : ReplayState → ℕ → List LineReading → ReplayState → List ℕ → Type 0
-TakesReadings from n [] to text = Prints from to [] text
+TakesReadings from n [] to text = OnlyPrints from to [] text
 TakesReadings from n (r ∷ rs) to text = TakesFirst from n r (λ middle rest. TakesReadings middle (n + 1) rs to rest) text
 
 -- ---- the terminal alone, whatever is printed

@@ -14,7 +14,7 @@ use Rattle.vt_kinds.specs.References.{slots_of}
 use Rattle.vt_stores.specs.Stores.{ObjectMap, replaced, with_object}
 use Rattle.vt_stores.specs.Shapes.{Shape, Fixed, fixed}
 use Rattle.vt_verify.specs.Macros.{commands}
-use Rattle.vt_verify.specs.Budgets.{CostsAreTotals}
+use Rattle.vt_verify.specs.Budgets.{MacroCostsAreTotals}
 use Rattle.vt_verify.specs.Rules.{IsWithinBudget, working_sets}
 use Rattle.vt_chains.specs.Limits.{terminal}
 use Rattle.vt_chains.specs.Inclusions.{includes, included_by}
@@ -154,7 +154,7 @@ module _ (m : ObjectMap) (id : ℕ) (old new : Seen) (at : finite.get m id ≡ S
     levelled = still_levelled levels can.levelled;
     sound = still_sound can.sound;
     working_set = ap working_sets still_shaped ∙ can.working_set;
-    totals = subst CostsAreTotals (sym still_shaped) can.totals;
+    totals = subst MacroCostsAreTotals (sym still_shaped) can.totals;
     within = subst (IsWithinBudget terminal.steps) (sym still_shaped) can.within;
     faultless = λ id. subst (λ (s : Shape). AllByRecursion (λ command. fault s command ≡ None) (commands s id)) (sym still_shaped) (can.faultless id);
   }

@@ -16,7 +16,7 @@ use Rattle.vt_stores.specs.Stores.{ObjectMap, Objects, AreStored, shown, object_
 use Rattle.vt_stores.proofs.StoreMethods.{get_from}
 use Rattle.vt_verify.specs.Macros.{commands}
 use Rattle.vt_stores.specs.Shapes.{Shape, shape_of, kind_at}
-use Rattle.vt_verify.specs.Budgets.{CostsAreTotals, budget}
+use Rattle.vt_verify.specs.Budgets.{MacroCostsAreTotals, budget}
 use Rattle.vt_chains.specs.Depths.{IsClosed, ids_of, inclusions_of}
 use Rattle.vt_chains.specs.Inclusions.{IsShallow}
 use Rattle.vt_verify.specs.Rules.{IsAcceptable, IsWithinBudget, is_working_set}
@@ -62,7 +62,7 @@ pub stored_shallow : (m : ObjectMap) (pool : Objects) → m ≡ map_of pool → 
 stored_shallow m pool is stored acceptable =
     subst (λ (n : ObjectMap). IsShallow terminal.inclusions (inclusions_of n)) (sym is) (pools_are_ready pool stored acceptable).sound.shallow
 
-pub stored_runs : (m : ObjectMap) (pool : Objects) (index : Index) (levels : Levels) → m ≡ map_of pool → AreStored pool → IsAcceptable terminal pool → CostsAreTotals (shape_of pool)
+pub stored_runs : (m : ObjectMap) (pool : Objects) (index : Index) (levels : Levels) → m ≡ map_of pool → AreStored pool → IsAcceptable terminal pool → MacroCostsAreTotals (shape_of pool)
     → IsIndexOf (shape_of pool) index → AreLevels m levels → CanRun index m levels
 stored_runs m pool index levels is stored acceptable totals indexed levelled =
     let ready : IsReady pool m = subst (IsReady pool) (sym is) (pools_are_ready pool stored acceptable) in
@@ -72,7 +72,7 @@ stored_runs m pool index levels is stored acceptable totals indexed levelled =
       levelled = levelled;
       sound = ready.sound;
       working_set = ready.working_set;
-      totals = subst CostsAreTotals same totals;
+      totals = subst MacroCostsAreTotals same totals;
       within = subst (IsWithinBudget terminal.steps) same acceptable.within_budget;
       faultless = λ id. subst (λ (s : Shape). AllByRecursion (λ command. fault s command ≡ None) (commands s id)) same (faultless pool id acceptable);
     }

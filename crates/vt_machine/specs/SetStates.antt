@@ -102,13 +102,13 @@ pub record IsDone (old : ObjectMap) (command : Command) (steps : ℕ) (new : Obj
   pub has_run : HasRun middle (joined_all (shape_in middle) (events_of old command)) (total_budget (shape_in middle) (events_of old command)) run_steps new
 
 -- A refused command has an error byte, and changes nothing.
-pub record IsRefused (old : ObjectMap) (command : Command) (bits : ℕ) (new : ObjectMap) : Type 0 where
+pub record IsCommandRefused (old : ObjectMap) (command : Command) (bits : ℕ) (new : ObjectMap) : Type 0 where
   pub refused : ◌≡◌ {A = Result ObjectMap ℕ} (effect old command) (Err bits)
   pub same : new ≡ old
 
 abbrev pub Applied : ObjectMap → Command → Outcome → ObjectMap → Type 0
 Applied old command (Done steps) new = IsDone old command steps new
-Applied old command (Refused bits) new = IsRefused old command bits new
+Applied old command (Refused bits) new = IsCommandRefused old command bits new
 
 -- ---- updates
 

@@ -7,7 +7,7 @@ use Rattle.vt_commands.specs.declared.raising.Raised.{Raised}
 use Rattle.vt_stores.specs.Stores.{ObjectMap, Objects}
 use Rattle.vt_stores.specs.Shapes.{Shape, shape_of}
 use Rattle.vt_verify.specs.Triggers.{listing_of}
-use Rattle.vt_verify.specs.Budgets.{CostsAreTotals, budget}
+use Rattle.vt_verify.specs.Budgets.{MacroCostsAreTotals, budget}
 use Rattle.vt_verify.specs.Rules.{IsAcceptable}
 use Rattle.vt_chains.specs.Limits.{terminal}
 use Rattle.vt_effects.specs.Effects.{after}
@@ -77,7 +77,7 @@ both_run s m middle new r rs left rest first second =
     ∙ run_on (total_budget s rs) rest middle new (joined_all s rs) [] left second
     ∙ run_none (rest + left) new
 
-pub events_end_in_turn : (pool : Objects) (m new : ObjectMap) (left : ℕ) (rs : List Raised) → IsAcceptable terminal pool → CostsAreTotals (shape_of pool)
+pub events_end_in_turn : (pool : Objects) (m new : ObjectMap) (left : ℕ) (rs : List Raised) → IsAcceptable terminal pool → MacroCostsAreTotals (shape_of pool)
     → shape_in m ≡ shape_of pool → IsSound m → run_of m rs ≡ Ended new left → EndInTurn m rs new
 events_end_in_turn pool m new left [] acceptable totals is sound ended = ap end_store (sym ended ∙ run_none 0 m)
 events_end_in_turn pool m new left (r ∷ rs) acceptable totals is sound ended =
@@ -95,7 +95,7 @@ events_end_in_turn pool m new left (r ∷ rs) acceptable totals is sound ended =
 -- ---- pending commands
 
 pub events_end_before_pending : (pool : Objects) (m : ObjectMap) (r : Raised) (pending : List Command) (more : ℕ) → IsAcceptable terminal pool
-    → CostsAreTotals (shape_of pool) → shape_in m ≡ shape_of pool → IsSound m → EndsBefore m r pending more
+    → MacroCostsAreTotals (shape_of pool) → shape_in m ≡ shape_of pool → IsSound m → EndsBefore m r pending more
 events_end_before_pending pool m r pending more acceptable totals is sound =
     let own = runs_end pool m (r ∷ []) acceptable totals is sound in
     let steps = total_budget (shape_in m) (r ∷ []) in record {

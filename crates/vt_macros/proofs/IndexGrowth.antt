@@ -10,7 +10,7 @@ use Rattle.vt_commands.specs.declared.command.Command.{Command}
 use Rattle.vt_commands.specs.Commands.{command_at}
 use Rattle.vt_macros.specs.declared.index.Index.{Index}
 use Rattle.vt_macros.specs.declared.index.Span.{Span}
-use Rattle.vt_macros.specs.Indexes.{part, no_span, command_in, IsWithin}
+use Rattle.vt_macros.specs.Indexes.{part, no_span, command_in, HasSpansInBounds}
 
 -- ---- spans of growing lists
 
@@ -87,7 +87,7 @@ macro_stays bytes bytes' spans spans' s front fronts le all =
 
 -- the earlier macros are unchanged, and the commands read so far and the remaining ones are all commands of the macro
 pub record IsGrown (first now : Index) (all left : List (Option Command)) : Type 0 where
-  pub within : IsWithin now
+  pub within : HasSpansInBounds now
   pub listings_stay : now.listings ≡ first.listings
   pub macros_stay : now.macros.items ≡ first.macros.items
   pub bytes_stay : take (length first.bytes.items) now.bytes.items ≡ first.bytes.items
@@ -102,7 +102,7 @@ at_least xs ys is =
 front_stays : {A : Type 0} (xs ys more : List A) → take (length xs) ys ≡ xs → take (length xs) (ys ++ more) ≡ xs
 front_stays xs ys more is = take-append-le (length xs) ys more (at_least xs ys is) ∙ is
 
-pub grown_first : (first : Index) (all : List (Option Command)) → IsWithin first → IsGrown first first all all
+pub grown_first : (first : Index) (all : List (Option Command)) → HasSpansInBounds first → IsGrown first first all all
 grown_first first all within = record {
   within = within;
   listings_stay = refl;
@@ -115,8 +115,8 @@ grown_first first all within = record {
 added : List ℕ → List ℕ → Span
 added bytes piece = record { start = length bytes; end = length bytes + length piece }
 
-within_more : (now next : Index) (piece : List ℕ) → IsWithin now → next.macros.items ≡ now.macros.items
-    → next.bytes.items ≡ now.bytes.items ++ piece → next.pieces.items ≡ now.pieces.items ++ added now.bytes.items piece ∷ [] → IsWithin next
+within_more : (now next : Index) (piece : List ℕ) → HasSpansInBounds now → next.macros.items ≡ now.macros.items
+    → next.bytes.items ≡ now.bytes.items ++ piece → next.pieces.items ≡ now.pieces.items ++ added now.bytes.items piece ∷ [] → HasSpansInBounds next
 unfolding added
 within_more now next piece within macros bytes pieces =
     let more_bytes = ap length bytes ∙ length-append now.bytes.items piece in
@@ -152,7 +152,7 @@ grown_more first now next all left piece grown listings macros bytes pieces =
 
 -- ---- the macro's span among the macros
 
-module _ (first now next : Index) (id : ℕ) (all : List (Option Command)) (low : id < 256) (grown : IsGrown first now all []) (within : IsWithin first)
+module _ (first now next : Index) (id : ℕ) (all : List (Option Command)) (low : id < 256) (grown : IsGrown first now all []) (within : HasSpansInBounds first)
     (bytes : next.bytes.items ≡ now.bytes.items) (pieces : next.pieces.items ≡ now.pieces.items)
     (macros : next.macros.items ≡ set now.macros.items id (record { start = length first.pieces.items; end = length now.pieces.items })) where
   put : Span
@@ -186,7 +186,7 @@ module _ (first now next : Index) (id : ℕ) (all : List (Option Command)) (low 
       let least = at_least first.pieces.items now.pieces.items grown.pieces_stay in
       omega (arith, there, before, same, least)
 
-  pub put_within : IsWithin next
+  pub put_within : HasSpansInBounds next
   put_within = record {
     count = ap length macros ∙ length-set now.macros.items id _ ∙ grown.within.count;
     of_pieces = λ other. place_ends other (nat_eq other id) refl;
@@ -225,7 +225,7 @@ none_ends id n (inr le) =
 no_ends : (id n : ℕ) → (get_or (replicate n no_span) id no_span).end ≤ 0
 no_ends id n = none_ends id n (cases_lt id n)
 
-pub none_within : (index : Index) → index.macros.items ≡ replicate 256 no_span → index.pieces.items ≡ [] → IsWithin index
+pub none_within : (index : Index) → index.macros.items ≡ replicate 256 no_span → index.pieces.items ≡ [] → HasSpansInBounds index
 none_within index macros pieces = record {
   count = ap length macros ∙ length-replicate 256 no_span;
   of_pieces = λ id.

@@ -28,7 +28,7 @@ use Rattle.vt_verify.specs.declared.listing.Listing.{Listing}
 use Rattle.vt_stores.specs.Shapes.{Shape, fixed, shape_of}
 use Rattle.vt_verify.specs.Macros.{commands}
 use Rattle.vt_verify.specs.Triggers.{listing, listing_of, listed, is_mask, masks}
-use Rattle.vt_verify.specs.Budgets.{total, command_cost, macro_cost, cost, budget, CostsAreTotals}
+use Rattle.vt_verify.specs.Budgets.{total, command_cost, macro_cost, cost, budget, MacroCostsAreTotals}
 use Rattle.vt_verify.specs.Rules.{IsAcceptable, working_sets}
 use Rattle.vt_chains.specs.Limits.{terminal}
 use Rattle.vt_effects.specs.Changes.{is_one_of}
@@ -55,13 +55,13 @@ sum_mapped f g (x ∷ xs) = sum_by-cons f (g x) (map g xs) ∙ ap (λ n. f (g x)
 abbrev pub raised_cost : Shape → Raised → ℕ
 raised_cost shape r = total (cost shape) shape (listing_of r)
 
-joined_cost : (shape : Shape) (event : Listing) → CostsAreTotals shape → sum_by (command_cost (cost shape) shape) (joined shape event) ≡ total (cost shape) shape event
+joined_cost : (shape : Shape) (event : Listing) → MacroCostsAreTotals shape → sum_by (command_cost (cost shape) shape) (joined shape event) ≡ total (cost shape) shape event
 unfolding joined
 joined_cost shape event totals =
     sums_of_sums (command_cost (cost shape) shape) (commands shape) (listed shape event)
     ∙ same_sums (macro_cost (cost shape) shape) (cost shape) (listed shape event) (λ id. sym (totals id))
 
-pub joined_costs : (shape : Shape) (rs : List Raised) → CostsAreTotals shape
+pub joined_costs : (shape : Shape) (rs : List Raised) → MacroCostsAreTotals shape
     → sum_by (command_cost (cost shape) shape) (joined_all shape rs) ≡ sum_by (raised_cost shape) rs
 joined_costs shape rs totals =
     sums_of_sums (command_cost (cost shape) shape) (λ r. joined shape (listing_of r)) rs
@@ -179,7 +179,7 @@ unfolding shape_in
 entries_shape m shape is = is
 
 -- the commands that a command triggers cost less than the command
-follow_bound : (m : ObjectMap) (shape : Shape) (command : Command) → IsSound m → shape_in m ≡ shape → CostsAreTotals shape
+follow_bound : (m : ObjectMap) (shape : Shape) (command : Command) → IsSound m → shape_in m ≡ shape → MacroCostsAreTotals shape
     → sum_by (command_cost (cost shape) shape) (follow_ups m command) + 1 ≤ command_cost (cost shape) shape command
 unfolding follow_ups
 follow_bound m shape command sound is totals =
@@ -227,7 +227,7 @@ unfolding run
 run_step n m command pending = refl
 
 -- commands that cost at most the given steps run to their end
-pub commands_end : (shape : Shape) → CostsAreTotals shape → working_sets shape ≡ 1 → ((id : ℕ) → NoFault shape (commands shape id)) → (n : ℕ) (m : ObjectMap) (cs : List Command)
+pub commands_end : (shape : Shape) → MacroCostsAreTotals shape → working_sets shape ≡ 1 → ((id : ℕ) → NoFault shape (commands shape id)) → (n : ℕ) (m : ObjectMap) (cs : List Command)
     → shape_in m ≡ shape → IsSound m → NoFault shape cs → sum_by (command_cost (cost shape) shape) cs ≤ n → Ends m n (run n m cs)
 commands_end shape totals one none n m [] is sound faultless le =
     record { new = m; left = n; ended = run_none n m; within = omega arith; working_set = ap working_sets is ∙ one; sound = sound; shape = refl }
@@ -258,7 +258,7 @@ pub budget_is : (shape : Shape) (r : Raised) → budget shape (listing_of r).id 
 unfolding budget
 budget_is shape r = refl
 
-pub runs_end : (pool : Objects) (m : ObjectMap) (rs : List Raised) → IsAcceptable terminal pool → CostsAreTotals (shape_of pool) → shape_in m ≡ shape_of pool → IsSound m
+pub runs_end : (pool : Objects) (m : ObjectMap) (rs : List Raised) → IsAcceptable terminal pool → MacroCostsAreTotals (shape_of pool) → shape_in m ≡ shape_of pool → IsSound m
     → Ends m (total_budget (shape_in m) rs) (run_of m rs)
 runs_end pool m rs acceptable totals is sound =
     subst (λ (s : Shape). Ends m (total_budget s rs) (run (total_budget s rs) m (joined_all s rs))) (sym is)

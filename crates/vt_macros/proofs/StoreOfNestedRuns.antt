@@ -11,7 +11,7 @@ use Rattle.vt_stores.specs.Stores.{ObjectMap}
 use Rattle.vt_stores.specs.Shapes.{Shape, shape_of}
 use Rattle.vt_verify.specs.Triggers.{listing, listing_of, listed}
 use Rattle.vt_verify.specs.Macros.{commands}
-use Rattle.vt_verify.specs.Budgets.{CostsAreTotals, budget, cost, command_cost}
+use Rattle.vt_verify.specs.Budgets.{MacroCostsAreTotals, budget, cost, command_cost}
 use Rattle.vt_verify.specs.Rules.{IsWithinBudget, working_sets}
 use Rattle.vt_chains.specs.Limits.{terminal}
 use Rattle.vt_macros.specs.declared.index.Index.{Index}
@@ -23,7 +23,7 @@ use Rattle.vt_effects.specs.Effects.{effect, after}
 use Rattle.vt_macros.specs.Indexes.{IsIndexOf, command_in}
 use Rattle.vt_macros.specs.Machines.{events_of, raised, joined, joined_all, total_budget, fault, run, follow_ups}
 use Rattle.vt_effects.specs.Soundness.{shape_in}
-use Rattle.vt_macros.specs.NestedRuns.{CanRun, Leads, HaveRun, AreRunning, commands_at, cost_of}
+use Rattle.vt_macros.specs.NestedRuns.{CanRun, StepsLead, HaveRun, AreRunning, commands_at, cost_of}
 use Rattle.vt_effects.specs.Soundness.{IsSound}
 use Rattle.vt_effects.proofs.lemmas.order.OrderAfterCommand.{commands_keep_order}
 use Rattle.vt_macros.proofs.RunsEnd.{raised_cost, raised_bound, budget_is, run_step, no_fault_runs}
@@ -41,11 +41,11 @@ append_twice : {A : Type 0} (xs ys zs : List A) → (xs ++ ys) ++ zs ≡ xs ++ (
 append_twice [] ys zs = refl
 append_twice (x ∷ xs) ys zs = ap (λ l. x ∷ l) (append_twice xs ys zs)
 
-pub leads_none : (m : ObjectMap) (front : List Command) → Leads m front 0 m front
+pub leads_none : (m : ObjectMap) (front : List Command) → StepsLead m front 0 m front
 leads_none m front rest left = ap (λ (n : ℕ). run n m (front ++ rest)) (omega arith)
 
 -- steps that follow each other
-pub leads_more : (a b c : ObjectMap) (all front next : List Command) (j k : ℕ) → Leads a all j b (front ++ next) → Leads b front k c [] → Leads a all (j + k) c next
+pub leads_more : (a b c : ObjectMap) (all front next : List Command) (j k : ℕ) → StepsLead a all j b (front ++ next) → StepsLead b front k c [] → StepsLead a all (j + k) c next
 leads_more a b c all front next j k first second rest left =
     ap (λ (n : ℕ). run n a (all ++ rest)) (omega arith) ∙ first rest (k + left)
     ∙ ap (run (k + left) b) (append_twice front next rest) ∙ second (next ++ rest) left
@@ -81,7 +81,7 @@ module _ {A : Type 0} (index : Index) (old : ObjectMap) (front : A → List Comm
         can = ran.can;
         shape = ran.shape ∙ running.shape;
         leads = leads_more old now new (flat_map front parts) (front x) (flat_map front (drop (suc i) parts)) j k
-            (subst (λ (l : List A). Leads old (flat_map front parts) j now (flat_map front l)) there running.leads) ran.leads;
+            (subst (λ (l : List A). StepsLead old (flat_map front parts) j now (flat_map front l)) there running.leads) ran.leads;
         within = omega (arith, before, one, all);
       })
 
@@ -93,7 +93,7 @@ module _ {A : Type 0} (index : Index) (old : ObjectMap) (front : A → List Comm
       record {
         can = running.can;
         shape = running.shape;
-        leads = subst (λ (l : List A). Leads old (flat_map front parts) j now (flat_map front l)) none running.leads;
+        leads = subst (λ (l : List A). StepsLead old (flat_map front parts) j now (flat_map front l)) none running.leads;
         within = omega (arith, within);
       }
 
@@ -248,7 +248,7 @@ after_can index m levels then command new can is are =
       levelled = are;
       sound = subst IsSound (sym is) (commands_keep_order m command can.sound);
       working_set = ap working_sets same ∙ can.working_set;
-      totals = subst CostsAreTotals (sym same) can.totals;
+      totals = subst MacroCostsAreTotals (sym same) can.totals;
       within = subst (IsWithinBudget terminal.steps) (sym same) can.within;
       faultless = λ id. subst (λ (s : Shape). AllByRecursion (λ command. fault s command ≡ None) (commands s id)) (sym same) (can.faultless id);
     }

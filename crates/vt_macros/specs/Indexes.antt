@@ -30,7 +30,7 @@ pub record IsIndexOf (shape : Shape) (index : Index) : Type 0 where
   pub commands_are : (id : ℕ) → map (command_in index) (pieces_in index id) ≡ map Some (commands shape id)
 
 -- No span ends past the end of its list.
-pub record IsWithin (index : Index) : Type 0 where
+pub record HasSpansInBounds (index : Index) : Type 0 where
   pub count : length index.macros.items ≡ 256
   pub of_pieces : (id : ℕ) → (slice_index_or index.macros.items id no_span).end ≤ length index.pieces.items
   pub of_bytes : AllByRecursion (λ span. span.end ≤ length index.bytes.items) index.pieces.items

@@ -5,7 +5,7 @@ use Rattle.std.specs.List.{AllByRecursion, flat_map}
 use Rattle.vt_commands.specs.declared.command.Command.{Command}
 use Rattle.vt_stores.specs.Stores.{ObjectMap}
 use Rattle.vt_verify.specs.Macros.{commands}
-use Rattle.vt_verify.specs.Budgets.{CostsAreTotals, cost, command_cost}
+use Rattle.vt_verify.specs.Budgets.{MacroCostsAreTotals, cost, command_cost}
 use Rattle.vt_verify.specs.Rules.{IsWithinBudget, working_sets}
 use Rattle.vt_chains.specs.Limits.{terminal}
 use Rattle.vt_macros.specs.declared.index.Index.{Index}
@@ -23,19 +23,19 @@ pub record CanRun (index : Index) (store : ObjectMap) (levels : Levels) : Type 0
   pub levelled : AreLevels store levels
   pub sound : IsSound store
   pub working_set : working_sets (shape_in store) ≡ 1
-  pub totals : CostsAreTotals (shape_in store)
+  pub totals : MacroCostsAreTotals (shape_in store)
   pub within : IsWithinBudget terminal.steps (shape_in store)
   pub faultless : (id : ℕ) → AllByRecursion (λ command. fault (shape_in store) command ≡ None) (commands (shape_in store) id)
 
 -- `steps` steps lead from one store to another, and from pending commands to others, whatever is pending after them.
-abbrev pub Leads : ObjectMap → List Command → ℕ → ObjectMap → List Command → Type 0
-Leads old front steps new next = (rest : List Command) (left : ℕ) → run (steps + left) old (front ++ rest) ≡ run left new (next ++ rest)
+abbrev pub StepsLead : ObjectMap → List Command → ℕ → ObjectMap → List Command → Type 0
+StepsLead old front steps new next = (rest : List Command) (left : ℕ) → run (steps + left) old (front ++ rest) ≡ run left new (next ++ rest)
 
 -- commands have run, in at most `most` steps
 pub record HaveRun (index : Index) (old : ObjectMap) (front : List Command) (most steps : ℕ) (new : ObjectMap) (levels : Levels) : Type 0 where
   pub can : CanRun index new levels
   pub shape : shape_in new ≡ shape_in old
-  pub leads : Leads old front steps new []
+  pub leads : StepsLead old front steps new []
   pub within : steps ≤ most
 
 -- the command at a span of the macros' bytes, as a list
@@ -51,5 +51,5 @@ cost_of store command = command_cost (cost (shape_in store)) (shape_in store) co
 pub record AreRunning {A : Type 0} (index : Index) (old : ObjectMap) (front : A → List Command) (most : A → ℕ) (parts : List A) (place steps : ℕ) (now : ObjectMap) (levels : Levels) : Type 0 where
   pub can : CanRun index now levels
   pub shape : shape_in now ≡ shape_in old
-  pub leads : Leads old (flat_map front parts) steps now (flat_map front (drop place parts))
+  pub leads : StepsLead old (flat_map front parts) steps now (flat_map front (drop place parts))
   pub within : steps + sum_by most (drop place parts) ≤ sum_by most parts

@@ -6,7 +6,7 @@ use Rattle.vt_commands.specs.declared.command.Command.{Command}
 use Rattle.vt_commands.specs.declared.raising.Raised.{Raised}
 use Rattle.vt_stores.specs.Stores.{ObjectMap, Objects, AreStored, map_of}
 use Rattle.vt_stores.specs.Shapes.{shape_of}
-use Rattle.vt_verify.specs.Budgets.{CostsAreTotals}
+use Rattle.vt_verify.specs.Budgets.{MacroCostsAreTotals}
 use Rattle.vt_verify.specs.Triggers.{listing_of}
 use Rattle.vt_verify.specs.Rules.{IsAcceptable, working_sets}
 use Rattle.vt_chains.specs.Limits.{terminal}
@@ -28,7 +28,7 @@ pub record Ends (store : ObjectMap) (steps : ℕ) (end : End) : Type 0 where
 -- On a store of an acceptable pool, the run of any events ends within their budgets: each command of their macros finds
 -- its objects, of allowed kinds.
 abbrev pub RunsEnd : Type 0
-RunsEnd = (pool : Objects) (store : ObjectMap) (raised : List Raised) → IsAcceptable terminal pool → CostsAreTotals (shape_of pool)
+RunsEnd = (pool : Objects) (store : ObjectMap) (raised : List Raised) → IsAcceptable terminal pool → MacroCostsAreTotals (shape_of pool)
     → shape_in store ≡ shape_of pool → IsSound store → Ends store (total_budget (shape_in store) raised) (run_of store raised)
 
 -- Events in turn: each begins on the store after the former ones, with its own budget of steps, and ends.
@@ -39,7 +39,7 @@ EndInTurn store (r ∷ raised) new =
 
 -- A run of events leaves the store that they leave in turn, each within its own budget.
 abbrev pub EventsEndInTurn : Type 0
-EventsEndInTurn = (pool : Objects) (store new : ObjectMap) (left : ℕ) (raised : List Raised) → IsAcceptable terminal pool → CostsAreTotals (shape_of pool)
+EventsEndInTurn = (pool : Objects) (store new : ObjectMap) (left : ℕ) (raised : List Raised) → IsAcceptable terminal pool → MacroCostsAreTotals (shape_of pool)
     → shape_in store ≡ shape_of pool → IsSound store → run_of store raised ≡ Ended new left → EndInTurn store raised new
 
 -- An event before pending commands ends within its own budget of steps. The pending commands then run on its store, with
@@ -52,7 +52,7 @@ pub record EndsBefore (store : ObjectMap) (r : Raised) (pending : List Command) 
 -- store is in order then too, by the laws `commands_keep_order` and `commands_keep_shapes` of vt_effects.
 abbrev pub EventsEndBeforePending : Type 0
 EventsEndBeforePending = (pool : Objects) (store : ObjectMap) (r : Raised) (pending : List Command) (more : ℕ) → IsAcceptable terminal pool
-    → CostsAreTotals (shape_of pool) → shape_in store ≡ shape_of pool → IsSound store → EndsBefore store r pending more
+    → MacroCostsAreTotals (shape_of pool) → shape_in store ≡ shape_of pool → IsSound store → EndsBefore store r pending more
 
 -- The store of an acceptable pool has one working set, and its references and chains are in order.
 pub record IsReady (pool : Objects) (store : ObjectMap) : Type 0 where

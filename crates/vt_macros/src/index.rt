@@ -6,7 +6,7 @@ ghost use Rattle.vt_commands.specs.Pieces.{cut};
 ghost use Rattle.vt_stores.specs.Shapes.{Shape, shape_of};
 ghost use Rattle.vt_verify.specs.Macros.{cut_or_none, commands};
 ghost use Rattle.vt_verify.specs.Triggers.{listing, listed};
-ghost use Rattle.vt_macros.specs.Indexes.{part, command_in, pieces_in, IsIndexOf, IsWithin};
+ghost use Rattle.vt_macros.specs.Indexes.{part, command_in, pieces_in, IsIndexOf, HasSpansInBounds};
 
 use std::alloc::{AllocError, Global};
 use vt_objects::laws::cut_is_one;
@@ -101,7 +101,7 @@ impl Index {
 
     fn without_commands(alloc: Global) -> Result<Index, AllocError>
         ensures pieces { IfOk result (λ index. index.pieces.items ≡ []) }
-        ensures within { IfOk result IsWithin }
+        ensures within { IfOk result HasSpansInBounds }
     {
         let none = Span { start: 0, end: 0 };
         let macros = Vec::from_elem(alloc, none, 256)?;
@@ -116,9 +116,9 @@ impl Index {
     /// Appends the commands of a macro.
     fn put_macro(&mut self, id: u8, bytes: &[u8]) -> Result<(), AllocError>
         requires whole { IsTrue (is_some (cut bytes.now)) }
-        requires within { IsWithin self.old }
+        requires within { HasSpansInBounds self.old }
         ensures listings { OnOk result (self.new.listings ≡ self.old.listings) }
-        ensures within { OnOk result (IsWithin self.new) }
+        ensures within { OnOk result (HasSpansInBounds self.new) }
         // The commands of the macro read as in its bytes, and those of other macros are unchanged.
         ensures commands { OnOk result ((other : ℕ) → map (command_in self.new) (pieces_in self.new other) ≡ (if other == id then map command_at (cut_or_none bytes.now) else map (command_in self.old) (pieces_in self.old other))) }
     {

@@ -8,7 +8,7 @@ use Rattle.std.specs.declared.cmp.Ordering.TheVariants.{Less, Equal, Greater}
 use Rattle.std.specs.Cmp.{nat_cmp_is, unsigned_tied}
 use Rattle.std.specs.Map.{remove_entry}
 use Rattle.std.specs.BTreeMap.{insert_entry, is_at}
-use Rattle.vt_names.specs.Claims.{Addresses, AllAbove, IsRising, address_of, holder_of}
+use Rattle.vt_names.specs.Claims.{Addresses, AllAbove, IsRisingByName, address_of, holder_of}
 
 -- ---- comparison of two numbers, by two or three cases
 
@@ -86,11 +86,11 @@ Above-insert m n a (e ∷ es) h all =
     let rest = Above-insert m n a es h all.1 in
     inserted (AllAbove m) n a e es (λ _. (h, all)) (λ _. all) (λ _. (all.0, rest))
 
-pub Rising-insert : (n a : ℕ) (es : Addresses) → IsRising es → IsRising (insert_entry nat_cmp es n a)
+pub Rising-insert : (n a : ℕ) (es : Addresses) → IsRisingByName es → IsRisingByName (insert_entry nat_cmp es n a)
 Rising-insert n a [] rising = (tt, tt)
 Rising-insert n a (e ∷ es) rising =
     let rest = Rising-insert n a es rising.1 in
-    inserted IsRising n a e es
+    inserted IsRisingByName n a e es
     (λ h. ((h, Above-less n e.0 es h rising.0), rising)) (λ _. rising) (λ h. (Above-insert e.0 n a es h rising.0, rest))
 
 Above-remove : (m n : ℕ) (es : Addresses) → AllAbove m es → AllAbove m (remove_entry (is_at (nat_cmp n)) es)
@@ -99,11 +99,11 @@ Above-remove m n (e ∷ es) all =
     let rest = Above-remove m n es all.1 in
     removed (AllAbove m) n e es (λ _. all.1) (λ _. (all.0, rest))
 
-pub Rising-remove : (n : ℕ) (es : Addresses) → IsRising es → IsRising (remove_entry (is_at (nat_cmp n)) es)
+pub Rising-remove : (n : ℕ) (es : Addresses) → IsRisingByName es → IsRisingByName (remove_entry (is_at (nat_cmp n)) es)
 Rising-remove n [] rising = tt
 Rising-remove n (e ∷ es) rising =
     let rest = Rising-remove n es rising.1 in
-    removed IsRising n e es (λ _. rising.1) (λ _. (Above-remove e.0 n es rising.0, rest))
+    removed IsRisingByName n e es (λ _. rising.1) (λ _. (Above-remove e.0 n es rising.0, rest))
 
 pub Above-address : (n : ℕ) (es : Addresses) → AllAbove n es → address_of es n ≡ None
 Above-address n [] all = refl
@@ -155,7 +155,7 @@ Above-gone n (e ∷ es) all =
     let first = all.0 in
     address-later n e es (λ h. omega arith) ∙ rest
 
-pub address-removed : (n : ℕ) (es : Addresses) → IsRising es → address_of (remove_entry (is_at (nat_cmp n)) es) n ≡ None
+pub address-removed : (n : ℕ) (es : Addresses) → IsRisingByName es → address_of (remove_entry (is_at (nat_cmp n)) es) n ≡ None
 address-removed n [] rising = refl
 address-removed n (e ∷ es) rising =
     let rest = address-removed n es rising.1 in
@@ -175,7 +175,7 @@ address-removed_other n m (e ∷ es) ne =
 
 -- ---- the holder of each address
 
-pub holder-address : (q n : ℕ) (es : Addresses) → IsRising es → holder_of es q ≡ Some n → address_of es n ≡ Some q
+pub holder-address : (q n : ℕ) (es : Addresses) → IsRisingByName es → holder_of es q ≡ Some n → address_of es n ≡ Some q
 holder-address q n [] rising e = none-some e
 holder-address q n (f ∷ es) rising e =
     let rest = holder-address q n es rising.1 in
@@ -223,7 +223,7 @@ no-holder q (f ∷ es) none n =
     (λ is. λ e. other (same_Some f.1 q (sym (address-first n f es is) ∙ e)))
     (λ ne. λ e. rest (sym (holder-later q f es other) ∙ none) n (sym (address-later n f es ne) ∙ e)))
 
-pub least-holder : (q h : ℕ) (es : Addresses) → IsRising es → holder_of es q ≡ Some h → (n : ℕ) → address_of es n ≡ Some q → h ≤ n
+pub least-holder : (q h : ℕ) (es : Addresses) → IsRisingByName es → holder_of es q ≡ Some h → (n : ℕ) → address_of es n ≡ Some q → h ≤ n
 least-holder q h [] rising is n e = none-some e
 least-holder q h (f ∷ es) rising is n e =
     let rest = least-holder q h es rising.1 in

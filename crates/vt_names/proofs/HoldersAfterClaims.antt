@@ -1,18 +1,18 @@
 -- The recorded addresses and holders after all claims received.
 use Rattle.std.proofs.Common.{◌≡◌, ◌≢◌, ℕ, Bool, true, false, cond, eqb, List, [], ◌∷◌, Option, Some, None, refl, sym, ap, ◌∙◌, eq-eqb, ne_eqb}
 use Rattle.std.proofs.lemmas.Option.{same_Some}
-use Rattle.vt_names.specs.Claims.{Addresses, IsRising, Claim, AddressesAreLast, HoldersAreLeast, OtherHoldersStay, IsHolder, after_claims, with_address, claimed_address, address_of, holder_of}
+use Rattle.vt_names.specs.Claims.{Addresses, IsRisingByName, Claim, AddressesAreLast, HoldersAreLeast, OtherHoldersStay, IsHolder, after_claims, with_address, claimed_address, address_of, holder_of}
 use Rattle.vt_names.proofs.AddressesAfterClaim.{by_eq, none-some, Rising-insert, Rising-remove, address-inserted, address-inserted_other, address-removed, address-removed_other, holder-address, holder-inserted_other, holder-removed_other, no-holder, least-holder}
 
-pub Rising-with : (es : Addresses) (n : ℕ) (o : Option ℕ) → IsRising es → IsRising (with_address es n o)
+pub Rising-with : (es : Addresses) (n : ℕ) (o : Option ℕ) → IsRisingByName es → IsRisingByName (with_address es n o)
 Rising-with es n None rising = Rising-remove n es rising
 Rising-with es n (Some a) rising = Rising-insert n a es rising
 
-pub Rising-claims : (claims : List Claim) → IsRising (after_claims claims)
+pub Rising-claims : (claims : List Claim) → IsRisingByName (after_claims claims)
 Rising-claims [] = tt
 Rising-claims (c ∷ earlier) = Rising-with (after_claims earlier) c.name (claimed_address c.address) (Rising-claims earlier)
 
-pub address-with : (es : Addresses) (n : ℕ) (o : Option ℕ) (m : ℕ) → IsRising es → address_of (with_address es n o) m ≡ cond (eqb m n) o (address_of es m)
+pub address-with : (es : Addresses) (n : ℕ) (o : Option ℕ) (m : ℕ) → IsRisingByName es → address_of (with_address es n o) m ≡ cond (eqb m n) o (address_of es m)
 address-with es n None m rising =
     by_eq m n
     (λ is. ap (address_of (with_address es n None)) is ∙ address-removed n es rising ∙ sym (ap (λ b. cond b None (address_of es m)) (eq-eqb m n is)))

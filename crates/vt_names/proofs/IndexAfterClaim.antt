@@ -10,7 +10,7 @@ use Rattle.std.specs.Ordering.{nat_cmp, is_gt}
 use Rattle.std.specs.Map.{remove_entry}
 use Rattle.std.specs.BTreeMap.{insert_entry, is_at}
 use Rattle.std.specs.BTreeSet.{BTreeSet, contains}
-use Rattle.vt_names.specs.Claims.{Addresses, IsRising, NameSets, AreHolders, ChangesOnly, has_name, with_address, address_of, holder_of}
+use Rattle.vt_names.specs.Claims.{Addresses, IsRisingByName, NameSets, AreHolders, ChangesOnly, has_name, with_address, address_of, holder_of}
 use Rattle.vt_names.proofs.AddressesAfterClaim.{by_eq, none-some, inserted, removed, address-first, address-later, Above-less, Above-address, holder-address, no-holder, least-holder}
 use Rattle.vt_names.proofs.HoldersAfterClaims.{Rising-with, address-with}
 
@@ -39,7 +39,7 @@ removed-none n (e ∷ es) none =
     (λ is. none-some (sym none ∙ address-first n e es is))
     (λ ne. ap (λ l. e ∷ l) (rest (sym (address-later n e es ne) ∙ none)))
 
-inserted-same : (n a : ℕ) (es : Addresses) → IsRising es → address_of es n ≡ Some a → insert_entry nat_cmp es n a ≡ es
+inserted-same : (n a : ℕ) (es : Addresses) → IsRisingByName es → address_of es n ≡ Some a → insert_entry nat_cmp es n a ≡ es
 inserted-same n a [] rising found = none-some found
 inserted-same n a (e ∷ es) rising found =
     let rest = inserted-same n a es rising.1 in
@@ -48,7 +48,7 @@ inserted-same n a (e ∷ es) rising found =
     (λ is. ap (λ x. (e.0, x) ∷ es) (same_Some a e.1 (sym found ∙ address-first n e es is)))
     (λ h. ap (λ l. e ∷ l) (rest (sym (address-later n e es (λ is. omega arith)) ∙ found)))
 
-pub with-same : (es : Addresses) (n : ℕ) (o : Option ℕ) → IsRising es → address_of es n ≡ o → with_address es n o ≡ es
+pub with-same : (es : Addresses) (n : ℕ) (o : Option ℕ) → IsRisingByName es → address_of es n ≡ o → with_address es n o ≡ es
 with-same es n None rising is = removed-none n es is
 with-same es n (Some a) rising is = inserted-same n a es rising is
 

@@ -42,9 +42,9 @@ AllAbove name [] = Unit {0}
 AllAbove name (e ∷ addresses) = (name < e.0) × AllAbove name addresses
 
 -- the addresses are sorted by NAME, and each NAME is unique
-abbrev pub IsRising : Addresses → Type 0
-IsRising [] = Unit {0}
-IsRising (e ∷ addresses) = AllAbove e.0 addresses × IsRising addresses
+abbrev pub IsRisingByName : Addresses → Type 0
+IsRisingByName [] = Unit {0}
+IsRisingByName (e ∷ addresses) = AllAbove e.0 addresses × IsRisingByName addresses
 
 -- a node: its address, its NAME, and the recorded addresses
 pub record Claimed : Type 0 where
@@ -97,8 +97,8 @@ HoldersAreLeast = (claims : List Claim) (address : ℕ) → IsHolder claims addr
 -- ---- A claim changes the holders of two addresses at most: the former address of its NAME, and the claimed one.
 
 pub record OtherHoldersStay : Type 0 where
-  pub rising : (addresses : Addresses) (address name : ℕ) → IsRising addresses → IsRising (after_claim addresses address name)
-  pub others : (addresses : Addresses) (address name other : ℕ) → IsRising addresses
+  pub rising : (addresses : Addresses) (address name : ℕ) → IsRisingByName addresses → IsRisingByName (after_claim addresses address name)
+  pub others : (addresses : Addresses) (address name other : ℕ) → IsRisingByName addresses
       → other ≢ address → address_of addresses name ≢ Some other
       → holder_of (after_claim addresses address name) other ≡ holder_of addresses other
 
@@ -113,7 +113,7 @@ has_name sets address name = contains nat_cmp (get_or sets address (record { key
 
 -- the set of each address has exactly the NAMEs with that address
 pub record AreHolders (sets : NameSets) (addresses : Addresses) : Type 0 where
-  pub rising : IsRising addresses
+  pub rising : IsRisingByName addresses
   pub exact : (address name : ℕ) → address < 256 → has_name sets address name ≡ option_eq nat_eq (address_of addresses name) (Some address)
 
 -- one NAME is added to the set of an address or removed from it; without an address nothing changes

@@ -1,7 +1,7 @@
 //! Address claims and the answers to them (ISO 11783-5).
 
 ghost use Rattle.std.specs.Prelude.{◌≡◌, None, Some, [], IfOk, OnOk, OnErr};
-ghost use Rattle.vt_names.specs.Claims.{IsRising, answer, heard, address_of, holder_of, claimed_address, with_address};
+ghost use Rattle.vt_names.specs.Claims.{IsRisingByName, answer, heard, address_of, holder_of, claimed_address, with_address};
 
 use crate::OutOfMemory;
 use crate::holders::Holders;
@@ -112,7 +112,7 @@ impl Claims {
     /// Returns the address of a NAME: that of its last claim. docs/PROFILE.md, "The holder of an address".
     pub fn address_of(&self, name: Name) -> Option<u8>
         ensures address { result ≡ address_of self.now.addresses name }
-        ensures rising { IsRising self.now.addresses }
+        ensures rising { IsRisingByName self.now.addresses }
     {
         self.addresses.get(&name.raw()).copied()
     }

@@ -8,7 +8,7 @@ ghost use Rattle.vt_can.specs.transport.Messages.{size_and_first_byte};
 ghost use Rattle.vt_can.specs.transport.Receivers.{HasCapacityFor};
 ghost use Rattle.vt_can.specs.transport.Sessions.{AreOfAddresses, NoneExpires, alive};
 ghost use Rattle.vt_can.specs.transport.Steps.{stepped};
-ghost use Rattle.vt_names.specs.Claims.{IsRising, heard, address_of, holder_of, answer};
+ghost use Rattle.vt_names.specs.Claims.{IsRisingByName, heard, address_of, holder_of, answer};
 ghost use Rattle.vt_transport.specs.Protocol as tp;
 ghost use Rattle.vt_transport.specs.Wire.{tp_frame, rts_frame};
 ghost use Rattle.vt_transport.specs.Senders.{timeout_frame, has_size};
@@ -90,7 +90,7 @@ impl Node {
     /// Returns the address of a NAME.
     pub fn address_of(&self, name: Name) -> Option<u8>
         ensures address { result ≡ address_of self.now.claims.addresses name }
-        ensures rising { IsRising self.now.claims.addresses }
+        ensures rising { IsRisingByName self.now.claims.addresses }
     {
         self.claims.address_of(name)
     }

@@ -16,14 +16,14 @@ use Rattle.vt_kinds.specs.declared.fields.ValueType.TheVariants as types
 use Rattle.vt_kinds.specs.Layout.{field_spelling}
 use Rattle.vt_kinds.specs.Attributes.{attributes_of, attribute_at, numbered, byte, width}
 use Rattle.vt_kinds.specs.Records.{fields_of, names_of}
-use Rattle.vt_objects.specs.AttributeFields.{IsNamed, IsField, field_of, written, AttributesAreFields}
+use Rattle.vt_objects.specs.AttributeFields.{IsFieldNamed, IsField, field_of, written, AttributesAreFields}
 
 -- ---- each attribute is a field
 
 abbrev Stands : Kind → Attribute → Type 0
 Stands kind attribute = (place : ℕ) × IsField kind attribute place
 
-field : (kind : Kind) (attribute : Attribute) (place : ℕ) → IsNamed kind attribute.field place → slice_get (fields_of kind) place ≡ Some (field_of attribute.value_type)
+field : (kind : Kind) (attribute : Attribute) (place : ℕ) → IsFieldNamed kind attribute.field place → slice_get (fields_of kind) place ≡ Some (field_of attribute.value_type)
     → Stands kind attribute
 field kind attribute place named typed = (place, record { named = named; typed = typed })
 
@@ -221,7 +221,7 @@ same_place (Some first ∷ others) distinct name (suc a) zero e f = absurd (alon
 same_place (Some first ∷ others) distinct name (suc a) (suc b) e f =
     ap suc (same_place others (and_parts (not (has first others)) (are_distinct others) distinct).1 name a b e f)
 
-once : (kind : Kind) (name : fields.Field) (place other : ℕ) → IsNamed kind name place → IsNamed kind name other → place ≡ other
+once : (kind : Kind) (name : fields.Field) (place other : ℕ) → IsFieldNamed kind name place → IsFieldNamed kind name other → place ≡ other
 once kind name place other e f = same_place (names_of kind) (once_each kind) name place other e f
 
 -- ---- the bytes of a written field

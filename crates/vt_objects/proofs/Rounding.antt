@@ -4,7 +4,7 @@ use Rattle.std.proofs.Math.Nat.{mod-lt, div-add-mod, div-le_of_le-mul}
 use Rattle.std.proofs.lemmas.Bool.{ltb-true, ltb-false, le-ltb, lt-ltb, cases_lt}
 use Rattle.std.specs.Prelude.{int_lt, nat_lt}
 use Rattle.std.specs.Fmt.{decimal}
-use Rattle.vt_objects.specs.Decimals.{IsRounded, IsShown, decimal_text, fraction_text, signed_text, shown_text}
+use Rattle.vt_objects.specs.Decimals.{IsRounded, IsShownText, decimal_text, fraction_text, signed_text, shown_text}
 
 -- ---- the distance of two numbers
 
@@ -102,7 +102,7 @@ text_neg decimals zero = text_pos decimals 0
 text_neg decimals (suc q) = ap (λ (b : Bool). text_of b decimals (suc q)) (sym (lt-ltb 0 (suc q) (omega arith)))
 
 pub is_shown : (n : ℤ) (places decimals m q : ℕ) (negative : Bool) (text : List ℕ) → m ≡ nat_abs n → 0 < 10 ^ places → q ≡ (2 * (m * 10 ^ decimals) + 10 ^ places) / (2 * 10 ^ places)
-    → negative ≡ (int_lt n (pos 0) && ltb 0 q) → text ≡ text_of negative decimals q → IsShown n places decimals text
+    → negative ≡ (int_lt n (pos 0) && ltb 0 q) → text ≡ text_of negative decimals q → IsShownText n places decimals text
 is_shown (pos n) places decimals m q negative text size some is sign digits =
     let near = nearest (m * 10 ^ decimals) (10 ^ places) q some is in
     record {

@@ -25,18 +25,18 @@ written types.SignedLong value = number (integer (cast_signed w32 (lowest types.
 written type value = number (natural (lowest type value))
 
 -- the field at this index in the record of a kind has this name
-abbrev pub IsNamed : Kind → names.Field → ℕ → Type 0
-IsNamed kind name place = slice_get (names_of kind) place ≡ Some (Some name)
+abbrev pub IsFieldNamed : Kind → names.Field → ℕ → Type 0
+IsFieldNamed kind name place = slice_get (names_of kind) place ≡ Some (Some name)
 
 -- the field at this index has an attribute's name and type
 pub record IsField (kind : Kind) (attribute : Attribute) (place : ℕ) : Type 0 where
-  pub named : IsNamed kind attribute.field place
+  pub named : IsFieldNamed kind attribute.field place
   pub typed : slice_get (fields_of kind) place ≡ Some (field_of attribute.value_type)
 
 pub record AttributesAreFields : Type 0 where
   -- Each attribute of a kind is a field of its record, by name and type.
   pub stand : (kind : Kind) (number : ℕ) (attribute : Attribute) → attribute_at kind number ≡ Some attribute → (place : ℕ) × IsField kind attribute place
   -- Names are unique in a record.
-  pub once : (kind : Kind) (name : names.Field) (place other : ℕ) → IsNamed kind name place → IsNamed kind name other → place ≡ other
+  pub once : (kind : Kind) (name : names.Field) (place other : ℕ) → IsFieldNamed kind name place → IsFieldNamed kind name other → place ≡ other
   -- A field stores the lowest bytes of the value, unchanged.
   pub bytes : (type : ValueType) (value : ℕ) → field_spelling (field_of type) (written type value) ≡ take (width type) (little_bytes 4 value)

@@ -23,14 +23,14 @@ decimal_text decimals r =
     (if int_lt r (pos 0) then codes "-" else []) ++ decimal (nat_abs r / 10 ^ decimals) ++ fraction_text decimals (nat_abs r)
 
 -- the shown text of value plus offset
-pub record IsShown (n : ℤ) (places decimals : ℕ) (text : List ℕ) : Type 0 where
+pub record IsShownText (n : ℤ) (places decimals : ℕ) (text : List ℕ) : Type 0 where
   pub rounded : ℤ
   pub is : IsRounded n places decimals rounded
   pub digits : text ≡ decimal_text decimals rounded
 
 -- The shown text is unique.
 abbrev pub ShownIsOne : Type 0
-ShownIsOne = (n : ℤ) (places decimals : ℕ) (a b : List ℕ) → IsShown n places decimals a → IsShown n places decimals b → a ≡ b
+ShownIsOne = (n : ℤ) (places decimals : ℕ) (a b : List ℕ) → IsShownText n places decimals a → IsShownText n places decimals b → a ≡ b
 
 -- ---- the shown text, computed
 

@@ -4,7 +4,7 @@ ghost use Rattle.std.specs.Prelude.{◌≡◌, ◌<◌, ◌≤◌, ◌+◌, ◌*
 ghost use Rattle.std.specs.Fmt.{decimal};
 ghost use Rattle.arrayvec.specs.ArrayString.{array_string_len};
 ghost use Rattle.vt_kinds.specs.Scales.{scale_places};
-ghost use Rattle.vt_objects.specs.Decimals.{IsShown, shown_text, filled, fraction_text};
+ghost use Rattle.vt_objects.specs.Decimals.{IsShownText, shown_text, filled, fraction_text};
 
 use arrayvec::ArrayString;
 use itoa::Buffer;
@@ -23,7 +23,7 @@ impl Decimal {
     /// The shown text, at most 19 bytes: `-` if the rounded number is below zero, then its digits with exactly
     /// `decimals` decimals.
     pub fn shown(&self) -> ArrayString<20>
-        ensures text { IsShown (pos self.now.value +ℤ self.now.offset) (scale_places self.now.scale) self.now.decimals result.bytes }
+        ensures text { IsShownText (pos self.now.value +ℤ self.now.offset) (scale_places self.now.scale) self.now.decimals result.bytes }
         ensures computed { result.bytes ≡ shown_text (pos self.now.value +ℤ self.now.offset) (scale_places self.now.scale) self.now.decimals }
         ensures most { length result.bytes ≤ 19 }
     {

@@ -7,7 +7,7 @@ use Rattle.vt_node.specs.AddressFunctions.{with_at}
 use Rattle.vt_server.specs.Findings.{AreFound}
 use Rattle.vt_server.specs.Steps.{JudgedInput, after_all, preloading, step}
 use Rattle.vt_server.specs.Terminals.{State}
-use Rattle.vt_laws.specs.Headline.{Pools, AreInForce, NeverSticks}
+use Rattle.vt_laws.specs.Headline.{Pools, ArePoolsInForce, NeverSticks}
 use Rattle.vt_logs.specs.declared.counts.Counts.{Counts}
 use Rattle.vt_logs.specs.Begun.{BeginsCounts, HasStopped, LeavesLines}
 use Rattle.vt_logs.specs.Replays.{IsReplay}
@@ -22,23 +22,23 @@ use Rattle.vt_program.proofs.Loading.{map_again}
 -- ---- the terminal of the options
 
 pub start-in-force : NeverSticks → (files : Files) (options : Options) (s : State) → (is : IsStart files options s)
-    → AreInForce (given_pools files options.preload (new_state options.own options.name) s is) s
+    → ArePoolsInForce (given_pools files options.preload (new_state options.own options.name) s is) s
 start-in-force laws files options s is = cases options.preload is
   where
     new : State
     new = new_state options.own options.name
 
-    first : AreInForce (λ address. None) new
+    first : ArePoolsInForce (λ address. None) new
     first = laws.first new (λ address. refl)
 
-    cases : (o : Option Preload) → (is : IsPreloaded files o new s) → AreInForce (given_pools files o new s is) s
-    cases None same = subst (λ (t : State). AreInForce (λ address. None) t) (sym same) first
+    cases : (o : Option Preload) → (is : IsPreloaded files o new s) → ArePoolsInForce (given_pools files o new s is) s
+    cases None same = subst (λ (t : State). ArePoolsInForce (λ address. None) t) (sym same) first
     cases (Some p) loaded =
         let pool = finite.entries loaded.objects in
         let pools : Pools = with_at p.owner (Some (map_of pool)) (λ address. None) in
         let same : preloading new p.owner (map_of pool) ≡ s = ap (preloading new p.owner) (map_again loaded.objects) ∙ sym loaded.state in
-        let in-force : AreInForce pools s = subst (λ (t : State). AreInForce pools t) same (laws.preloaded (λ address. None) new p.owner pool loaded.verified first) in
-        subst (λ (o : ObjectMap). AreInForce (with_at p.owner (Some o) (λ address. None)) s) (map_again loaded.objects) in-force
+        let in-force : ArePoolsInForce pools s = subst (λ (t : State). ArePoolsInForce pools t) same (laws.preloaded (λ address. None) new p.owner pool loaded.verified first) in
+        subst (λ (o : ObjectMap). ArePoolsInForce (with_at p.owner (Some o) (λ address. None)) s) (map_again loaded.objects) in-force
 
 -- ---- the events of a log
 
@@ -72,7 +72,7 @@ taken-events (Ok (OperatorAction action) ∷ rs) n from to text t =
     let later = subst (λ (s : State). TakesEvents (AreInputsOfLines rs) s to.state) i.takes.state (taken-events rs (n + 1) t.middle to t.rest t.next) in
     record { events = i.event ∷ later.events; are_such = (i.of_line, later.are_such); found = (i.takes.found, later.found); after = later.after }
 
-pub replay-keeps : NeverSticks → (pools : Pools) (start now : State) (input text : List ℕ) (counts : Counts) → AreInForce pools start
+pub replay-keeps : NeverSticks → (pools : Pools) (start now : State) (input text : List ℕ) (counts : Counts) → ArePoolsInForce pools start
     → (r : IsReplay start input text counts now) → LinesKeep pools start r.readings now
 replay-keeps laws pools start now input text counts is r =
     let lines = AreInputsOfLines r.readings in
@@ -142,7 +142,7 @@ stopped-events start now input old new (inr s) =
     taken-more s.readings (reading_behind s.last n s.readings s.back now s.text s.leaves) start s.last.state now taken
     (events-behind s.last n s.readings s.back now s.text s.leaves)
 
-pub stopped-keeps : NeverSticks → (pools : Pools) (start now : State) (input : List ℕ) (old new : Option (List ℕ)) → AreInForce pools start
+pub stopped-keeps : NeverSticks → (pools : Pools) (start now : State) (input : List ℕ) (old new : Option (List ℕ)) → ArePoolsInForce pools start
     → (stopped : HasStopped start input now old new) → LinesKeep pools start (readings_taken start input now old new stopped) now
 stopped-keeps laws pools start now input old new is stopped =
     let taken = stopped-events start now input old new stopped in

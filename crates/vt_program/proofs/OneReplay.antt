@@ -7,10 +7,10 @@ use Rattle.vt_can.specs.declared.frames.frame.Frame.{Frame}
 use Rattle.vt_can.specs.lines.Actions.{ActionValue, Press, Release, Select, Number, Text, Set, action_value}
 use Rattle.vt_can.specs.declared.lines.line.Action.{Action}
 use Rattle.vt_can.specs.declared.lines.line.Action.TheVariants as actions
-use Rattle.vt_can.specs.lines.Line.{Reads, ReadingsAreOne}
+use Rattle.vt_can.specs.lines.Line.{ReadsAs, ReadingsAreOne}
 use Rattle.vt_can.specs.lines.Readings.{ParsedLine, FrameAt, OperatorAction, SkippedFrame, CommentLine}
 use Rattle.vt_laws.specs.UniqueSteps.{StepsAreOne}
-use Rattle.vt_laws.specs.Headline.{Pools, AreInForce, IsInForce, NeverSticks, accepted_after}
+use Rattle.vt_laws.specs.Headline.{Pools, ArePoolsInForce, IsPoolInForce, NeverSticks, accepted_after}
 use Rattle.vt_layout.specs.Screens.{ScreensAreOne}
 use Rattle.vt_logs.specs.declared.counts.Counts.{Counts}
 use Rattle.vt_logs.specs.Lines.{lines_of}
@@ -78,7 +78,7 @@ pub record Laws : Type 0 where
 module _ (laws : Laws) where
   -- ---- readings
 
-  readings-one : (lines : List (List ℕ)) (rs qs : List LineReading) → AllZip Reads lines rs → AllZip Reads lines qs → rs ≡ qs
+  readings-one : (lines : List (List ℕ)) (rs qs : List LineReading) → AllZip ReadsAs lines rs → AllZip ReadsAs lines qs → rs ≡ qs
   readings-one [] [] [] p q = refl
   readings-one [] [] (r ∷ qs) p q = absurd q
   readings-one [] (r ∷ rs) qs p q = absurd p
@@ -89,16 +89,16 @@ module _ (laws : Laws) where
 
   -- ---- screens
 
-  screens-at : (address : ℕ) (last : Option ObjectMap) (o : Option SetState) (a b : List ℕ) → IfSome o (IsInForce last) → IsScreenAt address o a → IsScreenAt address o b → a ≡ b
+  screens-at : (address : ℕ) (last : Option ObjectMap) (o : Option SetState) (a b : List ℕ) → IfSome o (IsPoolInForce last) → IsScreenAt address o a → IsScreenAt address o b → a ≡ b
   screens-at address last None a b force p q = p ∙ sym q
   screens-at address last (Some state) a b force p q = laws.screens.one address state.objects a b force.ready.working_set p q
 
-  screens-of : (pools : Pools) (has : ℕ → Option SetState) (shown : Option ℕ) (a b : List ℕ) → ((address : ℕ) → IfSome (has address) (IsInForce (pools address)))
+  screens-of : (pools : Pools) (has : ℕ → Option SetState) (shown : Option ℕ) (a b : List ℕ) → ((address : ℕ) → IfSome (has address) (IsPoolInForce (pools address)))
       → IsScreenOfShown has shown a → IsScreenOfShown has shown b → a ≡ b
   screens-of pools has None a b force p q = p ∙ sym q
   screens-of pools has (Some address) a b force p q = screens-at address (pools address) (has address) a b (force address) p q
 
-  screens-one : (pools : Pools) (s : State) (a b : List ℕ) → AreInForce pools s → IsScreenOf s a → IsScreenOf s b → a ≡ b
+  screens-one : (pools : Pools) (s : State) (a b : List ℕ) → ArePoolsInForce pools s → IsScreenOf s a → IsScreenOf s b → a ≡ b
   screens-one pools s a b force p q = screens-of pools (pool_of s) s.shown a b force p q
 
   -- ---- a line
@@ -117,23 +117,23 @@ module _ (laws : Laws) where
     pub scene : b ≡ c
     pub text : t ≡ u
     pub pools : Pools
-    pub force : AreInForce pools b.state
+    pub force : ArePoolsInForce pools b.state
 
-  prints-one : (pools : Pools) (a b c : ReplayState) (printed t u : List ℕ) → AreInForce pools a.state → (b ≡ a) × (t ≡ printed) → (c ≡ a) × (u ≡ printed) → IsOneWay b c t u
+  prints-one : (pools : Pools) (a b c : ReplayState) (printed t u : List ℕ) → ArePoolsInForce pools a.state → (b ≡ a) × (t ≡ printed) → (c ≡ a) × (u ≡ printed) → IsOneWay b c t u
   prints-one pools a b c printed t u force p q = record {
     scene = p.0 ∙ sym q.0;
     text = p.1 ∙ sym q.1;
     pools = pools;
-    force = subst (λ (s : ReplayState). AreInForce pools s.state) (sym p.0) force;
+    force = subst (λ (s : ReplayState). ArePoolsInForce pools s.state) (sym p.0) force;
   }
 
-  inputs-one : (pools : Pools) (a b c : ReplayState) (line : ParsedLine) (t u : List ℕ) → AreInForce pools a.state → TakesInputLine a line b t → TakesInputLine a line c u → IsOneWay b c t u
+  inputs-one : (pools : Pools) (a b c : ReplayState) (line : ParsedLine) (t u : List ℕ) → ArePoolsInForce pools a.state → TakesInputLine a line b t → TakesInputLine a line c u → IsOneWay b c t u
   inputs-one pools a b c line t u force p q =
       let same : step a.state p.event ≡ step a.state q.event = events-one a.state line p.event q.event p.of_line q.of_line p.takes.found q.takes.found in
       let states : b.state ≡ c.state = p.takes.state ∙ ap (λ (s : Step). s.after) same ∙ sym q.takes.state in
       let later : Pools = accepted_after a.state p.event pools in
       let kept = laws.never.events pools a.state (p.event ∷ []) force (p.takes.found, tt) in
-      let stays : AreInForce later b.state = subst (λ (s : State). AreInForce later s) (sym p.takes.state) kept.in_force in
+      let stays : ArePoolsInForce later b.state = subst (λ (s : State). ArePoolsInForce later s) (sym p.takes.state) kept.in_force in
       let screens : b.screen ≡ c.screen = screens-one later b.state b.screen c.screen stays p.takes.screen
       (subst (λ (s : State). IsScreenOf s c.screen) (sym states) q.takes.screen) in
       record {
@@ -146,7 +146,7 @@ module _ (laws : Laws) where
         force = stays;
       }
 
-  reading-one : (pools : Pools) (a b c : ReplayState) (n : ℕ) (r : LineReading) (t u : List ℕ) → AreInForce pools a.state → TakesReading a n r b t → TakesReading a n r c u → IsOneWay b c t u
+  reading-one : (pools : Pools) (a b c : ReplayState) (n : ℕ) (r : LineReading) (t u : List ℕ) → ArePoolsInForce pools a.state → TakesReading a n r b t → TakesReading a n r c u → IsOneWay b c t u
   reading-one pools a b c n (Ok (FrameAt time frame)) t u force p q = inputs-one pools a b c (FrameAt time frame) t u force p q
   reading-one pools a b c n (Ok (OperatorAction action)) t u force p q = inputs-one pools a b c (OperatorAction action) t u force p q
   reading-one pools a b c n (Ok (SkippedFrame why)) t u force p q = prints-one pools a b c [] t u force p q
@@ -155,7 +155,7 @@ module _ (laws : Laws) where
 
   -- ---- lines one after the other
 
-  lines-one : (pools : Pools) (a b c : ReplayState) (n : ℕ) (rs : List LineReading) (t u : List ℕ) → AreInForce pools a.state → TakesReadings a n rs b t → TakesReadings a n rs c u
+  lines-one : (pools : Pools) (a b c : ReplayState) (n : ℕ) (rs : List LineReading) (t u : List ℕ) → ArePoolsInForce pools a.state → TakesReadings a n rs b t → TakesReadings a n rs c u
       → (b ≡ c) × (t ≡ u)
   lines-one pools a b c n [] t u force p q = (p.0 ∙ sym q.0, p.1 ∙ sym q.1)
   lines-one pools a b c n (r ∷ rs) t u force p q =
@@ -166,7 +166,7 @@ module _ (laws : Laws) where
 
   -- ---- a replay
 
-  replay-one : (pools : Pools) (start now later : State) (input text other : List ℕ) (counts more : Counts) → AreInForce pools start
+  replay-one : (pools : Pools) (start now later : State) (input text other : List ℕ) (counts more : Counts) → ArePoolsInForce pools start
       → IsReplay start input text counts now → IsReplay start input other more later → (text ≡ other) × (counts ≡ more) × (now ≡ later)
   replay-one pools start now later input text other counts more force p q =
       let readings : q.readings ≡ p.readings = readings-one (lines_of input) q.readings p.readings q.read p.read in
@@ -176,7 +176,7 @@ module _ (laws : Laws) where
       let takes : TakesReadings p.first 0 p.readings q.last q.printed =
       subst (λ (s : ReplayState). TakesReadings s 0 p.readings q.last q.printed) first
       (subst (λ (rs : List LineReading). TakesReadings q.first 0 rs q.last q.printed) readings q.takes) in
-      let one = lines-one pools p.first p.last q.last 0 p.readings p.printed q.printed (subst (λ (s : State). AreInForce pools s) (sym p.starts) force) p.takes takes in
+      let one = lines-one pools p.first p.last q.last 0 p.readings p.printed q.printed (subst (λ (s : State). ArePoolsInForce pools s) (sym p.starts) force) p.takes takes in
       let same : counts ≡ more = p.counts_are ∙ ap (with_lines no_counts) (sym readings) ∙ sym q.counts_are in (
         p.text_is ∙ (λ i. sym screens i ++ one.1 i ++ counts_text (same i)) ∙ sym q.text_is,
         same,
@@ -204,13 +204,13 @@ module _ (laws : Laws) where
 
   -- ---- what is written
 
-  same-written : (pools : Pools) (start : State) (input : List ℕ) (old new other : Option (List ℕ)) → AreInForce pools start → WritesReplay start input old new
+  same-written : (pools : Pools) (start : State) (input : List ℕ) (old new other : Option (List ℕ)) → ArePoolsInForce pools start → WritesReplay start input old new
       → WritesReplay start input old other → AppendSame old new other
   same-written pools start input old new other force p q =
       let one = replay-one pools start p.end q.end input p.text q.text p.counts q.counts force p.replay q.replay in
       (p.text, p.written, subst (Appends old other) (sym one.0) q.written)
 
-  written-by : (pools : Pools) (start : State) (file : Option (List ℕ)) (old new other : Option (List ℕ)) → IsKnown file → AreInForce pools start
+  written-by : (pools : Pools) (start : State) (file : Option (List ℕ)) (old new other : Option (List ℕ)) → IsKnown file → ArePoolsInForce pools start
       → IfSome file (λ input. WritesReplay start input old new) → IfSome file (λ input. WritesReplay start input old other) → AppendSame old new other
   written-by pools start None old new other known force p q = let none = known.1 in absurd cc
   written-by pools start (Some input) old new other known force p q = same-written pools start input old new other force p q

@@ -1,7 +1,7 @@
 -- The law that a log has one replay: the text written is a function of the log and of the options with their pool.
 use Rattle.std.specs.Prelude.{◌≡◌, ℕ, List, Option, Some, None}
 use Rattle.std.specs.Io.KnownBytes.{Appends}
-use Rattle.vt_laws.specs.Headline.{Pools, AreInForce}
+use Rattle.vt_laws.specs.Headline.{Pools, ArePoolsInForce}
 use Rattle.vt_logs.specs.declared.counts.Counts.{Counts}
 use Rattle.vt_logs.specs.Replays.{IsReplay}
 use Rattle.vt_program.specs.declared.options.Options.{Options}
@@ -25,7 +25,7 @@ AppendSame old new other = (text : List ℕ) × Appends old new text × Appends 
 -- From a terminal whose pools are in force a log has one replay: one text, one list of counts and one terminal after it. Options give
 -- one terminal, where the bytes of their pool are known. The text written for their log is then one, where its bytes are known too.
 pub record ReplaysAreOne : Type 0 where
-  pub replay : (pools : Pools) (start now later : State) (input text other : List ℕ) (counts more : Counts) → AreInForce pools start
+  pub replay : (pools : Pools) (start now later : State) (input text other : List ℕ) (counts more : Counts) → ArePoolsInForce pools start
       → IsReplay start input text counts now → IsReplay start input other more later → (text ≡ other) × (counts ≡ more) × (now ≡ later)
   pub start : (files : Files) (options : Options) (one other : State) → IsPoolKnown files options.preload → IsStart files options one
       → IsStart files options other → one ≡ other

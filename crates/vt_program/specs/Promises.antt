@@ -3,7 +3,7 @@
 use Rattle.std.proofs.Common.{inl, inr}
 use Rattle.std.specs.Prelude.{◌≡◌, ◌⊎◌, List, [], ◌∷◌, ◌++◌, ◌+◌, length, Option, Some, None, Ok, Err, ℕ}
 use Rattle.vt_can.specs.lines.Readings.{FrameAt, OperatorAction, SkippedFrame, CommentLine}
-use Rattle.vt_laws.specs.Headline.{Pools, AreInForce, EventsKeep}
+use Rattle.vt_laws.specs.Headline.{Pools, ArePoolsInForce, EventsKeep}
 use Rattle.vt_logs.specs.declared.counts.Counts.{Counts}
 use Rattle.vt_logs.specs.Begun.{BeginsCounts, HasStopped, LeavesLines}
 use Rattle.vt_logs.specs.Replays.{IsReplay}
@@ -65,8 +65,8 @@ readings_taken start input now old new (inr s) =
 -- replay that ended early keeps it over the lines that it took.
 pub record ReplaysNeverStick : Type 0 where
   pub start : (files : Files) (options : Options) (s : State) → (is : IsStart files options s)
-      → AreInForce (given_pools files options.preload (new_state options.own options.name) s is) s
-  pub replay : (pools : Pools) (start now : State) (input text : List ℕ) (counts : Counts) → AreInForce pools start
+      → ArePoolsInForce (given_pools files options.preload (new_state options.own options.name) s is) s
+  pub replay : (pools : Pools) (start now : State) (input text : List ℕ) (counts : Counts) → ArePoolsInForce pools start
       → (r : IsReplay start input text counts now) → LinesKeep pools start r.readings now
-  pub stopped : (pools : Pools) (start now : State) (input : List ℕ) (old new : Option (List ℕ)) → AreInForce pools start
+  pub stopped : (pools : Pools) (start now : State) (input : List ℕ) (old new : Option (List ℕ)) → ArePoolsInForce pools start
       → (stopped : HasStopped start input now old new) → LinesKeep pools start (readings_taken start input now old new stopped) now

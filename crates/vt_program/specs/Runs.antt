@@ -200,12 +200,12 @@ IsPrinted fault.Memory = ⊥
 IsPrinted (fault.Replay why cause) = ⊥
 
 -- The text that a fault prints to the output.
-abbrev pub Prints : Fault → Option (List ℕ) → Option (List ℕ) → Type 0
-Prints (fault.File path cause) old new = Keeps old new
-Prints (fault.Pool why) old new = Appends old new (fault_text why ++ newline)
-Prints (fault.Refused why named) old new = Appends old new (report.refusal_text why ++ newline)
-Prints fault.Memory old new = Keeps old new
-Prints (fault.Replay why cause) old new = Keeps old new
+abbrev pub PrintsFault : Fault → Option (List ℕ) → Option (List ℕ) → Type 0
+PrintsFault (fault.File path cause) old new = Keeps old new
+PrintsFault (fault.Pool why) old new = Appends old new (fault_text why ++ newline)
+PrintsFault (fault.Refused why named) old new = Appends old new (report.refusal_text why ++ newline)
+PrintsFault fault.Memory old new = Keeps old new
+PrintsFault (fault.Replay why cause) old new = Keeps old new
 
 -- ---- statuses
 
@@ -257,7 +257,7 @@ pub record HasFault (words : List Text) (files : Files) (old new : Option (List 
   pub why : Fault
   pub before : Option (List ℕ)
   pub faulty : Fails files options why old before
-  pub prints : Prints why before new
+  pub prints : PrintsFault why before new
 
 -- The words give options, and a pool of theirs has a fault or is refused.
 pub record HasBadPool (words : List Text) (files : Files) : Type 0 where
@@ -280,10 +280,10 @@ abbrev pub HasToPrint : List Text → Files → Type 0
 HasToPrint words files = Refuses words status.Done ⊎ HasReport words files ⊎ HasBadPool words files
 
 -- The status of a run. Memory may run out at any words, and the status is then Fault.
-abbrev pub Ends : List Text → Files → Option (List ℕ) → Option (List ℕ) → Status → Type 0
-Ends words files old new status.Done = Refuses words status.Done ⊎ Replays words files old new ⊎ Reports words files old new
-Ends words files old new status.Usage = Refuses words status.Usage × Keeps old new
-Ends words files old new status.Fault = (Refuses words status.Fault × Keeps old new) ⊎ HasFault words files old new
+abbrev pub EndsWithStatus : List Text → Files → Option (List ℕ) → Option (List ℕ) → Status → Type 0
+EndsWithStatus words files old new status.Done = Refuses words status.Done ⊎ Replays words files old new ⊎ Reports words files old new
+EndsWithStatus words files old new status.Usage = Refuses words status.Usage × Keeps old new
+EndsWithStatus words files old new status.Fault = (Refuses words status.Fault × Keeps old new) ⊎ HasFault words files old new
 
 -- ---- the report alone, of the pool in the file of a path
 
@@ -291,7 +291,7 @@ Ends words files old new status.Fault = (Refuses words status.Fault × Keeps old
 pub record HasNoReport (files : Files) (path : Bor Text) (old new : Option (List ℕ)) : Type 0 where
   pub why : Fault
   pub faulty : IsPoolFileFault files path why
-  pub prints : Prints why old new
+  pub prints : PrintsFault why old new
 
 -- The status of the report of the pool in a file.
 abbrev pub EndsReport : Files → Bor Text → Option (List ℕ) → Option (List ℕ) → Status → Type 0

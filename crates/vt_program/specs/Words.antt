@@ -119,7 +119,7 @@ pub record IsFlag (text : Option Text) (set : Bool) : Type 0 where
   pub there : text ≡ Some (codes "true") → set ≡ true
   pub left_out : text ≡ Some (codes "false") → set ≡ false
 
-pub record Gives (given : Given) (options : Options) : Type 0 where
+pub record GivesOptions (given : Given) (options : Options) : Type 0 where
   pub file : given.file ≡ Some options.file.now
   pub own : IsOwn given.own options.own
   pub name : IsOwnName given.name options.name
@@ -127,7 +127,7 @@ pub record Gives (given : Given) (options : Options) : Type 0 where
   pub report : IsFlag given.report options.report
 
 -- The addresses are at most 253, and the owner's is not the terminal's own.
-pub record AreApart (options : Options) : Type 0 where
+pub record HasValidAddresses (options : Options) : Type 0 where
   pub own : options.own ≤ 253
   pub owner : IfSome options.preload (λ p. p.owner ≤ 253)
   pub apart : IfSome options.preload (λ p. p.owner ≢ options.own)
@@ -135,8 +135,8 @@ pub record AreApart (options : Options) : Type 0 where
 -- The words are a command line that asks for these options.
 pub record WordsGive (words : List Text) (options : Options) : Type 0 where
   pub no_fault : faults_in words ≡ []
-  pub gives : Gives (given_by words) options
-  pub apart : AreApart options
+  pub gives : GivesOptions (given_by words) options
+  pub apart : HasValidAddresses options
 
 -- ---- which words are refused
 

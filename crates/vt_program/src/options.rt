@@ -5,7 +5,7 @@ ghost use Rattle.clap.specs.Words.{IsParsedFrom, IsPlainArg, app_of, first_value
 ghost use Rattle.clap.specs.Built.{TakesValue};
 ghost use Rattle.clap.specs.declared.parser.matches.ArgMatches.{ArgMatches};
 ghost use Rattle.vt_program.specs.declared.options.UsageError.TheVariants.{Memory};
-ghost use Rattle.vt_program.specs.Words.{AreApart, Gives, GivesAddress, IsAddress, IsBadAddress, IsBadName, IsMistake, IsName, IsOwnName, IsRefusalFor, IsRefusalOf, WordsGive, app, file_word, given_in, refusal_text, report_flag, valued_option};
+ghost use Rattle.vt_program.specs.Words.{HasValidAddresses, GivesOptions, GivesAddress, IsAddress, IsBadAddress, IsBadName, IsMistake, IsName, IsOwnName, IsRefusalFor, IsRefusalOf, WordsGive, app, file_word, given_in, refusal_text, report_flag, valued_option};
 
 use byteorder::{BigEndian, ByteOrder};
 use clap::error::ErrorKind;
@@ -229,8 +229,8 @@ fn report_flag<'a>(alloc: Global) -> Arg<'a>
 /// The options that matches give. The matches have a value of FILE.
 fn options_of<'a>(matches: &ArgMatches<'a>) -> Result<Options<'a>, UsageError<'a>>
     requires { is_some (first_value (found_of matches.now) (codes "FILE")) ≡ true }
-    ensures gives { IfOk result (Gives (given_in (first_value (found_of matches.now)) (one_text (found_of matches.now)))) }
-    ensures apart { IfOk result AreApart }
+    ensures gives { IfOk result (GivesOptions (given_in (first_value (found_of matches.now)) (one_text (found_of matches.now)))) }
+    ensures apart { IfOk result HasValidAddresses }
     ensures refused { IfErr result (IsMistake (given_in (first_value (found_of matches.now)) (one_text (found_of matches.now)))) }
 {
     let own = address_given(matches, "own")?.unwrap_or(OWN_ADDRESS);

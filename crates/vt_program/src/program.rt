@@ -5,8 +5,8 @@ ghost use Rattle.std.specs.FinMap as finite;
 ghost use Rattle.vt_names.specs.Registry.{set_at};
 ghost use Rattle.std.specs.Io.KnownBytes.{Keeps};
 ghost use Rattle.vt_program.specs.declared.program.Fault.TheVariants.{Memory};
-ghost use Rattle.vt_program.specs.Words.{AreApart, status_code};
-ghost use Rattle.vt_program.specs.Runs.{Ends, EndsBy, EndsReport, FailsReplay, HasPoolToPrint, HasReplayed, HasToPrint, IsAcceptedPoolOf, IsFaultOfPool, IsFileFault, IsLoaded, IsPoolFileFault, IsPrinted, IsReplayFault, IsReportOf, Prints, fault_line};
+ghost use Rattle.vt_program.specs.Words.{HasValidAddresses, status_code};
+ghost use Rattle.vt_program.specs.Runs.{EndsWithStatus, EndsBy, EndsReport, FailsReplay, HasPoolToPrint, HasReplayed, HasToPrint, IsAcceptedPoolOf, IsFaultOfPool, IsFileFault, IsLoaded, IsPoolFileFault, IsPrinted, IsReplayFault, IsReportOf, PrintsFault, fault_line};
 ghost use Rattle.vt_pool.specs.Pools.{contents};
 ghost use Rattle.vt_server.specs.States.{state_of};
 
@@ -119,7 +119,7 @@ pub fn run<S: AsStr, F: Open, W: Sink, E: Write>(
     out: &mut W,
     errors: &mut E,
 ) -> io::Result<Status>
-    ensures ends { IfOk result (Ends (map S.text words.now) (F.file files.old) (W.contents out.old) (W.contents out.new)) }
+    ensures ends { IfOk result (EndsWithStatus (map S.text words.now) (F.file files.old) (W.contents out.old) (W.contents out.new)) }
     // A run returns an error only where it has to print help, a report, or the fault or the refusal of a pool.
     ensures fails { OnErr result (HasToPrint (map S.text words.now) (F.file files.old)) }
 {
@@ -178,7 +178,7 @@ fn print_fault<W: Sink, E: Write>(
     errors: &mut E,
 ) -> io::Result<Status>
     ensures status { IfOk result (λ status. status ≡ Status.Fault) }
-    ensures prints { OnOk result (Prints fault.now (W.contents out.old) (W.contents out.new)) }
+    ensures prints { OnOk result (PrintsFault fault.now (W.contents out.old) (W.contents out.new)) }
     ensures fails { OnErr result (IsPrinted fault.now) }
 {
     match fault {
@@ -268,7 +268,7 @@ fn replay_log<'a, F: Open, W: Sink>(
     out: &mut W,
     notes: &mut Notes,
 ) -> Result<(), Fault<'a>>
-    requires { AreApart options.now }
+    requires { HasValidAddresses options.now }
     ensures replayed { OnOk result (HasReplayed (F.file files.old) options.now (W.contents out.old) (W.contents out.new)) }
     ensures fault { IfErr result (IsReplayFault (F.file files.old) options.now) }
     // The output before a fault: the pool's file is read first, then the log is opened, and then the first screen is drawn.

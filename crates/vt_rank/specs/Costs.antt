@@ -50,6 +50,6 @@ pub record IsWithin (g : Graph) (cap : ℕ) : Type 0 where
   pub groups : (k : ℕ) → group_cost g k ≤ cap
 
 -- the least node over the cap, or the first group over it if no node is
-abbrev pub IsFirstOver : Graph → ℕ → OverBudget → Type 0
-IsFirstOver g cap (over.Node n) = (cap < cost_of g n) × ((m : ℕ) → m < n → cost_of g m ≤ cap)
-IsFirstOver g cap (over.Group k) = ((n : ℕ) → cost_of g n ≤ cap) × (cap < group_cost g k) × ((j : ℕ) → j < k → group_cost g j ≤ cap)
+abbrev pub IsFirstOverCap : Graph → ℕ → OverBudget → Type 0
+IsFirstOverCap g cap (over.Node n) = (cap < cost_of g n) × ((m : ℕ) → m < n → cost_of g m ≤ cap)
+IsFirstOverCap g cap (over.Group k) = ((n : ℕ) → cost_of g n ≤ cap) × (cap < group_cost g k) × ((j : ℕ) → j < k → group_cost g j ≤ cap)

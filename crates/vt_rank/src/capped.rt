@@ -3,7 +3,7 @@
 ghost use Rattle.std.specs.Prelude.{◌≡◌, ℕ, List, ◌<◌, ◌≤◌, IfOk, IfErr, IfSome, IfNone, slice_index};
 ghost use Rattle.vt_rank.specs.Paths.{AreRanks};
 ghost use Rattle.vt_rank.specs.declared.graph.Graph.{Graph as Network};
-ghost use Rattle.vt_rank.specs.Costs.{group_total, AreCosts, IsWithin, IsFirstOver, CostsAreTotals};
+ghost use Rattle.vt_rank.specs.Costs.{group_total, AreCosts, IsWithin, IsFirstOverCap, CostsAreTotals};
 
 use crate::budget::{Costs, OverBudget};
 use crate::graph::Graph;
@@ -20,7 +20,7 @@ pub fn costs(graph: &Graph, ranks: &Ranks, cap: u32) -> Result<Costs, OverBudget
     requires { AreRanks graph.now ranks.now }
     ensures costs { IfOk result (AreCosts graph.now) }
     ensures within { IfOk result (λ _. IsWithin graph.now cap) }
-    ensures over { IfErr result (IsFirstOver graph.now cap) }
+    ensures over { IfErr result (IsFirstOverCap graph.now cap) }
 
     // The cost of a node is the sum of its items' costs.
     ensures totals { CostsAreTotals graph.now }

@@ -39,7 +39,7 @@ pub record HasValues (rest : List ℕ) (kind : Kind) (values : List Value) : Typ
   pub parts : drop 3 rest ≡ spelling (fields_of kind) values ++ tail
 
 -- the bytes end inside the fields of a known type
-pub record IsCut (rest : List ℕ) : Type 0 where
+pub record EndsInFields (rest : List ℕ) : Type 0 where
   pub head : 3 ≤ length rest
   pub named : id_at rest ≢ null_id
   pub known : kind_at (type_at rest) ≢ None
@@ -47,7 +47,7 @@ pub record IsCut (rest : List ℕ) : Type 0 where
 
 -- the bytes end inside the ID and the type, or inside the fields
 abbrev pub IsTruncated : List ℕ → Type 0
-IsTruncated rest = (length rest < 3) ⊎ IsCut rest
+IsTruncated rest = (length rest < 3) ⊎ EndsInFields rest
 
 -- the first value not allowed is in a field of this sort, at this offset from the first field
 abbrev pub IsFirstImproper : RecordField → ℕ → List RecordField → List Value → Type 0

@@ -19,7 +19,7 @@ use Rattle.vt_kinds.specs.References.{is_member}
 use Rattle.vt_kinds.specs.Scales.{scale_number, scales, scale_at, scale_among}
 use Rattle.vt_commands.specs.declared.command.Command.TheVariants.{ChangeAttribute}
 use Rattle.vt_stores.specs.Shapes.{Fixed, fixed}
-use Rattle.vt_objects.specs.AttributeFields.{IsField, IsNamed, field_of, written}
+use Rattle.vt_objects.specs.AttributeFields.{IsField, IsFieldNamed, field_of, written}
 use Rattle.vt_effects.specs.Fields.{or_scale, scale_of, decimals_of, with_field}
 use Rattle.vt_effects.specs.Fields as effects
 use Rattle.vt_effects.specs.Changes.{ChangesKeep, if_passed, left, takes, put_attribute, change_attribute}
@@ -71,7 +71,7 @@ record IsPut (named : Option Kind) (n : ℕ) (o : Seen) (attribute : Attribute) 
   of : takes (kind_of o) attribute.value_type n named ≡ true → HasWritten attribute n o (with_field attribute.field n o)
 
 put : {named : Option Kind} {n : ℕ} {o : Seen} {attribute : Attribute} {Others : Type 0} (place : ℕ) (value : Value)
-    → IsNamed (kind_of o) attribute.field place → slice_get (fields_of (kind_of o)) place ≡ Some (field_of attribute.value_type)
+    → IsFieldNamed (kind_of o) attribute.field place → slice_get (fields_of (kind_of o)) place ≡ Some (field_of attribute.value_type)
     → values_of (with_field attribute.field n o) ≡ set (values_of o) place value
     → (takes (kind_of o) attribute.value_type n named ≡ true → value ≡ written attribute.value_type n) → Others → IsPut named n o attribute × Others
 put {named = named} {n = n} {o = o} {attribute = attribute} place value name typed values is others = (here, others)
@@ -86,7 +86,7 @@ put {named = named} {n = n} {o = o} {attribute = attribute} place value name typ
     }
 
 plain : {named : Option Kind} {n : ℕ} {o : Seen} {attribute : Attribute} {Others : Type 0} (place : ℕ)
-    → IsNamed (kind_of o) attribute.field place → slice_get (fields_of (kind_of o)) place ≡ Some (field_of attribute.value_type)
+    → IsFieldNamed (kind_of o) attribute.field place → slice_get (fields_of (kind_of o)) place ≡ Some (field_of attribute.value_type)
     → values_of (with_field attribute.field n o) ≡ set (values_of o) place (written attribute.value_type n) → Others
     → IsPut named n o attribute × Others
 plain {n = n} {attribute = attribute} place name typed values others =

@@ -4,7 +4,7 @@ use Rattle.vt_stores.specs.Stores.{Objects, by_rising_id}
 use Rattle.vt_pool.specs.Pools.{Entry, AreRecords, IsInForce, joined}
 
 -- The bytes are whole records, and the objects are those of the records in force, by rising ID.
-pub record IsPoolOf (bytes : List ℕ) (objects : Objects) : Type 0 where
+pub record IsSortedPoolOf (bytes : List ℕ) (objects : Objects) : Type 0 where
   pub records : List Entry
   pub whole : AreRecords records
   pub spelled : bytes ≡ joined records

@@ -4,7 +4,7 @@
 ghost use Rattle.std.specs.Prelude.{◌≡◌, IfOk};
 ghost use Rattle.vt_stores.specs.Stores.{by_rising_id};
 ghost use Rattle.vt_verify.specs.Rules.{IsVerified};
-ghost use Rattle.vt_testing.specs.Pools.{IsPoolOf};
+ghost use Rattle.vt_testing.specs.Pools.{IsSortedPoolOf};
 
 use std::alloc::{AllocError, Global};
 use vt_pool::{Pool, read_pool};
@@ -28,7 +28,7 @@ pub const POOL: &[u8] = &[
 
 /// Reads and verifies a pool. An error is want of memory or a refused pool.
 pub fn accepted_pool(alloc: Global, bytes: &[u8]) -> Result<Accepted, AllocError>
-    ensures read { IfOk result (IsPoolOf bytes.now) }
+    ensures read { IfOk result (IsSortedPoolOf bytes.now) }
     ensures verified { IfOk result IsVerified }
 {
     match read_pool(alloc, bytes) {

@@ -4,7 +4,7 @@ use Rattle.std.proofs.lemmas.Bool.{false≢true}
 use Rattle.vt_can.specs.declared.transport.sessions.Timed.{Timed}
 use Rattle.vt_can.specs.declared.transport.wire.Reason.TheVariants.{Disorder}
 use Rattle.vt_can.specs.transport.Messages.{Message, joined}
-use Rattle.vt_can.specs.transport.Histories.{Came, TimedOut, Sent, untimed}
+use Rattle.vt_can.specs.transport.Histories.{Came, TimedOut, HasBrought, untimed}
 use Rattle.vt_can.specs.transport.Steps.{event_step, session_after}
 use Rattle.vt_can.proofs.lemmas.transport.Standing.{last_of}
 use Rattle.vt_transport.specs.declared.messages.Opening.{Opening}
@@ -93,8 +93,8 @@ message_step : (now : ℕ) (hs : List SessionEvent) (session : Option (Timed Ses
 message_step now hs session x message m whole =
     let number = whole.packet.0 in
     let packet = whole.packet.1 in
-    let sent : Sent spelling (Came (Data number packet) ∷ hs) whole.opening whole.packets =
-    subst (λ (y : SessionEvent). Sent spelling (y ∷ hs) whole.opening whole.packets) whole.packet.2 whole.sent in
+    let sent : HasBrought spelling (Came (Data number packet) ∷ hs) whole.opening whole.packets =
+    subst (λ (y : SessionEvent). HasBrought spelling (y ∷ hs) whole.opening whole.packets) whole.packet.2 whole.sent in
     subst (λ (y : SessionEvent). (event_step protocol now session y).message ≡ Some message) (sym whole.packet.2)
     (message_next now number packet hs session whole.opening whole.packets message m
     (packet_last hs number packet whole.opening whole.packets (last_of spelling _ hs whole.opening whole.packets sent)) whole.all whole.pgn whole.bytes)

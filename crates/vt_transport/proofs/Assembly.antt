@@ -5,7 +5,7 @@ use Rattle.vt_can.specs.Assigned.{VT_TO_ECU}
 use Rattle.vt_can.specs.declared.transport.sessions.Timed.{Timed}
 use Rattle.vt_can.specs.declared.transport.wire.Reason.TheVariants.{Disorder}
 use Rattle.vt_can.specs.transport.Messages.{joined}
-use Rattle.vt_can.specs.transport.Histories.{Came, TimedOut, Sent, AreQuiet, untimed}
+use Rattle.vt_can.specs.transport.Histories.{Came, TimedOut, HasBrought, AreQuiet, untimed}
 use Rattle.vt_can.specs.transport.Protocols.{ended}
 use Rattle.vt_can.specs.transport.Steps as steps
 use Rattle.vt_can.specs.transport.Steps.{event_step, session_after}
@@ -67,7 +67,7 @@ pub record IsNext (hs : List SessionEvent) (number : ℕ) (packet : List ℕ) (o
   pub before : List (List ℕ)
   pub all : packets ≡ packet ∷ before
   pub next : number ≡ length before + 1
-  pub sent : Sent spelling hs o before
+  pub sent : HasBrought spelling hs o before
 
 next_of : (hs later earlier : List SessionEvent) (number : ℕ) (packet : List ℕ) (o : Opening) (packets : List (List ℕ))
     → hs ≡ later ++ Came (Rts o) ∷ earlier → opens o ≡ true → AreQuiet spelling later → (number, packet) ∷ packets_in later ≡ numbered packets
@@ -93,7 +93,7 @@ packet_last hs number packet o packets (Later later earlier split opened quiet r
     next_of hs later earlier number packet o packets split opened rest in_order
 
 pub sent_packet : (hs : List SessionEvent) (number : ℕ) (packet : List ℕ) (o : Opening) (packets : List (List ℕ)) → number ≡ length packets + 1
-    → Sent spelling hs o packets → Sent spelling (Came (Data number packet) ∷ hs) o (packet ∷ packets)
+    → HasBrought spelling hs o packets → HasBrought spelling (Came (Data number packet) ∷ hs) o (packet ∷ packets)
 sent_packet hs number packet o packets next =
     sent_more spelling hs (Came (Data number packet)) o packets (packet ∷ packets) tt
     (λ later in_order. ap₂ (λ (n : ℕ) (ys : List (ℕ × List ℕ)). (n, packet) ∷ ys) next in_order)

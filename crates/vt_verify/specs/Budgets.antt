@@ -43,8 +43,8 @@ unfoldable pub budget : Shape → ℕ → ℕ → ℕ
 budget shape id event = total (cost shape) shape (listing id event)
 
 -- each macro costs the sum of its commands
-abbrev pub CostsAreTotals : Shape → Type 0
-CostsAreTotals shape = (id : ℕ) → cost shape id ≡ macro_cost (cost shape) shape id
+abbrev pub MacroCostsAreTotals : Shape → Type 0
+MacroCostsAreTotals shape = (id : ℕ) → cost shape id ≡ macro_cost (cost shape) shape id
 
 -- the events at which macros run, and the budget of each
 pub record AreBudgets (shape : Shape) (events : List Listing) (steps : List ℕ) : Type 0 where

@@ -18,7 +18,7 @@ use Rattle.vt_chains.specs.Inclusions.{included, IsShallow, IsTooDeep}
 use Rattle.vt_verify.specs.Macros.{Piece, macros, is_whole, pieces, is_allowed}
 use Rattle.vt_verify.specs.Targets.{macro_references, has_attribute}
 use Rattle.vt_verify.specs.Triggers.{triggered}
-use Rattle.vt_verify.specs.Budgets.{cost, budget, CostsAreTotals}
+use Rattle.vt_verify.specs.Budgets.{cost, budget, MacroCostsAreTotals}
 
 -- ---- the first culprit of each rule
 
@@ -118,7 +118,7 @@ pub record IsAcceptable (limits : Limits) (objects : Objects) : Type 0 where
 pub record IsVerified (objects : Objects) : Type 0 where
   pub stored : AreStored objects
   pub acceptable : IsAcceptable terminal objects
-  pub totals : CostsAreTotals (shape_of objects)
+  pub totals : MacroCostsAreTotals (shape_of objects)
 
 -- ---- refusals
 

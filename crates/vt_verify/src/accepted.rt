@@ -9,7 +9,7 @@ ghost use Rattle.vt_stores.specs.Shapes.{shape_of};
 ghost use Rattle.vt_verify.specs.Macros.{cut_or_none, commands};
 ghost use Rattle.vt_chains.specs.Depths.{HasDepths};
 ghost use Rattle.vt_verify.specs.TriggerGraphs.{AreListings};
-ghost use Rattle.vt_verify.specs.Budgets.{CostsAreTotals, budget};
+ghost use Rattle.vt_verify.specs.Budgets.{MacroCostsAreTotals, budget};
 ghost use Rattle.vt_verify.specs.Orders.{IsByRank};
 ghost use Rattle.vt_verify.specs.Rules.{IsAcceptable, IsVerified};
 ghost use Rattle.vt_chains.specs.Limits.{terminal};
@@ -50,7 +50,7 @@ impl Model for Accepted {
     ghost use Rattle.vt_chains.specs.Limits.{terminal};
     ghost use Rattle.vt_chains.specs.Depths.{HasDepths};
     ghost use Rattle.vt_verify.specs.TriggerGraphs.{AreListings};
-    ghost use Rattle.vt_verify.specs.Budgets.{CostsAreTotals, AreBudgets};
+    ghost use Rattle.vt_verify.specs.Budgets.{MacroCostsAreTotals, AreBudgets};
     ghost use Rattle.vt_verify.specs.Orders.{IsByRank};
 
     ghost Value = { Objects };
@@ -59,7 +59,7 @@ impl Model for Accepted {
 
     ghost invariant = { λ a. AreStored a.objects × IsAcceptable terminal a.objects
         × AreBudgets (shape_of a.objects) a.budgets.events.keys a.budgets.steps.items
-        × IsByRank (shape_of a.objects) a.order.items × CostsAreTotals (shape_of a.objects)
+        × IsByRank (shape_of a.objects) a.order.items × MacroCostsAreTotals (shape_of a.objects)
         × HasDepths terminal a.objects a.depths.items × AreListings (shape_of a.objects) (a.budgets.events.keys, lists a.budgets.groups) };
 }
 
@@ -71,7 +71,7 @@ impl Accepted {
         ensures stored { AreStored self.now }
         ensures acceptable { IsAcceptable terminal self.now }
         // Each macro costs the sum of its commands.
-        ensures totals { CostsAreTotals (shape_of self.now) }
+        ensures totals { MacroCostsAreTotals (shape_of self.now) }
         ensures verified { IsVerified self.now }
     {
         self.objects.entries()
@@ -84,7 +84,7 @@ impl Accepted {
         ensures stored { AreStored self }
         ensures acceptable { IsAcceptable terminal self }
         // Each macro costs the sum of its commands.
-        ensures totals { CostsAreTotals (shape_of self) }
+        ensures totals { MacroCostsAreTotals (shape_of self) }
         ensures depths { HasDepths terminal self result.depths.items }
         ensures listings { AreListings (shape_of self) result.listings }
     {
@@ -133,7 +133,7 @@ impl Accepted {
     pub fn budget(&self, id: ObjectId, event: u8) -> u32
         ensures budget { result ≡ budget (shape_of self.now) id event }
         // Each macro costs the sum of its commands.
-        ensures totals { CostsAreTotals (shape_of self.now) }
+        ensures totals { MacroCostsAreTotals (shape_of self.now) }
     {
         match self.budgets.events.get_index_of(&Listing { id, event }) {
             Some(place) => self.budgets.steps[place],

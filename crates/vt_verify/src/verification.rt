@@ -5,7 +5,7 @@ ghost use Rattle.vt_stores.specs.Stores.{AreStored, by_rising_id};
 ghost use Rattle.vt_rank.specs.Costs.{AreCosts};
 ghost use Rattle.vt_rank.specs.Paths.{AreRanks, HasNoCircle};
 ghost use Rattle.vt_stores.specs.Shapes.{shape_of};
-ghost use Rattle.vt_verify.specs.Budgets.{CostsAreTotals};
+ghost use Rattle.vt_verify.specs.Budgets.{MacroCostsAreTotals};
 ghost use Rattle.vt_chains.specs.Depths.{HasDepths};
 ghost use Rattle.vt_verify.specs.TriggerGraphs.{AreTriggers};
 ghost use Rattle.vt_verify.specs.Updates.{updated};
@@ -242,7 +242,7 @@ fn check_costs(
     requires ranks { AreRanks triggers.now.graph ranks.now }
     ensures ok { OnOk result (IsAcceptable limits objects.now) }
     ensures costs { IfOk result (AreCosts triggers.now.graph) }
-    ensures totals { IfOk result (λ _. CostsAreTotals (shape_of objects.now)) }
+    ensures totals { IfOk result (λ _. MacroCostsAreTotals (shape_of objects.now)) }
     ensures refused { IfErr result (IsRefused limits objects.now) }
     ensures no_memory { IfErr result (λ refusal. IsWantOfMemory refusal → ⊥) }
 {

@@ -9,7 +9,7 @@ abbrev pub Lacks : ℕ → List ℕ → Type 0
 Lacks byte text = AllPass (λ other. not (other == byte)) text
 
 -- the split of a text at the first occurrence of a byte
-pub record IsCut (byte : ℕ) (text front back : List ℕ) : Type 0 where
+pub record IsSplitAtByte (byte : ℕ) (text front back : List ℕ) : Type 0 where
   pub front_lacks : Lacks byte front
   pub whole : text ≡ front ++ byte ∷ back
 
@@ -23,5 +23,5 @@ pub record IsThirdWord (text word : List ℕ) : Type 0 where
 -- an object ID, and more text after the first space
 pub record IsIdAnd (text : List ℕ) (id : ℕ) (more : List ℕ) : Type 0 where
   pub digits : List ℕ
-  pub cut : IsCut 32 text digits more
+  pub cut : IsSplitAtByte 32 text digits more
   pub id_is : IsNumber digits id 65534

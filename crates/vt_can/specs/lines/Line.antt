@@ -104,13 +104,13 @@ pub data IsRead (content : List ℕ) : Result ParsedLine LineFault → Type 0 wh
   frame_line : (time : ℕ) (rest id text : List ℕ) → HasTime content time rest → HasShape rest id text → IsRead content (frame_line_reading time id text)
 
 -- the reading of a line
-abbrev pub Reads : List ℕ → Result ParsedLine LineFault → Type 0
-Reads line reading = (content : List ℕ) × IsContent line content × IsRead content reading
+abbrev pub ReadsAs : List ℕ → Result ParsedLine LineFault → Type 0
+ReadsAs line reading = (content : List ℕ) × IsContent line content × IsRead content reading
 
 -- a line with a reading
 abbrev pub HasReading : List ℕ → Type 0
-HasReading line = (reading : Result ParsedLine LineFault) × Reads line reading
+HasReading line = (reading : Result ParsedLine LineFault) × ReadsAs line reading
 
 -- The reading of a line is unique.
 abbrev pub ReadingsAreOne : Type 0
-ReadingsAreOne = (line : List ℕ) (a b : Result ParsedLine LineFault) → Reads line a → Reads line b → a ≡ b
+ReadingsAreOne = (line : List ℕ) (a b : Result ParsedLine LineFault) → ReadsAs line a → ReadsAs line b → a ≡ b

@@ -6,7 +6,7 @@ use Rattle.hex.specs.Hex.{encode_upper}
 use Rattle.byteorder.specs.Endian.{big_bytes}
 use Rattle.vt_can.specs.declared.frames.frame.Frame.{Frame}
 use Rattle.vt_can.specs.lines.Readings.{FrameAt}
-use Rattle.vt_can.specs.lines.Line.{Reads}
+use Rattle.vt_can.specs.lines.Line.{ReadsAs}
 
 -- a frame as `ID#DATA`: eight digits, a sign, and two digits for each byte of data
 abbrev pub frame_text : Frame → List ℕ
@@ -29,4 +29,4 @@ pub record IsFrame (frame : Frame) : Type 0 where
 
 -- The line written for a frame and its time reads back as both.
 abbrev pub WrittenLinesAreRead : Type 0
-WrittenLinesAreRead = (time : ℕ) (frame : Frame) → time < 10 ^ 18 → IsFrame frame → Reads (line_text time frame) (Ok (FrameAt time frame))
+WrittenLinesAreRead = (time : ℕ) (frame : Frame) → time < 10 ^ 18 → IsFrame frame → ReadsAs (line_text time frame) (Ok (FrameAt time frame))

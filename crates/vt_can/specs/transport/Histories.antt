@@ -38,7 +38,7 @@ module _ {F O P : Type 0} (spelling : Spelling F O P) where
   AreQuiet (h ∷ hs) = spelling.IsQuiet h × AreQuiet hs
 
   -- After a request that opens a session, all session events are quiet and bring these packets.
-  pub record Sent (hs : List (SessionEvent F)) (o : O) (packets : P) : Type 0 where
+  pub record HasBrought (hs : List (SessionEvent F)) (o : O) (packets : P) : Type 0 where
     pub earlier : List (SessionEvent F)
     pub later : List (SessionEvent F)
     pub split : hs ≡ later ++ Came (spelling.request o) ∷ earlier
@@ -48,14 +48,14 @@ module _ {F O P : Type 0} (spelling : Spelling F O P) where
 
   -- a session is open, with packets still to come
   pub record IsOpen (hs : List (SessionEvent F)) (o : O) (packets : P) : Type 0 where
-    pub sent : Sent hs o packets
+    pub sent : HasBrought hs o packets
     pub more : spelling.count packets < spelling.total o
 
   -- x is the last packet of a message
   pub record IsWhole (hs : List (SessionEvent F)) (x : SessionEvent F) (message : Message) : Type 0 where
     pub opening : O
     pub packets : P
-    pub sent : Sent (x ∷ hs) opening packets
+    pub sent : HasBrought (x ∷ hs) opening packets
     pub all : spelling.count packets ≡ spelling.total opening
     pub packet : spelling.IsPacket x
     pub pgn : message.pgn ≡ spelling.pgn opening

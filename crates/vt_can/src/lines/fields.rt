@@ -2,7 +2,7 @@
 
 ghost use Rattle.std.specs.Prelude.{◌≡◌, ◌⊎◌, ◌↔◌, ℕ, List, codes, IsTrue, MatchOption};
 ghost use Rattle.vt_can.specs.lines.Line.{HasTime, HasShape};
-ghost use Rattle.vt_can.specs.lines.Fields.{Lacks, IsCut, IsThirdWord};
+ghost use Rattle.vt_can.specs.lines.Fields.{Lacks, IsSplitAtByte, IsThirdWord};
 
 use crate::lines::digits::{micros, number};
 
@@ -63,7 +63,7 @@ fn is_letter(text: &[u8]) -> bool
 
 /// Splits a text at the first occurrence of `byte`, which is in neither half.
 pub fn cut(text: &[u8], byte: u8) -> Option<(&[u8], &[u8])>
-    ensures { MatchOption result (Lacks byte text.now) (λ p. IsCut byte text.now p.0.now p.1.now) }
+    ensures { MatchOption result (Lacks byte text.now) (λ p. IsSplitAtByte byte text.now p.0.now p.1.now) }
 {
     let place = text.iter().position(|other| *other == byte)?;
     Some((&text[..place], &text[place + 1..]))

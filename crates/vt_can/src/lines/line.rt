@@ -2,7 +2,7 @@
 
 ghost use Rattle.std.specs.Prelude.{◌↔◌, IsTrue};
 ghost use Rattle.vt_can.specs.lines.Readings.{reading_of};
-ghost use Rattle.vt_can.specs.lines.Line.{IsContent, IsComment, Reads};
+ghost use Rattle.vt_can.specs.lines.Line.{IsContent, IsComment, ReadsAs};
 
 use crate::frames::Frame;
 use crate::lines::action::action;
@@ -75,7 +75,7 @@ pub enum LineFault {
 
 /// Reads a line, given without its newline. One carriage return at its end is dropped.
 pub fn parse_line(line: &[u8]) -> Result<Line<'_>, LineFault>
-    ensures { Reads line.now (reading_of result) }
+    ensures { ReadsAs line.now (reading_of result) }
 {
     let content = content_of(line);
     if is_comment(content) {

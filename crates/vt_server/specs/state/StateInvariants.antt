@@ -1,12 +1,12 @@
 -- The invariants of every terminal on its address claims and its sets.
 use Rattle.std.specs.Prelude.{◌≢◌, ◌<◌, ℕ}
-use Rattle.vt_names.specs.Claims.{IsRising}
+use Rattle.vt_names.specs.Claims.{IsRisingByName}
 use Rattle.vt_names.specs.Registry.{AreApart}
 use Rattle.vt_server.specs.Terminals.{State}
 
 -- every state of a terminal: claims by rising NAME, sets at distinct addresses
 pub record IsOrderly (s : State) : Type 0 where
-  pub rising : IsRising s.claims.addresses
+  pub rising : IsRisingByName s.claims.addresses
   pub apart : AreApart s.sets
 
 -- an address that is not the terminal's own

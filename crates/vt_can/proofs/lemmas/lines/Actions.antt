@@ -6,7 +6,7 @@ use Rattle.std.proofs.lemmas.List.{append_cancel_left}
 use Rattle.hex.specs.Hex.{decode_of}
 use Rattle.hex.proofs.HexLemmas.{decode_of-same}
 use Rattle.vt_can.specs.lines.Actions.{ActionValue, Press, Release, Select, Number, Text, Set, HasId, HasIdAnd, IsActionText, IsNumber}
-use Rattle.vt_can.specs.lines.Fields.{IsCut, IsIdAnd, Lacks}
+use Rattle.vt_can.specs.lines.Fields.{IsSplitAtByte, IsIdAnd, Lacks}
 use Rattle.vt_can.proofs.lemmas.lines.Cutting.{Lacks-from_pass, cut_missing, one_cut}
 
 -- the first and the third byte of a text, which differ from word to word
@@ -49,13 +49,13 @@ id_and_spelled : (word digits more : List ℕ) → word ++ digits ++ codes " " +
 id_and_spelled word digits more = simp append_assoc
 
 -- the text after the word, split at the space
-id_and-cut : (word rest x more : List ℕ) (id : ℕ) → rest ≡ word ++ x → (h : HasIdAnd word rest id more) → IsCut 32 x h.digits more
+id_and-cut : (word rest x more : List ℕ) (id : ℕ) → rest ≡ word ++ x → (h : HasIdAnd word rest id more) → IsSplitAtByte 32 x h.digits more
 id_and-cut word rest x more id e h = record {
   front_lacks = number_lacks_space h.id_is;
   whole = append_cancel_left word x (h.digits ++ 32 ∷ more) (sym e ∙ h.whole ∙ id_and_spelled word h.digits more);
 }
 
-cut-one : {c : ℕ} {text a x b y : List ℕ} → IsCut c text a x → IsCut c text b y → (a ≡ b) × (x ≡ y)
+cut-one : {c : ℕ} {text a x b y : List ℕ} → IsSplitAtByte c text a x → IsSplitAtByte c text b y → (a ≡ b) × (x ≡ y)
 cut-one {c = c} {a = a} {x = x} {b = b} {y = y} p q = one_cut c a b x y p.front_lacks q.front_lacks (sym p.whole ∙ q.whole)
 
 id_and-one : {word rest : List ℕ} {i j : ℕ} {x y : List ℕ} → HasIdAnd word rest i x → HasIdAnd word rest j y → (i ≡ j) × (x ≡ y)
@@ -111,7 +111,7 @@ pub number-made : (rest x : List ℕ) → rest ≡ codes "number " ++ x → (id 
 number-made rest x e id n more i is =
     (more, record { digits = i.digits; whole = e ∙ ap (λ (y : List ℕ). codes "number " ++ y) i.cut.whole ∙ sym (id_and_spelled (codes "number ") i.digits more); id_is = i.id_is }, is)
 
-pub id_and-none : (text digits more : List ℕ) → IsCut 32 text digits more → ((id : ℕ) → IsNumber digits id 65534 → ⊥) → (id : ℕ) (rest : List ℕ) → IsIdAnd text id rest → ⊥
+pub id_and-none : (text digits more : List ℕ) → IsSplitAtByte 32 text digits more → ((id : ℕ) → IsNumber digits id 65534 → ⊥) → (id : ℕ) (rest : List ℕ) → IsIdAnd text id rest → ⊥
 id_and-none text digits more cut none id rest i =
     let same = cut-one i.cut cut in
     let digits-same = same.0 in

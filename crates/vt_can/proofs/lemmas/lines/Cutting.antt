@@ -6,7 +6,7 @@ use Rattle.std.proofs.lemmas.Bool.{eq-eqb, eqb-true, false≢true, false_from_ne
 use Rattle.std.proofs.lemmas.List.{append-nil}
 use Rattle.std.proofs.lemmas.List.Elements.{All-append, All-cons, All-head, All-nil, All-tail}
 use Rattle.vt_can.specs.lines.Line.{IsSuffix}
-use Rattle.vt_can.specs.lines.Fields.{Lacks, IsCut, IsThirdWord}
+use Rattle.vt_can.specs.lines.Fields.{Lacks, IsSplitAtByte, IsThirdWord}
 
 pub Lacks-head : (c x : ℕ) (xs : List ℕ) → Lacks c (x ∷ xs) → x ≢ c
 Lacks-head c x xs lacks e =
@@ -83,7 +83,7 @@ third_word-one {a = a} {b = b} v w =
     word_one a b v.suffix w.suffix v.no_space w.no_space (suffix_begins v.suffix v.suffix_is) (suffix_begins w.suffix w.suffix_is) (sym v.whole ∙ w.whole)
 
 -- a text has no third word if its first space is not followed by a suffix
-pub third_word-none : (text front back : List ℕ) → IsCut 32 text front back → (back ≡ 82 ∷ [] → ⊥) → (back ≡ 84 ∷ [] → ⊥) → (word : List ℕ) → IsThirdWord text word → ⊥
+pub third_word-none : (text front back : List ℕ) → IsSplitAtByte 32 text front back → (back ≡ 82 ∷ [] → ⊥) → (back ≡ 84 ∷ [] → ⊥) → (word : List ℕ) → IsThirdWord text word → ⊥
 third_word-none text front back cut no_r no_t word w =
     elim w.suffix_is [
       | inl none ↦ cut_missing 32 word front back w.no_space (sym (append-nil word) ∙ ap (λ (t : List ℕ). word ++ t) (sym none) ∙ sym w.whole ∙ cut.whole)

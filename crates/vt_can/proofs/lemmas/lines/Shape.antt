@@ -5,7 +5,7 @@ use Rattle.std.specs.Char.{is_ascii_digit}
 use Rattle.std.specs.List.{AllPass}
 use Rattle.std.specs.Str.Parse.{digits_value}
 use Rattle.vt_can.specs.lines.Line.{AreDigits, HasShape, HasTime, IsFraction}
-use Rattle.vt_can.specs.lines.Fields.{IsCut, IsThirdWord, Lacks}
+use Rattle.vt_can.specs.lines.Fields.{IsSplitAtByte, IsThirdWord, Lacks}
 use Rattle.vt_can.proofs.lemmas.lines.Cutting.{Lacks-append, Lacks-cons, Lacks-from_pass, Lacks-left, Lacks-right, Lacks-tail, cut_missing, one_cut, third_word-one}
 
 -- ---- the time
@@ -48,7 +48,7 @@ time-one a b =
     (a.time_is ∙ ap (λ (x : List ℕ). digits_value 10 x * 10 ^ 6 + digits_value 10 (take 6 a.fraction)) seconds ∙ ap (λ (x : List ℕ). digits_value 10 b.seconds * 10 ^ 6 + digits_value 10 (take 6 x)) fraction ∙ sym b.time_is, same.2)
 
 -- the splits made by `time_of`
-pub time_cut-made : {content a s b f r : List ℕ} → content ≡ 40 ∷ a → IsCut 46 a s b → IsCut 41 b f r → TimeCut content s f r
+pub time_cut-made : {content a s b f r : List ℕ} → content ≡ 40 ∷ a → IsSplitAtByte 46 a s b → IsSplitAtByte 41 b f r → TimeCut content s f r
 time_cut-made {s = s} opens first second = record {
   is = opens ∙ ap (λ (x : List ℕ). 40 ∷ x) (first.whole ∙ ap (λ (x : List ℕ). s ++ 46 ∷ x) second.whole);
   seconds_lack = first.front_lacks;
@@ -60,7 +60,7 @@ no_point content a opens lacks time rest h =
     let t = time-cut h in
     cut_missing 46 a h.seconds (h.fraction ++ 41 ∷ rest) lacks (tail_same 40 a (h.seconds ++ 46 ∷ (h.fraction ++ 41 ∷ rest)) (sym opens ∙ t.is))
 
-pub no_close : (content a s b : List ℕ) → content ≡ 40 ∷ a → IsCut 46 a s b → Lacks 41 b → (time : ℕ) (rest : List ℕ) → HasTime content time rest → ⊥
+pub no_close : (content a s b : List ℕ) → content ≡ 40 ∷ a → IsSplitAtByte 46 a s b → Lacks 41 b → (time : ℕ) (rest : List ℕ) → HasTime content time rest → ⊥
 no_close content a s b opens cut lacks time rest h =
     let t = time-cut h in
     let e = tail_same 40 a (h.seconds ++ 46 ∷ (h.fraction ++ 41 ∷ rest)) (sym opens ∙ t.is) in
@@ -108,7 +108,7 @@ shape-one p q =
     (same.1, same.2)
 
 -- the splits made by `shape_of`
-pub shape_cut-made : {rest a i last word id text : List ℕ} → rest ≡ 32 ∷ a → IsCut 32 a i last → IsThirdWord last word → IsCut 35 word id text → ShapeCut rest i id text
+pub shape_cut-made : {rest a i last word id text : List ℕ} → rest ≡ 32 ∷ a → IsSplitAtByte 32 a i last → IsThirdWord last word → IsSplitAtByte 35 word id text → ShapeCut rest i id text
 shape_cut-made {last = last} opens first third second = record {
   last = last;
   is = opens ∙ ap (λ (x : List ℕ). 32 ∷ x) first.whole;
@@ -122,18 +122,18 @@ no_interface rest a opens lacks id text h =
     let s = shape-cut h in
     cut_missing 32 a h.interface s.last lacks (tail_same 32 a (h.interface ++ 32 ∷ s.last) (sym opens ∙ s.is))
 
-last_one : (rest a i last : List ℕ) → rest ≡ 32 ∷ a → IsCut 32 a i last → (id text : List ℕ) → (h : HasShape rest id text) → last ≡ (shape-cut h).last
+last_one : (rest a i last : List ℕ) → rest ≡ 32 ∷ a → IsSplitAtByte 32 a i last → (id text : List ℕ) → (h : HasShape rest id text) → last ≡ (shape-cut h).last
 unfolding shape-cut
 last_one rest a i last opens cut id text h =
     let s = shape-cut h in
     (one_cut 32 i h.interface last s.last cut.front_lacks s.interface_lacks (sym cut.whole ∙ tail_same 32 a (h.interface ++ 32 ∷ s.last) (sym opens ∙ s.is))).1
 
-pub no_word : (rest a i last : List ℕ) → rest ≡ 32 ∷ a → IsCut 32 a i last → ((word : List ℕ) → IsThirdWord last word → ⊥) → (id text : List ℕ) → HasShape rest id text → ⊥
+pub no_word : (rest a i last : List ℕ) → rest ≡ 32 ∷ a → IsSplitAtByte 32 a i last → ((word : List ℕ) → IsThirdWord last word → ⊥) → (id text : List ℕ) → HasShape rest id text → ⊥
 no_word rest a i last opens cut none id text h =
     let e = last_one rest a i last opens cut id text h in
     none (id ++ 35 ∷ text) (rw (sym e) at (shape-cut h).word)
 
-pub no_sign : (rest a i last word : List ℕ) → rest ≡ 32 ∷ a → IsCut 32 a i last → IsThirdWord last word → Lacks 35 word → (id text : List ℕ) → HasShape rest id text → ⊥
+pub no_sign : (rest a i last word : List ℕ) → rest ≡ 32 ∷ a → IsSplitAtByte 32 a i last → IsThirdWord last word → Lacks 35 word → (id text : List ℕ) → HasShape rest id text → ⊥
 no_sign rest a i last word opens cut third lacks id text h =
     let e = last_one rest a i last opens cut id text h in
     cut_missing 35 word id text lacks (third_word-one third (rw (sym e) at (shape-cut h).word))

@@ -1,7 +1,7 @@
 -- Histories of a source, the latest session event first, and the sessions open in them.
 use Rattle.std.proofs.Common.{◌≡◌, ◌<◌, Bool, true, false, cond, List, [], ◌∷◌, ◌++◌, Option, Some, None, ap, sym, subst, ◌∙◌, refl}
 use Rattle.vt_can.specs.declared.transport.sessions.Timed.{Timed}
-use Rattle.vt_can.specs.transport.Histories.{SessionEvent, Came, Spelling, AreQuiet, Sent, IsOpen}
+use Rattle.vt_can.specs.transport.Histories.{SessionEvent, Came, Spelling, AreQuiet, HasBrought, IsOpen}
 use Rattle.vt_can.specs.transport.Steps.{Matches, IsStanding}
 
 module _ {F : Type 0} where
@@ -16,12 +16,12 @@ module _ {F : Type 0} where
   no_history x (y ∷ later) earlier e = cc
 
 module _ {F O P : Type 0} (s : Spelling F O P) where
-  pub sent_first : (hs : List (SessionEvent F)) (o : O) (packets : P) → s.opens o ≡ true → s.Brings o [] packets → Sent s (Came (s.request o) ∷ hs) o packets
+  pub sent_first : (hs : List (SessionEvent F)) (o : O) (packets : P) → s.opens o ≡ true → s.Brings o [] packets → HasBrought s (Came (s.request o) ∷ hs) o packets
   sent_first hs o packets opened brought = record { earlier = hs; later = []; split = refl; opened = opened; quiet = tt; brought = brought }
 
   -- one more quiet session event, and the packets after it
   pub sent_more : (hs : List (SessionEvent F)) (x : SessionEvent F) (o : O) (packets packets' : P) → s.IsQuiet x
-      → ((later : List (SessionEvent F)) → s.Brings o later packets → s.Brings o (x ∷ later) packets') → Sent s hs o packets → Sent s (x ∷ hs) o packets'
+      → ((later : List (SessionEvent F)) → s.Brings o later packets → s.Brings o (x ∷ later) packets') → HasBrought s hs o packets → HasBrought s (x ∷ hs) o packets'
   sent_more hs x o packets packets' quiet brings sent = record {
     earlier = sent.earlier;
     later = x ∷ sent.later;
@@ -45,7 +45,7 @@ module _ {F O P : Type 0} (s : Spelling F O P) where
       Later later earlier (tail_of _ _ _ _ split) opened (subst s.IsQuiet same quiet.0) quiet.1
       (subst (λ (z : SessionEvent F). s.Brings o (z ∷ later) packets) same brought)
 
-  pub last_of : (x : SessionEvent F) (hs : List (SessionEvent F)) (o : O) (packets : P) → Sent s (x ∷ hs) o packets → Last x hs o packets
+  pub last_of : (x : SessionEvent F) (hs : List (SessionEvent F)) (o : O) (packets : P) → HasBrought s (x ∷ hs) o packets → Last x hs o packets
   last_of x hs o packets sent = split_last x hs sent.later sent.earlier o packets sent.split sent.opened sent.quiet sent.brought
 
   -- a quiet session event without a request or a packet
@@ -60,7 +60,7 @@ module _ {F O P : Type 0} (s : Spelling F O P) where
     pub loud : s.IsQuiet x → ⊥
     pub other : (o : O) → x ≡ Came (s.request o) → ⊥
 
-  quiet_last : (x : SessionEvent F) (hs : List (SessionEvent F)) (o : O) (packets : P) → IsBystander x → Last x hs o packets → Sent s hs o packets
+  quiet_last : (x : SessionEvent F) (hs : List (SessionEvent F)) (o : O) (packets : P) → IsBystander x → Last x hs o packets → HasBrought s hs o packets
   quiet_last x hs o packets by (AtRequest is opened brought) = absurd (by.other o is)
   quiet_last x hs o packets by (Later later earlier split opened quiet rest brought) = record {
     earlier = earlier;

@@ -5,7 +5,7 @@ use Rattle.vt_chains.specs.Depths.{ids_of, inclusions_of}
 use Rattle.vt_chains.proofs.IdIndices.{once}
 use Rattle.vt_chains.proofs.Slots.{included_in, inclusions_are, in_first}
 use Rattle.vt_chains.proofs.Maximum.{max_is}
-use Rattle.vt_chains.proofs.DepthSearch.{IsSearch, search_begins, search_goes_on, put_depth, put_keeps, Keeps-trans}
+use Rattle.vt_chains.proofs.DepthSearch.{IsSearch, search_begins, search_goes_on, put_depth, put_keeps, KeepsDepths-trans}
 use Rattle.vt_chains.proofs.chains.+settle.Goals as goal
 
 pub deepest-loop-slot-init : goal.deepest-loop-slot-init
@@ -50,5 +50,5 @@ settle_entry-returns-in-Ok-clause-keeps g t c =
     let m = g.S.Store.contents c.args.store.now in
     let le = c.in-Ok.ensures.within in
     let most = c.requires.most in
-    Keeps-trans c.args.depths.now c.deepest.new.depths _ c.deepest.ensures.keeps
+    KeepsDepths-trans c.args.depths.now c.deepest.new.depths _ c.deepest.ensures.keeps
     (put_keeps (ids_of m) (inclusions_of m) c.deepest.new.depths (once m) c.deepest.ensures.found c.args.place _ c.in-Ok.depth c.entry-id.ensures.stands (omega (arith, le, most)) c.in-Ok.ensures.ok)

@@ -15,7 +15,7 @@ use Rattle.vt_layout.specs.Drawings.{at_path, key_entries, mask_entries, origin}
 use Rattle.vt_node.specs.Bus.{notice_of}
 use Rattle.vt_server.specs.shown.ShownSet.{choosing, shown_now, events_of_change, raised_at, ACTIVATE, DEACTIVATE}
 use Rattle.vt_server.specs.Findings.{IsJudged, IsFound, AreFound, ends_transfer}
-use Rattle.vt_laws.specs.Headline.{Pools, IsInForce, AreInForce, accepted_at, accepted_with, accepted_by_acts, accepted_in_hearing, accepted_after, accepted_after_all, Run, AllEnd, DrawsWhatIsThere, EventsKeep, Keeps, NeverSticks, runs_at, runs_of_acts, runs_of_settling, runs_of_hearing, runs_of_operating, runs}
+use Rattle.vt_laws.specs.Headline.{Pools, IsPoolInForce, ArePoolsInForce, accepted_at, accepted_with, accepted_by_acts, accepted_in_hearing, accepted_after, accepted_after_all, Run, AllEnd, DrawsWhatIsThere, EventsKeep, KeepsPromise, NeverSticks, runs_at, runs_of_acts, runs_of_settling, runs_of_hearing, runs_of_operating, runs}
 use Rattle.vt_server.specs.frame.TimeoutActs.{at_time, lapsed, silences, silent, tp_due, etp_due, sending_due, after_tp_timeouts, after_etp_timeouts, after_timeouts}
 use Rattle.vt_server.specs.state.AddressViews.{AddressView, Act, Hears, Rebinds, Preloads, TpExpires, EtpExpires, SendingExpires, FallsSilent, Operates, Raises, AddressOutcome, outcome}
 use Rattle.vt_server.specs.state.AddressStates.{empty, AddressState}
@@ -96,7 +96,7 @@ plain-stay pools s (h ∷ hs) plain q =
     plain-stay (with_at h.0 x pools) (after_act s h.0 h.1) hs plain.1 q
     ∙ stays-at pools h.0 x (plain-accepts s.now h.0 (part h.0 s) h.1 (pools h.0) plain.0) q
 
-at-each : (pools others : Pools) (s : State) → ((q : ℕ) → others q ≡ pools q) → AreInForce others s → AreInForce pools s
+at-each : (pools others : Pools) (s : State) → ((q : ℕ) → others q ≡ pools q) → ArePoolsInForce others s → ArePoolsInForce pools s
 at-each pools others s same is q = subst (λ (last : Option ObjectMap). IsEach last (pool_of s q)) (same q) (is q)
 
 pub silences-plain : (sets : List Set) → AllAt IsPlain (map (λ set. (set.address, FallsSilent)) sets)
@@ -123,33 +123,33 @@ if-some None each = tt
 if-some (Some x) each = each x refl
 
 module _ (laws : Laws) where
-  put-keeps : (pools : Pools) (s : State) (a : ℕ) (o : AddressOutcome) (x : Option ObjectMap) → AreInForce pools s → IsEach x o.place.content.pool
-      → AreInForce (with_at a x pools) (put a o s)
+  put-keeps : (pools : Pools) (s : State) (a : ℕ) (o : AddressOutcome) (x : Option ObjectMap) → ArePoolsInForce pools s → IsEach x o.place.content.pool
+      → ArePoolsInForce (with_at a x pools) (put a o s)
   put-keeps pools s a o x is each q = cases (eqb q a)
     where
       cases : (b : Bool) → IsEach (cond b x (pools q)) (cond b o.place (s.places q)).content.pool
       cases true = each
       cases false = is q
 
-  act-in-force : (pools : Pools) (s : State) (a : ℕ) (h : Act) → MayHappen s.now a (part a s) h → AreInForce pools s
-      → AreInForce (with_at a (accepted_at s.now a (part a s) h (pools a)) pools) (after_act s a h)
+  act-in-force : (pools : Pools) (s : State) (a : ℕ) (h : Act) → MayHappen s.now a (part a s) h → ArePoolsInForce pools s
+      → ArePoolsInForce (with_at a (accepted_at s.now a (part a s) h (pools a)) pools) (after_act s a h)
   act-in-force pools s a h may is =
       let x = accepted_at s.now a (part a s) h (pools a) in
-      subst (λ (t : State). AreInForce (with_at a x pools) t) (sym (act-is s a h))
+      subst (λ (t : State). ArePoolsInForce (with_at a x pools) t) (sym (act-is s a h))
       (put-keeps pools s a (outcome s.now a (part a s) h) x is (act-keeps laws (pools a) s.now a (part a s) h may (is a)))
 
-  plain-in-force : (pools : Pools) (s : State) (a : ℕ) (h : Act) → IsPlain a h → AreInForce pools s → AreInForce pools (after_act s a h)
+  plain-in-force : (pools : Pools) (s : State) (a : ℕ) (h : Act) → IsPlain a h → ArePoolsInForce pools s → ArePoolsInForce pools (after_act s a h)
   plain-in-force pools s a h plain is =
       let x = accepted_at s.now a (part a s) h (pools a) in
       at-each pools (with_at a x pools) (after_act s a h)
       (stays-at pools a x (plain-accepts s.now a (part a s) h (pools a) plain))
       (act-in-force pools s a h (plain-may s.now a (part a s) h plain) is)
 
-  acts-in-force : (pools : Pools) (s : State) (hs : List (ℕ × Act)) → AllAt IsPlain hs → AreInForce pools s → AreInForce pools (after_acts s hs)
+  acts-in-force : (pools : Pools) (s : State) (hs : List (ℕ × Act)) → AllAt IsPlain hs → ArePoolsInForce pools s → ArePoolsInForce pools (after_acts s hs)
   acts-in-force pools s [] plain is = is
   acts-in-force pools s (h ∷ hs) plain is = acts-in-force pools (after_act s h.0 h.1) hs plain.1 (plain-in-force pools s h.0 h.1 plain.0 is)
 
-  acts-run : (pools : Pools) (s : State) (hs : List (ℕ × Act)) → AllAt IsPlain hs → AreInForce pools s → AllInTime pools (runs_of_acts s hs)
+  acts-run : (pools : Pools) (s : State) (hs : List (ℕ × Act)) → AllAt IsPlain hs → ArePoolsInForce pools s → AllInTime pools (runs_of_acts s hs)
   acts-run pools s [] plain is = tt
   acts-run pools s (h ∷ hs) plain is =
       all_append (InTime pools) (runs_at s.now h.0 (part h.0 s) h.1) (runs_of_acts (after_act s h.0 h.1) hs)
@@ -158,7 +158,7 @@ module _ (laws : Laws) where
 
   -- ---- the stages of a step
 
-  lapsed-in-force : (pools : Pools) (s : State) → AreInForce pools s → AreInForce pools (lapsed s)
+  lapsed-in-force : (pools : Pools) (s : State) → ArePoolsInForce pools s → ArePoolsInForce pools (lapsed s)
   unfolding lapsed
   lapsed-in-force pools s is =
       let t = after_tp_timeouts s in
@@ -169,25 +169,25 @@ module _ (laws : Laws) where
       (acts-in-force pools t (etp_due t) (at-below IsPlain (λ a. is_overdue t.now (t.places a).etp) EtpExpires 256 (λ a lt. tt))
       (acts-in-force pools s (tp_due s) (at-below IsPlain (λ a. is_overdue s.now (s.places a).tp) TpExpires 256 (λ a lt. tt)) is)))
 
-  settled-in-force : (pools : Pools) (s : State) → AreInForce pools s → AreInForce pools (settled s)
+  settled-in-force : (pools : Pools) (s : State) → ArePoolsInForce pools s → ArePoolsInForce pools (settled s)
   unfolding settled
   settled-in-force pools s is = acts-in-force pools (choosing s) (events_of_change s.shown (shown_now s)) (change-plain s.shown (shown_now s)) is
 
-  settling-runs : (pools : Pools) (s : State) → AreInForce pools s → AllInTime pools (runs_of_settling s)
+  settling-runs : (pools : Pools) (s : State) → ArePoolsInForce pools s → AllInTime pools (runs_of_settling s)
   settling-runs pools s is = acts-run pools (choosing s) (events_of_change s.shown (shown_now s)) (change-plain s.shown (shown_now s)) is
 
   -- The acts of a frame whose source is judged rightly keep pools in force, and their runs end in time.
   record Happens (pools : Pools) (s : State) (hs : List (ℕ × Act)) : Type 0 where
-    pub in_force : AreInForce (accepted_by_acts s hs pools) (after_acts s hs)
+    pub in_force : ArePoolsInForce (accepted_by_acts s hs pools) (after_acts s hs)
     pub run : AllInTime (accepted_by_acts s hs pools) (runs_of_acts s hs)
 
-  plain-happen : (pools : Pools) (s : State) (hs : List (ℕ × Act)) → AllAt IsPlain hs → AreInForce pools s → Happens pools s hs
+  plain-happen : (pools : Pools) (s : State) (hs : List (ℕ × Act)) → AllAt IsPlain hs → ArePoolsInForce pools s → Happens pools s hs
   plain-happen pools s hs plain is = record {
     in_force = at-each (accepted_by_acts s hs pools) pools (after_acts s hs) (λ q. sym (plain-stay pools s hs plain q)) (acts-in-force pools s hs plain is);
     run = in-time-at pools (accepted_by_acts s hs pools) (plain-stay pools s hs plain) (runs_of_acts s hs) (acts-run pools s hs plain is);
   }
 
-  one-happens : (pools : Pools) (s : State) (source : ℕ) (n : FrameMeaning) (f : Frame) (verdict : Verdict) → IsJudged s.now source (part source s) n f verdict → AreInForce pools s
+  one-happens : (pools : Pools) (s : State) (source : ℕ) (n : FrameMeaning) (f : Frame) (verdict : Verdict) → IsJudged s.now source (part source s) n f verdict → ArePoolsInForce pools s
       → Happens pools s (heard_at_source s.claims.own source n f verdict)
   one-happens pools s source n f verdict judged is = cases (eqb source s.claims.own)
     where
@@ -201,7 +201,7 @@ module _ (laws : Laws) where
             (heard-runs laws pools source s.now (part source s) n f verdict (is source)) tt;
       }
 
-  frame-happens : (pools : Pools) (s : State) (source : ℕ) (n : FrameMeaning) (f : Frame) (verdict : Verdict) → IsJudged s.now source (part source s) n f verdict → AreInForce pools s
+  frame-happens : (pools : Pools) (s : State) (source : ℕ) (n : FrameMeaning) (f : Frame) (verdict : Verdict) → IsJudged s.now source (part source s) n f verdict → ArePoolsInForce pools s
       → Happens pools (before s source n) (acts s source n f verdict)
   frame-happens pools s source (Claim name) f verdict judged is =
       plain-happen pools (before s source (Claim name)) (acts s source (Claim name) f verdict)
@@ -220,10 +220,10 @@ module _ (laws : Laws) where
 
   record Promised (runs : List Run) (pools : Pools) (after : State) : Type 0 where
     pub ends : AllInTime pools runs
-    pub in_force : AreInForce pools after
+    pub in_force : ArePoolsInForce pools after
 
   hearing-promised : (pools : Pools) (old s : State) (source : ℕ) (n : FrameMeaning) (f : Frame) (verdict : Verdict)
-      → IsJudged s.now source (part source s) n f verdict → AreInForce pools s
+      → IsJudged s.now source (part source s) n f verdict → ArePoolsInForce pools s
       → Promised (runs_of_hearing s source n f verdict) (accepted_in_hearing s source n f verdict pools) (hearing old s source n f verdict).after
   hearing-promised pools old s source n f verdict judged is = cases (is_lost_by (answer_to s source n))
     where
@@ -243,7 +243,7 @@ module _ (laws : Laws) where
         in_force = settled-in-force later t happens.in_force;
       }
 
-  selecting-in-force : (pools : Pools) (s : State) (action : ActionValue) → AreInForce pools s → AreInForce pools (selecting s action)
+  selecting-in-force : (pools : Pools) (s : State) (action : ActionValue) → ArePoolsInForce pools s → ArePoolsInForce pools (selecting s action)
   selecting-in-force pools s (Press id) is = is
   selecting-in-force pools s (Release id) is = is
   selecting-in-force pools s (Select id) is = is
@@ -251,11 +251,11 @@ module _ (laws : Laws) where
   selecting-in-force pools s (Text id text) is = is
   selecting-in-force pools s (actions.Set a) is = cases (is_some (pool_of s a))
     where
-      cases : (b : Bool) → AreInForce pools (cond b (record s { selected = Some a }) s)
+      cases : (b : Bool) → ArePoolsInForce pools (cond b (record s { selected = Some a }) s)
       cases true = is
       cases false = is
 
-  step-promised : (pools : Pools) (s : State) (e : JudgedInput) → IsFound s e → AreInForce pools s → Promised (runs s e) (accepted_after s e pools) (step s e).after
+  step-promised : (pools : Pools) (s : State) (e : JudgedInput) → IsFound s e → ArePoolsInForce pools s → Promised (runs s e) (accepted_after s e pools) (step s e).after
   step-promised pools s (FrameAt time f verdict) found is = cases s.lost found
     where
       t : State
@@ -276,10 +276,10 @@ module _ (laws : Laws) where
       hs : List (ℕ × Act)
       hs = at_shown s.shown (Operates action shown)
 
-      selected : AreInForce pools u
+      selected : ArePoolsInForce pools u
       selected = selecting-in-force pools s action is
 
-      operated : AreInForce pools (after_acts u hs)
+      operated : ArePoolsInForce pools (after_acts u hs)
       operated = acts-in-force pools u hs (operated-plain s.shown action shown) selected
 
       cases : (b : Bool) → Promised (cond b [] (runs_of_operating u hs)) pools (cond b (no_step s) (step_action s action shown)).after
@@ -293,16 +293,16 @@ module _ (laws : Laws) where
 
   record AllPromised (pools : Pools) (s : State) (es : List JudgedInput) : Type 0 where
     pub ends : AllEnd pools s es
-    pub in_force : AreInForce (accepted_after_all s es pools) (after_all s es)
+    pub in_force : ArePoolsInForce (accepted_after_all s es pools) (after_all s es)
 
-  all-promised : (pools : Pools) (s : State) (es : List JudgedInput) → AreFound s es → AreInForce pools s → AllPromised pools s es
+  all-promised : (pools : Pools) (s : State) (es : List JudgedInput) → AreFound s es → ArePoolsInForce pools s → AllPromised pools s es
   all-promised pools s [] found is = record { ends = tt; in_force = is }
   all-promised pools s (e ∷ es) found is =
       let first = step-promised pools s e found.0 is in
       let rest = all-promised (accepted_after s e pools) (step s e).after es found.1 first.in_force in
       record { ends = (record { each = first.ends; few = few-runs s e }, rest.ends); in_force = rest.in_force }
 
-  drawn-in-force : (last : Option ObjectMap) (state : SetState) → IsInForce last state → DrawsWhatIsThere state.objects
+  drawn-in-force : (last : Option ObjectMap) (state : SetState) → IsPoolInForce last state → DrawsWhatIsThere state.objects
   drawn-in-force last state is =
       let nameless = laws.nameless is.accepted state.objects is.verified.stored is.ready in record {
         never_sticks = λ mask. laws.drawings state.objects mask is.ready.sound;
@@ -317,10 +317,10 @@ module _ (laws : Laws) where
   each-drawn last None is = tt
   each-drawn last (Some state) is = drawn-in-force last state is
 
-  none-yet : (s : State) → ((a : ℕ) → s.places a ≡ empty) → AreInForce (λ address. None) s
+  none-yet : (s : State) → ((a : ℕ) → s.places a ≡ empty) → ArePoolsInForce (λ address. None) s
   none-yet s first q = subst (λ (p : AddressState). IsEach None p.content.pool) (sym (first q)) tt
 
-  events-keep : (pools : Pools) (old : State) (events : List JudgedInput) → AreInForce pools old → AreFound old events → EventsKeep pools old events
+  events-keep : (pools : Pools) (old : State) (events : List JudgedInput) → ArePoolsInForce pools old → AreFound old events → EventsKeep pools old events
   events-keep pools old events is found =
       let promised = all-promised pools old events found is in
       let later : Pools = accepted_after_all old events pools in
@@ -330,8 +330,8 @@ module _ (laws : Laws) where
         drawn = λ address. each-drawn (later address) (pool_of (after_all old events) address) (promised.in_force address);
       }
 
-  keeps : (pools : Pools) (old : State) (inputs : List Input) (new : State) (sent_before sent_after : List Output) → AreInForce pools old
-      → TakesInputs old inputs new sent_before sent_after → Keeps pools old inputs new sent_before sent_after
+  keeps : (pools : Pools) (old : State) (inputs : List Input) (new : State) (sent_before sent_after : List Output) → ArePoolsInForce pools old
+      → TakesInputs old inputs new sent_before sent_after → KeepsPromise pools old inputs new sent_before sent_after
   keeps pools old inputs new sent_before sent_after is takes = record { takes = takes; keeps = events-keep pools old takes.events is takes.found }
 
   pub never-sticks : NeverSticks

@@ -36,7 +36,7 @@ use Rattle.vt_layout.specs.LookUps.{DrawingsFindAll}
 use Rattle.vt_server.specs.message.CommandEffects.{store_of, after_done, content_after, deletes, state_after}
 use Rattle.vt_server.specs.Findings.{IsJudged, ends_transfer}
 use Rattle.vt_server.specs.message.MessageEffects.{handled, ends_pool, transferred, end_handled, asked, commanded, TRANSFER, END_OF_POOL}
-use Rattle.vt_laws.specs.Headline.{IsInForce, EndsInTime, accepted_at, accepted_by, accepted_with}
+use Rattle.vt_laws.specs.Headline.{IsPoolInForce, EndsInTime, accepted_at, accepted_by, accepted_with}
 use Rattle.vt_node.specs.Messages.{technical_reply}
 use Rattle.vt_server.specs.operator.ActionEffects.{action_on, is_busy}
 use Rattle.vt_server.specs.state.AddressViews.{AddressView, Act, Hears, Rebinds, Preloads, TpExpires, EtpExpires, SendingExpires, FallsSilent, Operates, Raises, AddressOutcome, outcome, after_action, after_change, after_claim_heard, after_master, after_member, after_message, after_operator, raised_on, stays_under}
@@ -62,7 +62,7 @@ pub record Laws : Type 0 where
   pub paths : PathsAreChained
 
 abbrev pub IsEach : Option ObjectMap → Option SetState → Type 0
-IsEach last pool = IfSome pool (IsInForce last)
+IsEach last pool = IfSome pool (IsPoolInForce last)
 
 either-each : (last : Option ObjectMap) (b : Bool) (x y : AddressOutcome) → IsEach last x.place.content.pool → IsEach last y.place.content.pool → IsEach last (cond b x y).place.content.pool
 either-each last true x y first second = first
@@ -125,7 +125,7 @@ module _ (laws : Laws) (last : Option ObjectMap) where
     shape = shape ∙ ready.shape;
   }
 
-  with-ready : (state : SetState) (objects : ObjectMap) (is : IsInForce last state) → IsReady is.accepted objects → IsInForce last (with_objects state objects)
+  with-ready : (state : SetState) (objects : ObjectMap) (is : IsPoolInForce last state) → IsReady is.accepted objects → IsPoolInForce last (with_objects state objects)
   with-ready state objects is ready = record { accepted = is.accepted; is_last = is.is_last; verified = is.verified; ready = ready }
 
   -- ---- commands
@@ -135,8 +135,8 @@ module _ (laws : Laws) (last : Option ObjectMap) where
       let is : after old command ≡ middle = ap (left old) done in
       moved-ready pool old middle (ap shape_in (sym is) ∙ laws.shapes old command) (subst IsSound is (laws.order old command ready.sound)) ready
 
-  done-in-force : (state : SetState) (command : Command) → IsInForce last state → (r : Result ObjectMap ℕ) → effect state.objects command ≡ r
-      → IsInForce last (with_objects state (after_done state.objects (events_of state.objects command) r))
+  done-in-force : (state : SetState) (command : Command) → IsPoolInForce last state → (r : Result ObjectMap ℕ) → effect state.objects command ≡ r
+      → IsPoolInForce last (with_objects state (after_done state.objects (events_of state.objects command) r))
   done-in-force state command is (Ok middle) done =
       let ready = middle-ready is.accepted state.objects command middle done is.ready in
       with-ready state (store_of (run_of middle (events_of state.objects command))) is (ran-ready is.accepted middle (events_of state.objects command) is.verified ready)
@@ -163,7 +163,7 @@ module _ (laws : Laws) (last : Option ObjectMap) where
       ready = subst (IsReady (merged content.pool right.pool)) (sym right.objects_are)
           (laws.pools (merged content.pool right.pool) right.verified.stored right.verified.acceptable)
 
-      cases : (o : Option SetState) → IsInForce (Some objects) (with_objects_of o objects)
+      cases : (o : Option SetState) → IsPoolInForce (Some objects) (with_objects_of o objects)
       cases None = record { accepted = merged content.pool right.pool; is_last = ap Some right.objects_are; verified = right.verified; ready = ready }
       cases (Some state) = record { accepted = merged content.pool right.pool; is_last = ap Some right.objects_are; verified = right.verified; ready = ready }
   ended-keeps content (Faulty fault) is right = is
@@ -232,13 +232,13 @@ module _ (laws : Laws) (last : Option ObjectMap) where
   -- ---- the operator
 
   abbrev pub ActsInForce : Option operating.Action → Type 0
-  ActsInForce (Some (operating.Acts message start raised)) = IsInForce last start × (length raised ≤ 3)
+  ActsInForce (Some (operating.Acts message start raised)) = IsPoolInForce last start × (length raised ≤ 3)
   ActsInForce _ = Unit {0}
 
-  same-objects : (state new : SetState) → new.objects ≡ state.objects → IsInForce last state → IsInForce last new
+  same-objects : (state new : SetState) → new.objects ≡ state.objects → IsPoolInForce last state → IsPoolInForce last new
   same-objects state new same is = record { accepted = is.accepted; is_last = is.is_last; verified = is.verified; ready = subst (IsReady is.accepted) (sym same) is.ready }
 
-  press-in-force : (shown : Bool) (state : SetState) (mask id : ℕ) → IsInForce last state → ActsInForce (Some (operating.press shown state mask id))
+  press-in-force : (shown : Bool) (state : SetState) (mask id : ℕ) → IsPoolInForce last state → ActsInForce (Some (operating.press shown state mask id))
   press-in-force false state mask id is = tt
   press-in-force true state mask id is = cases (operating.key_message 1 id mask (finite.get state.objects id)) state.key
     where
@@ -247,7 +247,7 @@ module _ (laws : Laws) (last : Option ObjectMap) where
       cases (Some m) (Some k) = tt
       cases (Some m) None = (same-objects state (operating.holding state (Some (operating.held id mask))) refl is, omega arith)
 
-  release-in-force : (state : SetState) (id : ℕ) → IsInForce last state → ActsInForce (Some (operating.release state id))
+  release-in-force : (state : SetState) (id : ℕ) → IsPoolInForce last state → ActsInForce (Some (operating.release state id))
   release-in-force state id is = cases state.key
     where
       cases : (k : Option HeldKey) → ActsInForce (Some (operating.release_of state id k))
@@ -258,7 +258,7 @@ module _ (laws : Laws) (last : Option ObjectMap) where
           by true = (same-objects state (operating.holding state None) refl is, omega arith)
           by false = tt
 
-  select-in-force : (shown : Bool) (state : SetState) (id : ℕ) → IsInForce last state → ActsInForce (Some (operating.select shown state id))
+  select-in-force : (shown : Bool) (state : SetState) (id : ℕ) → IsPoolInForce last state → ActsInForce (Some (operating.select shown state id))
   select-in-force false state id is = tt
   select-in-force true state id is = cases (operating.is_enabled (finite.get state.objects id))
     where
@@ -267,10 +267,10 @@ module _ (laws : Laws) (last : Option ObjectMap) where
       cases (Some false) = tt
       cases (Some true) = (same-objects state (operating.selecting state id) refl is, few-selected id state.input)
 
-  put-in-force : (state : SetState) (new : ObjectMap) → shape_in new ≡ shape_in state.objects → IsSound new → IsInForce last state → IsInForce last (with_objects state new)
+  put-in-force : (state : SetState) (new : ObjectMap) → shape_in new ≡ shape_in state.objects → IsSound new → IsPoolInForce last state → IsPoolInForce last (with_objects state new)
   put-in-force state new shape sound is = with-ready state new is (moved-ready is.accepted state.objects new shape sound is.ready)
 
-  number-in-force : (state : SetState) (id n : ℕ) → IsInForce last state → (r : Result ℕ OperatorRefusal) → ActsInForce (Some (number_entered state id n r))
+  number-in-force : (state : SetState) (id n : ℕ) → IsPoolInForce last state → (r : Result ℕ OperatorRefusal) → ActsInForce (Some (number_entered state id n r))
   number-in-force state id n is (Err refusal) = tt
   number-in-force state id n is (Ok at) = (
     put-in-force state (put_at state.objects at (with_number n) (finite.get state.objects at))
@@ -278,7 +278,7 @@ module _ (laws : Laws) (last : Option ObjectMap) where
     few-entered id _,
   )
 
-  text-in-force : (state : SetState) (id : ℕ) (text : List ℕ) → IsInForce last state → (r : Result ℕ OperatorRefusal) → ActsInForce (Some (text_entered state id text r))
+  text-in-force : (state : SetState) (id : ℕ) (text : List ℕ) → IsPoolInForce last state → (r : Result ℕ OperatorRefusal) → ActsInForce (Some (text_entered state id text r))
   text-in-force state id text is (Err refusal) = tt
   text-in-force state id text is (Ok at) = (
     put-in-force state (put_at state.objects at (with_text text) (finite.get state.objects at))
@@ -286,7 +286,7 @@ module _ (laws : Laws) (last : Option ObjectMap) where
     few-entered id _,
   )
 
-  pub action-in-force : (state : SetState) (shown : Bool) (action : ActionValue) → IsInForce last state → ActsInForce (action_on state shown action)
+  pub action-in-force : (state : SetState) (shown : Bool) (action : ActionValue) → IsPoolInForce last state → ActsInForce (action_on state shown action)
   action-in-force state shown (Press id) is = press-in-force shown state (active_in state.objects) id is
   action-in-force state shown (Release id) is = release-in-force state id is
   action-in-force state shown (Select id) is = select-in-force shown state id is
@@ -310,7 +310,7 @@ module _ (laws : Laws) (last : Option ObjectMap) where
 
   -- ---- events of the Working Set
 
-  raised-number : (state : SetState) (e : Event) → IsInForce last state → IsInForce last (raised_on state (event_number e))
+  raised-number : (state : SetState) (e : Event) → IsPoolInForce last state → IsPoolInForce last (raised_on state (event_number e))
   raised-number state e is =
       let shape = shape_in state.objects in
       let set = working_set_in state.objects in
@@ -319,9 +319,9 @@ module _ (laws : Laws) (last : Option ObjectMap) where
       (subst (IsReady is.accepted) (sym (one-run state.objects (budget shape set (event_number e)) (joined shape (listing set (event_number e)))))
       (ran-ready is.accepted state.objects raised is.verified is.ready))
 
-  raised-in-force : (state : SetState) (event : ℕ) → (event ≡ 2) ⊎ (event ≡ 1) → IsInForce last state → IsInForce last (raised_on state event)
-  raised-in-force state event (inl two) is = subst (λ (n : ℕ). IsInForce last (raised_on state n)) (sym two) (raised-number state events.Deactivate is)
-  raised-in-force state event (inr one) is = subst (λ (n : ℕ). IsInForce last (raised_on state n)) (sym one) (raised-number state events.Activate is)
+  raised-in-force : (state : SetState) (event : ℕ) → (event ≡ 2) ⊎ (event ≡ 1) → IsPoolInForce last state → IsPoolInForce last (raised_on state event)
+  raised-in-force state event (inl two) is = subst (λ (n : ℕ). IsPoolInForce last (raised_on state n)) (sym two) (raised-number state events.Deactivate is)
+  raised-in-force state event (inr one) is = subst (λ (n : ℕ). IsPoolInForce last (raised_on state n)) (sym one) (raised-number state events.Activate is)
 
   raised-keeps : (event : ℕ) → (event ≡ 2) ⊎ (event ≡ 1) → (o : Option SetState) → IsEach last o → IsEach last (option_map (λ state. raised_on state event) o)
   raised-keeps event which None is = tt

@@ -17,7 +17,7 @@ use Rattle.vt_machine.specs.OperatorActions as operating
 use Rattle.vt_node.specs.AddressFunctions.{with_at}
 use Rattle.vt_server.specs.Findings.{ends_transfer}
 use Rattle.vt_server.specs.message.MessageEffects.{END_OF_POOL}
-use Rattle.vt_laws.specs.Headline.{Pools, Run, IsInForce, EndsInTime, accepted_at, accepted_with, runs_of_effect, runs_of_command, runs_of_message, runs_of_action, runs_of_operator, runs_of_event, runs_at, named}
+use Rattle.vt_laws.specs.Headline.{Pools, Run, IsPoolInForce, EndsInTime, accepted_at, accepted_with, runs_of_effect, runs_of_command, runs_of_message, runs_of_action, runs_of_operator, runs_of_event, runs_at, named}
 use Rattle.vt_server.specs.operator.ActionEffects.{action_on, is_busy}
 use Rattle.vt_server.specs.state.AddressViews.{AddressView, Act, Hears, Rebinds, Preloads, TpExpires, EtpExpires, SendingExpires, FallsSilent, Operates, Raises}
 use Rattle.vt_server.specs.frame.SessionEffects.{came}
@@ -53,7 +53,7 @@ module _ (laws : Laws) (pools : Pools) (a : ℕ) where
   -- ---- messages
 
   -- The run of a command that is done ends in time.
-  done-runs : (state : SetState) (command : Command) → IsInForce (pools a) state → (r : Result ObjectMap ℕ) → effect state.objects command ≡ r
+  done-runs : (state : SetState) (command : Command) → IsPoolInForce (pools a) state → (r : Result ObjectMap ℕ) → effect state.objects command ≡ r
       → AllInTime pools (runs_of_effect a state.objects command r)
   done-runs state command is (Ok middle) done = (
     run-ends laws (pools a) a state.objects is.accepted middle (events_of state.objects command) is.is_last is.verified

@@ -3,7 +3,7 @@ use Rattle.std.proofs.Common.{ap, ◌∙◌, ◌≡◌, ℕ, Bool, true, false, 
 use Rattle.std.specs.Option.{option_eq}
 use Rattle.vt_can.specs.declared.frames.frame.Frame.{Frame}
 use Rattle.vt_can.specs.frames.Frame.{source_of}
-use Rattle.vt_names.specs.Claims.{Claimed, IsRising}
+use Rattle.vt_names.specs.Claims.{Claimed, IsRisingByName}
 use Rattle.vt_names.specs.Registry.{Set, set_at, has_place, joined}
 use Rattle.vt_node.specs.Bus.{notice_of}
 use Rattle.vt_server.specs.shown.ShownSet.{choosing, shown_now, events_of_change}
@@ -91,7 +91,7 @@ settled-held a s has = acts-keep (IsHeldAt a) (act-held a) (choosing s) (events_
 
 -- ---- a claim, and the holders that it changes
 
-module _ (laws : Laws) (a : ℕ) (s : State) (rising : IsRising s.claims.addresses) (has : IsHeldAt a s) where
+module _ (laws : Laws) (a : ℕ) (s : State) (rising : IsRisingByName s.claims.addresses) (has : IsHeldAt a s) where
   changed-held : (source : ℕ) (n : FrameMeaning) → IsHeldAt a (after_acts (before s source n) (changes s source n))
   changed-held source n =
       let t = before s source n in
@@ -121,7 +121,7 @@ step-held laws a s (FrameAt time f verdict) orderly has = cases s.lost
         let still = lapsed-keeps (IsHeldAt a) (act-held a) t has in
         by-loss still
         (settled-held a (acted (lapsed t) (source_of f) (notice_of s.claims.own s.claims.name f) f verdict)
-        (acted-held laws a (lapsed t) (subst (λ (c : Claimed). IsRising c.addresses) (sym (claims-lapsed t)) orderly.rising) still
+        (acted-held laws a (lapsed t) (subst (λ (c : Claimed). IsRisingByName c.addresses) (sym (claims-lapsed t)) orderly.rising) still
         (source_of f) (notice_of s.claims.own s.claims.name f) f verdict)) gone
       where
         by-loss : let u = lapsed (at_time s time) in

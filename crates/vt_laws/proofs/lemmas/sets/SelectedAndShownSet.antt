@@ -10,7 +10,7 @@ use Rattle.vt_machine.specs.SetStates.{SetState, active_in}
 use Rattle.vt_names.specs.Registry.{Set, set_at, is_of}
 use Rattle.vt_server.specs.shown.ShownSet.{alarm_in, priority_of, louder, loudest, first_with_pool, selected_now, or_selected, shown_now}
 use Rattle.vt_server.specs.Terminals.{State, pool_of, pool_at}
-use Rattle.vt_laws.specs.ShownSets.{HasPool, HasAlarm, IsRegisteredAt, ComesFirst, IsLoudest, IsFirstWithPool, IsQuiet, IsSelected, IsChosen, PoolsAreOfSets}
+use Rattle.vt_laws.specs.ShownSets.{HasPool, HasAlarm, IsRegisteredAt, ComesFirst, IsLoudest, IsFirstWithPool, HasNoAlarm, IsSelected, IsChosen, PoolsAreOfSets}
 use Rattle.vt_names.proofs.AddressesAfterClaim.{none-some}
 
 -- ---- indices in a list of sets
@@ -268,10 +268,10 @@ selected-is s a = (selected-to s a, selected-from s a)
 
 -- ---- the shown set
 
-to-quiet : (s : State) → loudest (pool_of s) s.sets ≡ None → IsQuiet s
+to-quiet : (s : State) → loudest (pool_of s) s.sets ≡ None → HasNoAlarm s
 to-quiet s none place a priority at alarm = loudest-none (pool_of s) s.sets none place a priority (stands s place a at) (alarm-from s a priority alarm)
 
-from-quiet : (s : State) → IsQuiet s → loudest (pool_of s) s.sets ≡ None
+from-quiet : (s : State) → HasNoAlarm s → loudest (pool_of s) s.sets ≡ None
 from-quiet s quiet = cases (loudest (pool_of s) s.sets) refl
   where
     cases : (o : _) → loudest (pool_of s) s.sets ≡ o → o ≡ None

@@ -4,7 +4,7 @@ use Rattle.std.proofs.lemmas.Option.{same_Some}
 use Rattle.std.specs.List.{filter, AllByRecursion}
 use Rattle.std.specs.Option.{option_eq}
 use Rattle.vt_can.specs.declared.frames.frame.Frame.{Frame}
-use Rattle.vt_names.specs.Claims.{Claimed, IsRising, OtherHoldersStay, address_of}
+use Rattle.vt_names.specs.Claims.{Claimed, IsRisingByName, OtherHoldersStay, address_of}
 use Rattle.vt_names.specs.Registry.{AreApart, Set, set_at, with_set, without}
 use Rattle.vt_laws.specs.Happenings.{NameIsHeld, SetIsHeld}
 use Rattle.vt_server.specs.state.AddressViews.{Act, Hears, Rebinds, unchanged, without_set, with_holder_name, after_change, after_claim_heard}
@@ -183,7 +183,7 @@ and-true : (b : Bool) → (b && true) ≡ b
 and-true true = refl
 and-true false = refl
 
-module _ (law : OtherHoldersStay) (s : State) (rising : IsRising s.claims.addresses) (source name : ℕ) (apart : AreApart s.sets)
+module _ (law : OtherHoldersStay) (s : State) (rising : IsRisingByName s.claims.addresses) (source name : ℕ) (apart : AreApart s.sets)
     (elsewhere-set : set_at s.claims.own s.sets ≡ None) (held : (a : ℕ) → SetIsHeld (set_at a s.sets) (holder s a)) where
   abbrev pub t : State
   t = before s source (Claim name)

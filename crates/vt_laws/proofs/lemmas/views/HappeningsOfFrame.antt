@@ -4,7 +4,7 @@ use Rattle.std.proofs.lemmas.Bool.{eqb-true}
 use Rattle.std.specs.Option.{option_eq}
 use Rattle.vt_can.specs.declared.frames.frame.Frame.{Frame}
 use Rattle.vt_can.specs.frames.Frame.{source_of}
-use Rattle.vt_names.specs.Claims.{Claimed, IsRising}
+use Rattle.vt_names.specs.Claims.{Claimed, IsRisingByName}
 use Rattle.vt_node.specs.Bus.{notice_of, frame_notice, unless_echo}
 use Rattle.vt_server.specs.shown.ShownSet.{shown_now}
 use Rattle.vt_laws.specs.Happenings.{HolderIs, FrameHeard, with_holder, by_act, part_after_all, frames_of_all, if_so, holder_change, events_at, heard_happenings, after_frame}
@@ -30,7 +30,7 @@ notice-there a s f apart is =
 
 -- ---- one frame after the timeouts and closings of its time, for an address other than the terminal's own
 
-module _ (laws : Laws) (a : ℕ) (s : State) (f : Frame) (verdict : Verdict) (rising : IsRising s.claims.addresses) (apart : a ≢ s.claims.own) (has : s.lost ≡ false) where
+module _ (laws : Laws) (a : ℕ) (s : State) (f : Frame) (verdict : Verdict) (rising : IsRisingByName s.claims.addresses) (apart : a ≢ s.claims.own) (has : s.lost ≡ false) where
   abbrev m : FrameMeaning
   m = notice_of s.claims.own s.claims.name f
 

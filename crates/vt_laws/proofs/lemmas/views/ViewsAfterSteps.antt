@@ -4,7 +4,7 @@ use Rattle.vt_can.specs.declared.frames.frame.Frame.{Frame}
 use Rattle.vt_can.specs.frames.Frame.{source_of}
 use Rattle.vt_can.specs.lines.Actions.{ActionValue, Press, Release, Select, Number, Text}
 use Rattle.vt_can.specs.lines.Actions as actions
-use Rattle.vt_names.specs.Claims.{Claimed, IsRising}
+use Rattle.vt_names.specs.Claims.{Claimed, IsRisingByName}
 use Rattle.vt_stores.specs.Stores.{ObjectMap}
 use Rattle.vt_node.specs.Bus.{notice_of}
 use Rattle.vt_server.specs.shown.ShownSet.{shown_now}
@@ -68,7 +68,7 @@ module _ (laws : Laws) (a : ℕ) (s : State) (orderly : IsOrderly s) (is : IsOth
       cases true = losing-ends u still
       cases false =
           takes-ends a (bare a u) _ _ _
-          (acting-takes laws a u f verdict (subst (λ (c : Claimed). IsRising c.addresses) (sym same) orderly.rising)
+          (acting-takes laws a u f verdict (subst (λ (c : Claimed). IsRisingByName c.addresses) (sym same) orderly.rising)
           (subst (λ (c : Claimed). a ≢ c.own) (sym same) is.other) still old)
 
   frame-ends : (time : ℕ) (f : Frame) (verdict : Verdict)

@@ -3,7 +3,7 @@ use Rattle.std.proofs.Common.{◌≡◌, ◌≢◌, ℕ, Bool, true, false, cond
 use Rattle.std.proofs.lemmas.Option.{same_Some}
 use Rattle.std.proofs.lemmas.Bool.{eqb-true, false≢true}
 use Rattle.std.specs.Option.{option_eq}
-use Rattle.vt_names.specs.Claims.{IsRising, OtherHoldersStay, address_of}
+use Rattle.vt_names.specs.Claims.{IsRisingByName, OtherHoldersStay, address_of}
 use Rattle.vt_server.specs.state.AddressViews.{Act, Rebinds}
 use Rattle.vt_server.specs.Steps.{before, changed, left_by, changes, changes_by}
 use Rattle.vt_server.specs.Terminals.{State, holder, after_acts}
@@ -44,7 +44,7 @@ of-changed_at a b was t is = of-changed a b was t ∙ ap (λ c. cond c (change w
 of-changed_other : (a b : ℕ) (was : Option ℕ) (t : State) → b ≢ a → of a (changed was t b) ≡ []
 of-changed_other a b was t ne = of-changed a b was t ∙ ap (λ c. cond c (change was (holder t b)) []) (ne_eqb b a ne)
 
-module _ (law : OtherHoldersStay) (s : State) (rising : IsRising s.claims.addresses) (a source name : ℕ) where
+module _ (law : OtherHoldersStay) (s : State) (rising : IsRisingByName s.claims.addresses) (a source name : ℕ) where
   abbrev pub t : State
   t = before s source (Claim name)
 
@@ -86,7 +86,7 @@ module _ (law : OtherHoldersStay) (s : State) (rising : IsRising s.claims.addres
   of-claim-changes = of-left (address_of s.claims.addresses name) refl
 
 -- The changes of holders at one address by any frame: one act if its holder changes, else none.
-pub of-changes : OtherHoldersStay → (s : State) → IsRising s.claims.addresses → (a source : ℕ) (n : FrameMeaning)
+pub of-changes : OtherHoldersStay → (s : State) → IsRisingByName s.claims.addresses → (a source : ℕ) (n : FrameMeaning)
     → of a (changes s source n) ≡ change (holder s a) (holder (before s source n) a)
 of-changes law s rising a source (Claim name) = of-claim-changes law s rising a source name
 of-changes law s rising a source ClaimRequest = sym (ap (λ c. cond c [] (Rebinds ∷ [])) (option_same (holder s a)))

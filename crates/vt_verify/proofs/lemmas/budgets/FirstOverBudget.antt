@@ -143,7 +143,7 @@ module _ (shape : Shape) (events : List Listing) (g : Graph) (are : AreTriggers 
 
   -- ---- the first macro or object over the cap
 
-  pub first_macro : (steps n : ℕ) → graphs.IsFirstOver g steps (over.Node n) → IsFirstOver steps shape n
+  pub first_macro : (steps n : ℕ) → graphs.IsFirstOverCap g steps (over.Node n) → IsFirstOver steps shape n
   first_macro steps n first =
       let same = cost_is shape events g are n in
       let lt = first.0 in
@@ -166,7 +166,7 @@ module _ (shape : Shape) (events : List Listing) (g : Graph) (are : AreTriggers 
         ]
 
     pub first_object : (steps k : ℕ) (raised : Listing) → k < length events → raised ≡ slice_index_or events k raised
-        → graphs.IsFirstOver g steps (over.Group k) → IsFirstOver steps shape raised.id
+        → graphs.IsFirstOverCap g steps (over.Group k) → IsFirstOver steps shape raised.id
     first_object steps k raised inside is first =
         let same = group_cost_is shape events g are k raised inside is in
         let lt = first.1 in
@@ -177,7 +177,7 @@ module _ (shape : Shape) (events : List Listing) (g : Graph) (are : AreTriggers 
 -- ---- the first object over the cap, for objects with rising IDs
 
 pub first_over : (objects : Objects) (events : List Listing) (g : Graph) → IsRising objects → AreTriggers (shape_of objects) events g
-    → (steps k : ℕ) (raised : Listing) → slice_get events k ≡ Some raised → graphs.IsFirstOver g steps (over.Group k) → IsFirstOver steps (shape_of objects) raised.id
+    → (steps k : ℕ) (raised : Listing) → slice_get events k ≡ Some raised → graphs.IsFirstOverCap g steps (over.Group k) → IsFirstOver steps (shape_of objects) raised.id
 first_over objects events g rising are steps k raised is first =
     let at = there events k raised is in
     first_object (shape_of objects) events g are (rising_shape objects rising) steps k raised at.0 at.1 first

@@ -124,7 +124,7 @@ module _ (shape : Shape) (events : List Listing) (g : Graph) (are : AreTriggers 
   pub costs_are : graphs.cost_of g ≡ pools.cost shape
   costs_are = everywhere cost_is
 
-  pub costs_are_totals : graphs.CostsAreTotals g → pools.CostsAreTotals shape
+  pub costs_are_totals : graphs.CostsAreTotals g → pools.MacroCostsAreTotals shape
   costs_are_totals totals n =
       sym (cost_is n) ∙ totals n ∙ total_is shape events g are (graphs.cost_of g) n ∙ ap (λ (cost : ℕ → ℕ). macro_cost cost shape n) costs_are
 

@@ -1,7 +1,7 @@
 use Rattle.std.proofs.Common.{rules, ◌≡◌, ◌*◌, ◌/◌, ◌^◌, ◌+◌, ◌+ℤ◌, ◌<◌, ◌++◌, ◌&&◌, ℕ, ℤ, pos, nat_abs, nat_lt, int_lt, [], cond, codes, ap, subst, ◌∙◌}
 use Rattle.std.specs.Fmt.{decimal}
 use Rattle.vt_kinds.specs.Scales.{scale_places}
-use Rattle.vt_objects.specs.Decimals.{IsShown, shown_text, fraction_text}
+use Rattle.vt_objects.specs.Decimals.{IsShownText, shown_text, fraction_text}
 use Rattle.vt_objects.proofs.Rounding.{is_shown, shown_text_is}
 use Rattle.vt_objects.proofs.decimal.Decimal.shown.Goals as goal
 
@@ -25,7 +25,7 @@ returns-clause-text c =
     let digits = c.written.ensures.text
     ∙ ap (λ (u : ℕ). cond negative (codes "-") [] ++ decimal (q / u) ++ fraction_text c.count-decimals.result q) unit_is
     ∙ ap (λ (d : ℕ). cond negative (codes "-") [] ++ decimal (q / 10 ^ decimals) ++ fraction_text d q) c.count-decimals.ensures.value in
-    subst (λ (n : ℤ). IsShown n places decimals c.written.result.bytes) sum_is
+    subst (λ (n : ℤ). IsShownText n places decimals c.written.result.bytes) sum_is
     (is_shown c.sum-sum.result places decimals m q negative c.written.result.bytes size_is some nearest sign_is digits)
 
 pub returns-clause-computed : goal.returns-clause-computed

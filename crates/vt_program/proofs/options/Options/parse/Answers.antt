@@ -8,7 +8,7 @@ use Rattle.clap.proofs.WalkLemmas.{first_value-rows, one_text-rows}
 use Rattle.vt_program.specs.declared.options.Options.{Options}
 use Rattle.vt_program.specs.declared.options.UsageError.{UsageError}
 use Rattle.vt_program.specs.declared.options.UsageError.TheVariants.{Words, Address, Name, OwnerIsOwn, Alone, Memory}
-use Rattle.vt_program.specs.Words.{AreApart, Given, Gives, IsMistake, IsRefusalFor, IsRefusalOf, WordsGive, app, faults_in, given_by, given_in}
+use Rattle.vt_program.specs.Words.{HasValidAddresses, Given, GivesOptions, IsMistake, IsRefusalFor, IsRefusalOf, WordsGive, app, faults_in, given_by, given_in}
 use Rattle.vt_program.proofs.options.Options.parse.Goals as goal
 
 -- The matches of clap give the same texts as the words.
@@ -39,9 +39,9 @@ refused_by_clap words e Alone for kind = absurd for
 refused_by_clap words e Memory for kind = tt
 
 words_give : (words : List Text) (given : Given) (r : Result Options UsageError) → given ≡ given_by words → faults_in words ≡ []
-    → IfOk r (Gives given) → IfOk r AreApart → IfOk r (WordsGive words)
+    → IfOk r (GivesOptions given) → IfOk r HasValidAddresses → IfOk r (WordsGive words)
 words_give words given (Ok options) same none gives apart =
-    record { no_fault = none; gives = subst (λ (g : Given). Gives g options) same gives; apart = apart }
+    record { no_fault = none; gives = subst (λ (g : Given). GivesOptions g options) same gives; apart = apart }
 words_give words given (Err refusal) same none gives apart = tt
 
 words_are_refused : (words : List Text) (given : Given) (r : Result Options UsageError) → given ≡ given_by words → faults_in words ≡ []
