@@ -3,11 +3,11 @@ use Rattle.std.proofs.Common.{◌≡◌, ℕ, Bool, true, false, ◌&&◌, cond,
 use Rattle.std.proofs.lemmas.Bool.{eqb-true}
 use Rattle.std.specs.List.{AllByRecursion}
 use Rattle.vt_commands.specs.declared.command.Command.{Command}
-use Rattle.vt_commands.specs.Commands.{Row, rows, byte, command_among, FunctionIsFirst}
+use Rattle.vt_commands.specs.Commands.{CommandRow, rows, byte, command_among, FunctionIsFirst}
 use Rattle.vt_commands.specs.Functions.{function_of}
 
 -- the commands of a row have its function
-abbrev IsNamed : Row → Type 0
+abbrev IsNamed : CommandRow → Type 0
 IsNamed r = (bytes : List ℕ) → function_of (r.command bytes) ≡ r.function
 
 rows-named : AllByRecursion IsNamed rows
@@ -67,7 +67,7 @@ rows-named = (
   ),
 )
 
-first-among : (rs : List Row) → AllByRecursion IsNamed rs → (bytes : List ℕ) (command : Command) → command_among rs bytes ≡ Some command
+first-among : (rs : List CommandRow) → AllByRecursion IsNamed rs → (bytes : List ℕ) (command : Command) → command_among rs bytes ≡ Some command
     → function_of command ≡ byte bytes 0
 first-among [] named bytes command is = absurd cc
 first-among (r ∷ rs) named bytes command is =

@@ -20,15 +20,15 @@ abbrev pub long : List ℕ → ℕ → ℕ
 long bytes place = little_number 4 (drop place bytes)
 
 -- A row of the table: the function of a command, its least number of bytes, and its decoder.
-pub record Row : Type 0 where
+pub record CommandRow : Type 0 where
   pub function : ℕ
   pub least : ℕ
   pub command : List ℕ → Command
 
-abbrev row : ℕ → ℕ → (List ℕ → Command) → Row
+abbrev row : ℕ → ℕ → (List ℕ → Command) → CommandRow
 row function least command = record { function = function; least = least; command = command }
 
-abbrev pub rows : List Row
+abbrev pub rows : List CommandRow
 rows =
     row HIDE_SHOW 8 (λ b. HideShow (word b 1) (byte b 3))
     ∷ row ENABLE_DISABLE 8 (λ b. EnableDisable (word b 1) (byte b 3))
@@ -54,7 +54,7 @@ rows =
     ∷ []
 
 -- the first row with the function of the bytes decodes them, if they are long enough
-abbrev pub command_among : List Row → List ℕ → Option Command
+abbrev pub command_among : List CommandRow → List ℕ → Option Command
 command_among [] bytes = None
 command_among (r ∷ rs) bytes =
     if byte bytes 0 == r.function && nat_le r.least (length bytes) then Some (r.command bytes) else command_among rs bytes

@@ -44,13 +44,13 @@ pub data Value : Type 0 where
   bytes : List ℕ → Value
 
 -- a field in the record of an A, with its attribute name (if it is an attribute) and its value in an A
-pub record Named (A : Type 0) : Type 0 where
+pub record TableField (A : Type 0) : Type 0 where
   pub field : RecordField
   pub name : Option names.Field
   pub value : A → Value
 
 abbrev pub Table : Type 0 → Type 0
-Table A = List (Named A)
+Table A = List (TableField A)
 
 abbrev pub fields : {A : Type 0} → Table A → List RecordField
 fields t = map (λ f. f.field) t
@@ -63,34 +63,34 @@ values t x = map (λ f. f.value x) t
 
 -- ---- constructors of tables
 
-abbrev pub unsigned : {A : Type 0} → ℕ → (A → ℕ) → Named A
+abbrev pub unsigned : {A : Type 0} → ℕ → (A → ℕ) → TableField A
 unsigned size f = record { field = Number (Unsigned size); name = None; value = λ x. number (natural (f x)) }
 
-abbrev pub byte : {A : Type 0} → (A → ℕ) → Named A
+abbrev pub byte : {A : Type 0} → (A → ℕ) → TableField A
 byte f = unsigned 1 f
 
-abbrev pub word : {A : Type 0} → (A → ℕ) → Named A
+abbrev pub word : {A : Type 0} → (A → ℕ) → TableField A
 word f = unsigned 2 f
 
-abbrev pub long : {A : Type 0} → (A → ℕ) → Named A
+abbrev pub long : {A : Type 0} → (A → ℕ) → TableField A
 long f = unsigned 4 f
 
-abbrev pub signed_long : {A : Type 0} → (A → ℤ) → Named A
+abbrev pub signed_long : {A : Type 0} → (A → ℤ) → TableField A
 signed_long f = record { field = Number (Signed w32); name = None; value = λ x. number (integer (f x)) }
 
 -- marks a field as an attribute
-abbrev pub attribute : {A : Type 0} → names.Field → Named A → Named A
+abbrev pub attribute : {A : Type 0} → names.Field → TableField A → TableField A
 attribute name f = record f { name = Some name }
 
 -- the count field of a list
-abbrev pub count : {A X : Type 0} → ℕ → Counted → (A → List X) → Named A
+abbrev pub count : {A X : Type 0} → ℕ → Counted → (A → List X) → TableField A
 count size of f = record { field = Count size of; name = None; value = λ x. number (natural (length (f x))) }
 
 -- the rows field of a list: one row of numbers for each element
-abbrev pub rows_of : {A X : Type 0} → Counted → List Size → (X → List Numeral) → (A → List X) → Named A
+abbrev pub rows_of : {A X : Type 0} → Counted → List Size → (X → List Numeral) → (A → List X) → TableField A
 rows_of of sizes numbers f = record { field = Rows of sizes; name = None; value = λ x. rows (map numbers (f x)) }
 
-abbrev pub bytes_of : {A : Type 0} → Counted → (A → List ℕ) → Named A
+abbrev pub bytes_of : {A : Type 0} → Counted → (A → List ℕ) → TableField A
 bytes_of of f = record { field = Bytes of; name = None; value = λ x. bytes (f x) }
 
 -- ---- the spelling of values
@@ -133,20 +133,20 @@ spelling (f ∷ fs) (v ∷ vs) = field_spelling f v ++ spelling fs vs
 -- ---- the values that have an encoding
 
 -- the counts read so far
-pub record Counts : Type 0 where
+pub record RecordCounts : Type 0 where
   pub objects : ℕ
   pub macros : ℕ
   pub others : ℕ
 
-abbrev pub no_counts : Counts
+abbrev pub no_counts : RecordCounts
 no_counts = record { objects = 0; macros = 0; others = 0 }
 
-abbrev pub counted : Counted → ℕ → Counts → Counts
+abbrev pub counted : Counted → ℕ → RecordCounts → RecordCounts
 counted Objects n counts = record counts { objects = n }
 counted Macros n counts = record counts { macros = n }
 counted Others n counts = record counts { others = n }
 
-abbrev pub count_of : Counted → Counts → ℕ
+abbrev pub count_of : Counted → RecordCounts → ℕ
 count_of Objects counts = counts.objects
 count_of Macros counts = counts.macros
 count_of Others counts = counts.others
@@ -165,7 +165,7 @@ RowFits (size ∷ sizes) [] = ⊥
 RowFits (size ∷ sizes) (n ∷ ns) = Fits size n × RowFits sizes ns
 
 -- the values fit their fields: each number its size, each list its count
-abbrev pub FieldsFit : List RecordField → Counts → List Value → Type 0
+abbrev pub FieldsFit : List RecordField → RecordCounts → List Value → Type 0
 FieldsFit [] counts [] = Unit {0}
 FieldsFit (Number size ∷ fs) counts (number n ∷ vs) = Fits size n × FieldsFit fs counts vs
 FieldsFit (Count size of ∷ fs) counts (number (natural n) ∷ vs) = (n < 256 ^ size) × FieldsFit fs (counted of n counts) vs

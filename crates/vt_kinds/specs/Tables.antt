@@ -37,7 +37,7 @@ use Rattle.vt_kinds.specs.declared.attribute_objects.InputAttributes.{InputAttri
 use Rattle.vt_kinds.specs.declared.variables.ObjectPointer.{ObjectPointer}
 use Rattle.vt_kinds.specs.declared.macros.Macro.{Macro}
 use Rattle.vt_kinds.specs.declared.fields.Field.TheVariants as names
-use Rattle.vt_kinds.specs.Layout.{attribute, Size, Unsigned, Signed, Numeral, natural, integer, number, ScaleBytes, DecimalPlaces, Named, Table, byte, word, long, signed_long, count, rows_of, bytes_of, Objects, Macros, Others}
+use Rattle.vt_kinds.specs.Layout.{attribute, Size, Unsigned, Signed, Numeral, natural, integer, number, ScaleBytes, DecimalPlaces, TableField, Table, byte, word, long, signed_long, count, rows_of, bytes_of, Objects, Macros, Others}
 use Rattle.vt_kinds.specs.Scales.{scale_number}
 
 -- ---- the entries of lists
@@ -74,32 +74,32 @@ point_numbers p = natural p.x ∷ natural p.y ∷ []
 
 -- ---- the fields of a table
 
-abbrev pub children : {A : Type 0} → (A → List Child) → Named A
+abbrev pub children : {A : Type 0} → (A → List Child) → TableField A
 children f = rows_of Objects child_sizes child_numbers f
 
-abbrev pub macros : {A : Type 0} → (A → List MacroEntry) → Named A
+abbrev pub macros : {A : Type 0} → (A → List MacroEntry) → TableField A
 macros f = rows_of Macros macro_sizes macro_numbers f
 
-abbrev pub languages : {A : Type 0} → (A → List Language) → Named A
+abbrev pub languages : {A : Type 0} → (A → List Language) → TableField A
 languages f = rows_of Others language_sizes language_numbers f
 
-abbrev pub keys : {A : Type 0} → (A → List ℕ) → Named A
+abbrev pub keys : {A : Type 0} → (A → List ℕ) → TableField A
 keys f = rows_of Objects id_sizes id_numbers f
 
-abbrev pub items : {A : Type 0} → (A → List ℕ) → Named A
+abbrev pub items : {A : Type 0} → (A → List ℕ) → TableField A
 items f = rows_of Others id_sizes id_numbers f
 
-abbrev pub points : {A : Type 0} → (A → List Point) → Named A
+abbrev pub points : {A : Type 0} → (A → List Point) → TableField A
 points f = rows_of Others point_sizes point_numbers f
 
 -- the byte fields of texts, pictures and macros
-abbrev pub content : {A : Type 0} → (A → List ℕ) → Named A
+abbrev pub content : {A : Type 0} → (A → List ℕ) → TableField A
 content f = bytes_of Others f
 
-abbrev pub scale : {A : Type 0} → (A → Scale) → Named A
+abbrev pub scale : {A : Type 0} → (A → Scale) → TableField A
 scale f = record { field = ScaleBytes; name = None; value = λ x. number (natural (scale_number (f x))) }
 
-abbrev pub decimals : {A : Type 0} → (A → ℕ) → Named A
+abbrev pub decimals : {A : Type 0} → (A → ℕ) → TableField A
 decimals f = record { field = DecimalPlaces; name = None; value = λ x. number (natural (f x)) }
 
 -- ---- one table for each kind

@@ -120,13 +120,13 @@ runs_of_message address (Some set) pool (Some bytes) = runs_of_command address p
 runs_of_message address _ pool _ = []
 
 -- An action makes its own change first. A refused action makes none; a long message is refused while another is being sent.
-abbrev pub runs_of_action : ℕ → Option (Timed Message) → ObjectMap → Option operating.Action → List Run
+abbrev pub runs_of_action : ℕ → Option (Timed Message) → ObjectMap → Option operating.ActionResult → List Run
 runs_of_action address sending old (Some (operating.Acts message start raised)) =
     if is_busy message sending then []
     else record { address = address; before = old; objects = start.objects; raised = raised } ∷ []
 runs_of_action address sending old _ = []
 
-abbrev pub runs_of_operator : ℕ → Option (Timed Message) → Option SetState → (SetState → Option operating.Action) → List Run
+abbrev pub runs_of_operator : ℕ → Option (Timed Message) → Option SetState → (SetState → Option operating.ActionResult) → List Run
 runs_of_operator address sending None action = []
 runs_of_operator address sending (Some state) action = runs_of_action address sending state.objects (action state)
 

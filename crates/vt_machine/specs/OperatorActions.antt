@@ -19,9 +19,9 @@ use Rattle.vt_effects.specs.Soundness.{shape_in}
 use Rattle.vt_shown.specs.ShownElements.{IsShown}
 
 -- the result of an action
-pub data Action : Type 0 where
-  Refused : (refusal : OperatorRefusal) → Action
-  Acts : (message : List ℕ) (state : SetState) (raised : List Raised) → Action
+pub data ActionResult : Type 0 where
+  Refused : (refusal : OperatorRefusal) → ActionResult
+  Acts : (message : List ℕ) (state : SetState) (raised : List Raised) → ActionResult
 
 -- ---- keys
 
@@ -40,13 +40,13 @@ holding state key = record state { key = key }
 abbrev pub held : ℕ → ℕ → HeldKey
 held id mask = record { id = id; mask = mask }
 
-abbrev pub press_with : SetState → ℕ → ℕ → Option (List ℕ) → Option HeldKey → Action
+abbrev pub press_with : SetState → ℕ → ℕ → Option (List ℕ) → Option HeldKey → ActionResult
 press_with state mask id None key = Refused refusals.WrongKind
 press_with state mask id (Some message) (Some key) = Refused refusals.Held
 press_with state mask id (Some message) None = Acts message (holding state (Some (held id mask))) (raise id events.KeyPress ∷ [])
 
 -- the press of a key, where `shown` is whether the object is shown
-abbrev pub press : Bool → SetState → ℕ → ℕ → Action
+abbrev pub press : Bool → SetState → ℕ → ℕ → ActionResult
 press false state mask id = Refused refusals.NotShown
 press true state mask id = press_with state mask id (key_message 1 id mask (finite.get state.objects id)) state.key
 
@@ -55,14 +55,14 @@ or_none None = []
 or_none (Some message) = message
 
 -- the release of the held key: the message has the mask of the press and the present key code
-abbrev pub release_of : SetState → ℕ → Option HeldKey → Action
+abbrev pub release_of : SetState → ℕ → Option HeldKey → ActionResult
 release_of state id None = Refused refusals.NotPressed
 release_of state id (Some key) =
     if key.id == id
     then Acts (or_none (key_message 0 id key.mask (finite.get state.objects id))) (holding state None) (raise id events.KeyRelease ∷ [])
     else Refused refusals.NotPressed
 
-abbrev pub release : SetState → ℕ → Action
+abbrev pub release : SetState → ℕ → ActionResult
 release state id = release_of state id state.key
 
 -- ---- inputs
@@ -84,12 +84,12 @@ select_events id None = raise id events.InputSelected ∷ []
 select_events id (Some old) =
     if old == id then [] else raise old events.InputDeselected ∷ raise id events.InputSelected ∷ []
 
-abbrev pub select_if : SetState → ℕ → Option Bool → Action
+abbrev pub select_if : SetState → ℕ → Option Bool → ActionResult
 select_if state id None = Refused refusals.WrongKind
 select_if state id (Some false) = Refused refusals.Disabled
 select_if state id (Some true) = Acts [] (selecting state id) (select_events id state.input)
 
-abbrev pub select : Bool → SetState → ℕ → Action
+abbrev pub select : Bool → SetState → ℕ → ActionResult
 select false state id = Refused refusals.NotShown
 select true state id = select_if state id (is_enabled (finite.get state.objects id))
 
@@ -101,22 +101,22 @@ pub record HasActed (start : SetState) (raised : List Raised) (steps : ℕ) (new
   pub key : new.key ≡ start.key
   pub input : new.input ≡ start.input
 
-abbrev pub ComesTo : SetState → Action → Result Acted OperatorRefusal → SetState → Type 0
+abbrev pub ComesTo : SetState → ActionResult → Result Acted OperatorRefusal → SetState → Type 0
 ComesTo old (Refused refusal) (Err answered) new = (answered ≡ refusal) × (new ≡ old)
 ComesTo old (Acts message start raised) (Ok acted) new = (acted.message.items ≡ message) × HasActed start raised acted.steps new
 ComesTo old (Refused refusal) (Ok acted) new = ⊥
 ComesTo old (Acts message start raised) (Err answered) new = ⊥
 
 -- an action on an object that the active mask has to show
-abbrev pub ComesToShown : SetState → ℕ → (Bool → ℕ → Action) → Result Acted OperatorRefusal → SetState → Type 0
+abbrev pub ComesToShown : SetState → ℕ → (Bool → ℕ → ActionResult) → Result Acted OperatorRefusal → SetState → Type 0
 ComesToShown old id action result new =
     (shown : Bool) × Decides shown (IsShown old.objects (active_in old.objects) id) × ComesTo old (action shown (active_in old.objects)) result new
 
 -- the refusal of an action, or None
-abbrev pub refusal_of : Action → Option OperatorRefusal
+abbrev pub refusal_of : ActionResult → Option OperatorRefusal
 refusal_of (Refused refusal) = Some refusal
 refusal_of (Acts message state raised) = None
 
-abbrev pub WouldRefuse : SetState → ℕ → (Bool → ℕ → Action) → Option OperatorRefusal → Type 0
+abbrev pub WouldRefuse : SetState → ℕ → (Bool → ℕ → ActionResult) → Option OperatorRefusal → Type 0
 WouldRefuse old id action result =
     (shown : Bool) × Decides shown (IsShown old.objects (active_in old.objects) id) × (result ≡ refusal_of (action shown (active_in old.objects)))

@@ -17,7 +17,7 @@ use Rattle.vt_machine.specs.declared.operator.OperatorRefusal.TheVariants as ref
 use Rattle.vt_effects.specs.Fields.{byte}
 use Rattle.vt_machine.specs.SetStates.{SetState, with_objects}
 use Rattle.vt_effects.specs.Soundness.{shape_in}
-use Rattle.vt_machine.specs.OperatorActions.{Action, Refused, Acts}
+use Rattle.vt_machine.specs.OperatorActions.{ActionResult, Refused, Acts}
 use Rattle.vt_effects.specs.Soundness.{IsSound}
 
 -- the object that stores a value: the variable of an object, if it has one
@@ -63,7 +63,7 @@ is_number n None = false
 is_number n (Some o) = is_value n (number_of o)
 
 -- the number is stored, and its events are raised
-abbrev pub store_number : SetState → ℕ → ℕ → ℕ → Action
+abbrev pub store_number : SetState → ℕ → ℕ → ℕ → ActionResult
 store_number state id at n =
     Acts (number_message id n) (with_objects state (put_at state.objects at (with_number n) (finite.get state.objects at)))
     (entry_events id (not (is_number n (finite.get state.objects at))))
@@ -82,11 +82,11 @@ number_place id n (Some (objects.InputNumber o)) = place_if (o.options_two % 2 =
 number_place id n (Some (objects.InputList o)) = place_if (o.options % 2 == 1) (nat_lt n (length o.items)) refusals.Range (kept_at id o.variable)
 number_place id n _ = Err refusals.WrongKind
 
-abbrev pub number_entered : SetState → ℕ → ℕ → Result ℕ OperatorRefusal → Action
+abbrev pub number_entered : SetState → ℕ → ℕ → Result ℕ OperatorRefusal → ActionResult
 number_entered state id n (Err refusal) = Refused refusal
 number_entered state id n (Ok at) = store_number state id at n
 
-abbrev pub enter_number : Bool → SetState → ℕ → ℕ → Action
+abbrev pub enter_number : Bool → SetState → ℕ → ℕ → ActionResult
 enter_number false state id n = Refused refusals.NotShown
 enter_number true state id n = number_entered state id n (number_place id n (finite.get state.objects id))
 
@@ -129,7 +129,7 @@ text_in (Some o) = text_of o
 abbrev pub text_at : ObjectMap → ℕ → Option (List ℕ)
 text_at store at = text_in (finite.get store at)
 
-abbrev pub store_text : SetState → ℕ → ℕ → List ℕ → Action
+abbrev pub store_text : SetState → ℕ → ℕ → List ℕ → ActionResult
 store_text state id at text =
     Acts (text_message id text) (with_objects state (put_at state.objects at (with_text text) (finite.get state.objects at)))
     (entry_events id (not (same_text text (text_at state.objects at))))
@@ -140,11 +140,11 @@ text_place store id text (Some (objects.InputString o)) =
     place_if (not (o.enabled == 0)) (nat_le (length text) (length o.text) && text_fits text (text_at store (kept_at id o.variable))) refusals.TooLong (kept_at id o.variable)
 text_place store id text _ = Err refusals.WrongKind
 
-abbrev pub text_entered : SetState → ℕ → List ℕ → Result ℕ OperatorRefusal → Action
+abbrev pub text_entered : SetState → ℕ → List ℕ → Result ℕ OperatorRefusal → ActionResult
 text_entered state id text (Err refusal) = Refused refusal
 text_entered state id text (Ok at) = store_text state id at text
 
-abbrev pub enter_text : Bool → SetState → ℕ → List ℕ → Action
+abbrev pub enter_text : Bool → SetState → ℕ → List ℕ → ActionResult
 enter_text false state id text = Refused refusals.NotShown
 enter_text true state id text = text_entered state id text (text_place state.objects id text (finite.get state.objects id))
 

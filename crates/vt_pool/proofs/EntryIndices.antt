@@ -9,29 +9,29 @@ use Rattle.std.specs.FinMap as finite
 use Rattle.vt_kinds.specs.declared.object.Object.{Object}
 use Rattle.vt_kinds.specs.Records.{Seen, seen}
 use Rattle.vt_stores.specs.Stores.{shown}
-use Rattle.vt_pool.specs.Pools.{Entry, ids, contents}
+use Rattle.vt_pool.specs.Pools.{PoolEntry, ids, contents}
 use Rattle.vt_pool.specs.EntryWrites.{with_entry}
 
 -- the object of an ID in a list
-abbrev pub entry_at : List Entry → ℕ → Option Seen
+abbrev pub entry_at : List PoolEntry → ℕ → Option Seen
 entry_at [] q = None
 entry_at (e ∷ es) q = cond (eqb q e.0) (Some e.1) (entry_at es q)
 
-find_entry : (es : List Entry) (q : ℕ) → finite.find nat_cmp q es ≡ entry_at es q
+find_entry : (es : List PoolEntry) (q : ℕ) → finite.find nat_cmp q es ≡ entry_at es q
 find_entry [] q = refl
 find_entry (e ∷ es) q =
     ap (λ b. cond b (Some e.1) (finite.find nat_cmp q es)) (unsigned_tied q e.0)
     ∙ ap (cond (eqb q e.0) (Some e.1)) (find_entry es q)
 
-pub get-contents : (es : List Entry) (q : ℕ) → finite.get (contents es) q ≡ entry_at es q
+pub get-contents : (es : List PoolEntry) (q : ℕ) → finite.get (contents es) q ≡ entry_at es q
 get-contents es q = finite.get-from_entries nat_cmp_total es q ∙ find_entry es q
 
 -- ---- the first index of an ID
 
-abbrev pub place_of : ℕ → List Entry → ℕ
+abbrev pub place_of : ℕ → List PoolEntry → ℕ
 place_of q es = position_or_len (eqb q) (ids es)
 
-at_cases : (b : Bool) (q : ℕ) (e : Entry) (es : List Entry) (d : Entry) → cond (not b) (1 + place_of q es) 0 < suc (length es)
+at_cases : (b : Bool) (q : ℕ) (e : PoolEntry) (es : List PoolEntry) (d : PoolEntry) → cond (not b) (1 + place_of q es) 0 < suc (length es)
     → (place_of q es < length es → entry_at es q ≡ Some (get_or es (place_of q es) d).1)
     → cond b (Some e.1) (entry_at es q) ≡ Some (get_or (e ∷ es) (cond (not b) (1 + place_of q es) 0) d).1
 at_cases true q e es d lt later = refl
@@ -39,16 +39,16 @@ at_cases false q e es d lt later =
     let next : 1 + place_of q es ≡ suc (place_of q es) = omega arith in
     rw next (later (omega arith))
 
-pub entry_there : (q : ℕ) (es : List Entry) (d : Entry) → place_of q es < length es → entry_at es q ≡ Some (get_or es (place_of q es) d).1
+pub entry_there : (q : ℕ) (es : List PoolEntry) (d : PoolEntry) → place_of q es < length es → entry_at es q ≡ Some (get_or es (place_of q es) d).1
 entry_there q [] d lt = absurd (omega arith)
 entry_there q (e ∷ es) d lt = at_cases (eqb q e.0) q e es d lt (entry_there q es d)
 
-none_cases : (b : Bool) (q : ℕ) (e : Entry) (es : List Entry) → suc (length es) ≤ cond (not b) (1 + place_of q es) 0
+none_cases : (b : Bool) (q : ℕ) (e : PoolEntry) (es : List PoolEntry) → suc (length es) ≤ cond (not b) (1 + place_of q es) 0
     → (length es ≤ place_of q es → entry_at es q ≡ None) → cond b (Some e.1) (entry_at es q) ≡ None
 none_cases true q e es le later = absurd (omega arith)
 none_cases false q e es le later = later (omega arith)
 
-pub entry_nowhere : (q : ℕ) (es : List Entry) → length es ≤ place_of q es → entry_at es q ≡ None
+pub entry_nowhere : (q : ℕ) (es : List PoolEntry) → length es ≤ place_of q es → entry_at es q ≡ None
 entry_nowhere q [] le = refl
 entry_nowhere q (e ∷ es) le = none_cases (eqb q e.0) q e es le (entry_nowhere q es)
 
@@ -88,28 +88,28 @@ got_some q items keys place x same found is =
     let got : entry_at es q ≡ Some (get_or es place (shown x)).1 =
     subst (λ (k : ℕ). entry_at es q ≡ Some (get_or es k (shown x)).1) there (entry_there q es (shown x) (omega arith)) in
     let shows : get_or es place (shown x) ≡ shown x = get_or-map shown items place x (shown x) in_items ∙ ap shown (sym is) in
-    sym (get-contents es q ∙ got ∙ ap (λ (e : Entry). Some e.1) shows)
+    sym (get-contents es q ∙ got ∙ ap (λ (e : PoolEntry). Some e.1) shows)
 
 -- ---- replacing an entry at its index
 
-with_new_cases : (b : Bool) (e : Entry) (es : List Entry) (id : ℕ) (o : Seen) → (b || list_any (eqb id) (ids es)) ≡ false
+with_new_cases : (b : Bool) (e : PoolEntry) (es : List PoolEntry) (id : ℕ) (o : Seen) → (b || list_any (eqb id) (ids es)) ≡ false
     → (list_any (eqb id) (ids es) ≡ false → with_entry es id o ≡ es ++ (id, o) ∷ []) → cond b ((id, o) ∷ es) (e ∷ with_entry es id o) ≡ e ∷ es ++ (id, o) ∷ []
 with_new_cases true e es id o absent later = absurd cc
-with_new_cases false e es id o absent later = ap (λ (l : List Entry). e ∷ l) (later absent)
+with_new_cases false e es id o absent later = ap (λ (l : List PoolEntry). e ∷ l) (later absent)
 
-pub with_new : (es : List Entry) (id : ℕ) (o : Seen) → list_any (eqb id) (ids es) ≡ false → with_entry es id o ≡ es ++ (id, o) ∷ []
+pub with_new : (es : List PoolEntry) (id : ℕ) (o : Seen) → list_any (eqb id) (ids es) ≡ false → with_entry es id o ≡ es ++ (id, o) ∷ []
 with_new [] id o absent = refl
 with_new (e ∷ es) id o absent = with_new_cases (eqb id e.0) e es id o absent (with_new es id o)
 
-with_old_cases : (b : Bool) (e : Entry) (es : List Entry) (id : ℕ) (o : Seen) → cond (not b) (1 + place_of id es) 0 < suc (length es)
+with_old_cases : (b : Bool) (e : PoolEntry) (es : List PoolEntry) (id : ℕ) (o : Seen) → cond (not b) (1 + place_of id es) 0 < suc (length es)
     → (place_of id es < length es → with_entry es id o ≡ set es (place_of id es) (id, o))
     → cond b ((id, o) ∷ es) (e ∷ with_entry es id o) ≡ set (e ∷ es) (cond (not b) (1 + place_of id es) 0) (id, o)
 with_old_cases true e es id o lt later = refl
 with_old_cases false e es id o lt later =
     let next : 1 + place_of id es ≡ suc (place_of id es) = omega arith in
-    rw next (ap (λ (l : List Entry). e ∷ l) (later (omega arith)))
+    rw next (ap (λ (l : List PoolEntry). e ∷ l) (later (omega arith)))
 
-pub with_old : (es : List Entry) (id : ℕ) (o : Seen) → place_of id es < length es → with_entry es id o ≡ set es (place_of id es) (id, o)
+pub with_old : (es : List PoolEntry) (id : ℕ) (o : Seen) → place_of id es < length es → with_entry es id o ≡ set es (place_of id es) (id, o)
 with_old [] id o lt = absurd (omega arith)
 with_old (e ∷ es) id o lt = with_old_cases (eqb id e.0) e es id o lt (with_old es id o)
 
@@ -122,12 +122,12 @@ pushed : (b : Bool) (k : ℕ) (keys others : List ℕ) → cond b (k ∷ keys) (
 pushed true k keys others = refl
 pushed false k keys others = refl
 
-ids_cases : (b : Bool) (e : Entry) (es : List Entry) (id : ℕ) (o : Seen) → (b ≡ true → id ≡ e.0) → ids (with_entry es id o) ≡ with_id (ids es) id
+ids_cases : (b : Bool) (e : PoolEntry) (es : List PoolEntry) (id : ℕ) (o : Seen) → (b ≡ true → id ≡ e.0) → ids (with_entry es id o) ≡ with_id (ids es) id
     → ids (cond b ((id, o) ∷ es) (e ∷ with_entry es id o)) ≡ cond (b || list_any (eqb id) (ids es)) (e.0 ∷ ids es) (e.0 ∷ ids es ++ id ∷ [])
 ids_cases true e es id o same later = ap (λ (k : ℕ). k ∷ ids es) (same refl)
 ids_cases false e es id o same later = ap (λ (l : List ℕ). e.0 ∷ l) later ∙ sym (pushed (list_any (eqb id) (ids es)) e.0 (ids es) (ids es ++ id ∷ []))
 
-pub ids_with : (es : List Entry) (id : ℕ) (o : Seen) → ids (with_entry es id o) ≡ with_id (ids es) id
+pub ids_with : (es : List PoolEntry) (id : ℕ) (o : Seen) → ids (with_entry es id o) ≡ with_id (ids es) id
 ids_with [] id o = refl
 ids_with (e ∷ es) id o = ids_cases (eqb id e.0) e es id o (eqb-true id e.0) (ids_with es id o)
 
@@ -140,7 +140,7 @@ swapped true true x y z apart = absurd (apart refl refl)
 swapped true false x y z apart = refl
 swapped false b x y z apart = refl
 
-at_with_cases : (b : Bool) (e : Entry) (es : List Entry) (id : ℕ) (o : Seen) (q : ℕ) → eqb id e.0 ≡ b → entry_at (with_entry es id o) q ≡ cond (eqb q id) (Some o) (entry_at es q)
+at_with_cases : (b : Bool) (e : PoolEntry) (es : List PoolEntry) (id : ℕ) (o : Seen) (q : ℕ) → eqb id e.0 ≡ b → entry_at (with_entry es id o) q ≡ cond (eqb q id) (Some o) (entry_at es q)
     → entry_at (cond b ((id, o) ∷ es) (e ∷ with_entry es id o)) q ≡ cond (eqb q id) (Some o) (cond (eqb q e.0) (Some e.1) (entry_at es q))
 at_with_cases true e es id o q is later =
     let same : id ≡ e.0 = eqb-true id e.0 is in
@@ -152,11 +152,11 @@ at_with_cases false e es id o q is later =
     let other : q ≡ id = eqb-true q id b in
     false≢true (sym is ∙ ap (λ (k : ℕ). eqb k e.0) (sym other) ∙ a))
 
-at_with : (es : List Entry) (id : ℕ) (o : Seen) (q : ℕ) → entry_at (with_entry es id o) q ≡ cond (eqb q id) (Some o) (entry_at es q)
+at_with : (es : List PoolEntry) (id : ℕ) (o : Seen) (q : ℕ) → entry_at (with_entry es id o) q ≡ cond (eqb q id) (Some o) (entry_at es q)
 at_with [] id o q = refl
 at_with (e ∷ es) id o q = at_with_cases (eqb id e.0) e es id o q refl (at_with es id o q)
 
-pub contents_with : (es : List Entry) (id : ℕ) (o : Seen) → contents (with_entry es id o) ≡ finite.insert (contents es) id o
+pub contents_with : (es : List PoolEntry) (id : ℕ) (o : Seen) → contents (with_entry es id o) ≡ finite.insert (contents es) id o
 contents_with es id o =
     finite.same_map nat_cmp_total finite.nat_cmp-IsAntisymmetric _ _ (λ q.
     get-contents (with_entry es id o) q ∙ at_with es id o q
@@ -194,6 +194,6 @@ shown_push items keys id w same none =
     map_push shown items (id, w) ∙ sym (with_new es id (seen w) (ap (λ (l : List ℕ). list_any (eqb id) l) (sym same) ∙ none))
 
 -- the IDs still match the objects
-pub same_ids : (keys after : List ℕ) (es left : List Entry) (id : ℕ) (o : Seen) → keys ≡ ids es → after ≡ with_id keys id → left ≡ with_entry es id o → after ≡ ids left
+pub same_ids : (keys after : List ℕ) (es left : List PoolEntry) (id : ℕ) (o : Seen) → keys ≡ ids es → after ≡ with_id keys id → left ≡ with_entry es id o → after ≡ ids left
 same_ids keys after es left id o same is gives =
     is ∙ ap (λ (l : List ℕ). with_id l id) same ∙ sym (ap ids gives ∙ ids_with es id o)

@@ -24,7 +24,7 @@ use Rattle.vt_pool.proofs.FrontBytes.{bytes_front, bytes_short, number_front, si
 
 -- ---- counts of lists
 
-abbrev pub counts_so : EntryCounts → layout.Counts
+abbrev pub counts_so : EntryCounts → layout.RecordCounts
 counts_so counts = record { objects = counts.objects; macros = counts.macros; others = counts.others }
 
 same_count : (counts : EntryCounts) (of : layout.Counted) → count_of of (counts_so counts) ≡ count_in counts (counted_as of)

@@ -5,7 +5,7 @@ use Rattle.vt_kinds.specs.Layout.{RecordField, ScaleBytes, DecimalPlaces}
 use Rattle.vt_kinds.specs.Records.{record_of}
 use Rattle.vt_records.specs.declared.fault.PoolFault.{PoolFault}
 use Rattle.vt_records.specs.declared.fault.PoolFault.TheVariants as faults
-use Rattle.vt_pool.specs.Pools.{Entry, joined, AreRecords, IsFaultAt}
+use Rattle.vt_pool.specs.Pools.{PoolEntry, joined, AreRecords, IsFaultAt}
 use Rattle.vt_records.specs.Faults.{NoRecordBegins, HasNullId, HasOtherType, IsTruncated, IsImproper}
 use Rattle.vt_pool.specs.PoolUploads.{AreWholeTo, IsUnfinished, IsReadTo, HasNoFaultYet}
 use Rattle.vt_records.proofs.ReadInvertsWrite.{same_record}
@@ -13,7 +13,7 @@ use Rattle.vt_records.proofs.Causes.{truncated_none, null_none, other_none}
 
 -- ---- the bytes after the same whole records
 
-same_rest : (front records : List Entry) (rest other : List ℕ) → AreRecords front → AreRecords records → NoRecordBegins rest → NoRecordBegins other → joined front ++ rest ≡ joined records ++ other → rest ≡ other
+same_rest : (front records : List PoolEntry) (rest other : List ℕ) → AreRecords front → AreRecords records → NoRecordBegins rest → NoRecordBegins other → joined front ++ rest ≡ joined records ++ other → rest ≡ other
 same_rest [] [] rest other are whole none apart parts = parts
 same_rest [] (r ∷ records) rest other are whole none apart parts =
     absurd (none r.0 r.1 (joined records ++ other) whole.0 (parts ∙ append_assoc (record_of r.0 r.1) (joined records) other))

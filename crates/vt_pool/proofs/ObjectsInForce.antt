@@ -7,7 +7,7 @@ use Rattle.std.proofs.lemmas.List.Elements.{filter-append}
 use Rattle.std.specs.FinMap as finite
 use Rattle.vt_kinds.specs.Records.{Seen}
 use Rattle.vt_stores.specs.Stores.{ObjectMap}
-use Rattle.vt_pool.specs.Pools.{Entry, ids, contents, first_occurrences, IsInForce}
+use Rattle.vt_pool.specs.Pools.{PoolEntry, ids, contents, first_occurrences, IsInForce}
 use Rattle.vt_pool.specs.EntryWrites.{with_entry}
 use Rattle.vt_pool.proofs.EntryIndices.{with_id, ids_with, contents_with}
 
@@ -56,7 +56,7 @@ first_push (x ∷ xs) id =
 pub nothing_in_force : IsInForce [] []
 nothing_in_force = record { order = refl; last = refl }
 
-pub in_force_push : (records objects : List Entry) (id : ℕ) (o : Seen) → IsInForce records objects → IsInForce (records ++ (id, o) ∷ []) (with_entry objects id o)
+pub in_force_push : (records objects : List PoolEntry) (id : ℕ) (o : Seen) → IsInForce records objects → IsInForce (records ++ (id, o) ∷ []) (with_entry objects id o)
 in_force_push records objects id o before =
     let pushed : ids (records ++ (id, o) ∷ []) ≡ ids records ++ id ∷ [] = map_push (λ e. e.0) records (id, o) in
     let turned : reverse (records ++ (id, o) ∷ []) ≡ (id, o) ∷ reverse records = reverse-append records ((id, o) ∷ []) in

@@ -9,7 +9,7 @@ use Rattle.vt_kinds.specs.Records.{record_of}
 use Rattle.vt_stores.specs.Stores.{ObjectMap}
 use Rattle.vt_records.specs.declared.fault.PoolFault.{PoolFault}
 use Rattle.vt_records.specs.declared.fault.PoolFault.TheVariants as faults
-use Rattle.vt_pool.specs.Pools.{Entry, joined, AreRecords, first_occurrences, ids, IsInForce, IsFaultAt, IsFault, IsWantOfMemory, ReadingsAreOne, is_of_type}
+use Rattle.vt_pool.specs.Pools.{PoolEntry, joined, AreRecords, first_occurrences, ids, IsInForce, IsFaultAt, IsFault, IsWantOfMemory, ReadingsAreOne, is_of_type}
 use Rattle.vt_records.specs.Faults.{NoRecordBegins, HasNullId, HasOtherType, IsTruncated, IsImproper}
 use Rattle.vt_pool.proofs.EntryIndices.{get-contents}
 use Rattle.vt_records.proofs.ReadInvertsWrite.{same_record}
@@ -60,19 +60,19 @@ firsts_distinct (x ∷ xs) =
 
 -- ---- the objects in force are unique
 
-in_force_one : (records p q : List Entry) → IsInForce records p → IsInForce records q → p ≡ q
+in_force_one : (records p q : List PoolEntry) → IsInForce records p → IsInForce records q → p ≡ q
 in_force_one records p q is other =
     same_entries p q (is.order ∙ sym other.order) (subst (IsDistinct eqb) (sym other.order) (firsts_distinct (ids records)))
     (λ id. sym (get-contents p id) ∙ ap (λ (m : ObjectMap). finite.get m id) (is.last ∙ sym other.last) ∙ get-contents q id)
 
-pools_one : (records others p q : List Entry) → AreRecords records → AreRecords others → joined records ≡ joined others → IsInForce records p → IsInForce others q → p ≡ q
+pools_one : (records others p q : List PoolEntry) → AreRecords records → AreRecords others → joined records ≡ joined others → IsInForce records p → IsInForce others q → p ≡ q
 pools_one records others p q are too same is other =
     let one : others ≡ records = joined_one others records too are (sym same) in
-    in_force_one records p q is (subst (λ (rs : List Entry). IsInForce rs q) one other)
+    in_force_one records p q is (subst (λ (rs : List PoolEntry). IsInForce rs q) one other)
 
 -- ---- the end of the whole records is unique
 
-rest_one : (xs ys : List Entry) (rest other : List ℕ) → AreRecords xs → AreRecords ys → NoRecordBegins rest → NoRecordBegins other → joined xs ++ rest ≡ joined ys ++ other → rest ≡ other
+rest_one : (xs ys : List PoolEntry) (rest other : List ℕ) → AreRecords xs → AreRecords ys → NoRecordBegins rest → NoRecordBegins other → joined xs ++ rest ≡ joined ys ++ other → rest ≡ other
 rest_one [] [] rest other are too never none e = e
 rest_one [] (s ∷ ys) rest other are too never none e =
     absurd (never s.0 s.1 (joined ys ++ other) too.0 (e ∙ append_assoc (record_of s.0 s.1) (joined ys) other))
@@ -105,7 +105,7 @@ IsOfType false rest = HasOtherType rest → ⊥
 
 -- the records before a fault, and the faulty bytes after them
 record Stands (bytes : List ℕ) (of_type : Bool) : Type 0 where
-  pub records : List Entry
+  pub records : List PoolEntry
   pub whole : AreRecords records
   pub rest : List ℕ
   pub parts : bytes ≡ joined records ++ rest
@@ -141,14 +141,14 @@ stands bytes (faults.OutOfMemory at) is named = absurd (named tt)
 nothing_begins : NoRecordBegins []
 nothing_begins = truncated_none [] (inl (omega arith))
 
-whole_or : {P : Type 0} (bytes : List ℕ) (records : List Entry) {of_type : Bool} → AreRecords records → bytes ≡ joined records → Stands bytes of_type → P
+whole_or : {P : Type 0} (bytes : List ℕ) (records : List PoolEntry) {of_type : Bool} → AreRecords records → bytes ≡ joined records → Stands bytes of_type → P
 whole_or bytes records are same s =
     let one : s.rest ≡ [] = rest_one s.records records s.rest [] s.whole are s.none nothing_begins (sym s.parts ∙ same ∙ sym (append-nil (joined records))) in
     let len = ap length one in
     let some = s.some in
     absurd (omega arith)
 
-faults_none : (bytes : List ℕ) (records : List Entry) (fault : PoolFault) → AreRecords records → bytes ≡ joined records → IsFault bytes fault → IsWantOfMemory fault
+faults_none : (bytes : List ℕ) (records : List PoolEntry) (fault : PoolFault) → AreRecords records → bytes ≡ joined records → IsFault bytes fault → IsWantOfMemory fault
 faults_none bytes records (faults.OutOfMemory at) are same is = tt
 faults_none bytes records (faults.Truncated at) are same is = whole_or bytes records are same (stands bytes (faults.Truncated at) is (λ no. no))
 faults_none bytes records (faults.NullId at) are same is = whole_or bytes records are same (stands bytes (faults.NullId at) is (λ no. no))

@@ -8,14 +8,14 @@ use Rattle.std.proofs.lemmas.List.{reverse-append}
 use Rattle.std.specs.FinMap as finite
 use Rattle.vt_kinds.specs.Records.{Seen, HasRecord}
 use Rattle.vt_stores.specs.Stores.{ObjectMap}
-use Rattle.vt_pool.specs.Pools.{Entry, joined, AreRecords, first_occurrences, ids, AreObjects, IsInForce, WrittenIsRead}
+use Rattle.vt_pool.specs.Pools.{PoolEntry, joined, AreRecords, first_occurrences, ids, AreObjects, IsInForce, WrittenIsRead}
 use Rattle.vt_pool.specs.EntryWrites.{with_entry}
 use Rattle.vt_pool.proofs.EntryIndices.{entry_at, get-contents, ids_with}
 use Rattle.vt_records.proofs.ReadInvertsWrite.{same_record}
 
 -- ---- equal bytes hold equal records
 
-pub joined_one : (a b : List Entry) → AreRecords a → AreRecords b → joined a ≡ joined b → a ≡ b
+pub joined_one : (a b : List PoolEntry) → AreRecords a → AreRecords b → joined a ≡ joined b → a ≡ b
 joined_one [] [] one other e = refl
 joined_one [] (r ∷ b) one other e = let len = ap length e in absurd (omega arith)
 joined_one (r ∷ a) [] one other e = let len = ap length e in absurd (omega arith)
@@ -24,7 +24,7 @@ joined_one (r ∷ a) (s ∷ b) one other e =
     let later = joined_one a b one.1 other.1 same.same_rest in
     let id = same.same_id in
     let object = same.same_object in
-    ap (λ (es : List Entry). r ∷ es) later ∙ ap (λ (id : ℕ). (id, r.1) ∷ b) id ∙ ap (λ (o : Seen). (s.0, o) ∷ b) object
+    ap (λ (es : List PoolEntry). r ∷ es) later ∙ ap (λ (id : ℕ). (id, r.1) ∷ b) id ∙ ap (λ (o : Seen). (s.0, o) ∷ b) object
 
 -- ---- distinct IDs are their own first occurrences
 
@@ -52,15 +52,15 @@ at_cases : (b : Bool) (x : Seen) (y z : Option Seen) → cond b (Some x) (or_els
 at_cases true x y z = refl
 at_cases false x y z = refl
 
-entry_append : (es fs : List Entry) (q : ℕ) → entry_at (es ++ fs) q ≡ or_else (entry_at es q) (entry_at fs q)
+entry_append : (es fs : List PoolEntry) (q : ℕ) → entry_at (es ++ fs) q ≡ or_else (entry_at es q) (entry_at fs q)
 entry_append [] fs q = refl
 entry_append (e ∷ es) fs q = ap (λ (o : Option Seen). cond (eqb q e.0) (Some e.1) o) (entry_append es fs q) ∙ at_cases (eqb q e.0) e.1 (entry_at es q) (entry_at fs q)
 
-absent : (q : ℕ) (es : List Entry) → AllByRecursion (λ y. eqb q y ≡ false) (ids es) → entry_at es q ≡ None
+absent : (q : ℕ) (es : List PoolEntry) → AllByRecursion (λ y. eqb q y ≡ false) (ids es) → entry_at es q ≡ None
 absent q [] apart = refl
 absent q (e ∷ es) apart = rw apart.0 (absent q es apart.1)
 
-turned_cases : (b : Bool) (q : ℕ) (e : Entry) (es : List Entry) → eqb q e.0 ≡ b → AllByRecursion (λ y. eqb e.0 y ≡ false) (ids es)
+turned_cases : (b : Bool) (q : ℕ) (e : PoolEntry) (es : List PoolEntry) → eqb q e.0 ≡ b → AllByRecursion (λ y. eqb e.0 y ≡ false) (ids es)
     → or_else (entry_at es q) (cond b (Some e.1) None) ≡ cond b (Some e.1) (entry_at es q)
 turned_cases true q e es is apart =
     let same : q ≡ e.0 = eqb-true q e.0 is in
@@ -68,16 +68,16 @@ turned_cases true q e es is apart =
     rw none refl
 turned_cases false q e es is apart = else_none (entry_at es q)
 
-turned : (es : List Entry) (q : ℕ) → IsDistinct eqb (ids es) → entry_at (reverse es) q ≡ entry_at es q
+turned : (es : List PoolEntry) (q : ℕ) → IsDistinct eqb (ids es) → entry_at (reverse es) q ≡ entry_at es q
 turned [] q apart = refl
 turned (e ∷ es) q apart =
-    ap (λ (l : List Entry). entry_at l q) (reverse-append (e ∷ []) es) ∙ entry_append (reverse es) (e ∷ []) q
+    ap (λ (l : List PoolEntry). entry_at l q) (reverse-append (e ∷ []) es) ∙ entry_append (reverse es) (e ∷ []) q
     ∙ ap (λ (o : Option Seen). or_else o (entry_at (e ∷ []) q)) (turned es q (IsDistinct-tail eqb e.0 (ids es) apart))
     ∙ turned_cases (eqb q e.0) q e es refl (IsDistinct-head eqb e.0 (ids es) apart)
 
 -- ---- lists with equal IDs and equal objects are equal
 
-tail_cases : (b : Bool) (q : ℕ) (d e : Entry) (ds es : List Entry) → eqb q e.0 ≡ b → AllByRecursion (λ y. eqb e.0 y ≡ false) (ids ds) → AllByRecursion (λ y. eqb e.0 y ≡ false) (ids es)
+tail_cases : (b : Bool) (q : ℕ) (d e : PoolEntry) (ds es : List PoolEntry) → eqb q e.0 ≡ b → AllByRecursion (λ y. eqb e.0 y ≡ false) (ids ds) → AllByRecursion (λ y. eqb e.0 y ≡ false) (ids es)
     → cond b (Some d.1) (entry_at ds q) ≡ cond b (Some e.1) (entry_at es q) → entry_at ds q ≡ entry_at es q
 tail_cases true q d e ds es is one other same =
     let id : q ≡ e.0 = eqb-true q e.0 is in
@@ -91,7 +91,7 @@ head_cases false x y rest other is e = absurd cc
 head_is : (x y : Seen) (rest other : Option Seen) (q : ℕ) → cond (eqb q q) (Some x) rest ≡ cond (eqb q q) (Some y) other → x ≡ y
 head_is x y rest other q e = head_cases (eqb q q) x y rest other (eq-eqb q q refl) e
 
-pub same_entries : (ds es : List Entry) → ids ds ≡ ids es → IsDistinct eqb (ids es) → ((q : ℕ) → entry_at ds q ≡ entry_at es q) → ds ≡ es
+pub same_entries : (ds es : List PoolEntry) → ids ds ≡ ids es → IsDistinct eqb (ids es) → ((q : ℕ) → entry_at ds q ≡ entry_at es q) → ds ≡ es
 same_entries [] [] order apart same = refl
 same_entries [] (e ∷ es) order apart same = absurd cc
 same_entries (d ∷ ds) [] order apart same = absurd cc
@@ -104,7 +104,7 @@ same_entries (d ∷ ds) (e ∷ es) order apart same =
     let object : d.1 ≡ e.1 = head_is d.1 e.1 (entry_at ds e.0) (entry_at es e.0) e.0 (at e.0) in
     let apart_too : AllByRecursion (λ y. eqb e.0 y ≡ false) (ids ds) = subst (λ (l : List ℕ). AllByRecursion (λ y. eqb e.0 y ≡ false) l) (sym later) others in
     let rest = same_entries ds es later (IsDistinct-tail eqb e.0 (ids es) apart) (λ q. tail_cases (eqb q e.0) q d e ds es refl apart_too others (at q)) in
-    ap (λ (l : List Entry). d ∷ l) rest ∙ ap (λ (id : ℕ). (id, d.1) ∷ es) id ∙ ap (λ (o : Seen). (e.0, o) ∷ es) object
+    ap (λ (l : List PoolEntry). d ∷ l) rest ∙ ap (λ (id : ℕ). (id, d.1) ∷ es) id ∙ ap (λ (o : Seen). (e.0, o) ∷ es) object
 
 -- ---- the objects of a pool stay valid
 
@@ -112,15 +112,15 @@ distinct_cases : (b : Bool) (xs : List ℕ) (id : ℕ) → list_any (eqb id) xs 
 distinct_cases true xs id is apart = apart
 distinct_cases false xs id is apart = IsDistinct-push nat_eq_equiv xs id apart is
 
-records_cases : (b : Bool) (e : Entry) (es with : List Entry) (id : ℕ) (o : Seen) → HasRecord e.0 e.1 → AreRecords es → HasRecord id o → AreRecords with → AreRecords (cond b ((id, o) ∷ es) (e ∷ with))
+records_cases : (b : Bool) (e : PoolEntry) (es with : List PoolEntry) (id : ℕ) (o : Seen) → HasRecord e.0 e.1 → AreRecords es → HasRecord id o → AreRecords with → AreRecords (cond b ((id, o) ∷ es) (e ∷ with))
 records_cases true e es with id o first others has later = (has, others)
 records_cases false e es with id o first others has later = (first, later)
 
-records_with : (es : List Entry) (id : ℕ) (o : Seen) → AreRecords es → HasRecord id o → AreRecords (with_entry es id o)
+records_with : (es : List PoolEntry) (id : ℕ) (o : Seen) → AreRecords es → HasRecord id o → AreRecords (with_entry es id o)
 records_with [] id o are has = (has, tt)
 records_with (e ∷ es) id o are has = records_cases (eqb id e.0) e es (with_entry es id o) id o are.0 are.1 has (records_with es id o are.1 has)
 
-pub objects_with : (es left : List Entry) (id : ℕ) (o : Seen) → AreObjects es → HasRecord id o → left ≡ with_entry es id o → AreObjects left
+pub objects_with : (es left : List PoolEntry) (id : ℕ) (o : Seen) → AreObjects es → HasRecord id o → left ≡ with_entry es id o → AreObjects left
 objects_with es left id o are has gives =
     let next : AreObjects (with_entry es id o) = record {
       distinct = subst (IsDistinct eqb) (sym (ids_with es id o)) (distinct_cases (list_any (eqb id) (ids es)) (ids es) id refl are.distinct);
@@ -132,6 +132,6 @@ pub written_read : WrittenIsRead
 written_read written records objects are read same in_force =
     let apart = are.distinct in
     let one : records ≡ written = joined_one records written read are.whole (sym same) in
-    let force : IsInForce written objects = subst (λ (rs : List Entry). IsInForce rs objects) one in_force in
+    let force : IsInForce written objects = subst (λ (rs : List PoolEntry). IsInForce rs objects) one in_force in
     same_entries objects written (force.order ∙ firsts (ids written) apart) apart
     (λ q. sym (get-contents objects q) ∙ ap (λ (m : ObjectMap). finite.get m q) force.last ∙ get-contents (reverse written) q ∙ turned written q apart)

@@ -3,7 +3,7 @@ use Rattle.std.specs.Prelude.{◌≡◌, ◌⊎◌, ℕ, List, [], ◌++◌, len
 use Rattle.std.specs.Coded.{Coded, code_by, coded×, coded_ℕ, coded_list}
 use Rattle.vt_records.specs.declared.fault.PoolFault.{PoolFault}
 use Rattle.vt_records.specs.declared.fault.PoolFault.TheVariants.{Truncated, OutOfMemory}
-use Rattle.vt_pool.specs.Pools.{Entry, AreRecords, joined, IsFault}
+use Rattle.vt_pool.specs.Pools.{PoolEntry, AreRecords, joined, IsFault}
 use Rattle.vt_records.specs.Faults.{IsTruncated}
 
 -- the bytes so far, and the spare capacity for more bytes without an allocation
@@ -37,7 +37,7 @@ HasNoFaultYet bytes = (fault : PoolFault) → IsFault bytes fault → IsLasting 
 
 -- Whole records end at a position.
 pub record AreWholeTo (bytes : List ℕ) (place : ℕ) : Type 0 where
-  pub records : List Entry
+  pub records : List PoolEntry
   pub whole : AreRecords records
   pub parts : bytes ≡ joined records ++ drop place bytes
   pub place_is : place ≡ length (joined records)

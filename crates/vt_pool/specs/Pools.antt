@@ -10,16 +10,16 @@ use Rattle.vt_records.specs.declared.fault.PoolFault.{PoolFault}
 use Rattle.vt_records.specs.declared.fault.PoolFault.TheVariants.{Truncated, UnknownType, LeftOutType, Scale, Decimals, OutOfMemory, NullId}
 
 -- an object with its ID
-abbrev pub Entry : Type 0
-Entry = ℕ × Seen
+abbrev pub PoolEntry : Type 0
+PoolEntry = ℕ × Seen
 
 -- ---- joined records
 
-abbrev pub joined : List Entry → List ℕ
+abbrev pub joined : List PoolEntry → List ℕ
 joined records = flat_map (λ r. record_of r.0 r.1) records
 
 -- each object has a record under its ID
-abbrev pub AreRecords : List Entry → Type 0
+abbrev pub AreRecords : List PoolEntry → Type 0
 AreRecords records = AllByRecursion (λ r. HasRecord r.0 r.1) records
 
 -- the IDs in the order of their first occurrence
@@ -27,20 +27,20 @@ abbrev pub first_occurrences : List ℕ → List ℕ
 first_occurrences [] = []
 first_occurrences (id ∷ ids) = id ∷ filter (λ other. not (id == other)) (first_occurrences ids)
 
-abbrev pub ids : List Entry → List ℕ
+abbrev pub ids : List PoolEntry → List ℕ
 ids entries = map (λ e. e.0) entries
 
 -- the map of the entries; the first one counts for a repeated ID
-abbrev pub contents : List Entry → ObjectMap
+abbrev pub contents : List PoolEntry → ObjectMap
 contents entries = finite.from_entries entries
 
 -- The objects in force after records: each ID once, in the order of first occurrence, with the object of its last record.
-pub record IsInForce (records objects : List Entry) : Type 0 where
+pub record IsInForce (records objects : List PoolEntry) : Type 0 where
   pub order : ids objects ≡ first_occurrences (ids records)
   pub last : contents objects ≡ contents (reverse records)
 
 -- The objects of a pool: IDs are unique, and each object has a record.
-pub record AreObjects (objects : List Entry) : Type 0 where
+pub record AreObjects (objects : List PoolEntry) : Type 0 where
   pub distinct : IsDistinct eqb (ids objects)
   pub whole : AreRecords objects
 
@@ -49,7 +49,7 @@ pub record AreObjects (objects : List Entry) : Type 0 where
 -- The bytes are whole records and then a faulty one; the fault is at an offset from the faulty record's first
 -- byte.
 pub record IsFaultAt (bytes : List ℕ) (at : ℕ) (IsFaulty : List ℕ → ℕ → Type 0) : Type 0 where
-  pub records : List Entry
+  pub records : List PoolEntry
   pub whole : AreRecords records
   pub rest : List ℕ
   pub parts : bytes ≡ joined records ++ rest
@@ -80,7 +80,7 @@ IsWantOfMemory _ = ⊥
 -- Records with distinct IDs are read back as the same objects in the same order, for every split of their bytes into
 -- records.
 abbrev pub WrittenIsRead : Type 0
-WrittenIsRead = (written records objects : List Entry) → AreObjects written → AreRecords records → joined written ≡ joined records → IsInForce records objects
+WrittenIsRead = (written records objects : List PoolEntry) → AreObjects written → AreRecords records → joined written ≡ joined records → IsInForce records objects
     → objects ≡ written
 
 -- the fault is a type that this terminal does not have
@@ -92,8 +92,8 @@ is_of_type fault = false
 -- A pool's bytes have at most one reading: the objects in force are unique, whole records have no fault but
 -- OutOfMemory, and either all other faults are type faults or none is.
 pub record ReadingsAreOne : Type 0 where
-  pub pools : (records others p q : List Entry) → AreRecords records → AreRecords others → joined records ≡ joined others
+  pub pools : (records others p q : List PoolEntry) → AreRecords records → AreRecords others → joined records ≡ joined others
       → IsInForce records p → IsInForce others q → p ≡ q
-  pub faults : (bytes : List ℕ) (records : List Entry) (fault : PoolFault) → AreRecords records → bytes ≡ joined records → IsFault bytes fault → IsWantOfMemory fault
+  pub faults : (bytes : List ℕ) (records : List PoolEntry) (fault : PoolFault) → AreRecords records → bytes ≡ joined records → IsFault bytes fault → IsWantOfMemory fault
   pub types : (bytes : List ℕ) (f g : PoolFault) → IsFault bytes f → IsFault bytes g → (IsWantOfMemory f → ⊥) → (IsWantOfMemory g → ⊥)
       → is_of_type f ≡ is_of_type g

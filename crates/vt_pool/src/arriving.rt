@@ -2,7 +2,7 @@
 
 ghost use Rattle.std.specs.Prelude.{◌≡◌, ◌≤◌, ◌+◌, ◌-◌, [], ◌++◌, length, drop, List, vec_len, vec_capacity, IfOk, IfErr, OnOk, OnErr, IsOk, IfSome, IfNone};
 ghost use Rattle.vt_pool.specs.PoolUploads.{IsLasting, HasNoFaultYet, IsReadTo, WereReadTo};
-ghost use Rattle.vt_pool.specs.Pools.{Entry, AreRecords, joined, IsInForce, IsFault, IsWantOfMemory};
+ghost use Rattle.vt_pool.specs.Pools.{PoolEntry, AreRecords, joined, IsInForce, IsFault, IsWantOfMemory};
 
 use crate::OutOfMemory;
 use crate::passing::pass_records;
@@ -105,8 +105,8 @@ impl Reading {
     /// Reads the bytes so far as a pool, like `read_pool`, independent of their pieces. An error names the first faulty
     /// record.
     pub fn pool(&self) -> Result<Pool<'_>, PoolFault>
-        ensures pool { IfOk result (λ pool. (records : List Entry) × AreRecords records × (self.now.bytes ≡ joined records) × IsInForce records pool) }
-        ensures only { (records : List Entry) → AreRecords records → self.now.bytes ≡ joined records → IfErr result IsWantOfMemory }
+        ensures pool { IfOk result (λ pool. (records : List PoolEntry) × AreRecords records × (self.now.bytes ≡ joined records) × IsInForce records pool) }
+        ensures only { (records : List PoolEntry) → AreRecords records → self.now.bytes ≡ joined records → IfErr result IsWantOfMemory }
         ensures fault { IfErr result (IsFault self.now.bytes) }
     {
         read_pool(self.alloc, &self.bytes[self.start..])

@@ -5,7 +5,7 @@ ghost use Rattle.std.specs.Option.{option_map};
 ghost use Rattle.std.specs.FinMap as finite;
 ghost use Rattle.vt_kinds.specs.Records.{seen, HasRecord};
 ghost use Rattle.vt_stores.specs.Stores.{shown};
-ghost use Rattle.vt_pool.specs.Pools.{Entry, AreObjects, AreRecords, joined, contents, IsInForce, IsFault, IsWantOfMemory};
+ghost use Rattle.vt_pool.specs.Pools.{PoolEntry, AreObjects, AreRecords, joined, contents, IsInForce, IsFault, IsWantOfMemory};
 ghost use Rattle.vt_records.specs.declared.record_fault.RecordFault.TheVariants as stops;
 ghost use Rattle.vt_pool.specs.EntryWrites.{with_entry};
 
@@ -35,9 +35,9 @@ impl<'a> Drop for Pool<'a> {
 impl<'a> Model for Pool<'a> {
     ghost use Rattle.std.specs.Prelude.{◌≡◌, List, map};
     ghost use Rattle.vt_stores.specs.Stores.{shown};
-    ghost use Rattle.vt_pool.specs.Pools.{Entry, ids, AreObjects};
+    ghost use Rattle.vt_pool.specs.Pools.{PoolEntry, ids, AreObjects};
 
-    ghost Value = { List Entry };
+    ghost Value = { List PoolEntry };
 
     ghost view = { λ p. map shown p.objects.items };
 
@@ -105,9 +105,9 @@ fn replace<'a>(
 /// index. An error names the first faulty record.
 pub fn read_pool<'a>(alloc: Global, bytes: &'a [u8]) -> Result<Pool<'a>, PoolFault>
     // The bytes are whole records, and the pool has the objects in force after them.
-    ensures pool { IfOk result (λ pool. (records : List Entry) × AreRecords records × (bytes.now ≡ joined records) × IsInForce records pool) }
+    ensures pool { IfOk result (λ pool. (records : List PoolEntry) × AreRecords records × (bytes.now ≡ joined records) × IsInForce records pool) }
     // Whole records fail only with OutOfMemory.
-    ensures only { (records : List Entry) → AreRecords records → bytes.now ≡ joined records → IfErr result IsWantOfMemory }
+    ensures only { (records : List PoolEntry) → AreRecords records → bytes.now ≡ joined records → IfErr result IsWantOfMemory }
     // A fault names the first faulty record and its first cause.
     ensures fault { IfErr result (IsFault bytes.now) }
 {
@@ -116,7 +116,7 @@ pub fn read_pool<'a>(alloc: Global, bytes: &'a [u8]) -> Result<Pool<'a>, PoolFau
 
 // The loop of `read_pool`, which derives from the faults that whole records are always read.
 fn read_records<'a>(alloc: Global, bytes: &'a [u8]) -> Result<Pool<'a>, PoolFault>
-    ensures pool { IfOk result (λ pool. (records : List Entry) × AreRecords records × (bytes.now ≡ joined records) × IsInForce records pool) }
+    ensures pool { IfOk result (λ pool. (records : List PoolEntry) × AreRecords records × (bytes.now ≡ joined records) × IsInForce records pool) }
     ensures fault { IfErr result (IsFault bytes.now) }
 {
     let mut pool = Pool::new(alloc);

@@ -16,12 +16,12 @@ use Rattle.vt_logs.specs.Texts.{LineReading}
 use Rattle.vt_program.specs.declared.options.Options.{Options}
 use Rattle.vt_program.specs.declared.options.Preload.{Preload}
 use Rattle.vt_program.specs.Promises.{AreInputsOfLines, LinesKeep, given_pools, reading_behind, readings_taken}
-use Rattle.vt_program.specs.Runs.{Files, IsPreloaded, IsStart, new_state}
+use Rattle.vt_program.specs.Runs.{FileContents, IsPreloaded, IsStart, new_state}
 use Rattle.vt_program.proofs.Loading.{map_again}
 
 -- ---- the terminal of the options
 
-pub start-in-force : NeverSticks → (files : Files) (options : Options) (s : State) → (is : IsStart files options s)
+pub start-in-force : NeverSticks → (files : FileContents) (options : Options) (s : State) → (is : IsStart files options s)
     → ArePoolsInForce (given_pools files options.preload (new_state options.own options.name) s is) s
 start-in-force laws files options s is = cases options.preload is
   where

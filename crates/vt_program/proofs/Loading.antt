@@ -2,7 +2,7 @@
 use Rattle.std.proofs.Common.{◌≡◌, ◌∙◌, ℕ, nat_cmp, false, List, [], inr, Option, Some, None, IfSome, refl, sym, ap, subst}
 use Rattle.std.specs.Io.KnownBytes.{Appends, Keeps}
 use Rattle.std.proofs.KnownBytes.{Appends-kept}
-use Rattle.vt_pool.specs.Pools.{Entry, AreRecords, IsInForce, contents, joined}
+use Rattle.vt_pool.specs.Pools.{PoolEntry, AreRecords, IsInForce, contents, joined}
 use Rattle.std.specs.FinMap as finite
 use Rattle.std.specs.FinMap.{nat_cmp-IsAntisymmetric}
 use Rattle.std.proofs.lemmas.Cmp.{nat_cmp_total}
@@ -20,7 +20,7 @@ use Rattle.vt_logs.specs.declared.fault.ReplayFault.TheVariants.{TooLong, Write}
 use Rattle.vt_logs.specs.Begun.{HasStopped, HasStoppedAtLong}
 use Rattle.vt_logs.specs.Lines.{lines_of}
 use Rattle.vt_logs.specs.Replays.{IsReplay, HasLongLine}
-use Rattle.vt_program.specs.Runs.{Files, IsLoaded, IsPoolOf, IsAcceptedPoolOf, IsRefusedPool, IsReportOf, IsStart, StandsReplayed, WritesReplay, new_state}
+use Rattle.vt_program.specs.Runs.{FileContents, IsLoaded, IsPoolOf, IsAcceptedPoolOf, IsRefusedPool, IsReportOf, IsStart, StandsReplayed, WritesReplay, new_state}
 use Rattle.vt_logs.specs.Texts.{counts_text}
 use Rattle.vt_server.specs.state.AddressStates.{empty}
 use Rattle.vt_server.specs.Steps.{preloading}
@@ -39,31 +39,31 @@ map_again m =
     (λ q. finite.get-from_sorted nat_cmp (finite.entries m) q (finite.entries_sorted m) ∙ sym (finite.get-entries m q))
 
 -- The map of a list that is the entries of its contents is these contents.
-map_is : (pool : List Entry) → pool ≡ finite.entries (contents pool) → map_of pool ≡ contents pool
+map_is : (pool : List PoolEntry) → pool ≡ finite.entries (contents pool) → map_of pool ≡ contents pool
 map_is pool is = ap map_of is ∙ map_again (contents pool)
 
 -- An accepted pool has the objects of the pool that was read.
-pub same_objects : (pool accepted : List Entry) → accepted ≡ by_rising_id pool → contents accepted ≡ contents pool
+pub same_objects : (pool accepted : List PoolEntry) → accepted ≡ by_rising_id pool → contents accepted ≡ contents pool
 unfolding by_rising_id
 same_objects pool accepted is = ap contents is ∙ entries_again (contents pool)
 
 -- An accepted pool has its objects by rising ID.
-pub accepted_rising : (pool accepted : List Entry) → accepted ≡ by_rising_id pool → accepted ≡ finite.entries (contents accepted)
+pub accepted_rising : (pool accepted : List PoolEntry) → accepted ≡ by_rising_id pool → accepted ≡ finite.entries (contents accepted)
 unfolding by_rising_id
 accepted_rising pool accepted is = is ∙ ap finite.entries (sym (same_objects pool accepted is))
 
-pub pool_of : (read : List ℕ) (pool : List Entry) → (records : List Entry) × AreRecords records × (read ≡ joined records) × IsInForce records pool
+pub pool_of : (read : List ℕ) (pool : List PoolEntry) → (records : List PoolEntry) × AreRecords records × (read ≡ joined records) × IsInForce records pool
     → IsPoolOf read (contents pool)
 pool_of read pool p = record { records = p.0; whole = p.1; spelled = p.2; in_force = p.3.last }
 
-pub accepted_pool : (read : List ℕ) (pool accepted : List Entry) → (records : List Entry) × AreRecords records × (read ≡ joined records) × IsInForce records pool
+pub accepted_pool : (read : List ℕ) (pool accepted : List PoolEntry) → (records : List PoolEntry) × AreRecords records × (read ≡ joined records) × IsInForce records pool
     → accepted ≡ by_rising_id pool → IsVerified accepted → IsAcceptedPoolOf read (contents accepted)
 accepted_pool read pool accepted p is verified = (
   subst (IsPoolOf read) (sym (same_objects pool accepted is)) (pool_of read pool p),
   subst IsVerified (accepted_rising pool accepted is) verified,
 )
 
-pub refused_pool : (read : List ℕ) (pool : List Entry) (why : Refusal) → (records : List Entry) × AreRecords records × (read ≡ joined records) × IsInForce records pool
+pub refused_pool : (read : List ℕ) (pool : List PoolEntry) (why : Refusal) → (records : List PoolEntry) × AreRecords records × (read ≡ joined records) × IsInForce records pool
     → IsRefused terminal (by_rising_id pool) why → (IsWantOfMemory why → ⊥) → IsRefusedPool read why
 unfolding by_rising_id
 refused_pool read pool why p refused named = record { objects = contents pool; pool = pool_of read pool p; refused = refused; named = named }
@@ -74,7 +74,7 @@ pool_of_file None objects is = tt
 pool_of_file (Some bytes) objects is = is.0
 
 -- The set of an accepted pool is loaded.
-pub loaded_with : (files : Files) (p : Preload) (before after : State) (pool : List Entry)
+pub loaded_with : (files : FileContents) (p : Preload) (before after : State) (pool : List PoolEntry)
     → IfSome (files p.pool.now) (λ bytes. IsAcceptedPoolOf bytes (contents pool)) → IsVerified pool → pool ≡ finite.entries (contents pool)
     → after ≡ preloading before p.owner (map_of pool) → IsLoaded files p before after
 loaded_with files p before after pool accepted verified rising state = record {
@@ -85,7 +85,7 @@ loaded_with files p before after pool accepted verified rising state = record {
 }
 
 -- The text of a report is that of the pool in the file.
-pub report_of_file : (file : Option (List ℕ)) (pool : List Entry) (text : List ℕ) → IfSome file (λ bytes. IsAcceptedPoolOf bytes (contents pool))
+pub report_of_file : (file : Option (List ℕ)) (pool : List PoolEntry) (text : List ℕ) → IfSome file (λ bytes. IsAcceptedPoolOf bytes (contents pool))
     → pool ≡ finite.entries (contents pool) → text ≡ report_text pool → IfSome file (λ bytes. IsReportOf bytes text)
 report_of_file None pool text is rising same = tt
 report_of_file (Some bytes) pool text is rising same =
@@ -96,11 +96,11 @@ pub new_is : (s : State) (own name : ℕ) → s.claims ≡ record { own = own; n
 new_is s own name claims sets places selected shown lost now =
     λ i. record { claims = claims i; sets = sets i; places = λ address. places address i; selected = selected i; shown = shown i; lost = lost i; now = now i }
 
-pub start_alone : (files : Files) (options : Options) (s : State) → options.preload ≡ None
+pub start_alone : (files : FileContents) (options : Options) (s : State) → options.preload ≡ None
     → s ≡ new_state options.own options.name → IsStart files options s
 start_alone files options s none same = rw none same
 
-pub start_with_set : (files : Files) (options : Options) (before s : State) (p : Preload) → options.preload ≡ Some p
+pub start_with_set : (files : FileContents) (options : Options) (before s : State) (p : Preload) → options.preload ≡ Some p
     → IsLoaded files p before s → before ≡ new_state options.own options.name → IsStart files options s
 start_with_set files options before s p some loaded same =
     rw some (subst (λ (b : State). IsLoaded files p b s) same loaded)

@@ -19,12 +19,12 @@ use Rattle.vt_logs.specs.Taken.{ReplayState, IsInputOfLine, TakesInputLine, Take
 use Rattle.vt_logs.specs.Texts.{LineReading, counts_text, new_screen, no_counts, output_text, with_lines}
 use Rattle.vt_machine.specs.SetStates.{SetState}
 use Rattle.vt_kinds.specs.Records.{Seen}
-use Rattle.vt_pool.specs.Pools.{Entry, AreRecords, contents, joined}
+use Rattle.vt_pool.specs.Pools.{PoolEntry, AreRecords, contents, joined}
 use Rattle.vt_program.specs.declared.options.Options.{Options}
 use Rattle.vt_program.specs.declared.options.Preload.{Preload}
 use Rattle.vt_program.specs.Certain.{AppendSame, IsKnown, IsPoolKnown, ReplaysAreOne}
 use Rattle.vt_program.specs.Promises.{given_pools}
-use Rattle.vt_program.specs.Runs.{Files, HasReplayed, IsPoolOf, IsPreloaded, IsStart, WritesReplay, new_state}
+use Rattle.vt_program.specs.Runs.{FileContents, HasReplayed, IsPoolOf, IsPreloaded, IsStart, WritesReplay, new_state}
 use Rattle.vt_program.proofs.Keeping.{start-in-force}
 use Rattle.vt_records.proofs.ReadInvertsWrite.{same_record}
 use Rattle.vt_server.specs.Findings.{IsEventOf, IsFound}
@@ -58,14 +58,14 @@ action-of (Set address) = (actions.Set address, refl)
 
 -- ---- the records of a pool
 
-joined-one : (a b : List Entry) → AreRecords a → AreRecords b → joined a ≡ joined b → a ≡ b
+joined-one : (a b : List PoolEntry) → AreRecords a → AreRecords b → joined a ≡ joined b → a ≡ b
 joined-one [] [] one other e = refl
 joined-one [] (r ∷ b) one other e = let len = ap length e in absurd (omega arith)
 joined-one (r ∷ a) [] one other e = let len = ap length e in absurd (omega arith)
 joined-one (r ∷ a) (s ∷ b) one other e =
     let same = same_record r.0 s.0 r.1 s.1 (joined a) (joined b) one.0 other.0 e in
     let later = joined-one a b one.1 other.1 same.same_rest in
-    ap (λ (es : List Entry). r ∷ es) later ∙ ap (λ (id : ℕ). (id, r.1) ∷ b) same.same_id ∙ ap (λ (o : Seen). (s.0, o) ∷ b) same.same_object
+    ap (λ (es : List PoolEntry). r ∷ es) later ∙ ap (λ (id : ℕ). (id, r.1) ∷ b) same.same_id ∙ ap (λ (o : Seen). (s.0, o) ∷ b) same.same_object
 
 -- ---- the laws below
 
@@ -188,18 +188,18 @@ module _ (laws : Laws) where
   objects-one : (bytes : List ℕ) (a b : ObjectMap) → IsPoolOf bytes a → IsPoolOf bytes b → a ≡ b
   objects-one bytes a b p q =
       let same = joined-one p.records q.records p.whole q.whole (sym p.spelled ∙ q.spelled) in
-      p.in_force ∙ ap (λ (records : List Entry). contents (reverse records)) same ∙ sym q.in_force
+      p.in_force ∙ ap (λ (records : List PoolEntry). contents (reverse records)) same ∙ sym q.in_force
 
   loaded-one : (file : Option (List ℕ)) (a b : ObjectMap) → IsKnown file → IfSome file (λ bytes. IsPoolOf bytes a) → IfSome file (λ bytes. IsPoolOf bytes b) → a ≡ b
   loaded-one None a b known p q = let none = known.1 in absurd cc
   loaded-one (Some bytes) a b known p q = objects-one bytes a b p q
 
-  preloaded-one : (files : Files) (o : Option Preload) (new one other : State) → IsPoolKnown files o → IsPreloaded files o new one → IsPreloaded files o new other → one ≡ other
+  preloaded-one : (files : FileContents) (o : Option Preload) (new one other : State) → IsPoolKnown files o → IsPreloaded files o new one → IsPreloaded files o new other → one ≡ other
   preloaded-one files None new one other known p q = p ∙ sym q
   preloaded-one files (Some preload) new one other known p q =
       p.state ∙ ap (preloading new preload.owner) (loaded-one (files preload.pool.now) p.objects q.objects known p.pool q.pool) ∙ sym q.state
 
-  start-one : (files : Files) (options : Options) (one other : State) → IsPoolKnown files options.preload → IsStart files options one → IsStart files options other → one ≡ other
+  start-one : (files : FileContents) (options : Options) (one other : State) → IsPoolKnown files options.preload → IsStart files options one → IsStart files options other → one ≡ other
   start-one files options one other known p q = preloaded-one files options.preload (new_state options.own options.name) one other known p q
 
   -- ---- what is written
@@ -215,7 +215,7 @@ module _ (laws : Laws) where
   written-by pools start None old new other known force p q = let none = known.1 in absurd cc
   written-by pools start (Some input) old new other known force p q = same-written pools start input old new other force p q
 
-  written-one : (files : Files) (options : Options) (old new other : Option (List ℕ)) → IsPoolKnown files options.preload → IsKnown (files options.file.now)
+  written-one : (files : FileContents) (options : Options) (old new other : Option (List ℕ)) → IsPoolKnown files options.preload → IsKnown (files options.file.now)
       → HasReplayed files options old new → HasReplayed files options old other → AppendSame old new other
   written-one files options old new other pool log p q =
       let file = files options.file.now in

@@ -6,7 +6,7 @@ use Rattle.vt_logs.specs.declared.counts.Counts.{Counts}
 use Rattle.vt_logs.specs.Replays.{IsReplay}
 use Rattle.vt_program.specs.declared.options.Options.{Options}
 use Rattle.vt_program.specs.declared.options.Preload.{Preload}
-use Rattle.vt_program.specs.Runs.{Files, HasReplayed, IsStart}
+use Rattle.vt_program.specs.Runs.{FileContents, HasReplayed, IsStart}
 use Rattle.vt_server.specs.Terminals.{State}
 
 -- The bytes of the file under a path are known.
@@ -14,7 +14,7 @@ abbrev pub IsKnown : Option (List ℕ) → Type 0
 IsKnown file = (bytes : List ℕ) × (file ≡ Some bytes)
 
 -- The bytes of the pool's file are known, where the options give a pool.
-abbrev pub IsPoolKnown : Files → Option Preload → Type 0
+abbrev pub IsPoolKnown : FileContents → Option Preload → Type 0
 IsPoolKnown files None = Unit {0}
 IsPoolKnown files (Some p) = IsKnown (files p.pool.now)
 
@@ -27,7 +27,7 @@ AppendSame old new other = (text : List ℕ) × Appends old new text × Appends 
 pub record ReplaysAreOne : Type 0 where
   pub replay : (pools : Pools) (start now later : State) (input text other : List ℕ) (counts more : Counts) → ArePoolsInForce pools start
       → IsReplay start input text counts now → IsReplay start input other more later → (text ≡ other) × (counts ≡ more) × (now ≡ later)
-  pub start : (files : Files) (options : Options) (one other : State) → IsPoolKnown files options.preload → IsStart files options one
+  pub start : (files : FileContents) (options : Options) (one other : State) → IsPoolKnown files options.preload → IsStart files options one
       → IsStart files options other → one ≡ other
-  pub written : (files : Files) (options : Options) (old new other : Option (List ℕ)) → IsPoolKnown files options.preload
+  pub written : (files : FileContents) (options : Options) (old new other : Option (List ℕ)) → IsPoolKnown files options.preload
       → IsKnown (files options.file.now) → HasReplayed files options old new → HasReplayed files options old other → AppendSame old new other

@@ -12,7 +12,7 @@ use Rattle.vt_logs.specs.Texts.{LineReading}
 use Rattle.vt_program.specs.declared.options.Options.{Options}
 use Rattle.vt_node.specs.AddressFunctions.{with_at}
 use Rattle.vt_program.specs.declared.options.Preload.{Preload}
-use Rattle.vt_program.specs.Runs.{Files, IsPreloaded, IsStart, new_state}
+use Rattle.vt_program.specs.Runs.{FileContents, IsPreloaded, IsStart, new_state}
 use Rattle.vt_server.specs.Findings.{AreFound}
 use Rattle.vt_server.specs.Steps.{JudgedInput, after_all}
 use Rattle.vt_server.specs.Terminals.{State}
@@ -38,7 +38,7 @@ pub record LinesKeep (pools : Pools) (start : State) (readings : List LineReadin
   pub keeps : EventsKeep pools start events
 
 -- The pools that options give: the pool of the file, at its owner.
-abbrev pub given_pools : (files : Files) (preload : Option Preload) (before after : State) → IsPreloaded files preload before after → Pools
+abbrev pub given_pools : (files : FileContents) (preload : Option Preload) (before after : State) → IsPreloaded files preload before after → Pools
 given_pools files None before after is = λ address. None
 given_pools files (Some p) before after loaded = with_at p.owner (Some loaded.objects) (λ address. None)
 
@@ -64,7 +64,7 @@ readings_taken start input now old new (inr s) =
 -- The terminal of the options has their pool in force. From any terminal whose pools are in force a replay keeps the promise, and a
 -- replay that ended early keeps it over the lines that it took.
 pub record ReplaysNeverStick : Type 0 where
-  pub start : (files : Files) (options : Options) (s : State) → (is : IsStart files options s)
+  pub start : (files : FileContents) (options : Options) (s : State) → (is : IsStart files options s)
       → ArePoolsInForce (given_pools files options.preload (new_state options.own options.name) s is) s
   pub replay : (pools : Pools) (start now : State) (input text : List ℕ) (counts : Counts) → ArePoolsInForce pools start
       → (r : IsReplay start input text counts now) → LinesKeep pools start r.readings now

@@ -8,7 +8,7 @@ use Rattle.clap.specs.declared.error.kind.ErrorKind.TheVariants.{DisplayHelp, Di
 use Rattle.vt_stores.specs.Stores.{ObjectMap}
 use Rattle.vt_records.specs.declared.fault.PoolFault.{PoolFault}
 use Rattle.vt_records.specs.FaultTexts.{fault_text}
-use Rattle.vt_pool.specs.Pools.{Entry, AreRecords, IsFault, contents, joined}
+use Rattle.vt_pool.specs.Pools.{PoolEntry, AreRecords, IsFault, contents, joined}
 use Rattle.vt_pool.specs.Pools as pools
 use Rattle.std.specs.FinMap as finite
 use Rattle.vt_verify.specs.declared.refusal.Refusal.{Refusal as PoolRefusal}
@@ -36,14 +36,14 @@ use Rattle.vt_server.specs.Steps.{preloading}
 use Rattle.vt_server.specs.Terminals.{State}
 
 -- The bytes of the file under each path, where they are known.
-abbrev pub Files : Type 0
-Files = Text → Option (List ℕ)
+abbrev pub FileContents : Type 0
+FileContents = Text → Option (List ℕ)
 
 -- ---- the terminal before the first line
 
 -- The objects of a pool's bytes. The last record of an ID gives its object.
 pub record IsPoolOf (bytes : List ℕ) (objects : ObjectMap) : Type 0 where
-  pub records : List Entry
+  pub records : List PoolEntry
   pub whole : AreRecords records
   pub spelled : bytes ≡ joined records
   pub in_force : objects ≡ contents (reverse records)
@@ -77,18 +77,18 @@ new_state own name = record {
 }
 
 -- A set with the pool of the file is preloaded at the owner. The pool is verified, also where the bytes of the file are not known.
-pub record IsLoaded (files : Files) (p : Preload) (before after : State) : Type 0 where
+pub record IsLoaded (files : FileContents) (p : Preload) (before after : State) : Type 0 where
   pub objects : ObjectMap
   pub verified : IsVerified (finite.entries objects)
   pub pool : IfSome (files p.pool.now) (λ bytes. IsPoolOf bytes objects)
   pub state : after ≡ preloading before p.owner objects
 
-abbrev pub IsPreloaded : Files → Option Preload → State → State → Type 0
+abbrev pub IsPreloaded : FileContents → Option Preload → State → State → Type 0
 IsPreloaded files None before after = after ≡ before
 IsPreloaded files (Some p) before after = IsLoaded files p before after
 
 -- The terminal that the options give.
-abbrev pub IsStart : Files → Options → State → Type 0
+abbrev pub IsStart : FileContents → Options → State → Type 0
 IsStart files options s = IsPreloaded files options.preload (new_state options.own options.name) s
 
 -- ---- what is written
@@ -102,7 +102,7 @@ pub record WritesReplay (start : State) (input : List ℕ) (old new : Option (Li
   pub written : Appends old new text
 
 -- The terminal that the options give has replayed their log.
-pub record HasReplayed (files : Files) (options : Options) (old new : Option (List ℕ)) : Type 0 where
+pub record HasReplayed (files : FileContents) (options : Options) (old new : Option (List ℕ)) : Type 0 where
   pub start : State
   pub given : IsStart files options start
   pub writes : IfSome (files options.file.now) (λ input. WritesReplay start input old new)
@@ -138,7 +138,7 @@ IsFaultOfPool bytes fault.Memory = Unit {0}
 IsFaultOfPool bytes (fault.Replay why cause) = ⊥
 
 -- The faults of a file that does not give an accepted pool.
-abbrev pub IsPoolFileFault : Files → Bor Text → Fault → Type 0
+abbrev pub IsPoolFileFault : FileContents → Bor Text → Fault → Type 0
 IsPoolFileFault files path (fault.File other cause) = other ≡ path
 IsPoolFileFault files path (fault.Pool why) = IfSome (files path.now) (λ bytes. IsNoPool bytes why)
 IsPoolFileFault files path (fault.Refused why named) = IfSome (files path.now) (λ bytes. IsRefusedPool bytes why)
@@ -146,14 +146,14 @@ IsPoolFileFault files path fault.Memory = Unit {0}
 IsPoolFileFault files path (fault.Replay why cause) = ⊥
 
 -- The faults of a log: its file, or its replay. Read and Write are possible for any log, since it is read through a stream.
-abbrev pub IsLogFault : Files → Text → Fault → Type 0
+abbrev pub IsLogFault : FileContents → Text → Fault → Type 0
 IsLogFault files log (fault.File path cause) = path.now ≡ log
 IsLogFault files log (fault.Pool why) = ⊥
 IsLogFault files log (fault.Refused why named) = ⊥
 IsLogFault files log fault.Memory = ⊥
 IsLogFault files log (fault.Replay why cause) = IfSome (files log) (λ input. why ≡ replay_fault.TooLong → HasLongLine input)
 
-abbrev pub IsReplayFault : Files → Options → Fault → Type 0
+abbrev pub IsReplayFault : FileContents → Options → Fault → Type 0
 IsReplayFault files options why =
     IsSomeAnd options.preload (λ p. IsPoolFileFault files p.pool why) ⊎ IsLogFault files options.file.now why
 
@@ -173,7 +173,7 @@ StandsWritten start log fault.Memory old new = ⊥
 StandsWritten start log (fault.Replay why cause) old new = IfSome log (λ input. StandsReplayed start input why old new)
 
 -- The terminal is the one that the options give, and the log has a fault.
-pub record HasLogFault (files : Files) (options : Options) (why : Fault) (old new : Option (List ℕ)) : Type 0 where
+pub record HasLogFault (files : FileContents) (options : Options) (why : Fault) (old new : Option (List ℕ)) : Type 0 where
   pub start : State
   pub given : IsStart files options start
   pub faulty : IsLogFault files options.file.now why
@@ -181,12 +181,12 @@ pub record HasLogFault (files : Files) (options : Options) (why : Fault) (old ne
 
 -- The faults of a replay, with the output before they are printed. The pool comes first: where its file does not give an accepted
 -- pool, nothing is written.
-abbrev pub FailsReplay : Files → Options → Fault → Option (List ℕ) → Option (List ℕ) → Type 0
+abbrev pub FailsReplay : FileContents → Options → Fault → Option (List ℕ) → Option (List ℕ) → Type 0
 FailsReplay files options why old new =
     (IsSomeAnd options.preload (λ p. IsPoolFileFault files p.pool why) × Keeps old new) ⊎ HasLogFault files options why old new
 
 -- The faults of a report or of a replay, whichever the options ask for.
-abbrev pub IsFaultOf : Files → Options → Fault → Type 0
+abbrev pub IsFaultOf : FileContents → Options → Fault → Type 0
 IsFaultOf files options why =
     ((options.report ≡ true) × IsPoolFileFault files options.file why)
     ⊎ ((options.report ≡ false) × IsReplayFault files options why)
@@ -231,27 +231,27 @@ pub record Refuses (words : List Text) (end : Status) : Type 0 where
   pub ends : EndsBy refusal end
 
 -- The words give options, and their log is replayed.
-pub record Replays (words : List Text) (files : Files) (old new : Option (List ℕ)) : Type 0 where
+pub record Replays (words : List Text) (files : FileContents) (old new : Option (List ℕ)) : Type 0 where
   pub options : Options
   pub given : WordsGive words options
   pub no_report : options.report ≡ false
   pub replayed : HasReplayed files options old new
 
 -- The words ask for a report, and that of the pool in their file is written.
-pub record Reports (words : List Text) (files : Files) (old new : Option (List ℕ)) : Type 0 where
+pub record Reports (words : List Text) (files : FileContents) (old new : Option (List ℕ)) : Type 0 where
   pub options : Options
   pub given : WordsGive words options
   pub asked : options.report ≡ true
   pub written : IfSome (files options.file.now) (λ bytes. WritesReport bytes old new)
 
 -- A report or a replay has a fault, with the output before the fault is printed: before that of a report it is empty.
-abbrev pub Fails : Files → Options → Fault → Option (List ℕ) → Option (List ℕ) → Type 0
+abbrev pub Fails : FileContents → Options → Fault → Option (List ℕ) → Option (List ℕ) → Type 0
 Fails files options why old new =
     ((options.report ≡ true) × IsPoolFileFault files options.file why × Keeps old new)
     ⊎ ((options.report ≡ false) × FailsReplay files options why old new)
 
 -- The words give options, their report or replay has a fault, and the fault is printed after the output before it.
-pub record HasFault (words : List Text) (files : Files) (old new : Option (List ℕ)) : Type 0 where
+pub record HasFault (words : List Text) (files : FileContents) (old new : Option (List ℕ)) : Type 0 where
   pub options : Options
   pub given : WordsGive words options
   pub why : Fault
@@ -260,7 +260,7 @@ pub record HasFault (words : List Text) (files : Files) (old new : Option (List 
   pub prints : PrintsFault why before new
 
 -- The words give options, and a pool of theirs has a fault or is refused.
-pub record HasBadPool (words : List Text) (files : Files) : Type 0 where
+pub record HasBadPool (words : List Text) (files : FileContents) : Type 0 where
   pub options : Options
   pub given : WordsGive words options
   pub why : Fault
@@ -268,7 +268,7 @@ pub record HasBadPool (words : List Text) (files : Files) : Type 0 where
   pub printed : IsPrinted why
 
 -- The words ask for a report, and the pool in their file meets all rules.
-pub record HasReport (words : List Text) (files : Files) : Type 0 where
+pub record HasReport (words : List Text) (files : FileContents) : Type 0 where
   pub options : Options
   pub given : WordsGive words options
   pub asked : options.report ≡ true
@@ -276,11 +276,11 @@ pub record HasReport (words : List Text) (files : Files) : Type 0 where
   pub report : IfSome (files options.file.now) (λ bytes. IsReportOf bytes text)
 
 -- Help is to be printed, or a report, or the fault or the refusal of a pool.
-abbrev pub HasToPrint : List Text → Files → Type 0
+abbrev pub HasToPrint : List Text → FileContents → Type 0
 HasToPrint words files = Refuses words status.Done ⊎ HasReport words files ⊎ HasBadPool words files
 
 -- The status of a run. Memory may run out at any words, and the status is then Fault.
-abbrev pub EndsWithStatus : List Text → Files → Option (List ℕ) → Option (List ℕ) → Status → Type 0
+abbrev pub EndsWithStatus : List Text → FileContents → Option (List ℕ) → Option (List ℕ) → Status → Type 0
 EndsWithStatus words files old new status.Done = Refuses words status.Done ⊎ Replays words files old new ⊎ Reports words files old new
 EndsWithStatus words files old new status.Usage = Refuses words status.Usage × Keeps old new
 EndsWithStatus words files old new status.Fault = (Refuses words status.Fault × Keeps old new) ⊎ HasFault words files old new
@@ -288,19 +288,19 @@ EndsWithStatus words files old new status.Fault = (Refuses words status.Fault ×
 -- ---- the report alone, of the pool in the file of a path
 
 -- The report of the pool in a file has a fault, which is printed.
-pub record HasNoReport (files : Files) (path : Bor Text) (old new : Option (List ℕ)) : Type 0 where
+pub record HasNoReport (files : FileContents) (path : Bor Text) (old new : Option (List ℕ)) : Type 0 where
   pub why : Fault
   pub faulty : IsPoolFileFault files path why
   pub prints : PrintsFault why old new
 
 -- The status of the report of the pool in a file.
-abbrev pub EndsReport : Files → Bor Text → Option (List ℕ) → Option (List ℕ) → Status → Type 0
+abbrev pub EndsReport : FileContents → Bor Text → Option (List ℕ) → Option (List ℕ) → Status → Type 0
 EndsReport files path old new status.Done = IfSome (files path.now) (λ bytes. WritesReport bytes old new)
 EndsReport files path old new status.Usage = ⊥
 EndsReport files path old new status.Fault = HasNoReport files path old new
 
 -- The report of the pool in a file is to be printed, or the pool's fault or refusal.
-abbrev pub HasPoolToPrint : Files → Bor Text → Type 0
+abbrev pub HasPoolToPrint : FileContents → Bor Text → Type 0
 HasPoolToPrint files path =
     ((text : List ℕ) × IfSome (files path.now) (λ bytes. IsReportOf bytes text))
     ⊎ ((why : Fault) × IsPoolFileFault files path why × IsPrinted why)

@@ -6,7 +6,7 @@ use Rattle.vt_kinds.specs.declared.kind.Kind.{Kind}
 use Rattle.vt_kinds.specs.declared.kind.Kind.TheVariants as kinds
 use Rattle.vt_kinds.specs.declared.object.Object.TheVariants as objects
 use Rattle.vt_kinds.specs.declared.scale.Scale.{Scale}
-use Rattle.vt_kinds.specs.Layout.{Counted, Objects, Macros, Others, Unsigned, Signed, natural, integer, RecordField, Number, Count, Rows, Bytes, ScaleBytes, DecimalPlaces, Value, number, rows, bytes, Counts, counted, count_of, FieldsFit, IsProper, Proper, no_counts}
+use Rattle.vt_kinds.specs.Layout.{Counted, Objects, Macros, Others, Unsigned, Signed, natural, integer, RecordField, Number, Count, Rows, Bytes, ScaleBytes, DecimalPlaces, Value, number, rows, bytes, RecordCounts, counted, count_of, FieldsFit, IsProper, Proper, no_counts}
 use Rattle.vt_kinds.specs.Scales.{scale_number}
 use Rattle.vt_kinds.specs.Tables.{child_sizes, macro_sizes, language_sizes, id_sizes, point_sizes}
 use Rattle.vt_kinds.specs.Records.{Seen, fields_of, kind_of, values_of}
@@ -110,12 +110,12 @@ made_after (f ∷ fs) g m [] = refl
 made_after (f ∷ fs) g m (v ∷ vs) = through (content f v) (λ x. made fs (m x) vs) (λ x. made fs (after fs g (m x)) vs) g (λ x. made_after fs g (m x) vs)
 
 -- the counts after a field
-abbrev next : Counts → (f : RecordField) → Content f → Counts
+abbrev next : RecordCounts → (f : RecordField) → Content f → RecordCounts
 next counts (Count size of) n = counted of n counts
 next counts _ _ = counts
 
 -- prepends a field to the counts and values of the later fields, where each count is the length of its list
-abbrev from_field : Counts → (f : RecordField) → Content f → Counts × List Value → Counts × List Value
+abbrev from_field : RecordCounts → (f : RecordField) → Content f → RecordCounts × List Value → RecordCounts × List Value
 from_field counts (Number (Unsigned size)) n (c, vs) = (c, number (natural n) ∷ vs)
 from_field counts (Number (Signed width)) z (c, vs) = (c, number (integer z) ∷ vs)
 from_field counts (Count size of) n (c, vs) = (counted of (count_of of counts) c, number (natural (count_of of c)) ∷ vs)
@@ -125,22 +125,22 @@ from_field counts ScaleBytes s (c, vs) = (c, number (natural (scale_number s)) �
 from_field counts DecimalPlaces n (c, vs) = (c, number (natural n) ∷ vs)
 
 -- the counts and values of each field's content
-abbrev spelled : Counts → (fs : List RecordField) → Maker fs (Counts × List Value)
+abbrev spelled : RecordCounts → (fs : List RecordField) → Maker fs (RecordCounts × List Value)
 spelled counts [] = (counts, [])
 spelled counts (f ∷ fs) = λ x. after fs (from_field counts f x) (spelled (next counts f x) fs)
 
 -- the content of the first of fitting values
-record IsContent (counts : Counts) (f : RecordField) (fs : List RecordField) (v : Value) (vs : List Value) : Type 0 where
+record IsContent (counts : RecordCounts) (f : RecordField) (fs : List RecordField) (v : Value) (vs : List Value) : Type 0 where
   its_content : Content f
   content_is : content f v ≡ Some its_content
   others_fit : FieldsFit fs (next counts f its_content) vs
   again : from_field counts f its_content (next counts f its_content, vs) ≡ (counts, v ∷ vs)
 
-counted_again : (of : Counted) (counts : Counts) (n : ℕ) → n ≡ count_of of counts → counted of n counts ≡ counts
+counted_again : (of : Counted) (counts : RecordCounts) (n : ℕ) → n ≡ count_of of counts → counted of n counts ≡ counts
 counted_again Objects counts n e = ap (λ (k : ℕ). counted Objects k counts) e
 counted_again of counts n e = ap (λ (k : ℕ). counted of k counts) e
 
-is_content : (counts : Counts) (f : RecordField) (fs : List RecordField) (v : Value) (vs : List Value) → FieldsFit (f ∷ fs) counts (v ∷ vs) → IsProper f v → IsContent counts f fs v vs
+is_content : (counts : RecordCounts) (f : RecordField) (fs : List RecordField) (v : Value) (vs : List Value) → FieldsFit (f ∷ fs) counts (v ∷ vs) → IsProper f v → IsContent counts f fs v vs
 is_content counts (Number (Unsigned size)) fs (number (natural n)) vs fit proper = record { its_content = n; content_is = refl; others_fit = fit.1; again = refl }
 is_content counts (Number (Signed width)) fs (number (integer z)) vs fit proper = record { its_content = z; content_is = refl; others_fit = fit.1; again = refl }
 is_content counts (Count size Objects) fs (number (natural n)) vs fit proper = record { its_content = n; content_is = refl; others_fit = fit.1; again = refl }
@@ -156,11 +156,11 @@ is_content counts ScaleBytes fs (number (natural n)) vs fit proper =
 is_content counts DecimalPlaces fs (number (natural n)) vs fit proper = record { its_content = n; content_is = refl; others_fit = fit.1; again = refl }
 is_content counts f fs v vs fit proper = absurd (assumption)
 
-none_fit : (f : RecordField) (fs : List RecordField) (counts : Counts) → FieldsFit (f ∷ fs) counts [] → ⊥
+none_fit : (f : RecordField) (fs : List RecordField) (counts : RecordCounts) → FieldsFit (f ∷ fs) counts [] → ⊥
 none_fit (Number size) fs counts fit = fit
 none_fit f fs counts fit = fit
 
-spelled_again : (counts : Counts) (fs : List RecordField) (vs : List Value) → FieldsFit fs counts vs → Proper fs vs → made fs (spelled counts fs) vs ≡ Some (counts, vs)
+spelled_again : (counts : RecordCounts) (fs : List RecordField) (vs : List Value) → FieldsFit fs counts vs → Proper fs vs → made fs (spelled counts fs) vs ≡ Some (counts, vs)
 spelled_again counts [] [] fit proper = refl
 spelled_again counts [] (v ∷ vs) fit proper = absurd fit
 spelled_again counts (f ∷ fs) [] fit proper = absurd (none_fit f fs counts fit)
@@ -169,8 +169,8 @@ spelled_again counts (f ∷ fs) (v ∷ vs) fit proper =
     let others = spelled_again (next counts f first.its_content) fs vs first.others_fit proper.1 in
     ap (λ (r : Option (Content f)). r >>= λ x. made fs (spelled counts (f ∷ fs) x) vs) first.content_is
     ∙ made_after fs (from_field counts f first.its_content) (spelled (next counts f first.its_content) fs) vs
-    ∙ ap (λ (r : Option (Counts × List Value)). r >>= λ p. Some (from_field counts f first.its_content p)) others
-    ∙ ap (λ (p : Counts × List Value). Some p) first.again
+    ∙ ap (λ (r : Option (RecordCounts × List Value)). r >>= λ p. Some (from_field counts f first.its_content p)) others
+    ∙ ap (λ (p : RecordCounts × List Value). Some p) first.again
 
 -- an object of a kind with these values
 pub record IsObject (kind : Kind) (vs : List Value) : Type 0 where
@@ -182,7 +182,7 @@ abbrev seen_as : Seen → Kind × List Value
 seen_as o = (kind_of o, values_of o)
 
 -- the values of a made object are those of its fields' content
-maker_spells : (kind : Kind) → after (fields_of kind) seen_as (maker kind) ≡ after (fields_of kind) (λ (p : Counts × List Value). (kind, p.1)) (spelled no_counts (fields_of kind))
+maker_spells : (kind : Kind) → after (fields_of kind) seen_as (maker kind) ≡ after (fields_of kind) (λ (p : RecordCounts × List Value). (kind, p.1)) (spelled no_counts (fields_of kind))
 maker_spells kinds.WorkingSet = refl
 maker_spells kind = refl
 
@@ -195,7 +195,7 @@ is_object kind vs (Some o) e =
 pub object_there : (kind : Kind) (vs : List Value) → FieldsFit (fields_of kind) no_counts vs → Proper (fields_of kind) vs → IsObject kind vs
 object_there kind vs fit proper =
     let fs = fields_of kind in
-    let of_values : Counts × List Value → Kind × List Value = λ p. (kind, p.1) in
+    let of_values : RecordCounts × List Value → Kind × List Value = λ p. (kind, p.1) in
     is_object kind vs (object_from kind vs)
     (sym (made_after fs seen_as (maker kind) vs) ∙ ap (λ (m : Maker fs (Kind × List Value)). made fs m vs) (maker_spells kind)
-    ∙ made_after fs of_values (spelled no_counts fs) vs ∙ ap (λ (r : Option (Counts × List Value)). r >>= λ p. Some (of_values p)) (spelled_again no_counts fs vs fit proper))
+    ∙ made_after fs of_values (spelled no_counts fs) vs ∙ ap (λ (r : Option (RecordCounts × List Value)). r >>= λ p. Some (of_values p)) (spelled_again no_counts fs vs fit proper))

@@ -6,7 +6,7 @@ use Rattle.byteorder.specs.Numbers.{length-bytes_low_first}
 use Rattle.vt_kinds.specs.declared.scale.Scale.{Scale}
 use Rattle.vt_kinds.specs.declared.scale.Scale.TheVariants as scale
 use Rattle.vt_kinds.specs.Scales.{scale_number, scale_at, scale_among, scales, IsScale}
-use Rattle.vt_kinds.specs.Layout.{Unsigned, Signed, natural, integer, bytes_in, RecordField, Number, Count, Rows, Bytes, ScaleBytes, DecimalPlaces, Value, number, rows, bytes, Counts, counted, rows_spelling, field_spelling, IsProper, Proper, FieldsFit}
+use Rattle.vt_kinds.specs.Layout.{Unsigned, Signed, natural, integer, bytes_in, RecordField, Number, Count, Rows, Bytes, ScaleBytes, DecimalPlaces, Value, number, rows, bytes, RecordCounts, counted, rows_spelling, field_spelling, IsProper, Proper, FieldsFit}
 use Rattle.vt_records.specs.declared.record_fault.RecordFault.{RecordFault}
 use Rattle.vt_records.specs.declared.record_fault.RecordFault.TheVariants as stops
 use Rattle.vt_records.specs.Heads.{if_none, misfit, or_misfit, fitting}
@@ -123,7 +123,7 @@ many_stop true at n fs vs stop is e later =
 many_stop false at n fs vs stop is e later =
     later_is at 1 DecimalPlaces (number (natural n)) fs vs stop (let len = length-bytes_low_first 0 1 n in omega (arith, len)) (ltb-false 7 n is) (later e)
 
-pub misfit_is : (at : ℕ) (fs : List RecordField) (counts : Counts) (vs : List Value) (stop : RecordFault) → FieldsFit fs counts vs → misfit at fs vs ≡ Some stop → IsMisfit at fs vs stop
+pub misfit_is : (at : ℕ) (fs : List RecordField) (counts : RecordCounts) (vs : List Value) (stop : RecordFault) → FieldsFit fs counts vs → misfit at fs vs ≡ Some stop → IsMisfit at fs vs stop
 misfit_is at [] counts [] stop fit e = absurd cc
 misfit_is at (Number (Unsigned size) ∷ fs) counts (number (natural n) ∷ vs) stop fit e =
     later_is at size (Number (Unsigned size)) (number (natural n)) fs vs stop (sym (length-bytes_low_first 0 size n)) tt (misfit_is (at + size) fs counts vs stop fit.1 e)

@@ -4,7 +4,7 @@ use Rattle.std.specs.List.{AllByRecursion}
 use Rattle.std.proofs.lemmas.List.Elements.{recursion_from_All, All-from_get_or}
 use Rattle.byteorder.specs.Endian.{little_bytes}
 use Rattle.std.specs.Int.{cast_unsigned}
-use Rattle.vt_kinds.specs.Layout.{Size, Unsigned, Signed, Numeral, natural, integer, bytes_in, RecordField, Number, Count, Rows, Bytes, ScaleBytes, DecimalPlaces, Value, number, rows, bytes, Counts, counted, count_of, row_spelling, rows_spelling, spelling, RowFits, FieldsFit, no_counts}
+use Rattle.vt_kinds.specs.Layout.{Size, Unsigned, Signed, Numeral, natural, integer, bytes_in, RecordField, Number, Count, Rows, Bytes, ScaleBytes, DecimalPlaces, Value, number, rows, bytes, RecordCounts, counted, count_of, row_spelling, rows_spelling, spelling, RowFits, FieldsFit, no_counts}
 use Rattle.vt_records.specs.declared.record_fault.RecordFault.TheVariants as stops
 use Rattle.vt_records.specs.Heads.{fitting, fields_at}
 use Rattle.vt_records.specs.TableReads.{◌>>=◌, bytes_at, number_at, signed_at, row_at, rows_at, values_at, head_size}
@@ -71,10 +71,10 @@ bytes_fit : (bs : List ℕ) → IsBytes bs → AllByRecursion (λ b. b < 256) bs
 bytes_fit bs fits = recursion_from_All (λ b. b < 256) bs (All-from_get_or (λ b. b < 256) bs 0 (λ i lt. fits i))
 
 -- a table reads values that fit it, from the bytes of their encoding
-abbrev TakesValues : List RecordField → Counts → List ℕ → List Value × List ℕ → Type 0
+abbrev TakesValues : List RecordField → RecordCounts → List ℕ → List Value × List ℕ → Type 0
 TakesValues fs counts all x = Takes all (spelling fs x.0) x.1 × FieldsFit fs counts x.0
 
-pub values_take : (fs : List RecordField) (counts : Counts) (all : List ℕ) (x : List Value × List ℕ) → IsBytes all → values_at fs counts all ≡ Some x → TakesValues fs counts all x
+pub values_take : (fs : List RecordField) (counts : RecordCounts) (all : List ℕ) (x : List Value × List ℕ) → IsBytes all → values_at fs counts all ≡ Some x → TakesValues fs counts all x
 values_take [] counts all x fits e =
     subst (TakesValues [] counts all) (some_is ([], all) x e) (Takes-nothing all fits, tt)
 values_take (Number (Unsigned size) ∷ fs) counts all x fits e =
@@ -127,7 +127,7 @@ values_take (DecimalPlaces ∷ fs) counts all x fits e =
     subst (TakesValues (DecimalPlaces ∷ fs) counts all) (some_is (number (natural a.0.0) ∷ b.0.0, b.0.1) x b.2)
     (Takes-then all (little_bytes 1 a.0.0) a.0.1 (spelling fs b.0.0) b.0.1 first.0 others.0, (first.1, others.1))
 
-pub values_again : (fs : List RecordField) (counts : Counts) (vs : List Value) (rest : List ℕ) → FieldsFit fs counts vs → values_at fs counts (spelling fs vs ++ rest) ≡ Some (vs, rest)
+pub values_again : (fs : List RecordField) (counts : RecordCounts) (vs : List Value) (rest : List ℕ) → FieldsFit fs counts vs → values_at fs counts (spelling fs vs ++ rest) ≡ Some (vs, rest)
 values_again [] counts [] rest fits = refl
 values_again (Number (Unsigned size) ∷ fs) counts (number (natural n) ∷ vs) rest fits =
     ap (values_at (Number (Unsigned size) ∷ fs) counts) (append_assoc (little_bytes size n) (spelling fs vs) rest)
@@ -161,14 +161,14 @@ values_again fs counts vs rest fits = absurd fits
 abbrev then_values : Value → Option (List Value × List ℕ) → Option (List Value × List ℕ)
 then_values v read = read >>= λ vs. Some (v ∷ vs.0, vs.1)
 
-number_first : (size : ℕ) (fs : List RecordField) (all : List ℕ) (give : ℕ → Counts) (value : ℕ → Value) → length all < size + head_size fs
-    → ((counts : Counts) (rest : List ℕ) → length rest < head_size fs → values_at fs counts rest ≡ None)
+number_first : (size : ℕ) (fs : List RecordField) (all : List ℕ) (give : ℕ → RecordCounts) (value : ℕ → Value) → length all < size + head_size fs
+    → ((counts : RecordCounts) (rest : List ℕ) → length rest < head_size fs → values_at fs counts rest ≡ None)
     → (number_at size all >>= λ n. then_values (value n.0) (values_at fs (give n.0) n.1)) ≡ None
 number_first size fs all give value lt short =
     number_then_short size (head_size fs) all (λ n. then_values (value n.0) (values_at fs (give n.0) n.1)) lt (λ n rest less. ap (then_values (value n)) (short (give n) rest less))
 
 -- fewer bytes than the head size do not hold all values
-pub values_short : (fs : List RecordField) (counts : Counts) (all : List ℕ) → length all < head_size fs → values_at fs counts all ≡ None
+pub values_short : (fs : List RecordField) (counts : RecordCounts) (all : List ℕ) → length all < head_size fs → values_at fs counts all ≡ None
 values_short [] counts all lt = absurd (omega arith)
 values_short (Number (Unsigned size) ∷ fs) counts all lt = number_first size fs all (λ n. counts) (λ n. number (natural n)) lt (values_short fs)
 values_short (Number (Signed w) ∷ fs) counts all lt =

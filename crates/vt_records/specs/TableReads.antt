@@ -3,7 +3,7 @@
 use Rattle.std.specs.Prelude.{◌≡◌, ◌⊎◌, ℕ, ℤ, zero, suc, List, [], ◌∷◌, ◌+◌, length, take, drop, nat_lt, if◌then◌else◌, Option, Some, None, Result, Ok, Err}
 use Rattle.std.specs.Int.{Width, cast_signed}
 use Rattle.byteorder.specs.Endian.{little_number}
-use Rattle.vt_kinds.specs.Layout.{Size, Unsigned, Signed, Numeral, natural, integer, bytes_in, RecordField, Number, Count, Rows, Bytes, ScaleBytes, DecimalPlaces, Value, number, rows, bytes, Counts, counted, count_of}
+use Rattle.vt_kinds.specs.Layout.{Size, Unsigned, Signed, Numeral, natural, integer, bytes_in, RecordField, Number, Count, Rows, Bytes, ScaleBytes, DecimalPlaces, Value, number, rows, bytes, RecordCounts, counted, count_of}
 use Rattle.vt_records.specs.declared.record_fault.RecordFault.{RecordFault}
 use Rattle.vt_records.specs.declared.record_fault.RecordFault.TheVariants as stops
 
@@ -54,7 +54,7 @@ rows_at sizes (suc count) all = do
   others ← rows_at sizes count first.1
   Some (first.0 ∷ others.0, others.1)
 
-abbrev pub values_at : List RecordField → Counts → List ℕ → Option (List Value × List ℕ)
+abbrev pub values_at : List RecordField → RecordCounts → List ℕ → Option (List Value × List ℕ)
 values_at [] counts all = Some ([], all)
 values_at (Number (Unsigned size) ∷ fs) counts all = do
   n ← number_at size all

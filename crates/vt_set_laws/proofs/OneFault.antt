@@ -12,7 +12,7 @@ use Rattle.vt_records.specs.declared.record_fault.RecordFault.TheVariants as sto
 use Rattle.vt_records.specs.Faults.{NoRecordBegins, HasNullId, HasOtherType, HasValues, IsTruncated, IsImproper, IsFirstImproper}
 use Rattle.vt_records.specs.TableReads.{values_at}
 use Rattle.vt_records.specs.RecordFaults.{IsStop, fault_at}
-use Rattle.vt_pool.specs.Pools.{Entry, joined, AreRecords, IsFaultAt, AtFirst, IsFault, IsWantOfMemory}
+use Rattle.vt_pool.specs.Pools.{PoolEntry, joined, AreRecords, IsFaultAt, AtFirst, IsFault, IsWantOfMemory}
 use Rattle.vt_set_laws.specs.PoolFaults.{FaultsAreOne}
 use Rattle.vt_records.proofs.Causes.{truncated_none, null_none, other_none}
 use Rattle.vt_records.proofs.Tables.{values_again}
@@ -20,7 +20,7 @@ use Rattle.vt_records.proofs.ReadInvertsWrite.{same_record}
 
 -- ---- the end of the whole records is unique
 
-rest-one : (xs ys : List Entry) (rest other : List ℕ) → AreRecords xs → AreRecords ys → NoRecordBegins rest → NoRecordBegins other
+rest-one : (xs ys : List PoolEntry) (rest other : List ℕ) → AreRecords xs → AreRecords ys → NoRecordBegins rest → NoRecordBegins other
     → joined xs ++ rest ≡ joined ys ++ other → rest ≡ other
 rest-one [] [] rest other are too never none e = e
 rest-one [] (s ∷ ys) rest other are too never none e =
@@ -174,7 +174,7 @@ never-begins rest stops.OutOfMemory why is = absurd why
 -- ---- a fault is the stop of the first faulty record
 
 record Stands (bytes : List ℕ) (fault : PoolFault) : Type 0 where
-  pub records : List Entry
+  pub records : List PoolEntry
   pub whole : AreRecords records
   pub rest : List ℕ
   pub parts : bytes ≡ joined records ++ rest

@@ -13,18 +13,18 @@ use Rattle.vt_can.specs.transport.Protocols.{Protocol}
 use Rattle.vt_can.specs.transport.Steps.{stepped}
 
 -- a frame on the bus, decoded for this node; None for a frame outside the protocol
-pub record Input (F : Type 0) : Type 0 where
+pub record BusFrame (F : Type 0) : Type 0 where
   pub time : ℕ
   pub source : ℕ
   pub frame : Option F
 
 module _ {F : Type 0} where
   -- The times of inputs never go back. Every list of inputs has the latest first.
-  abbrev pub IsInOrder : ℕ → List (Input F) → Type 0
+  abbrev pub IsInOrder : ℕ → List (BusFrame F) → Type 0
   IsInOrder now [] = Unit {0}
   IsInOrder now (i ∷ inputs) = (i.time ≤ now) × IsInOrder i.time inputs
 
-  abbrev pub is_from : ℕ → Input F → Bool
+  abbrev pub is_from : ℕ → BusFrame F → Bool
   is_from source i = i.source == source
 
 -- the message of a source in an answer
@@ -35,17 +35,17 @@ handed_out source (heard.Message from pgn bytes reply) =
     if from == source then Some (record { pgn = pgn; bytes = bytes }) else None
 
 module _ {F : Type 0} where
-  abbrev pub inputs_of : List (Input F × Heard) → List (Input F)
+  abbrev pub inputs_of : List (BusFrame F × Heard) → List (BusFrame F)
   inputs_of [] = []
   inputs_of (x ∷ run) = x.0 ∷ inputs_of run
 
-  abbrev pub handed_out_in : ℕ → List (Input F × Heard) → List Message
+  abbrev pub handed_out_in : ℕ → List (BusFrame F × Heard) → List Message
   handed_out_in source [] = []
   handed_out_in source (x ∷ run) = option_to_list (handed_out source x.1) ++ handed_out_in source run
 
 module _ {S F R : Type 0} (protocol : Protocol S F R) where
   -- a frame as an input of the node at an address
-  abbrev pub input_of : ℕ → ℕ → Frame → Input F
+  abbrev pub input_of : ℕ → ℕ → Frame → BusFrame F
   input_of own_address now frame = record { time = now; source = source_of frame; frame = protocol.frame_in own_address frame }
 
   -- the session after a frame of its source, and the message completed by the frame
@@ -56,40 +56,40 @@ module _ {S F R : Type 0} (protocol : Protocol S F R) where
   message_of_frame now current frame = (stepped protocol now current frame).message
 
   -- The session of a source. At each input of the bus the overdue sessions end before the frame is received.
-  abbrev pub session_of : ℕ → List (Input F) → Option (Timed S)
+  abbrev pub session_of : ℕ → List (BusFrame F) → Option (Timed S)
   session_of source [] = None
   session_of source (i ∷ inputs) =
       let current = alive i.time (session_of source inputs) in
       if is_from source i then session_after_frame i.time current i.frame else current
 
   -- the message of a source completed by an input
-  abbrev pub message_at : ℕ → Input F → List (Input F) → Option Message
+  abbrev pub message_at : ℕ → BusFrame F → List (BusFrame F) → Option Message
   message_at source i inputs =
       if is_from source i then message_of_frame i.time (alive i.time (session_of source inputs)) i.frame else None
 
   -- the messages assembled for a source, the latest first
-  abbrev pub messages_of : ℕ → List (Input F) → List Message
+  abbrev pub messages_of : ℕ → List (BusFrame F) → List Message
   messages_of source [] = []
   messages_of source (i ∷ inputs) = option_to_list (message_at source i inputs) ++ messages_of source inputs
 
   -- The messages of a source depend on its own frames and their times alone.
   abbrev pub MessagesDependOnTheirSource : Type 0
-  MessagesDependOnTheirSource = (source now : ℕ) (inputs : List (Input F)) → IsInOrder now inputs
+  MessagesDependOnTheirSource = (source now : ℕ) (inputs : List (BusFrame F)) → IsInOrder now inputs
       → messages_of source inputs ≡ messages_of source (filter (is_from source) inputs)
 
   -- The receiver serves an input: the overdue sessions end, then the source's session makes a step and hands out its message.
-  pub record Serves (old new : ByAddress S) (i : Input F) (result : Heard) : Type 0 where
+  pub record Serves (old new : ByAddress S) (i : BusFrame F) (result : Heard) : Type 0 where
     pub session : finite.get new i.source ≡ session_after_frame i.time (alive i.time (finite.get old i.source)) i.frame
     pub others : (other : ℕ) → (other ≡ i.source → ⊥) → finite.get new other ≡ alive i.time (finite.get old other)
     pub message : (source : ℕ) → handed_out source result
         ≡ (if is_from source i then message_of_frame i.time (alive i.time (finite.get old i.source)) i.frame else None)
 
   -- A run: from no session, the receiver serves inputs one after the other, each with its answer.
-  abbrev pub IsRun : ByAddress S → List (Input F × Heard) → Type 0
+  abbrev pub IsRun : ByAddress S → List (BusFrame F × Heard) → Type 0
   IsRun sessions [] = sessions ≡ finite.empty
   IsRun sessions (x ∷ run) = (old : ByAddress S) × IsRun old run × Serves old sessions x.0 x.1
 
   -- A run hands out the messages of each source.
   abbrev pub RunsHandOutMessages : Type 0
-  RunsHandOutMessages = (sessions : ByAddress S) (run : List (Input F × Heard)) (source : ℕ) → IsRun sessions run
+  RunsHandOutMessages = (sessions : ByAddress S) (run : List (BusFrame F × Heard)) (source : ℕ) → IsRun sessions run
       → handed_out_in source run ≡ messages_of source (inputs_of run)

@@ -8,7 +8,7 @@ use Rattle.vt_stores.specs.Stores.{ObjectMap, Objects, by_rising_id, map_of}
 use Rattle.vt_records.specs.declared.fault.PoolFault.{PoolFault}
 use Rattle.vt_records.specs.declared.fault.PoolFault.TheVariants as faults
 use Rattle.vt_pool.specs.Pools as pools
-use Rattle.vt_pool.specs.Pools.{Entry, AreRecords, IsFault, IsInForce, joined}
+use Rattle.vt_pool.specs.Pools.{PoolEntry, AreRecords, IsFault, IsInForce, joined}
 use Rattle.vt_verify.specs.declared.refusal.Refusal.{Refusal}
 use Rattle.vt_verify.specs.declared.refusal.Refusal.TheVariants as refusals
 use Rattle.vt_verify.specs.Rules as rules
@@ -28,19 +28,19 @@ pub data Verdict : Type 0 where
 -- ---- right verdicts
 
 -- The bytes are whole records, and these are the records in force.
-pub record IsPool (bytes : List ℕ) (pool : List Entry) : Type 0 where
-  pub records : List Entry
+pub record IsPool (bytes : List ℕ) (pool : List PoolEntry) : Type 0 where
+  pub records : List PoolEntry
   pub whole : AreRecords records
   pub spelled : bytes ≡ joined records
   pub in_force : IsInForce records pool
 
 -- the objects to verify: those of the upload, and for an update also those of the store under other IDs
-abbrev pub merged : Option SetState → List Entry → Objects
+abbrev pub merged : Option SetState → List PoolEntry → Objects
 merged None pool = by_rising_id pool
 merged (Some state) pool = updated state.objects pool
 
 pub record IsAccepted (content : SetPool) (objects : ObjectMap) : Type 0 where
-  pub pool : List Entry
+  pub pool : List PoolEntry
   pub read : IsPool content.transfer pool
   pub verified : IsVerified (merged content.pool pool)
   pub objects_are : objects ≡ map_of (merged content.pool pool)
@@ -51,7 +51,7 @@ pub record IsFaulty (content : SetPool) (fault : PoolFault) : Type 0 where
   pub named : pools.IsWantOfMemory fault → ⊥
 
 pub record IsRefusedBy (content : SetPool) (refusal : Refusal) : Type 0 where
-  pub pool : List Entry
+  pub pool : List PoolEntry
   pub read : IsPool content.transfer pool
   pub refused : IsRefused terminal (merged content.pool pool) refusal
   pub named : rules.IsWantOfMemory refusal → ⊥

@@ -11,7 +11,7 @@ use Rattle.vt_machine.specs.declared.operator.Acted.{Acted}
 use Rattle.vt_machine.specs.declared.operator.OperatorRefusal.{OperatorRefusal}
 use Rattle.vt_machine.specs.SetStates.{SetState}
 use Rattle.vt_machine.specs.OperatorEntries.{enter_text}
-use Rattle.vt_machine.specs.OperatorActions.{Action, ComesTo, WouldRefuse}
+use Rattle.vt_machine.specs.OperatorActions.{ActionResult, ComesTo, WouldRefuse}
 use Rattle.vt_server.specs.state.AddressStates.{SetPool}
 use Rattle.vt_server.specs.Terminals.{State, after_acts, sent_by_acts}
 use Rattle.vt_node.specs.AddressFunctions.{with_at}
@@ -23,7 +23,7 @@ use Rattle.vt_server.specs.operator.ActionEffects.{action_on, object_of}
 abbrev pub IsSeenIn : SetState → Option ℕ → Bool → Type 0
 IsSeenIn state object shown = IfSome object (λ id. Decides shown (IsShown state.objects (active_in state.objects) id))
 
-abbrev pub Comes : SetState → Option Action → Option (Result Acted OperatorRefusal) → SetState → Type 0
+abbrev pub Comes : SetState → Option ActionResult → Option (Result Acted OperatorRefusal) → SetState → Type 0
 Comes old (Some action) (Some result) new = ComesTo old action result new
 Comes old None None new = new ≡ old
 Comes old _ _ new = ⊥

@@ -26,7 +26,7 @@ fault_of refusal = faults.Refused refusal
 -- ---- actions on the shown set, by whether their object is shown
 
 -- the effect of an action on a set; None for the selection of a set, the terminal's own action
-abbrev pub action_on : SetState → Bool → ActionValue → Option operating.Action
+abbrev pub action_on : SetState → Bool → ActionValue → Option operating.ActionResult
 action_on state shown (Press id) = Some (press shown state (active_in state.objects) id)
 action_on state shown (Release id) = Some (release state id)
 action_on state shown (Select id) = Some (select shown state id)

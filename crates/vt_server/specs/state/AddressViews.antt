@@ -125,7 +125,7 @@ after_notice now address p notice frame verdict = after_came address p verdict (
 abbrev pub refused_by : AddressView → OperatorFault → AddressOutcome
 refused_by p fault = record (unchanged p) { refused = Some fault }
 
-abbrev pub after_action : ℕ → ℕ → AddressView → Option operating.Action → AddressOutcome
+abbrev pub after_action : ℕ → ℕ → AddressView → Option operating.ActionResult → AddressOutcome
 after_action now address p None = unchanged p
 after_action now address p (Some (operating.Refused refusal)) = refused_by p (fault_of refusal)
 after_action now address p (Some (operating.Acts message start raised)) =

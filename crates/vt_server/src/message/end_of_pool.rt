@@ -2,7 +2,7 @@
 
 ghost use Rattle.std.specs.Prelude.{◌≡◌, [], ◌∷◌, ◌++◌, None, Some, IfOk, List, ℕ, slice_index};
 ghost use Rattle.std.specs.Option.{option_map};
-ghost use Rattle.vt_pool.specs.Pools.{Entry, IsWantOfMemory};
+ghost use Rattle.vt_pool.specs.Pools.{PoolEntry, IsWantOfMemory};
 ghost use Rattle.vt_verify.specs.Rules as rules;
 ghost use Rattle.vt_server.specs.message.Judgements.{IsJudgement};
 ghost use Rattle.vt_server.specs.message.Verdicts as transfers;

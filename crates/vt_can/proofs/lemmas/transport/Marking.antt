@@ -8,7 +8,7 @@ use Rattle.vt_can.specs.transport.Sessions.{ByAddress, alive, is_overdue}
 use Rattle.vt_can.specs.transport.Histories.{SessionEvent, Came, TimedOut, untimed}
 use Rattle.vt_can.specs.transport.Protocols.{Protocol}
 use Rattle.vt_can.specs.transport.Steps.{event_step, session_after}
-use Rattle.vt_can.specs.transport.Bus.{Input, is_from, handed_out, inputs_of, session_after_frame, message_of_frame, session_of, message_at, IsRun}
+use Rattle.vt_can.specs.transport.Bus.{BusFrame, is_from, handed_out, inputs_of, session_after_frame, message_of_frame, session_of, message_at, IsRun}
 use Rattle.vt_can.specs.transport.Marks.{with_frame, marked, history_of, SessionsAreOfHistories, Completes, RunsHandOutWholeMessages}
 use Rattle.vt_can.proofs.lemmas.transport.Runs.{run_session, message_of}
 
@@ -26,11 +26,11 @@ module _ {S F R : Type 0} (protocol : Protocol S F R) where
   session_with_frame now None xs = refl
   session_with_frame now (Some frame) xs = refl
 
-  before : (source now : ℕ) (inputs : List (Input F)) → session_of protocol source inputs ≡ session_after protocol (history_of protocol source inputs)
+  before : (source now : ℕ) (inputs : List (BusFrame F)) → session_of protocol source inputs ≡ session_after protocol (history_of protocol source inputs)
       → alive now (session_of protocol source inputs) ≡ session_after protocol (marked protocol now (history_of protocol source inputs))
   before source now inputs same = ap (alive now) same ∙ aged now (history_of protocol source inputs)
 
-  session_with : (source : ℕ) (i : Input F) (inputs : List (Input F)) (from : Bool)
+  session_with : (source : ℕ) (i : BusFrame F) (inputs : List (BusFrame F)) (from : Bool)
       → alive i.time (session_of protocol source inputs) ≡ session_after protocol (marked protocol i.time (history_of protocol source inputs))
       → ◌≡◌ {A = Option (Timed S)}
       (cond from (session_after_frame protocol i.time (alive i.time (session_of protocol source inputs)) i.frame) (alive i.time (session_of protocol source inputs)))
@@ -46,7 +46,7 @@ module _ {S F R : Type 0} (protocol : Protocol S F R) where
 
   -- the message handed out at an input of a run
 
-  handed_out_at : (sessions : ByAddress S) (x : Input F × Heard) (run : List (Input F × Heard)) (source : ℕ) → IsRun protocol sessions (x ∷ run)
+  handed_out_at : (sessions : ByAddress S) (x : BusFrame F × Heard) (run : List (BusFrame F × Heard)) (source : ℕ) → IsRun protocol sessions (x ∷ run)
       → handed_out source x.1 ≡ message_at protocol source x.0 (inputs_of run)
   handed_out_at sessions x run source is =
       is.2.message source
@@ -55,7 +55,7 @@ module _ {S F R : Type 0} (protocol : Protocol S F R) where
   module _ (IsWhole : List (SessionEvent F) → SessionEvent F → Message → Type 0)
       (gives : (xs : List (ℕ × SessionEvent F)) (x : ℕ × SessionEvent F) (message : Message)
       → ((event_step protocol x.0 (session_after protocol xs) x.1).message ≡ Some message) ↔ IsWhole (untimed xs) x.1 message) where
-    whole_frame : (source : ℕ) (i : Input F) (inputs : List (Input F)) (message : Message) (frame : Option F) → i.frame ≡ frame → i.source ≡ source
+    whole_frame : (source : ℕ) (i : BusFrame F) (inputs : List (BusFrame F)) (message : Message) (frame : Option F) → i.frame ≡ frame → i.source ≡ source
         → message_of_frame protocol i.time (alive i.time (session_of protocol source inputs)) frame ≡ Some message
         → Completes protocol IsWhole source i inputs message
     whole_frame source i inputs message None frame_is from is = absurd cc
@@ -67,13 +67,13 @@ module _ {S F R : Type 0} (protocol : Protocol S F R) where
           (subst (λ (current : Option (Timed S)). (protocol.step i.time current frame).message ≡ Some message) (before source i.time inputs (sessions_same source inputs)) is);
     }
 
-    whole_input : (source : ℕ) (i : Input F) (inputs : List (Input F)) (message : Message) (from : Bool) → is_from source i ≡ from
+    whole_input : (source : ℕ) (i : BusFrame F) (inputs : List (BusFrame F)) (message : Message) (from : Bool) → is_from source i ≡ from
         → ◌≡◌ {A = Option Message} (cond from (message_of_frame protocol i.time (alive i.time (session_of protocol source inputs)) i.frame) None) (Some message)
         → Completes protocol IsWhole source i inputs message
     whole_input source i inputs message true from is = whole_frame source i inputs message i.frame refl (eqb-true _ _ from) is
     whole_input source i inputs message false from is = absurd cc
 
-    completed : (source : ℕ) (i : Input F) (inputs : List (Input F)) (message : Message) → Completes protocol IsWhole source i inputs message
+    completed : (source : ℕ) (i : BusFrame F) (inputs : List (BusFrame F)) (message : Message) → Completes protocol IsWhole source i inputs message
         → message_at protocol source i inputs ≡ Some message
     completed source i inputs message c =
         let whole : (protocol.step i.time (session_after protocol (marked protocol i.time (history_of protocol source inputs))) c.frame).message ≡ Some message =

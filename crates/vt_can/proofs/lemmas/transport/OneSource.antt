@@ -6,7 +6,7 @@ use Rattle.vt_can.specs.declared.transport.sessions.Timed.{Timed}
 use Rattle.vt_can.specs.transport.Messages.{Message}
 use Rattle.vt_can.specs.transport.Sessions.{alive, is_overdue}
 use Rattle.vt_can.specs.transport.Protocols.{Protocol}
-use Rattle.vt_can.specs.transport.Bus.{session_after_frame, message_of_frame, Input, IsInOrder, is_from, session_of, message_at, messages_of, MessagesDependOnTheirSource}
+use Rattle.vt_can.specs.transport.Bus.{session_after_frame, message_of_frame, BusFrame, IsInOrder, is_from, session_of, message_at, messages_of, MessagesDependOnTheirSource}
 
 -- an overdue session stays overdue
 module _ {T : Type 0} where
@@ -25,40 +25,40 @@ module _ {T : Type 0} where
   alive_again earlier now (Some timed) after = alive_at earlier now timed _ refl after
 
 module _ {F : Type 0} where
-  in_order_later : (earlier now : ℕ) (inputs : List (Input F)) → IsInOrder earlier inputs → earlier ≤ now → IsInOrder now inputs
+  in_order_later : (earlier now : ℕ) (inputs : List (BusFrame F)) → IsInOrder earlier inputs → earlier ≤ now → IsInOrder now inputs
   in_order_later earlier now [] order after = tt
   in_order_later earlier now (i ∷ inputs) order after = let first = order.0 in (omega arith, order.1)
 
-  abbrev from_source : ℕ → List (Input F) → List (Input F)
+  abbrev from_source : ℕ → List (BusFrame F) → List (BusFrame F)
   from_source source inputs = filter (is_from source) inputs
 
 module _ {S F R : Type 0} (protocol : Protocol S F R) where
   -- one input: from the source, or from another
 
-  from_source-same : (source : ℕ) (i : Input F) (inputs : List (Input F)) → is_from source i ≡ true → from_source source (i ∷ inputs) ≡ i ∷ from_source source inputs
+  from_source-same : (source : ℕ) (i : BusFrame F) (inputs : List (BusFrame F)) → is_from source i ≡ true → from_source source (i ∷ inputs) ≡ i ∷ from_source source inputs
   from_source-same source i inputs from = rw from
 
-  from_source-other : (source : ℕ) (i : Input F) (inputs : List (Input F)) → is_from source i ≡ false → from_source source (i ∷ inputs) ≡ from_source source inputs
+  from_source-other : (source : ℕ) (i : BusFrame F) (inputs : List (BusFrame F)) → is_from source i ≡ false → from_source source (i ∷ inputs) ≡ from_source source inputs
   from_source-other source i inputs from = rw from
 
-  session_of-same : (source : ℕ) (i : Input F) (inputs : List (Input F)) → is_from source i ≡ true
+  session_of-same : (source : ℕ) (i : BusFrame F) (inputs : List (BusFrame F)) → is_from source i ≡ true
       → session_of protocol source (i ∷ inputs) ≡ session_after_frame protocol i.time (alive i.time (session_of protocol source inputs)) i.frame
   session_of-same source i inputs from = rw from
 
-  session_of-other : (source : ℕ) (i : Input F) (inputs : List (Input F)) → is_from source i ≡ false
+  session_of-other : (source : ℕ) (i : BusFrame F) (inputs : List (BusFrame F)) → is_from source i ≡ false
       → session_of protocol source (i ∷ inputs) ≡ alive i.time (session_of protocol source inputs)
   session_of-other source i inputs from = rw from
 
-  message_at-same : (source : ℕ) (i : Input F) (inputs : List (Input F)) → is_from source i ≡ true
+  message_at-same : (source : ℕ) (i : BusFrame F) (inputs : List (BusFrame F)) → is_from source i ≡ true
       → message_at protocol source i inputs ≡ message_of_frame protocol i.time (alive i.time (session_of protocol source inputs)) i.frame
   message_at-same source i inputs from = rw from
 
-  message_at-other : (source : ℕ) (i : Input F) (inputs : List (Input F)) → is_from source i ≡ false → ◌≡◌ {A = Option Message} (message_at protocol source i inputs) None
+  message_at-other : (source : ℕ) (i : BusFrame F) (inputs : List (BusFrame F)) → is_from source i ≡ false → ◌≡◌ {A = Option Message} (message_at protocol source i inputs) None
   message_at-other source i inputs from = rw from
 
   -- all inputs
 
-  same_with : (source now : ℕ) (i : Input F) (inputs : List (Input F)) (from : Bool) → is_from source i ≡ from → i.time ≤ now
+  same_with : (source now : ℕ) (i : BusFrame F) (inputs : List (BusFrame F)) (from : Bool) → is_from source i ≡ from → i.time ≤ now
       → alive i.time (session_of protocol source inputs) ≡ alive i.time (session_of protocol source (from_source source inputs))
       → alive now (session_of protocol source inputs) ≡ alive now (session_of protocol source (from_source source inputs))
       → alive now (session_of protocol source (i ∷ inputs)) ≡ alive now (session_of protocol source (from_source source (i ∷ inputs)))
@@ -71,16 +71,16 @@ module _ {S F R : Type 0} (protocol : Protocol S F R) where
       ap (alive now) (session_of-other source i inputs from)
       ∙ alive_again i.time now (session_of protocol source inputs) after
       ∙ later
-      ∙ sym (ap (λ (is : List (Input F)). alive now (session_of protocol source is)) (from_source-other source i inputs from))
+      ∙ sym (ap (λ (is : List (BusFrame F)). alive now (session_of protocol source is)) (from_source-other source i inputs from))
 
-  same_session : (source now : ℕ) (inputs : List (Input F)) → IsInOrder now inputs
+  same_session : (source now : ℕ) (inputs : List (BusFrame F)) → IsInOrder now inputs
       → alive now (session_of protocol source inputs) ≡ alive now (session_of protocol source (from_source source inputs))
   same_session source now [] order = refl
   same_session source now (i ∷ inputs) order =
       same_with source now i inputs _ refl order.0 (same_session source i.time inputs order.1)
       (same_session source now inputs (in_order_later i.time now inputs order.1 order.0))
 
-  messages_with : (source : ℕ) (i : Input F) (inputs : List (Input F)) (from : Bool) → is_from source i ≡ from
+  messages_with : (source : ℕ) (i : BusFrame F) (inputs : List (BusFrame F)) (from : Bool) → is_from source i ≡ from
       → alive i.time (session_of protocol source inputs) ≡ alive i.time (session_of protocol source (from_source source inputs))
       → messages_of protocol source inputs ≡ messages_of protocol source (from_source source inputs)
       → messages_of protocol source (i ∷ inputs) ≡ messages_of protocol source (from_source source (i ∷ inputs))

@@ -9,10 +9,10 @@ use Rattle.vt_can.specs.declared.transport.heard.Heard.{Heard}
 use Rattle.vt_can.specs.transport.Messages.{Message}
 use Rattle.vt_can.specs.transport.Sessions.{ByAddress, alive}
 use Rattle.vt_can.specs.transport.Protocols.{Protocol}
-use Rattle.vt_can.specs.transport.Bus.{session_after_frame, message_of_frame, Input, is_from, inputs_of, session_of, Serves, IsRun, RunsHandOutMessages}
+use Rattle.vt_can.specs.transport.Bus.{session_after_frame, message_of_frame, BusFrame, is_from, inputs_of, session_of, Serves, IsRun, RunsHandOutMessages}
 
 module _ {S F R : Type 0} (protocol : Protocol S F R) where
-  served_at : (old new : ByAddress S) (i : Input F) (result : Heard) (source : ℕ) (inputs : List (Input F)) (from : Bool) → is_from source i ≡ from
+  served_at : (old new : ByAddress S) (i : BusFrame F) (result : Heard) (source : ℕ) (inputs : List (BusFrame F)) (from : Bool) → is_from source i ≡ from
       → Serves protocol old new i result → finite.get old source ≡ session_of protocol source inputs
       → finite.get new source ≡ session_of protocol source (i ∷ inputs)
   served_at old new i result source inputs true from serves before =
@@ -24,7 +24,7 @@ module _ {S F R : Type 0} (protocol : Protocol S F R) where
       ∙ ap (alive i.time) before
       ∙ ap (λ (b : Bool). cond b (session_after_frame protocol i.time (alive i.time (session_of protocol source inputs)) i.frame) (alive i.time (session_of protocol source inputs))) (sym from)
 
-  pub message_of : (old new : ByAddress S) (i : Input F) (result : Heard) (source : ℕ) (inputs : List (Input F)) (from : Bool) → is_from source i ≡ from
+  pub message_of : (old new : ByAddress S) (i : BusFrame F) (result : Heard) (source : ℕ) (inputs : List (BusFrame F)) (from : Bool) → is_from source i ≡ from
       → finite.get old source ≡ session_of protocol source inputs
       → ◌≡◌ {A = Option Message} (cond from (message_of_frame protocol i.time (alive i.time (finite.get old i.source)) i.frame) None)
       (cond from (message_of_frame protocol i.time (alive i.time (session_of protocol source inputs)) i.frame) None)
@@ -32,7 +32,7 @@ module _ {S F R : Type 0} (protocol : Protocol S F R) where
       ap (λ (current : Option (Timed S)). message_of_frame protocol i.time (alive i.time current) i.frame) (ap (finite.get old) (eqb-true _ _ from) ∙ before)
   message_of old new i result source inputs false from before = refl
 
-  pub run_session : (sessions : ByAddress S) (run : List (Input F × Heard)) (source : ℕ) → IsRun protocol sessions run
+  pub run_session : (sessions : ByAddress S) (run : List (BusFrame F × Heard)) (source : ℕ) → IsRun protocol sessions run
       → finite.get sessions source ≡ session_of protocol source (inputs_of run)
   run_session sessions [] source is = ap (λ (m : ByAddress S). finite.get m source) is ∙ finite.get-empty nat_cmp source
   run_session sessions (x ∷ run) source is =

@@ -3,7 +3,7 @@ use Rattle.std.proofs.Common.{◌≡◌, ℕ, Bool, true, false, cond, eqb, List
 use Rattle.vt_can.specs.declared.frames.frame.Frame.{Frame}
 use Rattle.vt_names.specs.Registry.{Set}
 use Rattle.vt_stores.specs.Stores.{ObjectMap, map_of}
-use Rattle.vt_pool.specs.Pools.{Entry, ReadingsAreOne, is_of_type}
+use Rattle.vt_pool.specs.Pools.{PoolEntry, ReadingsAreOne, is_of_type}
 use Rattle.vt_records.specs.declared.fault.PoolFault.{PoolFault}
 use Rattle.vt_records.specs.declared.fault.PoolFault.TheVariants as faults
 use Rattle.vt_verify.specs.Rules.{IsAcceptable, IsRefused, RefusalsAreOne, RefusalsAreTrue, SaysTheSame}
@@ -53,22 +53,22 @@ named-alike _ q same = ap refusal_reply same
 module _ (judging : Judging) where
   -- ---- verdicts
 
-  pool-one : (bytes : List ℕ) (p q : List Entry) → IsPool bytes p → IsPool bytes q → p ≡ q
+  pool-one : (bytes : List ℕ) (p q : List PoolEntry) → IsPool bytes p → IsPool bytes q → p ≡ q
   pool-one bytes p q is other =
       judging.readings.pools is.records other.records p q is.whole other.whole (sym is.spelled ∙ other.spelled) is.in_force other.in_force
 
-  pool-no-fault : {P : Type 0} (content : SetPool) (p : List Entry) (fault : PoolFault) → IsPool content.transfer p → IsFaulty content fault → P
+  pool-no-fault : {P : Type 0} (content : SetPool) (p : List PoolEntry) (fault : PoolFault) → IsPool content.transfer p → IsFaulty content fault → P
   pool-no-fault content p fault is faulty = absurd (faulty.named (judging.readings.faults content.transfer is.records fault is.whole is.spelled faulty.faulty))
 
   verdicts-alike : (content : SetPool) (v w : Verdict) → IsVerdict content v → IsVerdict content w → AreAlike content v w
   verdicts-alike content (Accepts a) (Accepts b) x y =
       let same : x.pool ≡ y.pool = pool-one content.transfer x.pool y.pool x.read y.read in
-      let objects : a ≡ b = x.objects_are ∙ ap (λ (p : List Entry). map_of (merged content.pool p)) same ∙ sym y.objects_are in
+      let objects : a ≡ b = x.objects_are ∙ ap (λ (p : List PoolEntry). map_of (merged content.pool p)) same ∙ sym y.objects_are in
       record { leave = ap (λ (o : ObjectMap). ended content (Accepts o)) objects; reply = refl }
   verdicts-alike content (Accepts a) (Faulty fault) x y = pool-no-fault content x.pool fault x.read y
   verdicts-alike content (Accepts a) (Refuses refusal) x y =
       let same : x.pool ≡ y.pool = pool-one content.transfer x.pool y.pool x.read y.read in
-      let acceptable = subst (λ (p : List Entry). IsAcceptable terminal (merged content.pool p)) same x.verified.acceptable in
+      let acceptable = subst (λ (p : List PoolEntry). IsAcceptable terminal (merged content.pool p)) same x.verified.acceptable in
       absurd (y.named (judging.accepted terminal (merged content.pool y.pool) refusal acceptable y.refused))
   verdicts-alike content (Faulty fault) (Accepts b) x y = pool-no-fault content y.pool fault y.read x
   verdicts-alike content (Faulty fault) (Faulty other) x y =
@@ -78,12 +78,12 @@ module _ (judging : Judging) where
   verdicts-alike content (Faulty fault) (Refuses refusal) x y = pool-no-fault content y.pool fault y.read x
   verdicts-alike content (Refuses refusal) (Accepts b) x y =
       let same : y.pool ≡ x.pool = pool-one content.transfer y.pool x.pool y.read x.read in
-      let acceptable = subst (λ (p : List Entry). IsAcceptable terminal (merged content.pool p)) same y.verified.acceptable in
+      let acceptable = subst (λ (p : List PoolEntry). IsAcceptable terminal (merged content.pool p)) same y.verified.acceptable in
       absurd (x.named (judging.accepted terminal (merged content.pool x.pool) refusal acceptable x.refused))
   verdicts-alike content (Refuses refusal) (Faulty fault) x y = pool-no-fault content x.pool fault x.read y
   verdicts-alike content (Refuses refusal) (Refuses other) x y =
       let same : x.pool ≡ y.pool = pool-one content.transfer x.pool y.pool x.read y.read in
-      let refused = subst (λ (p : List Entry). IsRefused terminal (merged content.pool p) refusal) same x.refused in
+      let refused = subst (λ (p : List PoolEntry). IsRefused terminal (merged content.pool p) refusal) same x.refused in
       let says = judging.refused terminal (merged content.pool y.pool) refusal other refused y.refused x.named y.named in
       record { leave = refl; reply = named-alike refusal other says }
 

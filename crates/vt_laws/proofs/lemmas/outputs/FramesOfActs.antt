@@ -92,7 +92,7 @@ message_frames-replies own a (byte ∷ bytes) = cases (is_long (byte ∷ bytes))
     cases true = (inr (inl refl), tt)
     cases false = (inl refl, tt)
 
-action-replies : (now a : ℕ) (p : AddressView) (o : Option operating.Action) → AreReplies p.terminal a (after_action now a p o).frames
+action-replies : (now a : ℕ) (p : AddressView) (o : Option operating.ActionResult) → AreReplies p.terminal a (after_action now a p o).frames
 action-replies now a p None = tt
 action-replies now a p (Some (operating.Refused refusal)) = tt
 action-replies now a p (Some (operating.Acts message start raised)) =

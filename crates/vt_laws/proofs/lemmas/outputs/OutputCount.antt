@@ -147,7 +147,7 @@ message_frames-few own a (byte ∷ bytes) = cases (is_long (byte ∷ bytes))
     cases true = omega arith
     cases false = omega arith
 
-action-few : (now a : ℕ) (p : AddressView) (o : Option operating.Action) → length (to_address a (after_action now a p o)) ≤ 1
+action-few : (now a : ℕ) (p : AddressView) (o : Option operating.ActionResult) → length (to_address a (after_action now a p o)) ≤ 1
 action-few now a p None = omega arith
 action-few now a p (Some (operating.Refused refusal)) = omega arith
 action-few now a p (Some (operating.Acts message start raised)) =

@@ -182,7 +182,7 @@ stays-there : (state : SetState) (pool : Option SetState) → pool ≡ Some stat
 stays-there state pool is = subst (Follows (Some state) []) (sym is) refl
 
 -- The pool after an action is the result of its run; a refused action leaves it unchanged.
-action-follows : (now a : ℕ) (p : AddressView) (state : SetState) (o : Option operating.Action) → p.place.content.pool ≡ Some state
+action-follows : (now a : ℕ) (p : AddressView) (state : SetState) (o : Option operating.ActionResult) → p.place.content.pool ≡ Some state
     → Follows (Some state) (runs_of_action a p.place.sending state.objects o) (after_action now a p o).place.content.pool
 action-follows now a p state None is = stays-there state p.place.content.pool is
 action-follows now a p state (Some (operating.Refused refusal)) is = stays-there state p.place.content.pool is

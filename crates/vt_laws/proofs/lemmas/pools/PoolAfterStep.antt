@@ -62,7 +62,7 @@ message-at a None pool message = tt
 message-at a (Some set) pool None = tt
 message-at a (Some set) pool (Some bytes) = command-at a pool (command_at bytes)
 
-action-at : (a : ℕ) (sending : Option (Timed transport.Message)) (old : ObjectMap) (o : Option operating.Action) → AreAt a (runs_of_action a sending old o)
+action-at : (a : ℕ) (sending : Option (Timed transport.Message)) (old : ObjectMap) (o : Option operating.ActionResult) → AreAt a (runs_of_action a sending old o)
 action-at a sending old None = tt
 action-at a sending old (Some (operating.Refused refusal)) = tt
 action-at a sending old (Some (operating.Acts message start raised)) = cases (is_busy message sending)
@@ -71,7 +71,7 @@ action-at a sending old (Some (operating.Acts message start raised)) = cases (is
     cases true = tt
     cases false = (refl, tt)
 
-operator-at : (a : ℕ) (sending : Option (Timed transport.Message)) (o : Option SetState) (action : SetState → Option operating.Action)
+operator-at : (a : ℕ) (sending : Option (Timed transport.Message)) (o : Option SetState) (action : SetState → Option operating.ActionResult)
     → AreAt a (runs_of_operator a sending o action)
 operator-at a sending None action = tt
 operator-at a sending (Some state) action = action-at a sending state.objects (action state)

@@ -84,7 +84,7 @@ heard-backed now a p Etp f verdict backed =
 
 -- ---- the operator, and events of the Working Set
 
-action-backed : (now a : ℕ) (p : AddressView) (o : Option operating.Action) → is_some p.set ≡ true → LeavesBacked (after_action now a p o)
+action-backed : (now a : ℕ) (p : AddressView) (o : Option operating.ActionResult) → is_some p.set ≡ true → LeavesBacked (after_action now a p o)
 action-backed now a p None has = λ pool. has
 action-backed now a p (Some (operating.Refused refusal)) has = λ pool. has
 action-backed now a p (Some (operating.Acts message start raised)) has = either-backed (is_busy message p.place.sending) _ _ (λ pool. has) (λ pool. has)

@@ -48,7 +48,7 @@ message-runs a None o message = omega arith
 message-runs a (Some set) o None = omega arith
 message-runs a (Some set) o (Some bytes) = command-runs a o (command_at bytes)
 
-action-runs : (a : ℕ) (sending : Option (Timed Message)) (old : ObjectMap) (o : Option operating.Action) → length (runs_of_action a sending old o) ≤ 1
+action-runs : (a : ℕ) (sending : Option (Timed Message)) (old : ObjectMap) (o : Option operating.ActionResult) → length (runs_of_action a sending old o) ≤ 1
 action-runs a sending old None = omega arith
 action-runs a sending old (Some (operating.Refused refusal)) = omega arith
 action-runs a sending old (Some (operating.Acts message start raised)) = cases (is_busy message sending)
@@ -57,7 +57,7 @@ action-runs a sending old (Some (operating.Acts message start raised)) = cases (
     cases true = omega arith
     cases false = omega arith
 
-operator-runs : (a : ℕ) (sending : Option (Timed Message)) (o : Option SetState) (action : SetState → Option operating.Action)
+operator-runs : (a : ℕ) (sending : Option (Timed Message)) (o : Option SetState) (action : SetState → Option operating.ActionResult)
     → length (runs_of_operator a sending o action) ≤ 1
 operator-runs a sending None action = omega arith
 operator-runs a sending (Some state) action = action-runs a sending state.objects (action state)

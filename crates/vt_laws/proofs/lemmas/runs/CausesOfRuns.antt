@@ -53,7 +53,7 @@ message-begun a (Some set) pool (Some bytes) = command-begun a pool (command_at 
 
 -- ---- runs that begin by an action
 
-action-begun : (a : ℕ) (sending : Option (Timed transport.Message)) (state : SetState) (shown : Bool) (action : ActionValue) (o : Option operating.Action)
+action-begun : (a : ℕ) (sending : Option (Timed transport.Message)) (state : SetState) (shown : Bool) (action : ActionValue) (o : Option operating.ActionResult)
     → action_on state shown action ≡ o → AreBegun (runs_of_action a sending state.objects o)
 action-begun a sending state shown action None is = tt
 action-begun a sending state shown action (Some (operating.Refused refusal)) is = tt

@@ -231,7 +231,7 @@ module _ (laws : Laws) (last : Option ObjectMap) where
 
   -- ---- the operator
 
-  abbrev pub ActsInForce : Option operating.Action → Type 0
+  abbrev pub ActsInForce : Option operating.ActionResult → Type 0
   ActsInForce (Some (operating.Acts message start raised)) = IsPoolInForce last start × (length raised ≤ 3)
   ActsInForce _ = Unit {0}
 
@@ -296,7 +296,7 @@ module _ (laws : Laws) (last : Option ObjectMap) where
   action-in-force state true (Text id text) is = text-in-force state id text is (text_place state.objects id text (finite.get state.objects id))
   action-in-force state shown (actions.Set address) is = tt
 
-  acted-keeps : (now a : ℕ) (p : AddressView) (o : Option operating.Action) → IsEach last p.place.content.pool → ActsInForce o → IsEach last (after_action now a p o).place.content.pool
+  acted-keeps : (now a : ℕ) (p : AddressView) (o : Option operating.ActionResult) → IsEach last p.place.content.pool → ActsInForce o → IsEach last (after_action now a p o).place.content.pool
   acted-keeps now a p None is acts = is
   acted-keeps now a p (Some (operating.Refused refusal)) is acts = is
   acted-keeps now a p (Some (operating.Acts message start raised)) is acts =

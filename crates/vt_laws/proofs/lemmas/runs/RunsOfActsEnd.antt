@@ -107,7 +107,7 @@ module _ (laws : Laws) (pools : Pools) (a : ℕ) where
   -- ---- the operator, and events of the Working Set
 
   -- The runs of an action that is not refused end in time.
-  action-runs : (sending : Option (Timed Message)) (old : ObjectMap) (o : Option operating.Action) → ActsInForce laws (pools a) o
+  action-runs : (sending : Option (Timed Message)) (old : ObjectMap) (o : Option operating.ActionResult) → ActsInForce laws (pools a) o
       → AllInTime pools (runs_of_action a sending old o)
   action-runs sending old None acts = tt
   action-runs sending old (Some (operating.Refused refusal)) acts = tt

@@ -36,7 +36,7 @@ either-set : (b : Bool) (x y : AddressOutcome) (set : Option Set) → x.set ≡ 
 either-set true x y set first second = first
 either-set false x y set first second = second
 
-action-set : (now a : ℕ) (p : AddressView) (o : Option operating.Action) → (after_action now a p o).set ≡ p.set
+action-set : (now a : ℕ) (p : AddressView) (o : Option operating.ActionResult) → (after_action now a p o).set ≡ p.set
 action-set now a p None = refl
 action-set now a p (Some (operating.Refused refusal)) = refl
 action-set now a p (Some (operating.Acts message start raised)) = either-set (is_busy message p.place.sending) _ _ p.set refl refl

@@ -187,7 +187,7 @@ either-timeless : (b : Bool) (x y x' y' : AddressOutcome) → untimed_outcome x 
 either-timeless true x y x' y' first second = first
 either-timeless false x y x' y' first second = second
 
-action-timeless : (now a : ℕ) (p : AddressView) (o : Option operating.Action) → untimed_outcome (after_action now a p o) ≡ untimed_outcome (after_action 0 a (untimed_part p) o)
+action-timeless : (now a : ℕ) (p : AddressView) (o : Option operating.ActionResult) → untimed_outcome (after_action now a p o) ≡ untimed_outcome (after_action 0 a (untimed_part p) o)
 action-timeless now a p None = kept-timeless p (untimed_place p.place) (place-twice p.place) p.set
 action-timeless now a p (Some (operating.Refused refusal)) = ap (λ (u : AddressState). record (refused_by p (fault_of refusal)) { place = u }) (place-twice p.place)
 action-timeless now a p (Some (operating.Acts message start raised)) =

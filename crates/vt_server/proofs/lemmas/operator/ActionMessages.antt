@@ -21,7 +21,7 @@ use Rattle.vt_machine.specs.declared.operator.OperatorRefusal.TheVariants as ref
 use Rattle.vt_machine.specs.OperatorEntries.{enter_number, number_message, enter_text, text_entered, text_place, text_message, number_entered, number_place}
 use Rattle.vt_machine.specs.SetStates.{SetState, active_in}
 use Rattle.vt_machine.specs.OperatorActions as operating
-use Rattle.vt_machine.specs.OperatorActions.{Action, Refused, Acts, HasActed, key_message, press_with, release_of, or_none, select_if, is_enabled}
+use Rattle.vt_machine.specs.OperatorActions.{ActionResult, Refused, Acts, HasActed, key_message, press_with, release_of, or_none, select_if, is_enabled}
 use Rattle.vt_server.specs.operator.ActionContracts.{Comes, IsShort}
 use Rattle.vt_server.specs.message.CommandEffects.{store_of}
 use Rattle.vt_node.specs.Messages.{message_to}
@@ -37,18 +37,18 @@ use Rattle.vt_names.proofs.AddressesAfterClaim.{none-some}
 acted-is : (start new : SetState) (raised : List Raised) (steps : ℕ) → HasActed start raised steps new → new ≡ ran start raised
 acted-is start new raised steps h = λ i. record { objects = sym (ap store_of h.has_run.ended) i; key = h.key i; input = h.input i }
 
-pub refused-is : (p q : SetState) (x : Option Action) (refusal : OperatorRefusal) → Comes p x (Some (Err refusal)) q → (x ≡ Some (Refused refusal)) × (q ≡ p)
+pub refused-is : (p q : SetState) (x : Option ActionResult) (refusal : OperatorRefusal) → Comes p x (Some (Err refusal)) q → (x ≡ Some (Refused refusal)) × (q ≡ p)
 refused-is p q None refusal h = absurd h
 refused-is p q (Some (Refused r)) refusal h = (ap (λ y. Some (Refused y)) (sym h.0), h.1)
 refused-is p q (Some (Acts message start raised)) refusal h = absurd h
 
-pub record IsActing (x : Option Action) (message : List ℕ) (q : SetState) : Type 0 where
+pub record IsActing (x : Option ActionResult) (message : List ℕ) (q : SetState) : Type 0 where
   pub start : SetState
   pub raised : List Raised
   pub is : x ≡ Some (Acts message start raised)
   pub left : q ≡ ran start raised
 
-pub acting-is : (p q : SetState) (x : Option Action) (acted : Acted) → Comes p x (Some (Ok acted)) q → IsActing x acted.message.items q
+pub acting-is : (p q : SetState) (x : Option ActionResult) (acted : Acted) → Comes p x (Some (Ok acted)) q → IsActing x acted.message.items q
 acting-is p q None acted h = absurd h
 acting-is p q (Some (Refused r)) acted h = absurd h
 acting-is p q (Some (Acts message start raised)) acted h = record {
@@ -104,7 +104,7 @@ no-frame own a (byte ∷ bytes) none = let none_left : suc (length bytes) ≡ 0 
 
 -- ---- the messages of short actions have at most eight bytes
 
-abbrev Fits : Action → Type 0
+abbrev Fits : ActionResult → Type 0
 Fits (Refused refusal) = Unit {0}
 Fits (Acts message start raised) = length message ≤ 8
 
@@ -122,7 +122,7 @@ none-fits : (m : Option (List ℕ)) → ((message : List ℕ) → m ≡ Some mes
 none-fits None fits = omega arith
 none-fits (Some message) fits = fits message refl
 
-if-fits : (b : Bool) (x y : Action) → Fits x → Fits y → Fits (cond b x y)
+if-fits : (b : Bool) (x y : ActionResult) → Fits x → Fits y → Fits (cond b x y)
 if-fits true x y f g = f
 if-fits false x y f g = g
 
@@ -145,11 +145,11 @@ text-fits : (state : SetState) (id : ℕ) (text : List ℕ) (r : Result ℕ Oper
 text-fits state id text (Err refusal) short = tt
 text-fits state id text (Ok place) short = let count : length (text_message id text) ≡ suc (suc (suc (suc (length text)))) = refl in omega arith
 
-shown-fits : (shown : Bool) (f : Bool → Action) → f false ≡ Refused refusals.NotShown → Fits (f true) → Fits (f shown)
+shown-fits : (shown : Bool) (f : Bool → ActionResult) → f false ≡ Refused refusals.NotShown → Fits (f true) → Fits (f shown)
 shown-fits true f e h = h
 shown-fits false f e h = subst Fits (sym e) tt
 
-short-fits : (p : SetState) (shown : Bool) (action : ActionValue) (x : Action) → IsShort action → action_on p shown action ≡ Some x → Fits x
+short-fits : (p : SetState) (shown : Bool) (action : ActionValue) (x : ActionResult) → IsShort action → action_on p shown action ≡ Some x → Fits x
 short-fits p shown (actions.Press id) x short e =
     subst Fits (same_Some _ x e) (shown-fits shown (λ b. operating.press b p (active_in p.objects) id) refl
     (press-fits p (active_in p.objects) id (key_message 1 id (active_in p.objects) (finite.get p.objects id)) p.key (key-fits 1 id (active_in p.objects) (finite.get p.objects id))))

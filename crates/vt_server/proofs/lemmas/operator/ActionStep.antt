@@ -19,7 +19,7 @@ use Rattle.vt_machine.specs.declared.operator.Acted.{Acted}
 use Rattle.vt_machine.specs.declared.operator.OperatorRefusal.{OperatorRefusal}
 use Rattle.vt_machine.specs.OperatorEntries.{enter_text, text_entered, text_place, text_message}
 use Rattle.vt_machine.specs.SetStates.{SetState, active_in}
-use Rattle.vt_machine.specs.OperatorActions.{Action, Refused, Acts, refusal_of}
+use Rattle.vt_machine.specs.OperatorActions.{ActionResult, Refused, Acts, refusal_of}
 use Rattle.vt_shown.specs.ShownElements.{IsShown}
 use Rattle.vt_server.specs.operator.ActionContracts.{IsSeenIn, Comes, Performs, PerformsAt, IsActedOn, WouldBeRefused, IsShort, TakesAction, happens}
 use Rattle.vt_server.specs.shown.ShownSet.{pool_shown, pool_shown_by, with_pool_at}
@@ -212,11 +212,11 @@ module _ (s : State) (action : ActionValue) (kept : (selecting s action ≡ s) �
 
 -- ---- a text whose message is sent in packets
 
-would-refuse : (x : Action) (r : OperatorRefusal) → Some r ≡ refusal_of x → x ≡ Refused r
+would-refuse : (x : ActionResult) (r : OperatorRefusal) → Some r ≡ refusal_of x → x ≡ Refused r
 would-refuse (Refused q) r e = ap Refused (sym (same_Some r q e))
 would-refuse (Acts message start raised) r e = none-some (sym e)
 
-record IsDone (x : Action) (message : List ℕ) : Type 0 where
+record IsDone (x : ActionResult) (message : List ℕ) : Type 0 where
   pub start : SetState
   pub raised : List Raised
   pub is : x ≡ Acts message start raised
@@ -274,7 +274,7 @@ module _ (s : State) (a : ℕ) (there : IsShownAt (pool_of s) s.shown a) (id : �
         let same : h.performs.shown ≡ found.0 = same_from_decides h.performs.shown found.0 h.performs.seen found.1 in
         let left : h.after ≡ ran done.start done.raised =
         comes-acts there.state h.after (text_message id text) done.start done.raised result
-        (subst (λ (x : Action). Comes there.state (Some x) result h.after) (ap (λ b. enter_text b there.state id text) same ∙ done.is) h.performs.comes) in
+        (subst (λ (x : ActionResult). Comes there.state (Some x) result h.after) (ap (λ b. enter_text b there.state id text) same ∙ done.is) h.performs.comes) in
         let after = with_place (part a s) (record (with_pool (s.places a) pool) { sending = Some session }) (frame ∷ []) in
         takes s (actions.Text id text) (refl, refl) a there found.0 found.1 after
         (ap (λ x. after_action s.now a (part a s) (Some x)) done.is

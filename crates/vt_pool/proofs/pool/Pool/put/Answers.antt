@@ -2,7 +2,7 @@ use Rattle.std.proofs.Common.{◌≡◌, Bool, true, false, not, List, ◌∷◌
 use Rattle.std.specs.List.{list_any}
 use Rattle.vt_kinds.specs.Records.{seen}
 use Rattle.vt_stores.specs.Stores.{shown}
-use Rattle.vt_pool.specs.Pools.{Entry}
+use Rattle.vt_pool.specs.Pools.{PoolEntry}
 use Rattle.vt_pool.specs.EntryWrites.{with_entry}
 use Rattle.vt_pool.proofs.EntryIndices.{shown_set, shown_push, same_ids}
 use Rattle.vt_pool.proofs.RoundTrip.{objects_with}
@@ -30,7 +30,7 @@ returns-in_ok-push-clause-ok c =
     let none : list_any (eqb c.args.id) keys ≡ false = not_is _ _ c.in_ok-place.ensures.added ∙ ap not c.if-is_new.true in
     let left = c.in_ok-push.ensures.items ∙ ap (λ (l : List _). l ++ (c.args.id, c.args.object) ∷ []) c.in_ok-reserve.ensures.items in
     ap (map shown) left ∙ shown_push items keys c.args.id c.args.object c.self.invariant.0 none
-    ∙ ap (λ (es : List Entry). with_entry es c.args.id (seen c.args.object)) c.self.view_is
+    ∙ ap (λ (es : List PoolEntry). with_entry es c.args.id (seen c.args.object)) c.self.view_is
 
 pub returns-else-is_new-clause-ok : goal.returns-else-is_new-clause-ok
 returns-else-is_new-clause-ok c =
@@ -39,4 +39,4 @@ returns-else-is_new-clause-ok c =
     let any : list_any (eqb c.args.id) keys ≡ true = not_is _ _ c.in_ok-place.ensures.added ∙ ap not c.if-is_new.false in
     let left = c.replace.ensures ∙ ap (λ (l : List _). set l c.in_ok-place.place (c.args.id, c.args.object)) c.in_ok-reserve.ensures.items in
     ap (map shown) left ∙ shown_set items keys c.args.id c.in_ok-place.place c.args.object c.self.invariant.0 c.in_ok-place.ensures.index any
-    ∙ ap (λ (es : List Entry). with_entry es c.args.id (seen c.args.object)) c.self.view_is
+    ∙ ap (λ (es : List PoolEntry). with_entry es c.args.id (seen c.args.object)) c.self.view_is
